@@ -1,0 +1,1 @@
+"""What the checks share: running the built program, the rows, and a malloc that refuses."""

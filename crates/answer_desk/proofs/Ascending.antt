@@ -1,0 +1,81 @@
+-- Numbers that ascend, and the units that have them.
+use Rattle.std.proofs.Common.{◌≡◌, ℕ, ◌+◌, ◌<◌, ◌≤◌, List, [], ◌∷◌, ◌++◌, map, refl, ap, arith, true, rules, nat_le}
+use Rattle.std.specs.Cmp.Derive.{both_true}
+use Rattle.answer_desk.specs.declared.entry.Entry.{Entry}
+use Rattle.answer_desk.specs.declared.stub.Stub.{Stub}
+use Rattle.answer_desk.specs.declared.stub.Stub.TheVariants.{Unreadable, Invalid, Silent, Request}
+use Rattle.answer_desk.specs.declared.waiting_unit.WaitingUnit.{WaitingUnit}
+use Rattle.answer_desk.specs.Entry.{entry_at, part_of, request_part, waiting_of}
+use Rattle.answer_desk.specs.Units.{ascends, requests_in, requests_of}
+use Rattle.answer_desk.proofs.Finished.{and_parts}
+
+pub le_from : (a b : ℕ) → nat_le a b ≡ true → a ≤ b
+le_from a b is = search (rules, is)
+
+pub le_to : (a b : ℕ) → a ≤ b → nat_le a b ≡ true
+le_to a b is = search (rules, is)
+
+pub ascends-le : (low high : ℕ) (xs : List ℕ) → ascends low high xs ≡ true → low ≤ high
+ascends-le low high [] up = le_from low high up
+ascends-le low high (x ∷ xs) up =
+    let parts = and_parts (nat_le low x) (ascends (x + 1) high xs) up in
+    let first : low ≤ x = le_from low x parts.0 in
+    let rest : x + 1 ≤ high = ascends-le (x + 1) high xs parts.1 in
+    omega arith
+
+pub ascends-from : (low low' high : ℕ) (xs : List ℕ) → low' ≤ low → ascends low high xs ≡ true → ascends low' high xs ≡ true
+ascends-from low low' high [] below up =
+    let last : low ≤ high = le_from low high up in
+    le_to low' high (omega arith)
+ascends-from low low' high (x ∷ xs) below up =
+    let parts = and_parts (nat_le low x) (ascends (x + 1) high xs) up in
+    let first : low ≤ x = le_from low x parts.0 in
+    both_true (le_to low' x (omega arith)) parts.1
+
+pub ascends-append : (low mid high : ℕ) (xs ys : List ℕ) → ascends low mid xs ≡ true → ascends mid high ys ≡ true → ascends low high (xs ++ ys) ≡ true
+ascends-append low mid high [] ys up more = ascends-from mid low high ys (le_from low mid up) more
+ascends-append low mid high (x ∷ xs) ys up more =
+    let parts = and_parts (nat_le low x) (ascends (x + 1) mid xs) up in
+    both_true parts.0 (ascends-append (x + 1) mid high xs ys parts.1 more)
+
+pub record Split (low high : ℕ) (xs ys : List ℕ) : Type 0 where
+  pub mid : ℕ
+  pub before : ascends low mid xs ≡ true
+  pub behind : ascends mid high ys ≡ true
+
+pub ascends-split : (low high : ℕ) (xs ys : List ℕ) → ascends low high (xs ++ ys) ≡ true → Split low high xs ys
+ascends-split low high [] ys up = record { mid = low; before = le_to low low (omega arith); behind = up }
+ascends-split low high (x ∷ xs) ys up =
+    let parts = and_parts (nat_le low x) (ascends (x + 1) high (xs ++ ys)) up in
+    let rest = ascends-split (x + 1) high xs ys parts.1 in
+    record { mid = rest.mid; before = both_true parts.0 rest.before; behind = rest.behind }
+
+-- two lists of entries show the requests from `low` to `high` alike
+pub record SameRequests (low high : ℕ) (now was : List Entry) : Type 0 where
+  pub same : (k : ℕ) → low ≤ k → k < high → request_part k (entry_at now k) ≡ request_part k (entry_at was k)
+
+pub parts-same : (low high : ℕ) (now was : List Entry) (stubs : List Stub) → SameRequests low high now was → ascends low high (requests_in stubs) ≡ true
+    → map (part_of now) stubs ≡ map (part_of was) stubs
+parts-same low high now was [] alike up = refl
+parts-same low high now was (Unreadable ∷ stubs) alike up = ap (λ ps. part_of was Unreadable ∷ ps) (parts-same low high now was stubs alike up)
+parts-same low high now was (Invalid ∷ stubs) alike up = ap (λ ps. part_of was Invalid ∷ ps) (parts-same low high now was stubs alike up)
+parts-same low high now was (Silent ∷ stubs) alike up = ap (λ ps. part_of was Silent ∷ ps) (parts-same low high now was stubs alike up)
+parts-same low high now was (Request n ∷ stubs) alike up =
+    let parts = and_parts (nat_le low n) (ascends (n + 1) high (requests_in stubs)) up in
+    let first : low ≤ n = le_from low n parts.0 in
+    let last : n + 1 ≤ high = ascends-le (n + 1) high (requests_in stubs) parts.1 in
+    let here : request_part n (entry_at now n) ≡ request_part n (entry_at was n) = alike.same n first (omega arith) in
+    let more : SameRequests (n + 1) high now was = record { same = λ k from below. alike.same k (omega arith) below } in
+    rw (here, parts-same (n + 1) high now was stubs more parts.1) refl
+
+pub units-same : (low high : ℕ) (now was : List Entry) (units : List WaitingUnit) → SameRequests low high now was → ascends low high (requests_of units) ≡ true
+    → map (waiting_of now) units ≡ map (waiting_of was) units
+units-same low high now was [] alike up = refl
+units-same low high now was (unit ∷ units) alike up =
+    let split = ascends-split low high (requests_in unit.stubs) (requests_of units) up in
+    let from_low : low ≤ split.mid = ascends-le low split.mid (requests_in unit.stubs) split.before in
+    let to_high : split.mid ≤ high = ascends-le split.mid high (requests_of units) split.behind in
+    let front : SameRequests low split.mid now was = record { same = λ k from below. alike.same k from (omega arith) } in
+    let back : SameRequests split.mid high now was = record { same = λ k from below. alike.same k (omega arith) below } in
+    let here : map (part_of now) unit.stubs ≡ map (part_of was) unit.stubs = parts-same low split.mid now was unit.stubs front split.before in
+    rw (here, units-same split.mid high now was units back split.behind) refl

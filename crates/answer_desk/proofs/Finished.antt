@@ -1,0 +1,80 @@
+-- Finished parts and whole units, one after another.
+use Rattle.std.proofs.Common.{◌≡◌, ◌==◌, ℕ, suc, zero, ◌<◌, List, [], ◌∷◌, ◌++◌, length, get_or, map, take, drop, refl, ap, sym, ◌∙◌, arith, Bool, true, false, ◌&&◌, Option, Some, None, option_to_list, rules}
+use Rattle.std.proofs.lemmas.List.{append_assoc, append-nil}
+use Rattle.std.specs.List.{list_all, filter_map, cons_option}
+use Rattle.answer_desk.specs.Units.{front_finished}
+use Rattle.answer_desk.specs.Waiting.{Waiting, unit_text, is_whole, is_finished, whole_front, behind_front}
+
+pub and_parts : (a b : Bool) → (a && b) ≡ true → (a ≡ true) × (b ≡ true)
+and_parts true b both = (refl, both)
+and_parts false b both = cc
+
+and_false : (a : Bool) → (a && false) ≡ false
+and_false true = refl
+and_false false = refl
+
+pub finished_more : {X Y : Type 0} (p : Y → Bool) (f : X → Y) (xs : List X) (i : ℕ) (d : X) → i < length xs
+    → list_all p (take i (map f xs)) ≡ true → true ≡ p (f (get_or xs i d)) → list_all p (take (suc i) (map f xs)) ≡ true
+finished_more p f [] i d below front here = absurd (omega arith)
+finished_more p f (x ∷ xs) zero d below front here = rw (← here) refl
+finished_more p f (x ∷ xs) (suc i) d below front here =
+    let parts = and_parts (p (f x)) (list_all p (take i (map f xs))) front in
+    rw (parts.0) (finished_more p f xs i d (omega arith) parts.1 here)
+
+pub unfinished_at : {X Y : Type 0} (p : Y → Bool) (f : X → Y) (xs : List X) (i : ℕ) (d : X) → i < length xs
+    → false ≡ p (f (get_or xs i d)) → list_all p (map f xs) ≡ false
+unfinished_at p f [] i d below here = absurd (omega arith)
+unfinished_at p f (x ∷ xs) zero d below here = rw (← here) refl
+unfinished_at p f (x ∷ xs) (suc i) d below here = rw (unfinished_at p f xs i d (omega arith) here) (and_false (p (f x)))
+
+-- the unit at a place, and those behind it
+pub drop-map_at : {X Y : Type 0} (f : X → Y) (xs : List X) (i : ℕ) (x : X) → i < length xs → x ≡ get_or xs i x
+    → drop i (map f xs) ≡ f x ∷ drop (suc i) (map f xs)
+drop-map_at f [] i x below read = absurd (omega arith)
+drop-map_at f (y ∷ ys) zero x below read = ap (λ z. f z ∷ map f ys) (sym read)
+drop-map_at f (y ∷ ys) (suc i) x below read = drop-map_at f ys i x (omega arith) read
+
+-- the front ends at a unit that isn't whole
+pub front_ends : (left : List Waiting) (unit : Waiting) (units : List Waiting) → left ≡ unit ∷ units → is_whole unit ≡ false → whole_front left ≡ []
+front_ends left unit units is open_still = rw (is, open_still) refl
+
+pub behind_ends : (left : List Waiting) (unit : Waiting) (units : List Waiting) → left ≡ unit ∷ units → is_whole unit ≡ false → behind_front left ≡ left
+behind_ends left unit units is open_still = rw (is, open_still) refl
+
+text_more : {X : Type 0} (texts : List X) (text : Option X) (more : List X) → texts ++ cons_option text more ≡ (texts ++ option_to_list text) ++ more
+text_more texts None more = rw (append-nil texts) refl
+text_more texts (Some text) more = sym (append_assoc texts (text ∷ []) more)
+
+-- and goes on behind one that is
+pub texts_more : (texts : List (List ℕ)) (left : List Waiting) (unit : Waiting) (units : List Waiting) → left ≡ unit ∷ units → is_whole unit ≡ true
+    → texts ++ filter_map unit_text (whole_front left) ≡ (texts ++ option_to_list (unit_text unit)) ++ filter_map unit_text (whole_front units)
+texts_more texts left unit units is whole =
+    rw (is, whole) (text_more texts (unit_text unit) (filter_map unit_text (whole_front units)))
+
+pub behind_more : (left : List Waiting) (unit : Waiting) (units : List Waiting) → left ≡ unit ∷ units → is_whole unit ≡ true → behind_front left ≡ behind_front units
+behind_more left unit units is whole = rw (is, whole) refl
+
+pub none_known : (units : List Waiting) → front_finished 0 units ≡ true
+none_known [] = refl
+none_known (unit ∷ units) = refl
+
+pub other_place : (i n : ℕ) → i < n → (i == n) ≡ false
+other_place i n below = search rules
+
+pub texts_end : (texts all : List (List ℕ)) (left : List Waiting) → texts ++ filter_map unit_text (whole_front left) ≡ all → whole_front left ≡ [] → texts ≡ all
+texts_end texts all left so_far none = sym (append-nil texts) ∙ rw none at so_far
+
+-- the count of the finished parts tells whether a unit is whole
+pub broken_by_count : (count n : ℕ) (whole : Bool) → (count == n) ≡ whole → (count ≡ n → ⊥) → whole ≡ false
+broken_by_count count n whole same differs = sym same ∙ search (rules, differs)
+
+pub whole_by_count : (count n : ℕ) (whole : Bool) → (count == n) ≡ whole → count ≡ n → whole ≡ true
+whole_by_count count n whole same equal = sym same ∙ search (rules, equal)
+
+pub front_known : (known : ℕ) (left : List Waiting) (unit : Waiting) (units : List Waiting) → left ≡ unit ∷ units
+    → front_finished known left ≡ true → list_all is_finished (take known unit.parts) ≡ true
+front_known known left unit units is front = rw is at front
+
+pub known_front : (known : ℕ) (left : List Waiting) (unit : Waiting) (units : List Waiting) → left ≡ unit ∷ units
+    → list_all is_finished (take known unit.parts) ≡ true → front_finished known left ≡ true
+known_front known left unit units is front = rw is front

@@ -1,0 +1,28 @@
+use Rattle.std.proofs.Common.{refl, ap, ◌∙◌}
+use Rattle.answer_desk.specs.declared.number.Number.{Number}
+use Rattle.answer_desk.specs.Desk.{view}
+use Rattle.answer_desk.specs.Replies.{slots_without, given_by}
+use Rattle.answer_desk.proofs.Views.{seen, slot-seen, IsQuiet-changed, ascending-quiet, settled-quiet, seen-taken}
+use Rattle.answer_desk.proofs.desk.Desk.take_reply.Goals as goal
+
+pub invariant_of-self : goal.invariant_of-self
+invariant_of-self c =
+    let self = c.args.self.now in
+    let quiet = IsQuiet-changed (λ (m : Number). record m { replies = slots_without self.is_closed m.replies c.args.turn }) (λ m. refl) self.numbers c.args.number in
+    rw c.take_reply.ensures.after (record {
+      ascending = ascending-quiet _ self.numbers self.units.items quiet self.ascending;
+      front_settled = settled-quiet _ self.numbers self.units.items self.settled quiet self.ascending self.front_settled;
+    })
+
+pub returns-clause-reply : goal.returns-clause-reply
+unfolding view
+returns-clause-reply c =
+    let self = c.args.self.now in
+    c.take_reply.ensures.reply ∙ ap (given_by self.is_closed) (slot-seen self.numbers self.is_closed self.units.items c.args.number c.args.turn)
+
+pub returns-clause-after : goal.returns-clause-after
+unfolding view
+returns-clause-after c =
+    let self = c.args.self.now in
+    ap (λ es. seen es self.is_closed self.units.items) c.take_reply.ensures.after
+    ∙ seen-taken self.numbers self.is_closed self.units.items c.args.number c.args.turn self.ascending

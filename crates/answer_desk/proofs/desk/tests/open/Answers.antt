@@ -1,0 +1,21 @@
+use Rattle.std.proofs.Common.{◌≤◌, List, [], ◌∷◌, length, arith}
+use Rattle.std.proofs.lemmas.List.{length-map}
+use Rattle.answer_desk.specs.declared.place.Place.{Place}
+use Rattle.answer_desk.specs.declared.place.Place.TheVariants.{Unreadable, Invalid, Silent, Numbered}
+use Rattle.answer_desk.specs.Desk.{view}
+use Rattle.answer_desk.specs.Entry.{open_number}
+use Rattle.answer_desk.specs.Places.{new_numbers}
+use Rattle.answer_desk.proofs.desk.tests.open.Goals as goal
+
+no_more_calls_than_places : (places : List Place) → length (new_numbers places) ≤ length places
+no_more_calls_than_places [] = omega arith
+no_more_calls_than_places (Unreadable ∷ places) = omega (arith, no_more_calls_than_places places)
+no_more_calls_than_places (Invalid ∷ places) = omega (arith, no_more_calls_than_places places)
+no_more_calls_than_places (Silent ∷ places) = omega (arith, no_more_calls_than_places places)
+no_more_calls_than_places (Numbered id most ∷ places) = omega (arith, no_more_calls_than_places places)
+
+pub open_unit-requires : goal.open_unit-requires
+unfolding view
+open_unit-requires g c =
+    rw (c.from-places.ensures, length-map c.args.desk.now.numbers open_number)
+    (omega (arith, no_more_calls_than_places c.args.places.items, c.next.ensures.next, c.len.ensures, c.args.places.ok))

@@ -1,0 +1,9 @@
+pub mod Desk
+pub mod Entry
+pub mod Ids
+pub mod Numbers
+pub mod Places
+pub mod Replies
+pub mod State
+pub mod Units
+pub mod Waiting

@@ -1,0 +1,133 @@
+ghost use Rattle.std.specs.Prelude.{◌≡◌, ◌-◌, IfOk, IsSome, Some, replicate, is_some, slice_set};
+ghost use Rattle.answer_desk.specs.declared.slot.Slot.TheVariants.{Empty};
+ghost use Rattle.answer_desk.specs.Replies.{slot_at, put_into, slots_with, given_by, slots_without};
+
+use crate::put::Put;
+use crate::slot::Slot;
+use rpc_messages::{Reply, Standard};
+use std::alloc::{AllocError, Global};
+use std::marker::Model;
+use std::mem;
+
+/// The replies to the calls of one number, with room for each of its turns, seen by contracts as the list of its slots.
+#[derive(Debug, Drop)]
+pub struct Replies {
+    slots: Vec<Slot>,
+}
+
+impl Model for Replies {
+    ghost use Rattle.std.specs.Prelude.{List};
+    ghost use Rattle.std.specs.Coded.{codes};
+    ghost use Rattle.rpc_messages.specs.Codes.{coded_data};
+    ghost use Rattle.answer_desk.specs.declared.slot.Slot.{Slot};
+
+    ghost Value = { List Slot };
+
+    ghost coded = { Prim.hlevel (codes, coded_data) };
+
+    ghost view = { λ r. r.slots.items };
+}
+
+impl Replies {
+    /// Room for the turns 1 to `most`.
+    pub fn with_room(alloc: Global, most: u32) -> Result<Replies, AllocError>
+        ensures { IfOk result (λ replies. replies ≡ replicate most Empty) }
+    {
+        Ok(Replies {
+            slots: empty_slots(alloc, most)?,
+        })
+    }
+
+    /// Keeps the first reply of a turn.
+    pub fn put(&mut self, turn: u32, reply: Reply) -> Put
+        ensures put { result ≡ put_into (slot_at self.old turn) }
+        ensures after { self.new ≡ slots_with self.old turn reply }
+    {
+        put_reply(self.slots.as_mut_slice(), turn, reply)
+    }
+
+    /// Takes the reply of a turn out of its slot.
+    pub fn take(&mut self, turn: u32, is_closed: bool) -> Option<Reply>
+        ensures reply { result ≡ given_by is_closed (slot_at self.old turn) }
+        ensures after { self.new ≡ slots_without is_closed self.old turn }
+    {
+        take_reply(self.slots.as_mut_slice(), turn, is_closed)
+    }
+
+    /// Whether `take` would give one.
+    pub fn has(&self, turn: u32, is_closed: bool) -> bool
+        ensures { result ≡ is_some (given_by is_closed (slot_at self.now turn)) }
+    {
+        has_reply(self.slots.as_slice(), turn, is_closed)
+    }
+}
+
+fn empty_slots(alloc: Global, most: u32) -> Result<Vec<Slot>, AllocError>
+    ensures { IfOk result (λ slots. slots.items ≡ replicate most Empty) }
+{
+    let mut slots = Vec::with_capacity(alloc, most as usize)?;
+    for _turn in 0..most {
+        slots.push(Slot::Empty)?;
+    }
+    Ok(slots)
+}
+
+fn put_reply(slots: &mut [Slot], turn: u32, reply: Reply) -> Put
+    ensures put { result ≡ put_into (slot_at slots.old turn) }
+    ensures after { slots.new ≡ slots_with slots.old turn reply }
+{
+    let put = put_of(slots, turn);
+    match put {
+        Put::Kept => drop(exchange(slots, turn, Slot::Held(reply))),
+        Put::Second | Put::Unknown => drop(reply),
+    }
+    put
+}
+
+fn take_reply(slots: &mut [Slot], turn: u32, is_closed: bool) -> Option<Reply>
+    ensures reply { result ≡ given_by is_closed (slot_at slots.old turn) }
+    ensures after { slots.new ≡ slots_without is_closed slots.old turn }
+{
+    if !has_reply(slots, turn, is_closed) {
+        return None;
+    }
+    match exchange(slots, turn, Slot::Given) {
+        Slot::Held(reply) => Some(reply),
+        Slot::Empty => Some(Reply::Standard(Standard::NoReply)),
+        Slot::Given => None,
+    }
+}
+
+fn put_of(slots: &[Slot], turn: u32) -> Put
+    ensures { result ≡ put_into (slot_at slots.now turn) }
+{
+    if turn == 0 {
+        return Put::Unknown;
+    }
+    match slots.get(turn as usize - 1) {
+        Some(Slot::Empty) => Put::Kept,
+        Some(Slot::Held(_) | Slot::Given) => Put::Second,
+        None => Put::Unknown,
+    }
+}
+
+fn has_reply(slots: &[Slot], turn: u32, is_closed: bool) -> bool
+    ensures { result ≡ is_some (given_by is_closed (slot_at slots.now turn)) }
+{
+    if turn == 0 {
+        return false;
+    }
+    match slots.get(turn as usize - 1) {
+        Some(Slot::Held(_)) => true,
+        Some(Slot::Empty) => is_closed,
+        Some(Slot::Given) | None => false,
+    }
+}
+
+fn exchange(slots: &mut [Slot], turn: u32, slot: Slot) -> Slot
+    requires { IsSome (slot_at slots.old turn) }
+    ensures before { slot_at slots.old turn ≡ Some result }
+    ensures after { slots.new ≡ slice_set slots.old (turn - 1) slot }
+{
+    mem::replace(&mut slots[turn as usize - 1], slot)
+}

@@ -1,0 +1,12 @@
+use rpc_messages::Reply;
+
+/// The room for the reply of one turn.
+#[derive(Debug, Drop)]
+pub enum Slot {
+    /// No reply has come.
+    Empty,
+    /// The first reply, which nobody has taken yet.
+    Held(Reply),
+    /// The reply was taken.
+    Given,
+}

@@ -1,0 +1,7 @@
+pub mod Bits
+pub mod Closes
+pub mod Frees
+pub mod Lists
+pub mod Views
+pub mod Moves
+pub mod Steps

@@ -1,0 +1,7 @@
+pub mod Phases
+pub mod Looks
+pub mod Lawful
+pub mod Steps
+pub mod Seats
+pub mod Closing
+pub mod Kept

@@ -1,0 +1,350 @@
+ghost use Rattle.job_slots.specs.Seats.{IsClerkOf, IsWorkerOf};
+
+use crate::{ClerkSeat, JobSlots, Ran, Turns, WorkerSeat};
+use std::alloc::{AllocError, Global};
+use std::process::Abort;
+use std::snapshot::Snapshot;
+use std::sync::Wait;
+use std::sync::atomic::Ordering::SeqCst;
+use std::sync::atomic::{AtomicBool, AtomicU32};
+use std::test::Fail;
+use std::thread;
+use std::thread::{Promise, Threads};
+
+// A job that counts its turns.
+#[derive(Debug, PartialEq, Eq, Drop)]
+struct Counted {
+    number: u32,
+    turns: u32,
+}
+
+impl Turns for Counted {
+    ghost use Rattle.std.specs.Prelude.{◌≡◌, ◌+◌, min};
+
+    ghost turned = { λ before after. (after.number ≡ before.number) × (after.turns ≡ min (before.turns + 1) 4294967295) };
+
+    fn turn(&mut self) {
+        self.turns = self.turns.saturating_add(1);
+    }
+}
+
+fn fresh(number: u32) -> Counted {
+    Counted { number, turns: 0 }
+}
+
+fn turned(number: u32) -> Counted {
+    Counted { number, turns: 1 }
+}
+
+#[test]
+fn a_job_comes_home_turned_once_and_its_slot_is_filled_again(rt: HostRuntime) -> Result<(), Fail> {
+    let (slots, mut clerk) = JobSlots::make(rt.alloc(), 2)?;
+    let mut worker = slots.split(&mut clerk)?;
+    assert_eq!(rt; slots.run_one(&mut worker), Ran::Nothing);
+    assert_eq!(rt; slots.offer(&mut clerk, fresh(10)), Ok(0));
+    assert_eq!(rt; slots.offer(&mut clerk, fresh(11)), Ok(1));
+    assert_eq!(rt; slots.offer(&mut clerk, fresh(12)), Err(fresh(12)));
+    assert_eq!(rt; slots.run_one(&mut worker), Ran::One(0));
+    assert_eq!(rt; slots.collect(&mut clerk, 1), None);
+    assert_eq!(rt; slots.collect(&mut clerk, 0), Some(turned(10)));
+    assert_eq!(rt; slots.offer(&mut clerk, fresh(12)), Ok(0));
+    slots.join(&mut clerk, worker);
+    let left = slots.close(clerk);
+    assert_eq!(rt; left.as_slice(), [fresh(12), fresh(11)].as_slice());
+    Ok(())
+}
+
+#[test]
+fn close_gives_the_turned_job_and_the_one_that_waits(rt: HostRuntime) -> Result<(), Fail> {
+    let (slots, mut clerk) = JobSlots::make(rt.alloc(), 2)?;
+    let mut worker = slots.split(&mut clerk)?;
+    assert_eq!(rt; slots.run_one(&mut worker), Ran::Nothing);
+    assert_eq!(rt; slots.offer(&mut clerk, fresh(10)), Ok(0));
+    assert_eq!(rt; slots.offer(&mut clerk, fresh(11)), Ok(1));
+    assert_eq!(rt; slots.offer(&mut clerk, fresh(12)), Err(fresh(12)));
+    assert_eq!(rt; slots.run_one(&mut worker), Ran::One(0));
+    let left = slots.close(clerk);
+    assert_eq!(rt; left.as_slice(), [turned(10), fresh(11)].as_slice());
+    Ok(())
+}
+
+// Runs jobs until it has seen the stop and then finds none. It gives its seat back, and how many jobs it ran.
+fn work<R: Wait>(
+    rt: &R,
+    slots: &JobSlots<Counted>,
+    worker: WorkerSeat<Counted>,
+    stop: &AtomicBool,
+    ran: &AtomicU32,
+) -> (WorkerSeat<Counted>, u32)
+    requires { IsWorkerOf slots.now worker }
+    ensures { IsWorkerOf slots.now result.0 }
+{
+    let mut worker = worker;
+    let mut count = 0u32;
+    for _ in rt.forever() {
+        let last = stop.load(SeqCst);
+        match slots.run_one(&mut worker) {
+            Ran::One(_) => {
+                count = count.saturating_add(1);
+                ran.fetch_add(1, SeqCst);
+            }
+            Ran::Nothing if last => break,
+            Ran::Nothing => thread::yield_now(),
+        }
+    }
+    (worker, count)
+}
+
+fn wait_until<R: Wait>(rt: &R, ran: &AtomicU32, enough: u32) {
+    for _ in rt.forever() {
+        if ran.load(SeqCst) >= enough {
+            return;
+        }
+        thread::yield_now();
+    }
+}
+
+// Two workers and eight jobs. They stop once so many were turned. It gives how many jobs each says that it ran.
+fn run_by_two<R: Threads + Wait + Abort + Sync>(
+    rt: &R,
+    slots: &JobSlots<Counted>,
+    first: WorkerSeat<Counted>,
+    second: WorkerSeat<Counted>,
+    enough: u32,
+) -> (u32, u32)
+    requires { IsWorkerOf slots.now first × IsWorkerOf slots.now second }
+{
+    let (stop, ran) = (AtomicBool::new(false), AtomicU32::new(0));
+    let (stop, ran) = (&stop, &ran);
+    thread::scope(
+        thread::scope_env(),
+        rt,
+        move |scope| -> (u32, u32)
+            requires { IsWorkerOf slots.now first × IsWorkerOf slots.now second }
+        {
+            let first = scope
+                .spawn(move || work(rt, slots, first, stop, ran).1)
+                .ok()
+                .expect(rt, "a thread");
+            let second = scope
+                .spawn(move || work(rt, slots, second, stop, ran).1)
+                .ok()
+                .expect(rt, "a thread");
+            wait_until(rt, ran, enough);
+            stop.store(true, SeqCst);
+            (first.join(rt), second.join(rt))
+        },
+    )
+}
+
+// How many jobs two workers say that they ran of eight, and what `close` then gives.
+fn eight_jobs_by_two<R: Threads + Wait + Abort + Sync>(
+    rt: &R,
+    alloc: Global,
+    enough: u32,
+) -> Result<(u32, Vec<Counted>), Fail> {
+    let (slots, mut clerk) = JobSlots::make(alloc, 8)?;
+    let (first, second) = (slots.split(&mut clerk)?, slots.split(&mut clerk)?);
+    for number in 0..8 {
+        slots.offer(&mut clerk, fresh(number))?;
+    }
+    let (a, b) = run_by_two(rt, &slots, first, second, enough);
+    Ok((a.saturating_add(b), slots.close(clerk)))
+}
+
+#[test]
+fn two_workers_turn_each_job_at_most_once(rt: HostRuntime) -> Result<(), Fail> {
+    let (ones, left) = eight_jobs_by_two(&rt, rt.alloc(), 0)?;
+    assert_eq!(rt; left.len(), 8);
+    for (number, job) in left.iter().enumerate() {
+        assert_eq!(rt; job.number as usize, number);
+        assert!(rt;
+            job.turns <= 1,
+            "job {number} was turned {} times",
+            job.turns
+        );
+    }
+    let turned = left.iter().filter(|job| job.turns == 1).count();
+    assert_eq!(rt; turned, ones as usize);
+    Ok(())
+}
+
+#[test]
+fn all_jobs_are_turned_before_the_stop(rt: HostRuntime) -> Result<(), Fail> {
+    let (ones, left) = eight_jobs_by_two(&rt, rt.alloc(), 8)?;
+    assert_eq!(rt; left.len(), 8);
+    assert!(rt; left.iter().all(|job| job.turns == 1));
+    assert_eq!(rt; ones, 8);
+    Ok(())
+}
+
+const MANY: u32 = 10000;
+
+// A worker's seat comes back as one of the same table.
+#[derive(Drop)]
+struct SeatOf(Snapshot<JobSlots<Counted>>);
+
+impl Promise<(WorkerSeat<Counted>, u32)> for SeatOf {
+    ghost use Rattle.job_slots.specs.Seats.{IsWorkerOf};
+
+    ghost kept_by = { λ p r. IsWorkerOf p.0.value r.0 };
+}
+
+// Offers the next job, if one is left and a slot is free. It gives the next job after that.
+fn offer_next(slots: &JobSlots<Counted>, clerk: &mut ClerkSeat<Counted>, next: u32) -> u32
+    requires { IsClerkOf slots.now clerk.old }
+    ensures { IsClerkOf slots.now clerk.new }
+{
+    if next >= MANY {
+        return next;
+    }
+    match slots.offer(clerk, fresh(next)) {
+        Ok(_) => next.saturating_add(1),
+        Err(_) => next,
+    }
+}
+
+// Takes home what is done, and counts for each job how often it came home turned once. It gives how many came home.
+fn collect_all(slots: &JobSlots<Counted>, clerk: &mut ClerkSeat<Counted>, seen: &mut [u8]) -> u32
+    requires { IsClerkOf slots.now clerk.old }
+    ensures { IsClerkOf slots.now clerk.new }
+{
+    let mut home = 0u32;
+    for slot in 0..8 {
+        if let Some(job) = slots.collect(clerk, slot) {
+            home = home.saturating_add(1);
+            count_once(seen, &job);
+        }
+    }
+    home
+}
+
+fn count_once(seen: &mut [u8], job: &Counted) {
+    let number = job.number as usize;
+    if job.turns == 1 && number < seen.len() {
+        seen[number] = seen[number].saturating_add(1);
+    }
+}
+
+// Hands all jobs out and takes each one home. It gives how often each came home turned once.
+fn hand_out<R: Wait>(
+    rt: &R,
+    alloc: Global,
+    slots: &JobSlots<Counted>,
+    clerk: &mut ClerkSeat<Counted>,
+) -> Result<Vec<u8>, AllocError>
+    requires { IsClerkOf slots.now clerk.old }
+    ensures { IsClerkOf slots.now clerk.new }
+{
+    let mut seen = Vec::from_elem(alloc, 0u8, MANY as usize)?;
+    let (mut next, mut home) = (0u32, 0u32);
+    for _ in rt.forever() {
+        if home >= MANY {
+            break;
+        }
+        next = offer_next(slots, clerk, next);
+        home = home.saturating_add(collect_all(slots, clerk, seen.as_mut_slice()));
+        thread::yield_now();
+    }
+    Ok(seen)
+}
+
+// A worker's seat is joined. It gives how many jobs the worker says that it ran.
+fn take_in(
+    slots: &JobSlots<Counted>,
+    clerk: &mut ClerkSeat<Counted>,
+    back: (WorkerSeat<Counted>, u32),
+) -> u32
+    requires { IsClerkOf slots.now clerk.old × IsWorkerOf slots.now back.0 }
+    ensures { IsClerkOf slots.now clerk.new }
+{
+    let (worker, ran) = back;
+    slots.join(clerk, worker);
+    ran
+}
+
+// One owner and four workers. It gives what came home, and how many jobs the workers say that they ran.
+fn hand_to_four<R: Threads + Wait + Abort + Sync>(
+    rt: &R,
+    alloc: Global,
+    slots: &JobSlots<Counted>,
+    clerk: ClerkSeat<Counted>,
+    first: WorkerSeat<Counted>,
+    second: WorkerSeat<Counted>,
+    third: WorkerSeat<Counted>,
+    fourth: WorkerSeat<Counted>,
+) -> (ClerkSeat<Counted>, Result<Vec<u8>, AllocError>, u32)
+    requires { IsClerkOf slots.now clerk × IsWorkerOf slots.now first × IsWorkerOf slots.now second × IsWorkerOf slots.now third × IsWorkerOf slots.now fourth }
+    ensures { IsClerkOf slots.now result.0 }
+{
+    let (stop, ran) = (AtomicBool::new(false), AtomicU32::new(0));
+    let (stop, ran) = (&stop, &ran);
+    thread::scope(
+        thread::scope_env(),
+        rt,
+        move |scope| -> (ClerkSeat<Counted>, Result<Vec<u8>, AllocError>, u32)
+            requires { IsClerkOf slots.now clerk × IsWorkerOf slots.now first × IsWorkerOf slots.now second × IsWorkerOf slots.now third × IsWorkerOf slots.now fourth }
+            ensures { IsClerkOf slots.entry.now result.0 }
+        {
+            let first = scope
+                .spawn_with(SeatOf(Snapshot::of(slots)), move || {
+                    work(rt, slots, first, stop, ran)
+                })
+                .ok()
+                .expect(rt, "a thread");
+            let second = scope
+                .spawn_with(SeatOf(Snapshot::of(slots)), move || {
+                    work(rt, slots, second, stop, ran)
+                })
+                .ok()
+                .expect(rt, "a thread");
+            let third = scope
+                .spawn_with(SeatOf(Snapshot::of(slots)), move || {
+                    work(rt, slots, third, stop, ran)
+                })
+                .ok()
+                .expect(rt, "a thread");
+            let fourth = scope
+                .spawn_with(SeatOf(Snapshot::of(slots)), move || {
+                    work(rt, slots, fourth, stop, ran)
+                })
+                .ok()
+                .expect(rt, "a thread");
+            let mut clerk = clerk;
+            let home = hand_out(rt, alloc, slots, &mut clerk);
+            stop.store(true, SeqCst);
+            let a = take_in(slots, &mut clerk, first.join(rt));
+            let b = take_in(slots, &mut clerk, second.join(rt));
+            let c = take_in(slots, &mut clerk, third.join(rt));
+            let d = take_in(slots, &mut clerk, fourth.join(rt));
+            (
+                clerk,
+                home,
+                a.saturating_add(b).saturating_add(c).saturating_add(d),
+            )
+        },
+    )
+}
+
+#[test]
+fn ten_thousand_jobs_come_home_turned_once(rt: HostRuntime) -> Result<(), Fail> {
+    let (slots, mut clerk) = JobSlots::make(rt.alloc(), 8)?;
+    let (first, second) = (slots.split(&mut clerk)?, slots.split(&mut clerk)?);
+    let (third, fourth) = (slots.split(&mut clerk)?, slots.split(&mut clerk)?);
+    let (clerk, home, ones) = hand_to_four(
+        &rt,
+        rt.alloc(),
+        &slots,
+        clerk,
+        first,
+        second,
+        third,
+        fourth,
+    );
+    let home = home?;
+    assert_eq!(rt; home.len(), MANY as usize);
+    assert!(rt; home.iter().all(|times| *times == 1));
+    assert_eq!(rt; ones, MANY);
+    assert_eq!(rt; slots.close(clerk).len(), 0);
+    Ok(())
+}

@@ -1,0 +1,15 @@
+pub mod Digits
+pub mod Reading
+pub mod Choices
+pub mod Saying
+pub mod Steps
+pub mod Walks
+pub mod Forms
+pub mod Faults
+pub mod Fronts
+pub mod Writings
+pub mod Streams
+pub mod Laws
+pub mod Cuts
+pub mod Pieces
+pub mod Standings

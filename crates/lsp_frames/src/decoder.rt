@@ -1,0 +1,97 @@
+//! The decoder of a stream of frames that comes in pieces.
+
+ghost use Rattle.std.specs.Prelude.{◌≡◌, ◌≤◌, ◌++◌, ℕ, List, [], OnOk, Err};
+ghost use Rattle.lsp_frames.specs.declared.frame.Frame.{Frame};
+ghost use Rattle.lsp_frames.specs.declared.frame.FrameFault.{FrameFault};
+ghost use Rattle.lsp_frames.specs.declared.fault.FeedFault.TheVariants.{Memory, Ended};
+ghost use Rattle.lsp_frames.specs.Contents.{Broken, IsOpen, end_of};
+ghost use Rattle.lsp_frames.specs.Decoding.{IfEnded, IfFed, StandsAfter};
+
+use crate::fault::FeedFault;
+use crate::frame::{End, Frame};
+use crate::items::Items;
+use crate::partial::{Partial, Stage};
+use std::alloc::Global;
+use std::marker::Model;
+
+/// No content is larger, whatever the limit that a decoder is given.
+pub const LARGEST_CONTENT: u32 = 16_777_216;
+
+/// Cuts a stream into frames, in whatever pieces it comes (LSP 3.17, "Base Protocol").
+///
+/// It keeps the bytes of the frame under way and no others, and makes room for a byte only once it has come: a head
+/// that promises much costs nothing. A feed costs its piece, the frames that it gives, and at most one head.
+#[derive(Drop)]
+pub struct Decoder {
+    alloc: Global,
+    limit: u32,
+    partial: Partial,
+}
+
+impl Model for Decoder {
+    ghost use Rattle.lsp_frames.specs.Decoding.{Decoding};
+    ghost use Rattle.lsp_frames.specs.Partials.{IsPartial, standing_of};
+
+    ghost Value = { Decoding };
+
+    ghost view = { λ decoder. record { limit = decoder.limit; standing = standing_of decoder.partial } };
+
+    ghost invariant = { λ decoder. IsPartial decoder.limit decoder.partial };
+}
+
+impl Decoder {
+    /// A decoder of contents of at most `limit` bytes, at a stream's start. Takes no memory.
+    pub fn new(alloc: Global, limit: u32) -> Decoder
+        requires { limit ≤ LARGEST_CONTENT }
+        ensures limit { result.limit ≡ limit }
+        ensures start { StandsAfter result [] [] }
+    {
+        Decoder {
+            alloc,
+            limit,
+            partial: Partial::in_head(alloc, Vec::new(alloc)),
+        }
+    }
+
+    /// The frames that this piece completes. `FeedFault::Ended` has those in front of the fault that it found.
+    pub fn feed(&mut self, piece: &[u8]) -> Result<Vec<Frame>, FeedFault>
+        ensures limit { self.new.limit ≡ self.old.limit }
+
+        // The frames given so far are those of the bytes fed so far, and so is what is left.
+        ensures stands { (bytes : List ℕ) (frames : List Frame) → StandsAfter self.old bytes frames →
+            IfFed result (λ given. StandsAfter self.new (bytes ++ piece.now) (frames ++ given)) }
+        ensures open { OnOk result (IsOpen self.new.standing) }
+        ensures ended { IfEnded result (λ fault. self.new.standing ≡ Broken fault) }
+
+        // Without memory nothing of the piece is taken.
+        ensures memory { result ≡ Err Memory → self.new ≡ self.old }
+
+        // After a fault there are no more frames, and memory isn't wanted.
+        ensures over { (fault : FrameFault) → self.old.standing ≡ Broken fault → result ≡ Err (Ended fault []) }
+    {
+        let frames = match self.partial.stage {
+            Stage::Ended(fault) => {
+                return Err(FeedFault::Ended(fault, Items::new(self.alloc)));
+            }
+            Stage::Head => self.partial.feed_head(self.alloc, self.limit, piece)?,
+            Stage::Content(size, foreign) => {
+                self.partial
+                    .feed_content(self.alloc, self.limit, size, foreign, piece)?
+            }
+        };
+        match self.partial.stage {
+            Stage::Ended(fault) => Err(FeedFault::Ended(fault, frames.into())),
+            _ => Ok(frames),
+        }
+    }
+
+    /// How the stream ends, if no more bytes come.
+    pub fn end(&self) -> End
+        ensures { result ≡ end_of self.now.standing }
+    {
+        self.partial.end()
+    }
+}
+
+#[cfg(test)]
+mod tests;

@@ -1,0 +1,46 @@
+-- Items of a document beside the values that they are the view of, and faults along them.
+use Rattle.std.proofs.Common.{◌≡◌, ℕ, ◌+◌, ◌<◌, List, [], ◌∷◌, length, get_or, take, drop, refl, ap, sym, ◌∙◌, arith, false, true≢false, Option, Some, None, is_some}
+use Rattle.std.proofs.lemmas.List.{take_more}
+use Rattle.toml.specs.Data.{item, push_item}
+use Rattle.method_steps.specs.declared.fault.TableFault.{TableFault}
+use Rattle.toml.specs.declared.value.Value.{Value}
+use Rattle.toml.specs.View.{view, items_view}
+use Rattle.toml.proofs.Views.{items_view-drop, items_view-push}
+use Rattle.method_steps.specs.Judged.{first_of, at_step, step_fault, steps_fault, method_fault, methods_fault}
+use Rattle.method_steps.specs.Limits.{items_len}
+
+pub items_len-view : (vs : List Value) → items_len (items_view vs) ≡ length vs
+items_len-view [] = refl
+items_len-view (v ∷ vs) = omega (arith, items_len-view vs)
+
+-- the item at a place, and those before and after it
+pub items_take : (vs : List Value) (i : ℕ) (v : Value) → i < length vs → get_or vs i v ≡ v → items_view (take (i + 1) vs) ≡ push_item (items_view (take i vs)) (view v)
+items_take vs i v within here = rw (take_more vs i v within, here) (items_view-push (take i vs) v)
+
+pub items_drop : (vs : List Value) (i : ℕ) (v : Value) → i < length vs → get_or vs i v ≡ v → items_view (drop i vs) ≡ item (view v) (items_view (drop (i + 1) vs))
+items_drop vs i v within here = items_view-drop vs i v within ∙ rw here refl
+
+pub steps_fault-step : (method : ℕ) (vs : List Value) (i : ℕ) (v : Value) → i < length vs → get_or vs i v ≡ v
+    → steps_fault method (items_view (take i vs)) (items_view (drop i vs))
+    ≡ first_of (at_step method (items_len (items_view (take i vs))) (step_fault (items_view (take i vs)) (view v))) (steps_fault method (items_view (take (i + 1) vs)) (items_view (drop (i + 1) vs)))
+steps_fault-step method vs i v within here = rw (items_drop vs i v within here, items_take vs i v within here)
+
+pub methods_fault-step : (vs : List Value) (i : ℕ) (v : Value) → i < length vs → get_or vs i v ≡ v
+    → methods_fault (items_view (take i vs)) (items_view (drop i vs))
+    ≡ first_of (method_fault (items_view (take i vs)) (view v)) (methods_fault (items_view (take (i + 1) vs)) (items_view (drop (i + 1) vs)))
+methods_fault-step vs i v within here = rw (items_drop vs i v within here, items_take vs i v within here)
+
+none_unless : {A : Type 0} (o : Option A) → is_some o ≡ false → o ≡ None
+none_unless None h = refl
+none_unless (Some a) h = absurd (true≢false h)
+
+-- where the item at a place has no fault, the first one is that of those after it
+pub steps_fault-next : (method : ℕ) (vs : List Value) (i : ℕ) (v : Value) (o : Option TableFault) → i < length vs → v ≡ get_or vs i v → o ≡ at_step method (items_len (items_view (take i vs))) (step_fault (items_view (take i vs)) (view v)) → is_some o ≡ false
+    → steps_fault method (items_view (take i vs)) (items_view (drop i vs)) ≡ steps_fault method (items_view (take (i + 1) vs)) (items_view (drop (i + 1) vs))
+steps_fault-next method vs i v o within here seen none =
+    steps_fault-step method vs i v within (sym here) ∙ ap (λ x. first_of x (steps_fault method (items_view (take (i + 1) vs)) (items_view (drop (i + 1) vs)))) (sym seen ∙ none_unless o none)
+
+pub methods_fault-next : (vs : List Value) (i : ℕ) (v : Value) (o : Option TableFault) → i < length vs → v ≡ get_or vs i v → o ≡ method_fault (items_view (take i vs)) (view v) → is_some o ≡ false
+    → methods_fault (items_view (take i vs)) (items_view (drop i vs)) ≡ methods_fault (items_view (take (i + 1) vs)) (items_view (drop (i + 1) vs))
+methods_fault-next vs i v o within here seen none =
+    methods_fault-step vs i v within (sym here) ∙ ap (λ x. first_of x (methods_fault (items_view (take (i + 1) vs)) (items_view (drop (i + 1) vs)))) (sym seen ∙ none_unless o none)

@@ -1,0 +1,9 @@
+pub mod DocumentOf
+pub mod Filled
+pub mod ItemsLaws
+pub mod MadeSteps
+pub mod MadeTemplates
+pub mod MethodsOf
+pub mod PlacesOf
+pub mod Views
+pub mod Within

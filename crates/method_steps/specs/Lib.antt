@@ -1,0 +1,15 @@
+pub mod Fault
+pub mod Fields
+pub mod Form
+pub mod FormFalls
+pub mod Judged
+pub mod Limits
+pub mod Made
+pub mod Methods
+pub mod Names
+pub mod References
+pub mod Shape
+pub mod Steps
+pub mod Templates
+pub mod Value
+pub mod Words

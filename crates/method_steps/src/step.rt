@@ -1,0 +1,87 @@
+//! What a method does.
+
+use crate::template::Template;
+use lsp_frames::Items;
+use rpc_messages::Text;
+
+/// What an error reply to a call does.
+#[derive(Clone, Copy, Debug, PartialEq, Eq)]
+pub enum OnError {
+    /// It ends the method with that error.
+    Fail,
+    /// The register tells of it, and the method goes on.
+    Keep,
+}
+
+/// One call of a batch of calls.
+#[derive(Debug, Drop)]
+pub struct ListedCall {
+    pub method: Text,
+    pub params: Option<Template>,
+}
+
+/// One step of a method.
+#[derive(Debug, Drop)]
+pub enum Step {
+    /// Puts the value into the register.
+    Set {
+        to: Text,
+        value: Template,
+    },
+    /// Puts the sum of two whole numbers into the register.
+    Add {
+        to: Text,
+        left: Template,
+        right: Template,
+    },
+    /// Skips the next `count` steps, 1 to 64, where both values have the same compact text.
+    Skip {
+        left: Template,
+        right: Template,
+        count: u32,
+    },
+    /// Makes one call, waits for its reply and puts it into the register.
+    Call {
+        to: Text,
+        method: Text,
+        params: Option<Template>,
+        on_error: OnError,
+    },
+    /// Makes one batch of 1 to 16 calls, waits for all replies and puts them into the register.
+    Calls {
+        to: Text,
+        list: Items<ListedCall>,
+        on_error: OnError,
+    },
+    /// Sends one notification.
+    Notify {
+        method: Text,
+        params: Option<Template>,
+    },
+    /// Ends with this result.
+    Answer {
+        value: Template,
+    },
+    /// Ends with this error, without data.
+    Fail {
+        code: i64,
+        message: Text,
+    },
+}
+
+impl Step {
+    ghost use Rattle.std.specs.Prelude.{◌≡◌};
+    ghost use Rattle.method_steps.specs.Steps.{calls_in, KeepsLimits};
+
+    /// How many calls the step makes at most.
+    pub fn calls(&self) -> u32
+        requires { KeepsLimits self.now }
+        ensures { result ≡ calls_in self.now }
+    {
+        match self {
+            Step::Call { .. } => 1,
+            Step::Calls { list, .. } => list.len() as u32,
+            _ => 0,
+        }
+    }
+}

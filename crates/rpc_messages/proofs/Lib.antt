@@ -1,0 +1,10 @@
+mod BatchLemmas
+mod BatchReadBack
+mod Contents
+mod Elements
+mod KeyLemmas
+mod ReadBack
+mod TakenMember
+mod WholeParts
+pub mod Stream
+pub mod Units

@@ -1,0 +1,44 @@
+ghost use Rattle.std.specs.Prelude.{◌≡◌};
+
+use crate::json_object::JsonObject;
+use crate::json_value::{Json, clone_of};
+use crate::text::Text;
+use std::alloc::{AllocError, Global};
+
+/// An error (JSON-RPC 2.0, section 5.1); `extra` is its member `data`.
+#[derive(Debug, Drop)]
+pub struct ErrorValue {
+    pub code: i64,
+    pub message: Text,
+    pub extra: Option<Json>,
+}
+
+impl ErrorValue {
+    ghost use Rattle.std.specs.Prelude.{◌≡◌, IfOk};
+    ghost use Rattle.rpc_messages.specs.Texts.{error_data};
+
+    /// The error object, of copies.
+    pub fn to_json(&self, alloc: Global) -> Result<Json, AllocError>
+        ensures { IfOk result (λ json. json ≡ error_data self.now) }
+    {
+        let object = JsonObject::new(alloc)
+            .with(alloc, "code", Json::integer(self.code))?
+            .with(alloc, "message", Json::string(self.message.clone()?))?;
+        match &self.extra {
+            Some(extra) => Ok(object.with(alloc, "data", extra.clone()?)?.finish()),
+            None => Ok(object.finish()),
+        }
+    }
+}
+
+impl Clone for ErrorValue {
+    ghost is_clone = { λ a b. b ≡ a };
+
+    fn clone(&self) -> Result<ErrorValue, AllocError> {
+        Ok(ErrorValue {
+            code: self.code,
+            message: self.message.clone()?,
+            extra: clone_of(&self.extra)?,
+        })
+    }
+}

@@ -1,0 +1,4 @@
+mod Answering
+mod Playing
+mod Players
+mod Steps
