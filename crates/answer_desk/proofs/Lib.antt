@@ -2,7 +2,11 @@ pub mod Answered
 pub mod Ascending
 pub mod Finished
 pub mod Forgotten
+pub mod Indexed
+pub mod Listed
 pub mod Marks
 pub mod Opening
+pub mod Popped
+pub mod Reached
 pub mod Views
 pub mod Windows

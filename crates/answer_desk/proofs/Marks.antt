@@ -1,39 +1,69 @@
--- Marking a front of the entries.
-use Rattle.std.proofs.Common.{◌≡◌, ℕ, min, suc, zero, ◌+◌, ◌-◌, ◌<◌, List, [], ◌∷◌, ◌++◌, length, get_or, set, map, take, drop, refl, ap, arith, add-one}
-use Rattle.std.proofs.lemmas.List.{get_or_read, take_min, drop_min}
+-- Marking the requests that a cancel reaches, one at a time.
+use Rattle.std.proofs.Common.{◌≡◌, ℕ, suc, zero, ◌<◌, ◌&&◌, List, [], ◌∷◌, set, refl, ap, arith, Bool, true, false, true≢false, if◌then◌else◌, sym, ◌∙◌, Option, Some, None, IfSome, IfNone, is_some}
 use Rattle.rpc_messages.specs.declared.id.Id.{Id}
 use Rattle.answer_desk.specs.declared.entry.Entry.{Entry}
-use Rattle.answer_desk.specs.declared.entry.Entry.TheVariants.{Over}
-use Rattle.answer_desk.specs.Entry.{with_mark}
-use Rattle.answer_desk.specs.Numbers.{with_marks_below, all_entries}
+use Rattle.answer_desk.specs.declared.entry.Entry.TheVariants.{Open, Answered, Over}
+use Rattle.answer_desk.specs.declared.mark.Mark.TheVariants.{New}
+use Rattle.answer_desk.specs.declared.number.Number.{Number}
+use Rattle.answer_desk.specs.Entry.{entry_at, with_mark}
+use Rattle.answer_desk.specs.Ids.{has_id}
+use Rattle.answer_desk.specs.Numbers.{with_marks_below, NoneReachedBelow}
+use Rattle.answer_desk.specs.Requests.{is_reached_by, count_in_reach}
+use Rattle.answer_desk.specs.State.{is_unmarked}
+use Rattle.answer_desk.proofs.Reached.{and_false}
+use Rattle.answer_desk.proofs.Indexed.{fewer-marked}
 
--- one entry more
-pub front_more : {X : Type 0} (f : X → X) (xs : List X) (i : ℕ) (d : X) → i < length xs
-    → set (map f (take i xs) ++ drop i xs) i (f (get_or (map f (take i xs) ++ drop i xs) i d)) ≡ map f (take (suc i) xs) ++ drop (suc i) xs
-front_more f [] i d below = absurd (omega arith)
-front_more f (x ∷ xs) zero d below = refl
-front_more f (x ∷ xs) (suc i) d below = ap (λ ys. f x ∷ ys) (front_more f xs i d (omega arith))
+-- a cancel leaves what it doesn't reach
 
--- what is before the window is over, and stays so
-pub with_marks_below-all : (id : Id) (first before : ℕ) (window : List Entry)
-    → with_marks_below id before (all_entries first window) ≡ all_entries first (with_marks_below id (before - first) window)
-with_marks_below-all id zero before window =
-    let same : before ≡ before - 0 = omega arith in
-    ap (λ reach. with_marks_below id reach window) same
-with_marks_below-all id (suc first) zero window =
-    let none : 0 - suc first ≡ 0 = omega arith in
-    rw none refl
-with_marks_below-all id (suc first) (suc before) window =
-    let same : suc before - suc first ≡ before - first = omega arith in
-    rw same (ap (λ ys. Over ∷ ys) (with_marks_below-all id first before window))
+left_if : (hit : Bool) (n : Number) → hit ≡ false → Open (if hit then record n { mark = New } else n) ≡ Open n
+left_if true n is = absurd (true≢false is)
+left_if false n is = refl
 
--- one step of a walk that marks
-pub marks_more : (id : Id) (entries now : List Entry) (i : ℕ) (was : Entry) → now ≡ with_marks_below id i entries
-    → i < length entries → i < length now → was ≡ get_or now i was → set now i (with_mark id was) ≡ with_marks_below id (i + 1) entries
-marks_more id entries now i was so_far below in_now read =
-    let there : was ≡ get_or now i Over = get_or_read now i was in_now read Over in
-    rw (there, so_far, add-one) (front_more (with_mark id) entries i Over below)
+unreached-left : (entry : Entry) (id : Id) → is_reached_by id entry ≡ false → with_mark id entry ≡ entry
+unreached-left (Open n) id is = left_if (has_id id n.id && is_unmarked n.mark) n is
+unreached-left (Answered other reply) id is = refl
+unreached-left Over id is = refl
 
--- a cancel that reaches past the end of the window
-pub with_marks_below-min : (id : Id) (reach : ℕ) (window : List Entry) → with_marks_below id (min reach (length window)) window ≡ with_marks_below id reach window
-with_marks_below-min id reach window = rw (take_min reach window, drop_min reach window) refl
+pub with_marks_below-none : (id : Id) (before : ℕ) (entries : List Entry) → NoneReachedBelow id before entries → with_marks_below id before entries ≡ entries
+with_marks_below-none id zero entries none = refl
+with_marks_below-none id (suc before) [] none = refl
+with_marks_below-none id (suc before) (e ∷ es) none =
+    rw (unreached-left e id (none zero (omega arith)), with_marks_below-none id before es (λ k below. none (suc k) (omega arith))) refl
+
+-- a second cancel of the same id changes nothing
+
+again_if : (hit : Bool) (id : Id) (n : Number) → hit ≡ (has_id id n.id && is_unmarked n.mark) → with_mark id (Open (if hit then record n { mark = New } else n)) ≡ Open (if hit then record n { mark = New } else n)
+again_if true id n is = left_if (has_id id n.id && false) (record n { mark = New }) (and_false (has_id id n.id))
+again_if false id n is = left_if (has_id id n.id && is_unmarked n.mark) n (sym is)
+
+marked-again : (entry : Entry) (id : Id) → with_mark id (with_mark id entry) ≡ with_mark id entry
+marked-again (Open n) id = again_if (has_id id n.id && is_unmarked n.mark) id n refl
+marked-again (Answered other reply) id = refl
+marked-again Over id = refl
+
+pub with_marks_below-one : (id : Id) (before n : ℕ) (entries : List Entry) → n < before
+    → with_marks_below id before (set entries n (with_mark id (entry_at entries n))) ≡ with_marks_below id before entries
+with_marks_below-one id zero n entries below = absurd (omega arith)
+with_marks_below-one id (suc before) n [] below = refl
+with_marks_below-one id (suc before) zero (e ∷ es) below = ap (λ e'. e' ∷ with_marks_below id before es) (marked-again e id)
+with_marks_below-one id (suc before) (suc n) (e ∷ es) below = ap (λ es'. with_mark id e ∷ es') (with_marks_below-one id before n es (omega arith))
+
+-- one step of the walk over the requests that a cancel reaches
+
+abbrev pub MarkedOne : Id → ℕ → List Entry → List Entry → ℕ → Type 0
+MarkedOne id before was now n = (n < before) × (is_reached_by id (entry_at was n) ≡ true) × (now ≡ set was n (with_mark id (entry_at was n)))
+
+pub marks-step : (id : Id) (before : ℕ) (was now all : List Entry) (result : Option ℕ) → is_some result ≡ true → IfSome result (MarkedOne id before was now)
+    → with_marks_below id before was ≡ all → with_marks_below id before now ≡ all
+marks-step id before was now all None some one so_far = absurd (true≢false (sym some))
+marks-step id before was now all (Some n) some one so_far = ap (with_marks_below id before) one.2 ∙ with_marks_below-one id before n was one.0 ∙ so_far
+
+pub marks-fewer : (id : Id) (before : ℕ) (was now : List Entry) (result : Option ℕ) → is_some result ≡ true → IfSome result (MarkedOne id before was now)
+    → count_in_reach now < count_in_reach was
+marks-fewer id before was now None some one = absurd (true≢false (sym some))
+marks-fewer id before was now (Some n) some one = omega (arith, ap count_in_reach one.2, fewer-marked was n id one.1)
+
+pub marks-done : (id : Id) (before : ℕ) (was now all : List Entry) (result : Option ℕ) → is_some result ≡ false → IfNone result ((now ≡ was) × NoneReachedBelow id before was)
+    → with_marks_below id before was ≡ all → now ≡ all
+marks-done id before was now all None none end so_far = end.0 ∙ sym (with_marks_below-none id before was end.1) ∙ so_far
+marks-done id before was now all (Some n) none end so_far = absurd (true≢false none)

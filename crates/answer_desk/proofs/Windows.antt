@@ -1,14 +1,12 @@
 -- The entries of all numbers and those of the window.
 use Rattle.std.proofs.Common.{◌≡◌, ℕ, suc, zero, ◌+◌, ◌-◌, ◌<◌, ◌≤◌, List, [], ◌∷◌, ◌++◌, length, get_or, set, drop, replicate, refl, ap, sym, ◌∙◌, arith, Bool, true, false, if◌then◌else◌, Option, Some, None}
-use Rattle.std.proofs.lemmas.List.{get_or-append_right, get_or_past, set-append_right, set-get_or, length-append, length-replicate, length-set, get_or_read, append_assoc}
+use Rattle.std.proofs.lemmas.List.{get_or-append_right, get_or_past, set-append_right, set-get_or, length-append, length-replicate, length-set, get_or_read}
 use Rattle.answer_desk.specs.declared.entry.Entry.{Entry}
 use Rattle.answer_desk.specs.declared.entry.Entry.TheVariants.{Open, Answered, Over}
 use Rattle.answer_desk.specs.declared.number.Number.{Number}
-use Rattle.answer_desk.specs.State.{is_new}
-use Rattle.answer_desk.specs.declared.mark.Mark.TheVariants.{Told}
 use Rattle.rpc_messages.specs.declared.id.Id.{Id}
 use Rattle.rpc_messages.specs.declared.reply.Reply.{Reply}
-use Rattle.answer_desk.specs.Entry.{entry_at, is_kept_entry, is_new_entry, changed_entry, with_told, answered_entry, answer_kept, forgotten_entry}
+use Rattle.answer_desk.specs.Entry.{entry_at, is_kept_entry, is_new_entry, changed_entry, with_told, answered_entry, answer_kept}
 use Rattle.answer_desk.specs.Numbers.{all_entries, begins_kept, IsWindow, NoNewBelow}
 
 pub length-all : (first : ℕ) (window : List Entry) → length (all_entries first window) ≡ first + length window
@@ -83,33 +81,18 @@ is_kept-changed change (Open n) = refl
 is_kept-changed change (Answered id reply) = refl
 is_kept-changed change Over = refl
 
-is_new-changed : (change : Number → Number) → ((n : Number) → is_new (change n).mark ≡ is_new n.mark) → (entry : Entry)
-    → is_new_entry (changed_entry change entry) ≡ is_new_entry entry
-is_new-changed change same (Open n) = same n
-is_new-changed change same (Answered id reply) = refl
-is_new-changed change same Over = refl
-
-all_new_same : (first : ℕ) (window : List Entry) (i k : ℕ) (entry : Entry) → is_new_entry entry ≡ is_new_entry (entry_at window i)
-    → is_new_entry (entry_at (all_entries first (set window i entry)) k) ≡ is_new_entry (entry_at (all_entries first window) k)
-all_new_same zero window i k entry same = is_new-set window i k entry same
-all_new_same (suc first) window i zero entry same = refl
-all_new_same (suc first) window i (suc k) entry same = all_new_same first window i k entry same
-
--- a change of one open number that leaves its mark
-pub IsWindow-changed : (change : Number → Number) → ((n : Number) → is_new (change n).mark ≡ is_new n.mark)
-    → (first i new_from : ℕ) (window : List Entry) (was : Entry) → i < length window → was ≡ get_or window i was
-    → IsWindow first window new_from → IsWindow first (set window i (changed_entry change was)) new_from
-IsWindow-changed change same first i new_from window was below read inv =
+-- a change of one open number
+pub IsWindow-changed : (change : Number → Number) (first i : ℕ) (window : List Entry) (was : Entry) → i < length window → was ≡ get_or window i was
+    → IsWindow first window → IsWindow first (set window i (changed_entry change was))
+IsWindow-changed change first i window was below read inv =
     let there : was ≡ entry_at window i = get_or_read window i was below read Over in
     let entry : Entry = changed_entry change was in
-    let new_same : is_new_entry entry ≡ is_new_entry (entry_at window i) = is_new-changed change same was ∙ ap is_new_entry there in
     let kept_same : is_kept_entry entry ≡ is_kept_entry (entry_at window i) = is_kept-changed change was ∙ ap is_kept_entry there in
     let long : length (set window i entry) ≡ length window = length-set window i entry in
     record {
       few = rw long inv.few;
       some_given = rw long inv.some_given;
       trimmed = begins_kept-same window i entry below kept_same ∙ inv.trimmed;
-      told = λ k under. all_new_same first window i k entry new_same ∙ inv.told k under;
     }
 
 no_new_in : (entries : List Entry) → NoNewBelow (length entries) entries → (k : ℕ) → is_new_entry (entry_at entries k) ≡ false
@@ -118,49 +101,28 @@ no_new_in (e ∷ es) none zero = none zero (omega arith)
 no_new_in (e ∷ es) none (suc k) = no_new_in es (λ j below. none (suc j) (omega arith)) k
 
 -- new entries that aren't newly marked leave the numbers that are
-is_new-append : (entries new : List Entry) → NoNewBelow (length new) new → (k : ℕ)
+pub is_new-append : (entries new : List Entry) → NoNewBelow (length new) new → (k : ℕ)
     → is_new_entry (entry_at (entries ++ new) k) ≡ is_new_entry (entry_at entries k)
 is_new-append [] new none k = no_new_in new none k
 is_new-append (e ∷ es) new none zero = refl
 is_new-append (e ∷ es) new none (suc k) = is_new-append es new none k
 
-pub IsWindow-appended : (done : Bool) (first new_from : ℕ) (window new : List Entry)
-    → first + length window + length new ≤ 1000001 → begins_kept new ≡ true → NoNewBelow (length new) new
-    → IsWindow first window new_from → IsWindow first (if done then window ++ new else window) new_from
-IsWindow-appended false first new_from window new room keeps unmarked inv = inv
-IsWindow-appended true first new_from window new room keeps unmarked inv =
+pub IsWindow-appended : (done : Bool) (first : ℕ) (window new : List Entry)
+    → first + length window + length new ≤ 1000001 → begins_kept new ≡ true
+    → IsWindow first window → IsWindow first (if done then window ++ new else window)
+IsWindow-appended false first window new room keeps inv = inv
+IsWindow-appended true first window new room keeps inv =
     let long : length (window ++ new) ≡ length window + length new = length-append window new in
     record {
       few = rw long (omega arith);
       some_given = let some : 0 < first + length window = inv.some_given in rw long (omega arith);
       trimmed = begins_kept-append window new inv.trimmed keeps;
-      told = λ k under.
-          ap (λ es. is_new_entry (entry_at es k)) (sym (append_assoc (replicate first Over) window new))
-          ∙ is_new-append (all_entries first window) new unmarked k ∙ inv.told k under;
     }
 
--- the numbers before the window are not newly marked, so a walk may begin inside it
-pub none_new_inside : (first new_from : ℕ) (window : List Entry) → NoNewBelow new_from (all_entries first window) → NoNewBelow (new_from - first) window
-none_new_inside first new_from window none k below =
-    let shift : (first + k) - first ≡ k = omega arith in
-    let there : entry_at (all_entries first window) (first + k) ≡ entry_at window k =
-    entry_at-inside first (first + k) window (omega arith) ∙ ap (entry_at window) shift in
-    ap is_new_entry (sym there) ∙ none (first + k) (omega arith)
-
-told_not_new : (entry : Entry) → is_new_entry (with_told entry) ≡ false
+pub told_not_new : (entry : Entry) → is_new_entry (with_told entry) ≡ false
 told_not_new (Open n) = refl
 told_not_new (Answered id reply) = refl
 told_not_new Over = refl
-
-stays_old : (first : ℕ) (window : List Entry) (i k : ℕ) (entry : Entry) → (is_new_entry (entry_at window i) ≡ false → is_new_entry entry ≡ false)
-    → is_new_entry (entry_at (all_entries first window) k) ≡ false → is_new_entry (entry_at (all_entries first (set window i entry)) k) ≡ false
-stays_old (suc first) window i zero entry old was = refl
-stays_old (suc first) window i (suc k) entry old was = stays_old first window i k entry old was
-stays_old zero [] i k entry old was = refl
-stays_old zero (e ∷ es) zero zero entry old was = old was
-stays_old zero (e ∷ es) zero (suc k) entry old was = was
-stays_old zero (e ∷ es) (suc i) zero entry old was = was
-stays_old zero (e ∷ es) (suc i) (suc k) entry old was = stays_old zero es i k entry old was
 
 answer_not_new : (reply : Reply) (id : Option Id) → is_new_entry (answer_kept reply id) ≡ false
 answer_not_new reply None = refl
@@ -172,51 +134,28 @@ answered_not_new reply (Open n) = answer_not_new reply n.id
 answered_not_new reply (Answered id old) = refl
 answered_not_new reply Over = refl
 
-forgotten_not_new : (entry : Entry) → is_new_entry entry ≡ false → is_new_entry (forgotten_entry entry) ≡ false
-forgotten_not_new (Open n) old = old
-forgotten_not_new (Answered id reply) old = refl
-forgotten_not_new Over old = refl
-
-pub forgotten_stays_old : (window : List Entry) (i : ℕ) (was : Entry) → i < length window → was ≡ get_or window i was
-    → is_new_entry (entry_at window i) ≡ false → is_new_entry (forgotten_entry was) ≡ false
-forgotten_stays_old window i was below read old =
-    forgotten_not_new was (ap is_new_entry (get_or_read window i was below read Over) ∙ old)
-
--- once the lowest newly marked entry of the window was told
-pub NoNewBelow-told : (first i : ℕ) (window : List Entry) (was : Entry) → NoNewBelow i window → NoNewBelow ((first + i) + 1) (all_entries first (set window i (with_told was)))
-NoNewBelow-told (suc first) i window was none zero below = refl
-NoNewBelow-told (suc first) i window was none (suc k) below = NoNewBelow-told first i window was none k (omega arith)
-NoNewBelow-told zero i [] was none k below = refl
-NoNewBelow-told zero zero (e ∷ es) was none zero below = told_not_new was
-NoNewBelow-told zero zero (e ∷ es) was none (suc k) below = absurd (omega arith)
-NoNewBelow-told zero (suc i) (e ∷ es) was none zero below = none zero (omega arith)
-NoNewBelow-told zero (suc i) (e ∷ es) was none (suc k) below = NoNewBelow-told zero i es was (λ j under. none (suc j) (omega arith)) k (omega arith)
-
-pub IsWindow-told : (first i new_from : ℕ) (window : List Entry) (was : Entry) → i < length window → was ≡ get_or window i was → NoNewBelow i window
-    → IsWindow first window new_from → IsWindow first (set window i (with_told was)) ((first + i) + 1)
-IsWindow-told first i new_from window was below read none inv =
-    let there : was ≡ entry_at window i = get_or_read window i was below read Over in
-    let kept_same : is_kept_entry (with_told was) ≡ is_kept_entry (entry_at window i) = is_kept-changed (λ (n : Number). record n { mark = Told }) was ∙ ap is_kept_entry there in
-    let long : length (set window i (with_told was)) ≡ length window = length-set window i (with_told was) in
-    record {
-      few = rw long inv.few;
-      some_given = rw long inv.some_given;
-      trimmed = begins_kept-same window i (with_told was) below kept_same ∙ inv.trimmed;
-      told = NoNewBelow-told first i window was none;
-    }
-
--- an entry gave way to one that isn't newly marked where it wasn't, and then the window was trimmed
-pub IsWindow-trimmed : (first first' i new_from : ℕ) (window window' : List Entry) (entry : Entry)
-    → (is_new_entry (entry_at window i) ≡ false → is_new_entry entry ≡ false) → i < length window
-    → all_entries first' window' ≡ all_entries first (set window i entry) → begins_kept window' ≡ true
-    → first' + length window' ≡ first + length (set window i entry)
-    → IsWindow first window new_from → IsWindow first' window' new_from
-IsWindow-trimmed first first' i new_from window window' entry old below same trimmed end inv =
+-- an entry gave way to another, and then the window was trimmed
+pub IsWindow-trimmed : (first first' i : ℕ) (window window' : List Entry) (entry : Entry) → begins_kept window' ≡ true
+    → first' + length window' ≡ first + length (set window i entry) → IsWindow first window → IsWindow first' window'
+IsWindow-trimmed first first' i window window' entry trimmed end inv =
     let long : length (set window i entry) ≡ length window = length-set window i entry in
     let total : first' + length window' ≡ first + length window = end ∙ ap (λ n. first + n) long in
     record {
       few = rw total inv.few;
       some_given = rw total inv.some_given;
       trimmed = trimmed;
-      told = λ k under. ap (λ es. is_new_entry (entry_at es k)) same ∙ stays_old first window i k entry old (inv.told k under);
     }
+
+-- a change in the window, as one of all entries
+pub all-set : (first i : ℕ) (window : List Entry) (entry : Entry) → all_entries first (set window i entry) ≡ set (all_entries first window) (first + i) entry
+all-set first i window entry =
+    let shift : (first + i) - first ≡ i = omega arith in
+    sym (set-inside first (first + i) window entry (omega arith) ∙ ap (λ j. all_entries first (set window j entry)) shift)
+
+pub all-at : (first i : ℕ) (window : List Entry) → entry_at (all_entries first window) (first + i) ≡ entry_at window i
+all-at first i window =
+    let shift : (first + i) - first ≡ i = omega arith in
+    entry_at-inside first (first + i) window (omega arith) ∙ ap (entry_at window) shift
+
+pub all-read : (first i : ℕ) (window : List Entry) (was : Entry) → i < length window → was ≡ get_or window i was → entry_at (all_entries first window) (first + i) ≡ was
+all-read first i window was below read = all-at first i window ∙ sym (get_or_read window i was below read Over)

@@ -4,6 +4,8 @@ pub mod Ids
 pub mod Numbers
 pub mod Places
 pub mod Replies
+pub mod Requests
+pub mod Shell
 pub mod State
 pub mod Units
 pub mod Waiting

@@ -6,6 +6,7 @@ use crate::front::{Front, drop_front};
 use crate::numbers::Numbers;
 use crate::opened::Opened;
 use crate::put::Put;
+use crate::queue::shrink_queue;
 use crate::shape::Shape;
 use crate::waiting_unit::WaitingUnit;
 use lsp_frames::Items;
@@ -167,6 +168,8 @@ impl Desk {
         } = front;
         drop_front(&mut self.numbers, &mut self.units, count);
         self.settled = settled;
+        self.numbers.shrink();
+        shrink_queue(&mut self.units);
         Ok(Items::from(texts))
     }
 }

@@ -1,4 +1,4 @@
-ghost use Rattle.std.specs.Prelude.{◌≡◌, is_some};
+ghost use Rattle.std.specs.Prelude.{◌≡◌, is_some, option_copied};
 ghost use Rattle.answer_desk.specs.Ids.{has_id};
 ghost use Rattle.answer_desk.specs.Replies.{put_into, given_by};
 ghost use Rattle.answer_desk.specs.State.{is_new, is_unmarked};
@@ -20,6 +20,7 @@ pub enum Entry {
 }
 
 impl Entry {
+    ghost use Rattle.answer_desk.specs.Requests.{id_in_reach_of};
     ghost use Rattle.answer_desk.specs.Entry.{entry_slot, with_put, with_taken, with_mark, with_told, is_new_entry, is_marked_entry, answered_entry, forgotten_entry, is_kept_entry, open_number};
 
     pub fn put_reply(&mut self, turn: u32, reply: Reply) -> Put
@@ -78,6 +79,16 @@ impl Entry {
         match self {
             Entry::Open(number) => number.mark != Mark::Unmarked,
             Entry::Answered { .. } | Entry::Over => false,
+        }
+    }
+
+    /// The id, where this is an open request that no cancel has reached.
+    pub fn id_in_reach(&self) -> Option<&Id>
+        ensures { option_copied result ≡ id_in_reach_of self.now }
+    {
+        match self {
+            Entry::Open(number) => number.id_in_reach(),
+            Entry::Answered { .. } | Entry::Over => None,
         }
     }
 

@@ -1,4 +1,4 @@
-ghost use Rattle.std.specs.Prelude.{◌≡◌};
+ghost use Rattle.std.specs.Prelude.{◌≡◌, option_copied};
 
 use crate::entry::Entry;
 use crate::mark::Mark;
@@ -16,7 +16,8 @@ pub struct Number {
 
 impl Number {
     ghost use Rattle.answer_desk.specs.Ids.{has_id};
-    ghost use Rattle.answer_desk.specs.State.{number_marked};
+    ghost use Rattle.answer_desk.specs.Requests.{id_if};
+    ghost use Rattle.answer_desk.specs.State.{number_marked, is_unmarked};
     ghost use Rattle.answer_desk.specs.Entry.{answered_number};
 
     pub fn has_id(&self, id: &Id) -> bool
@@ -25,6 +26,17 @@ impl Number {
         match &self.id {
             Some(other) => other == id,
             None => false,
+        }
+    }
+
+    /// The id, where this is a request that no cancel has reached.
+    pub fn id_in_reach(&self) -> Option<&Id>
+        ensures { option_copied result ≡ id_if (is_unmarked self.now.mark) self.now.id }
+    {
+        if self.mark == Mark::Unmarked {
+            self.id.as_ref()
+        } else {
+            None
         }
     }
 

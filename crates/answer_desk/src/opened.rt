@@ -2,11 +2,11 @@ ghost use Rattle.std.specs.Prelude.{◌≡◌, ◌+◌, ◌≤◌, ◌++◌, [],
 ghost use Rattle.answer_desk.specs.Places.{new_number};
 ghost use Rattle.answer_desk.specs.Units.{entries_of_place, new_entries, stub_of_call, stub_of_place, new_stubs};
 
-use crate::entry::Entry;
 use crate::mark::Mark;
 use crate::number::Number;
 use crate::place::Place;
 use crate::replies::Replies;
+use crate::shell::Shell;
 use crate::stub::Stub;
 use rpc_messages::Id;
 use std::alloc::{AllocError, Global};
@@ -15,7 +15,7 @@ use std::collections::VecDeque;
 /// What a unit that arrives needs: an entry for each of its calls, and a stub for each of its places.
 #[derive(Debug, Drop)]
 pub struct Opened {
-    pub entries: Vec<Entry>,
+    pub entries: Vec<Shell>,
     pub stubs: Vec<Stub>,
 }
 
@@ -52,11 +52,11 @@ fn stub_of(number: u32, place: &Place) -> Stub
     }
 }
 
-fn open_call(alloc: Global, entries: &mut Vec<Entry>, place: Place) -> Result<(), AllocError>
+fn open_call(alloc: Global, entries: &mut Vec<Shell>, place: Place) -> Result<(), AllocError>
     ensures { OnOk result (entries.new.items ≡ entries.old.items ++ entries_of_place place) }
 {
     if let Place::Numbered { id, most } = place {
-        entries.push(Entry::Open(opened_number(alloc, id, most)?))?;
+        entries.push(Shell::open(alloc, opened_number(alloc, id, most)?)?)?;
     }
     Ok(())
 }

@@ -23,4 +23,4 @@ pub use law::{
     contents_are_a_function_of_the_bytes, contents_stay, front_is_a_frame, front_shows_a_fault,
     no_bytes_show_an_end, no_frame_extends_another, written_frame_is_read_back,
 };
-pub use writing::encode;
+pub use writing::{encode, put_frame, put_head};

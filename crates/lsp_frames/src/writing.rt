@@ -1,17 +1,40 @@
 //! Writing a frame.
 
-ghost use Rattle.std.specs.Prelude.{◌≡◌, ◌++◌, IfOk, codes, decimal, length};
+ghost use Rattle.std.specs.Prelude.{◌≡◌, ◌++◌, IfOk, OnOk, codes, decimal, length};
 
+use itoa::Buffer;
 use std::alloc::{AllocError, Global};
+
+/// No head that is written is longer: the words around a number of at most 20 digits.
+const HEAD_ROOM: usize = 40;
 
 /// The frame of a content: `Content-Length: N`, CR LF, CR LF, and the content.
 pub fn encode(alloc: Global, content: &[u8]) -> Result<Vec<u8>, AllocError>
     ensures { IfOk result (λ bytes.
         bytes.items ≡ codes "Content-Length: " ++ decimal (length content.now) ++ codes "\r\n\r\n" ++ content.now) }
 {
-    let head = format!(in alloc; "Content-Length: {}\r\n\r\n", content.len())?;
-    let mut bytes = Vec::with_capacity(alloc, head.len() + content.len())?;
-    bytes.extend_from_slice(head.as_bytes())?;
-    bytes.extend_from_slice(content)?;
+    let mut bytes = Vec::with_capacity(alloc, HEAD_ROOM + content.len())?;
+    put_frame(&mut bytes, content)?;
     Ok(bytes)
+}
+
+/// Puts the frame of a content behind the bytes; the content is copied once. After an error a part of it may stand there.
+pub fn put_frame(bytes: &mut Vec<u8>, content: &[u8]) -> Result<(), AllocError>
+    ensures { OnOk result (bytes.new.items ≡ bytes.old.items
+        ++ codes "Content-Length: " ++ decimal (length content.now) ++ codes "\r\n\r\n" ++ content.now) }
+{
+    put_head(bytes, content.len())?;
+    bytes.extend_from_slice(content)
+}
+
+/// Puts the head of a content of `length` bytes behind the bytes: `Content-Length: N`, CR LF, CR LF. After an error a part of it
+/// may stand there.
+pub fn put_head(bytes: &mut Vec<u8>, length: usize) -> Result<(), AllocError>
+    ensures { OnOk result (bytes.new.items ≡ bytes.old.items
+        ++ codes "Content-Length: " ++ decimal length ++ codes "\r\n\r\n") }
+{
+    let mut digits = Buffer::new();
+    bytes.extend_from_slice(b"Content-Length: ")?;
+    bytes.extend_from_slice(digits.format(length).as_bytes())?;
+    bytes.extend_from_slice(b"\r\n\r\n")
 }

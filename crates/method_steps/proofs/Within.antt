@@ -13,7 +13,7 @@ use Rattle.method_steps.specs.declared.fault.FaultKind.{FaultKind}
 use Rattle.method_steps.specs.declared.fault.TableFault.{TableFault}
 use Rattle.method_steps.specs.declared.read.kind.Kind.{Kind}
 use Rattle.method_steps.specs.declared.read.kind.Kind.TheVariants as kind
-use Rattle.method_steps.specs.declared.step.Step.{Step}
+use Rattle.method_steps.specs.Steps.{Step}
 use Rattle.method_steps.specs.declared.step.Step.TheVariants as step
 use Rattle.method_steps.specs.Fields.{field_named, kind_of, has, has_fields, fields_hold}
 use Rattle.method_steps.specs.Judged.{first_of, at_step, fault_if_kind, step_fault, steps_fault, has_method_fields, is_used, fault_of_method, method_fault, methods_fault, has_version, document_fields_hold, document_fault, list_at, word_at}

@@ -12,7 +12,7 @@ use Rattle.method_steps.specs.declared.read.kind.Kind.TheVariants as kind
 use Rattle.method_steps.specs.declared.step.ListedCall.{ListedCall}
 use Rattle.method_steps.specs.declared.step.OnError.{OnError}
 use Rattle.method_steps.specs.declared.step.OnError.TheVariants as on_error
-use Rattle.method_steps.specs.declared.step.Step.{Step}
+use Rattle.method_steps.specs.Steps.{Step}
 use Rattle.method_steps.specs.declared.step.Step.TheVariants as step
 use Rattle.method_steps.specs.Fault.{in_document}
 use Rattle.method_steps.specs.Fields.{kind_of}

@@ -5,8 +5,14 @@ use Rattle.std.specs.declared.alloc.Global.{Global}
 use Rattle.std.specs.declared.sync.Arc.{Arc}
 use Rattle.std.specs.List.{position_from}
 use Rattle.std.specs.Str.{bytes_eq}
-use Rattle.method_steps.specs.declared.step.Step.{Step}
+use Rattle.method_steps.specs.Shape.{Shape}
+use Rattle.method_steps.specs.declared.step.ListedCall.{ListedCall}
+use Rattle.method_steps.specs.declared.step.Step.{Step as StepOf}
 use Rattle.method_steps.specs.declared.step.Step.TheVariants as step
+
+-- a step of a method
+abbrev pub Step : Type 0
+Step = StepOf Shape (List ListedCall)
 
 -- the calls that a step makes at most
 abbrev pub calls_in : Step → ℕ

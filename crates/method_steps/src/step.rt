@@ -20,47 +20,48 @@ pub struct ListedCall {
     pub params: Option<Template>,
 }
 
-/// One step of a method.
+/// One step of a method. Its parts are parameters, of which one choice is used, so that whether a step may go to another
+/// thread is asked of each part by itself.
 #[derive(Debug, Drop)]
-pub enum Step {
+pub enum Step<T = Template, L = Items<ListedCall>> {
     /// Puts the value into the register.
     Set {
         to: Text,
-        value: Template,
+        value: T,
     },
     /// Puts the sum of two whole numbers into the register.
     Add {
         to: Text,
-        left: Template,
-        right: Template,
+        left: T,
+        right: T,
     },
     /// Skips the next `count` steps, 1 to 64, where both values have the same compact text.
     Skip {
-        left: Template,
-        right: Template,
+        left: T,
+        right: T,
         count: u32,
     },
     /// Makes one call, waits for its reply and puts it into the register.
     Call {
         to: Text,
         method: Text,
-        params: Option<Template>,
+        params: Option<T>,
         on_error: OnError,
     },
     /// Makes one batch of 1 to 16 calls, waits for all replies and puts them into the register.
     Calls {
         to: Text,
-        list: Items<ListedCall>,
+        list: L,
         on_error: OnError,
     },
     /// Sends one notification.
     Notify {
         method: Text,
-        params: Option<Template>,
+        params: Option<T>,
     },
     /// Ends with this result.
     Answer {
-        value: Template,
+        value: T,
     },
     /// Ends with this error, without data.
     Fail {

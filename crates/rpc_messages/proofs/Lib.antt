@@ -1,3 +1,4 @@
+mod AnswerTexts
 mod BatchLemmas
 mod BatchReadBack
 mod Contents

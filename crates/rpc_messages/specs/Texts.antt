@@ -89,6 +89,13 @@ notice_text_of o = compact_text (notice_of o)
 abbrev pub batch_text_of : List (List ℕ) → List ℕ
 batch_text_of texts = codes "[" ++ join_with_byte 44 texts ++ codes "]"
 
+-- the parts of a response's text around the text of its result or error
+abbrev pub done_text : Id → List ℕ → List ℕ
+done_text id text = codes "{\"id\":" ++ (compact_text (id_data id) ++ (codes ",\"jsonrpc\":\"2.0\",\"result\":" ++ (text ++ codes "}")))
+
+abbrev pub error_text : Id → List ℕ → List ℕ
+error_text id text = codes "{\"error\":" ++ (text ++ (codes ",\"id\":" ++ (compact_text (id_data id) ++ codes ",\"jsonrpc\":\"2.0\"}")))
+
 -- ---- reading back
 
 -- serde_json writes the value so, and reads it back

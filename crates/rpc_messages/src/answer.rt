@@ -1,16 +1,20 @@
-ghost use Rattle.std.specs.Prelude.{◌≡◌, ◌≤◌, ◌<◌, Some, List, IfOk, codes, length, map};
-ghost use Rattle.serde_json.specs.Data.{Data, depth, array, member, no_members};
+ghost use Rattle.std.specs.Prelude.{◌≡◌, ◌≤◌, ◌<◌, ◌++◌, Some, List, IfOk, OnOk, length, map};
+ghost use Rattle.json.specs.Print.{quoted};
+ghost use Rattle.serde_json.specs.Data.{Data, depth, array};
 ghost use Rattle.serde_json.specs.Read.{read, max_depth};
 ghost use Rattle.serde_json.specs.View.{items_of};
-ghost use Rattle.rpc_messages.specs.Texts.{answer_of, answer_text_of, error_answer_of, id_data, versioned, batch_text_of, AreTextsOf};
+ghost use Rattle.serde_json.specs.Written.{compact_text};
+ghost use Rattle.rpc_messages.specs.Texts.{answer_of, answer_text_of, done_text, error_text, id_data, batch_text_of, AreTextsOf};
 
-use crate::error_value::ErrorValue;
 use crate::id::Id;
-use crate::json_object::JsonObject;
-use crate::json_value::Json;
 use crate::reply::Reply;
-use crate::version::version;
+use itoa::Buffer;
+use json::Writer;
 use std::alloc::{AllocError, Global};
+use std::mem;
+
+/// The room that is made for what stands around a response's result or error, in bytes. A long id takes more.
+const ROOM: usize = 64;
 
 /// The text of a response (JSON-RPC 2.0, section 5), with no space.
 pub fn answer_text(alloc: Global, id: &Id, reply: &Reply) -> Result<Vec<u8>, AllocError>
@@ -18,37 +22,82 @@ pub fn answer_text(alloc: Global, id: &Id, reply: &Reply) -> Result<Vec<u8>, All
     ensures reads_back { IfOk result (λ bytes. depth (answer_of id.now reply.now) ≤ max_depth
         → read bytes.items ≡ Some (answer_of id.now reply.now)) }
 {
-    answer(alloc, id, reply)?.to_bytes(alloc)
+    let mut bytes = Vec::new(alloc);
+    put_answer(alloc, &mut bytes, id, reply)?;
+    Ok(bytes)
 }
 
-fn answer(alloc: Global, id: &Id, reply: &Reply) -> Result<Json, AllocError>
-    ensures { IfOk result (λ json. json ≡ answer_of id.now reply.now) }
+/// Puts the text of a response (JSON-RPC 2.0, section 5) behind the bytes, with no space. After an error the bytes are of no use.
+pub fn put_answer(
+    alloc: Global,
+    bytes: &mut Vec<u8>,
+    id: &Id,
+    reply: &Reply,
+) -> Result<(), AllocError>
+    ensures text { OnOk result (bytes.new.items ≡ bytes.old.items ++ answer_text_of id.now reply.now) }
+    ensures reads_back { OnOk result (depth (answer_of id.now reply.now) ≤ max_depth
+        → read (answer_text_of id.now reply.now) ≡ Some (answer_of id.now reply.now)) }
 {
     match reply {
-        Reply::Done(result) => {
-            let object = response(alloc, id)?.with(alloc, "result", result.clone()?)?;
-            Ok(object.finish())
+        Reply::Done(value) => put_done(alloc, bytes, id, value.to_bytes(alloc)?.as_slice()),
+        Reply::Error(error) => {
+            let text = error.to_json(alloc)?.to_bytes(alloc)?;
+            put_error(alloc, bytes, id, text.as_slice())
         }
-        Reply::Error(error) => error_answer(alloc, id, error),
-        Reply::Standard(standard) => error_answer(alloc, id, &standard.to_error(alloc)?),
+        Reply::Standard(standard) => put_error(alloc, bytes, id, standard.text().as_bytes()),
     }
 }
 
-fn error_answer(alloc: Global, id: &Id, error: &ErrorValue) -> Result<Json, AllocError>
-    ensures { IfOk result (λ json. json ≡ error_answer_of id.now error.now) }
+/// Puts a response with a result of that text.
+fn put_done(alloc: Global, bytes: &mut Vec<u8>, id: &Id, value: &[u8]) -> Result<(), AllocError>
+    ensures text { OnOk result (bytes.new.items ≡ bytes.old.items ++ done_text id.now value.now) }
+    ensures id_reads_back { OnOk result (read (compact_text (id_data id.now)) ≡ Some (id_data id.now)) }
 {
-    let object = response(alloc, id)?.with(alloc, "error", error.to_json(alloc)?)?;
-    Ok(object.finish())
+    bytes.reserve(ROOM + value.len())?;
+    bytes.extend_from_slice(b"{\"id\":")?;
+    put_id(alloc, bytes, id)?;
+    bytes.extend_from_slice(b",\"jsonrpc\":\"2.0\",\"result\":")?;
+    bytes.extend_from_slice(value)?;
+    bytes.extend_from_slice(b"}")
 }
 
-/// The members that each response has.
-fn response(alloc: Global, id: &Id) -> Result<JsonObject, AllocError>
-    ensures { IfOk result (λ object. object
-        ≡ member (codes "id") (id_data id.now) (versioned no_members)) }
+/// Puts a response with an error of that text.
+fn put_error(alloc: Global, bytes: &mut Vec<u8>, id: &Id, error: &[u8]) -> Result<(), AllocError>
+    ensures text { OnOk result (bytes.new.items ≡ bytes.old.items ++ error_text id.now error.now) }
+    ensures id_reads_back { OnOk result (read (compact_text (id_data id.now)) ≡ Some (id_data id.now)) }
 {
-    JsonObject::new(alloc)
-        .with(alloc, "id", id.to_json()?)?
-        .with(alloc, "jsonrpc", version(alloc)?)
+    bytes.reserve(ROOM + error.len())?;
+    bytes.extend_from_slice(b"{\"error\":")?;
+    bytes.extend_from_slice(error)?;
+    bytes.extend_from_slice(b",\"id\":")?;
+    put_id(alloc, bytes, id)?;
+    bytes.extend_from_slice(b",\"jsonrpc\":\"2.0\"}")
+}
+
+fn put_id(alloc: Global, bytes: &mut Vec<u8>, id: &Id) -> Result<(), AllocError>
+    ensures text { OnOk result (bytes.new.items ≡ bytes.old.items ++ compact_text (id_data id.now)) }
+    ensures reads_back { OnOk result (read (compact_text (id_data id.now)) ≡ Some (id_data id.now)) }
+{
+    match id {
+        Id::Null => bytes.extend_from_slice(b"null"),
+        Id::Text(text) => put_quoted(alloc, bytes, text.as_str()),
+        Id::Signed(_) => bytes.extend_from_slice(id.to_json()?.to_bytes(alloc)?.as_slice()),
+        Id::Unsigned(number) => {
+            let mut digits = Buffer::new();
+            bytes.extend_from_slice(digits.format(*number).as_bytes())
+        }
+    }
+}
+
+/// Puts a text as a JSON string.
+fn put_quoted(alloc: Global, bytes: &mut Vec<u8>, text: &str) -> Result<(), AllocError>
+    ensures { OnOk result (bytes.new.items ≡ bytes.old.items ++ quoted text.now) }
+{
+    let before = mem::replace(bytes, Vec::new(alloc));
+    let mut writer = Writer::new(before);
+    writer.string(text)?;
+    *bytes = writer.into_inner();
+    Ok(())
 }
 
 /// The text of a batch of answers (JSON-RPC 2.0, section 6).

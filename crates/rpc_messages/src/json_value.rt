@@ -151,6 +151,7 @@ impl Json {
     /// The bytes of that text.
     pub fn to_bytes(&self, alloc: Global) -> Result<Vec<u8>, AllocError>
         ensures text { IfOk result (λ bytes. bytes.items ≡ compact_text self.now) }
+        ensures whole { has_float self.now ≡ false }
         ensures reads_back { IfOk result (λ bytes. depth self.now ≤ max_depth
             → read bytes.items ≡ Some self.now) }
     {

@@ -24,7 +24,7 @@ mod unit;
 mod version;
 mod whole;
 
-pub use answer::{answer_text, batch_text};
+pub use answer::{answer_text, batch_text, put_answer};
 pub use call::{Call, cancel_target};
 pub use entry::Entry;
 pub use error_value::ErrorValue;

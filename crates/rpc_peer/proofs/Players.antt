@@ -1,5 +1,5 @@
 -- A player that is full reads no more, and what it played is what is due to more bytes too.
-use Rattle.std.proofs.Common.{◌≡◌, ℕ, List, [], ◌++◌, Bool, true, false, map, refl, sym, ap, subst, ◌∙◌}
+use Rattle.std.proofs.Common.{◌≡◌, ℕ, List, [], ◌++◌, true, sym, subst}
 use Rattle.std.proofs.lemmas.List.{append-nil, map-append}
 use Rattle.lsp_frames.specs.Contents.{Standing, Open, Broken, IsContents}
 use Rattle.lsp_frames.specs.declared.frame.Frame.{Frame}

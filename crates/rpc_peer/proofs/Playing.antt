@@ -1,12 +1,12 @@
 -- What one more unit does to what was played.
-use Rattle.std.proofs.Common.{◌≡◌, ℕ, ◌+◌, ◌-◌, ◌^◌, ◌<◌, ◌≤◌, min, List, [], ◌∷◌, ◌++◌, map, flat_map, length, Bool, true, false, nat_le, cond, refl, sym, ap, subst, ◌∙◌, arith, append_assoc, append-nil}
-use Rattle.std.proofs.lemmas.Grind.{common_steps, flat_map-append}
+use Rattle.std.proofs.Common.{◌≡◌, ℕ, ◌+◌, ◌-◌, ◌^◌, ◌<◌, ◌≤◌, min, List, [], ◌∷◌, ◌++◌, map, flat_map, length, true, false, refl, sym, ap, subst, ◌∙◌, arith, append-nil}
+use Rattle.std.proofs.lemmas.Grind.{flat_map-append}
 use Rattle.std.proofs.lemmas.List.{length-append}
 use Rattle.lsp_frames.specs.Frames.{written}
 use Rattle.rpc_messages.specs.Unit.{SeenUnit}
 use Rattle.rpc_messages.specs.Numbering.{unit_numbers, units_numbers, taken, is_cut}
-use Rattle.rpc_messages.specs.Dues.{Due, dues, unit_dues}
-use Rattle.rpc_messages.proofs.Units.{taken-uncut, taken-append, is_cut-append, taken-cut, is_cut-cut, dues-append, units_numbers-append, units_numbers-uncut}
+use Rattle.rpc_messages.specs.Dues.{Due, unit_dues}
+use Rattle.rpc_messages.proofs.Units.{taken-uncut, taken-append, is_cut-append, taken-cut, is_cut-cut, dues-append, units_numbers-append}
 use Rattle.rpc_peer.specs.Plain.{not_found, plain_dues, answer_frames, counted}
 use Rattle.rpc_peer.specs.Played.{HasPlayed}
 use Rattle.rpc_peer.specs.declared.played.Played.{Played}

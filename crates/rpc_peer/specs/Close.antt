@@ -1,7 +1,6 @@
 -- How an input closed.
 use Rattle.std.specs.Prelude.{ℕ, List, [], ◌∷◌, Bool, true, false, Option, Some, None}
 use Rattle.lsp_frames.specs.Contents.{Standing, Open, Broken}
-use Rattle.lsp_frames.specs.declared.frame.FrameFault.{FrameFault}
 use Rattle.lsp_frames.specs.declared.frame.FrameFault.TheVariants.{Truncated}
 use Rattle.rpc_peer.specs.declared.report.Close.{Close}
 use Rattle.rpc_peer.specs.declared.report.Close.TheVariants.{Clean, Frame, Read, Full}

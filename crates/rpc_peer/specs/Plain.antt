@@ -1,5 +1,5 @@
 -- What a peer without methods writes for an input.
-use Rattle.std.specs.Prelude.{◌≡◌, ℕ, ◌-◌, ◌^◌, List, flat_map, length, Option, Some, min}
+use Rattle.std.specs.Prelude.{◌≡◌, ℕ, ◌-◌, ◌^◌, List, flat_map, length, Some, min}
 use Rattle.lsp_frames.specs.Contents.{Standing, IsContents}
 use Rattle.lsp_frames.specs.Frames.{written}
 use Rattle.lsp_frames.specs.declared.frame.Frame.{Frame}

@@ -1,7 +1,6 @@
 -- What a player has done with the bytes so far.
-use Rattle.std.specs.Prelude.{◌≡◌, ℕ, List, Bool, false}
+use Rattle.std.specs.Prelude.{◌≡◌, ℕ, List, false}
 use Rattle.lsp_frames.specs.Contents.{Standing, IsContents}
-use Rattle.lsp_frames.specs.Decoding.{StandsAfter}
 use Rattle.lsp_frames.specs.declared.frame.Frame.{Frame}
 use Rattle.rpc_messages.specs.Unit.{units_of}
 use Rattle.rpc_peer.specs.Played.{HasPlayed}

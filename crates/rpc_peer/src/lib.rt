@@ -8,7 +8,7 @@ mod played;
 mod report;
 
 pub use limits::Limits;
-pub use play::{PlayFault, play_plain};
+pub use play::{PlayFault, Player, play_plain};
 pub use report::{Close, Report};
 
 #[cfg(test)]

@@ -40,9 +40,10 @@ pub fn play_plain(
     Ok(player.finish())
 }
 
-/// A decoder, and what was played of its frames.
+/// A peer without methods, which is fed its input piece by piece and keeps what it writes. Of the input it holds the frame
+/// under way and no more.
 #[derive(Drop)]
-pub(crate) struct Player {
+pub struct Player {
     pub(crate) alloc: Global,
     pub(crate) limits: Limits,
     pub(crate) decoder: Decoder,
@@ -52,7 +53,8 @@ pub(crate) struct Player {
 impl Player {
     ghost use Rattle.rpc_peer.specs.Player.{PlaysAfter};
 
-    fn new(alloc: Global, limits: Limits) -> Player
+    /// A player before the first byte.
+    pub fn new(alloc: Global, limits: Limits) -> Player
         ensures limits { result.limits ≡ limits }
         ensures start { PlaysAfter [] result }
     {
@@ -64,7 +66,8 @@ impl Player {
         }
     }
 
-    fn feed(&mut self, piece: &[u8]) -> Result<(), AllocError>
+    /// Plays one more piece of the input. After an error the player is of no use any more.
+    pub fn feed(&mut self, piece: &[u8]) -> Result<(), AllocError>
         ensures limits { self.new.limits ≡ self.old.limits }
         ensures plays { (bytes : List ℕ) → PlaysAfter bytes self.old → OnOk result (PlaysAfter (bytes ++ piece.now) self.new) }
     {
@@ -84,7 +87,8 @@ impl Player {
         }
     }
 
-    fn finish(self) -> (Vec<u8>, Report)
+    /// What was written, where the input ends here, and what is told of it.
+    pub fn finish(self) -> (Vec<u8>, Report)
         ensures { (bytes : List ℕ) → PlaysAfter bytes self → IsPlainPlay self.limits bytes result.0.items result.1 }
     {
         let end = if self.played.is_full {

@@ -6,7 +6,7 @@ ghost use Rattle.rpc_messages.specs.Unit.{SeenUnit, unit_seen, units_of};
 ghost use Rattle.rpc_peer.specs.Texts.{text_list};
 
 use crate::answers::{answer, numbers_of};
-use lsp_frames::{Frame, encode};
+use lsp_frames::{Frame, put_frame};
 use rpc_messages::{Unit, read_unit};
 use std::alloc::{AllocError, Global};
 
@@ -65,11 +65,11 @@ impl Played {
             return Ok(());
         }
         let text = answer(alloc, unit)?;
-        self.add(alloc, text, numbers as u32)
+        self.add(text, numbers as u32)
     }
 
     /// Adds a unit's answer, where it has one, and the numbers of its calls.
-    fn add(&mut self, alloc: Global, text: Option<Vec<u8>>, numbers: u32) -> Result<(), AllocError>
+    fn add(&mut self, text: Option<Vec<u8>>, numbers: u32) -> Result<(), AllocError>
         requires { self.old.numbers + numbers < 2 ^ 32 }
         ensures output { OnOk result (self.new.output.items ≡ self.old.output.items ++ flat_map written (text_list text)) }
         ensures answers { OnOk result (self.new.answers ≡ min (self.old.answers + length (text_list text)) (2 ^ 64 - 1)) }
@@ -79,19 +79,18 @@ impl Played {
         self.numbers += numbers;
         match text {
             None => Ok(()),
-            Some(text) => self.write(alloc, text.as_slice()),
+            Some(text) => self.write(text.as_slice()),
         }
     }
 
     /// Writes an answer as a frame, and counts it.
-    fn write(&mut self, alloc: Global, text: &[u8]) -> Result<(), AllocError>
+    fn write(&mut self, text: &[u8]) -> Result<(), AllocError>
         ensures output { OnOk result (self.new.output.items ≡ self.old.output.items ++ written text.now) }
         ensures answers { OnOk result (self.new.answers ≡ min (self.old.answers + 1) (2 ^ 64 - 1)) }
         ensures numbers { self.new.numbers ≡ self.old.numbers }
         ensures full { self.new.is_full ≡ self.old.is_full }
     {
-        let frame = encode(alloc, text)?;
-        self.output.extend_from_slice(frame.as_slice())?;
+        put_frame(&mut self.output, text)?;
         self.answers = self.answers.saturating_add(1);
         Ok(())
     }

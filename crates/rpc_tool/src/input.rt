@@ -2,9 +2,10 @@
 use crate::pieces::Pieces;
 use crate::reading::Taker;
 use lsp_frames::encode;
+use rpc_peer::Report;
 use std::alloc::{AllocError, Global};
 
-/// What the input becomes as it is read: pieces of a stream of frames.
+/// What the input becomes as it is read: a stream of frames, played in pieces.
 #[derive(Drop)]
 pub struct Intake {
     alloc: Global,
@@ -33,8 +34,8 @@ impl Intake {
         }
     }
 
-    /// The pieces of the stream, in order.
-    pub fn finish(self) -> Result<Vec<Vec<u8>>, AllocError> {
+    /// What was written, where the input ends here, and what is told of it.
+    pub fn finish(self) -> Result<(Vec<u8>, Report), AllocError> {
         let Intake {
             alloc,
             mut pieces,

@@ -9,7 +9,7 @@ use crate::reading::read_all;
 use clap::Error;
 use clap::error::ErrorKind;
 use lsp_frames::FrameFault;
-use rpc_peer::{Close, Limits, PlayFault, play_plain};
+use rpc_peer::{Close, Report};
 use std::alloc::Global;
 use std::io::{Read, Write};
 use std::rt::Files;
@@ -38,11 +38,7 @@ fn play<I: Read + Drop, W: Write>(
     input: I,
     output: &mut W,
 ) -> Result<Close, Failure> {
-    let pieces = pieces_of(alloc, options, input)?;
-    let (bytes, report) = match play_plain(alloc, Limits::standard(), pieces.as_slice()) {
-        Ok(played) => played,
-        Err(PlayFault::Memory) => return Err(Failure::Memory),
-    };
+    let (bytes, report) = played(alloc, options, input)?;
     if options.lines {
         write_lines(alloc, bytes.as_slice(), output)?;
     } else {
@@ -51,12 +47,12 @@ fn play<I: Read + Drop, W: Write>(
     Ok(report.end)
 }
 
-/// The input as frames, cut into pieces.
-fn pieces_of<I: Read + Drop>(
+/// What is written for the input as frames, cut into pieces. Nothing of it goes out before the input has ended.
+fn played<I: Read + Drop>(
     alloc: Global,
     options: PlayOptions,
     mut input: I,
-) -> Result<Vec<Vec<u8>>, Failure> {
+) -> Result<(Vec<u8>, Report), Failure> {
     let pieces = Pieces::new(alloc, options.size());
     let mut intake = if options.lines {
         Intake::of_lines(alloc, pieces)

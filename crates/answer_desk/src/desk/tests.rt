@@ -1,10 +1,12 @@
 ghost use Rattle.std.specs.Prelude.{◌≡◌};
 
 use super::Desk;
+use crate::shell::Shell;
 use crate::{Kind, Place, Put, Shape};
 use lsp_frames::Items;
 use rpc_messages::{Id, Json, Reply, Standard, Text};
 use std::alloc::Global;
+use std::mem::size_of;
 use std::process::Abort;
 use std::test::Fail;
 
@@ -206,5 +208,130 @@ fn closed_board_gives_no_reply_once(rt: HostRuntime) -> Result<(), Fail> {
     assert!(rt; is_no_reply(desk.take_reply(1, 2)));
     assert!(rt; desk.take_reply(1, 1).is_none() && desk.take_reply(1, 2).is_none());
     assert!(rt; desk.take_reply(1, 3).is_none() && desk.take_reply(1, 0).is_none());
+    Ok(())
+}
+
+/// Units of one request each, all of this id.
+fn open_requests(
+    rt: &impl Abort,
+    alloc: Global,
+    desk: &mut Desk,
+    id: u64,
+    count: u32,
+) -> Result<(), Fail> {
+    for _unit in 0..count {
+        open(rt, desk, Kind::Single, vec![in alloc; request(id, 0)]?)?;
+    }
+    Ok(())
+}
+
+fn is_next_marked(desk: &mut Desk, numbers: &[u32]) -> bool {
+    numbers
+        .iter()
+        .all(|number| desk.take_marked() == Some(*number))
+}
+
+#[test]
+fn cancels_reach_each_request_of_a_shared_id_once(rt: HostRuntime) -> Result<(), Fail> {
+    let mut desk = Desk::new(rt.alloc());
+    open_requests(&rt, rt.alloc(), &mut desk, 7, 20)?;
+    open_requests(&rt, rt.alloc(), &mut desk, 8, 20)?;
+    open_requests(&rt, rt.alloc(), &mut desk, 7, 20)?;
+    finish(&rt, &mut desk, 3, Json::null());
+    finish(&rt, &mut desk, 41, Json::null());
+    desk.mark(&Id::Unsigned(7), 6);
+    assert!(rt; is_next_marked(&mut desk, &[1, 2, 4, 5]));
+    assert_eq!(rt; desk.take_marked(), None);
+    desk.mark(&Id::Unsigned(7), 44);
+    desk.mark(&Id::Unsigned(8), 23);
+    finish(&rt, &mut desk, 7, Json::null());
+    assert!(rt;
+        is_next_marked(
+            &mut desk,
+            &[6, 8, 9, 10, 11, 12, 13, 14, 15, 16, 17, 18, 19, 20]
+        )
+    );
+    assert!(rt; is_next_marked(&mut desk, &[21, 22, 42, 43]));
+    assert_eq!(rt; desk.take_marked(), None);
+    assert!(rt; desk.is_marked(43) && !desk.is_marked(44) && !desk.is_marked(23));
+    assert!(rt; !desk.is_marked(3) && !desk.is_marked(41));
+    Ok(())
+}
+
+#[test]
+fn id_that_is_used_again_is_marked_again(rt: HostRuntime) -> Result<(), Fail> {
+    let mut desk = Desk::new(rt.alloc());
+    for number in 1..100 {
+        open_requests(&rt, rt.alloc(), &mut desk, 7, 1)?;
+        desk.mark(&Id::Unsigned(7), number);
+        assert_eq!(rt; desk.take_marked(), None);
+        desk.mark(&Id::Unsigned(7), number + 1);
+        desk.mark(&Id::Unsigned(7), number + 1);
+        if number % 2 == 0 {
+            assert_eq!(rt; desk.take_marked(), Some(number));
+        }
+        finish(&rt, &mut desk, number, Json::null());
+        assert_eq!(rt; desk.take_marked(), None);
+        assert_eq!(rt; desk.release()?.len(), 1);
+    }
+    Ok(())
+}
+
+#[test]
+fn text_ids_and_number_ids_are_apart(rt: HostRuntime) -> Result<(), Fail> {
+    let mut desk = Desk::new(rt.alloc());
+    for text in ["7", "", "8", "7"] {
+        let id = Id::Text(Text::copy_of(rt.alloc(), text)?);
+        let place = Place::Numbered {
+            id: Some(id),
+            most: 0,
+        };
+        open(&rt, &mut desk, Kind::Single, vec![in rt.alloc(); place]?)?;
+    }
+    open_requests(&rt, rt.alloc(), &mut desk, 7, 1)?;
+    let null = Place::Numbered {
+        id: Some(Id::Null),
+        most: 0,
+    };
+    open(&rt, &mut desk, Kind::Single, vec![in rt.alloc(); null]?)?;
+    desk.mark(&Id::Unsigned(7), 9);
+    assert!(rt; is_next_marked(&mut desk, &[5]));
+    desk.mark(&Id::Text(Text::copy_of(rt.alloc(), "7")?), 9);
+    assert!(rt; is_next_marked(&mut desk, &[1, 4]));
+    desk.mark(&Id::Text(Text::copy_of(rt.alloc(), "")?), 9);
+    assert!(rt; is_next_marked(&mut desk, &[2]));
+    assert_eq!(rt; desk.take_marked(), None);
+    assert!(rt; !desk.is_marked(3) && !desk.is_marked(6));
+    Ok(())
+}
+
+#[test]
+fn memory_goes_back_once_what_was_open_is_released(rt: HostRuntime) -> Result<(), Fail> {
+    assert!(rt; size_of::<Shell>() <= 16);
+    let mut desk = Desk::new(rt.alloc());
+    open_requests(&rt, rt.alloc(), &mut desk, 7, 1000)?;
+    for number in 2..1001 {
+        finish(&rt, &mut desk, number, Json::null());
+    }
+    assert!(rt; desk.release()?.is_empty());
+    assert!(rt; desk.numbers.capacities().0 >= 1000 && desk.units.capacity() >= 1000);
+    finish(&rt, &mut desk, 1, Json::null());
+    assert_eq!(rt; desk.release()?.len(), 1000);
+    assert!(rt; desk.numbers.capacities().0 <= 4 && desk.numbers.capacities().1 <= 4);
+    assert!(rt; desk.units.capacity() <= 4);
+    Ok(())
+}
+
+#[test]
+fn room_for_marks_stays_while_a_request_is_open(rt: HostRuntime) -> Result<(), Fail> {
+    let mut desk = Desk::new(rt.alloc());
+    open_requests(&rt, rt.alloc(), &mut desk, 7, 1000)?;
+    for number in 1..1000 {
+        finish(&rt, &mut desk, number, Json::null());
+    }
+    assert_eq!(rt; desk.release()?.len(), 999);
+    assert!(rt; desk.numbers.capacities().0 <= 4 && desk.numbers.capacities().1 <= 4);
+    desk.mark(&Id::Unsigned(7), 1001);
+    assert!(rt; is_next_marked(&mut desk, &[1000]));
     Ok(())
 }

@@ -8,4 +8,4 @@ returns-clause-texts c = c.from.ensures ∙ c.in_ok-front.ensures.texts
 
 pub returns-clause-ok : goal.returns-clause-ok
 unfolding view
-returns-clause-ok c = rw (c.drop_front.ensures.numbers, c.drop_front.ensures.left ∙ c.in_ok-front.ensures.count) refl
+returns-clause-ok c = rw (c.shrink.ensures, c.shrink_queue.ensures.items, c.drop_front.ensures.numbers, c.drop_front.ensures.left ∙ c.in_ok-front.ensures.count) refl

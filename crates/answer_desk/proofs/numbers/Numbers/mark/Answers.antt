@@ -1,14 +1,18 @@
-use Rattle.std.proofs.Common.{◌≡◌, ◌-◌, length, min, arith, ap, ◌∙◌, sym}
-use Rattle.answer_desk.specs.Numbers.{all_entries, with_marks_below}
-use Rattle.answer_desk.proofs.Marks.{with_marks_below-all, with_marks_below-min}
+use Rattle.std.proofs.Common.{sym, ◌∙◌}
+use Rattle.answer_desk.specs.Numbers.{with_marks_below}
+use Rattle.answer_desk.proofs.Marks.{marks-step, marks-fewer, marks-done}
 use Rattle.answer_desk.proofs.numbers.Numbers.mark.Goals as goal
+
+pub loop-preserved : goal.loop-preserved
+loop-preserved c =
+    marks-step c.args.id.now c.args.before c.loop.self c.mark_lowest.new.self (with_marks_below c.args.id.now c.args.before c.args.self.now) c.mark_lowest.result
+    (sym c.is_some.ensures ∙ c.loop-test.true) c.mark_lowest.ensures.some c.loop.invariant
+
+pub loop-smaller : goal.loop-smaller
+loop-smaller c =
+    marks-fewer c.args.id.now c.args.before c.loop.self c.mark_lowest.new.self c.mark_lowest.result (sym c.is_some.ensures ∙ c.loop-test.true) c.mark_lowest.ensures.some
 
 pub returns : goal.returns
 returns c =
-    let inside = c.self.inside in
-    let reach : c.min-reach.result ≡ min (c.args.before - inside.first) (length inside.window.items) = omega (arith, c.min-reach.ensures, c.saturating_sub.ensures, c.len.ensures, inside.window.ok) in
-    let marked : c.mark_front.new.window.items ≡ with_marks_below c.args.id.now (c.args.before - inside.first) inside.window.items =
-    c.mark_front.ensures.marks ∙ ap (λ n. with_marks_below c.args.id.now n inside.window.items) reach ∙ with_marks_below-min c.args.id.now (c.args.before - inside.first) inside.window.items in
-    ap (all_entries inside.first) marked
-    ∙ sym (with_marks_below-all c.args.id.now inside.first c.args.before inside.window.items)
-    ∙ ap (with_marks_below c.args.id.now c.args.before) c.self.view_is
+    marks-done c.args.id.now c.args.before c.loop.self c.mark_lowest.new.self (with_marks_below c.args.id.now c.args.before c.args.self.now) c.mark_lowest.result
+    (sym c.is_some.ensures ∙ c.loop-test.false) c.mark_lowest.ensures.none c.loop.invariant

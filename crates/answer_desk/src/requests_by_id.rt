@@ -1,0 +1,151 @@
+ghost use Rattle.std.specs.Prelude.{◌≡◌, ◌+◌, ◌-◌, ◌<◌, ◌≤◌, ◌==◌, ◌&&◌, true, false, if◌then◌else◌, length, take, OnOk, OnErr};
+ghost use Rattle.rpc_messages.specs.declared.id.Id.{Id};
+ghost use Rattle.answer_desk.specs.Ids.{same_id};
+
+use crate::shell::Shell;
+use rpc_messages::Id;
+use std::alloc::{AllocError, Global};
+use std::collections::{BTreeMap, BTreeSet};
+
+/// The numbers of requests, by their ids.
+#[derive(Debug, Drop)]
+pub struct RequestsById {
+    alloc: Global,
+    numbers: BTreeMap<Id, BTreeSet<u32>>,
+    /// How many numbers there are.
+    len: usize,
+}
+
+impl RequestsById {
+    ghost use Rattle.std.specs.Prelude.{ℕ};
+    ghost use Rattle.answer_desk.specs.Requests.{is_reached_by, in_reach, is_listed, IsLowestListed, IsUnchanged, IsWithAdded, IsWithout};
+
+    pub fn new(alloc: Global) -> RequestsById
+        ensures none { (id : Id) (k : ℕ) → is_listed result id k ≡ false }
+        ensures len { result.len ≡ 0 }
+    {
+        RequestsById {
+            alloc,
+            numbers: BTreeMap::new(alloc),
+            len: 0,
+        }
+    }
+
+    pub fn len(&self) -> usize
+        ensures { result ≡ self.now.len }
+    {
+        self.len
+    }
+
+    /// The lowest number of this id.
+    pub fn lowest(&self, id: &Id) -> Option<u32>
+        ensures { IsLowestListed self.now id.now result }
+    {
+        self.numbers.get(id)?.first().copied()
+    }
+
+    /// Takes a number of this id out.
+    pub fn remove(&mut self, id: &Id, number: u32)
+        ensures listed { (q : Id) (k : ℕ) → is_listed self.new q k ≡ (if same_id id.now q && (number == k) then false else is_listed self.old q k) }
+        ensures len { self.new.len ≡ self.old.len - (if is_listed self.old id.now number then 1 else 0) }
+    {
+        match self.numbers.get_mut(id) {
+            Some(numbers) => {
+                let is_removed = numbers.remove(&number);
+                self.len = self.len.saturating_sub(is_removed as usize);
+                if !numbers.is_empty() {
+                    return;
+                }
+            }
+            None => return,
+        }
+        drop(self.numbers.remove(id));
+    }
+
+    /// Takes the number of this entry out, where it is one that a cancel can reach.
+    pub fn remove_entry(&mut self, number: u32, entry: &Shell)
+        ensures { ((id : Id) → is_listed self.old id number ≡ is_reached_by id entry.now) → IsWithout self.new self.old number entry.now }
+    {
+        match entry.id_in_reach() {
+            Some(id) => self.remove(id, number),
+            None => {}
+        }
+    }
+
+    /// Adds the requests among these entries that a cancel can reach. The entries have the numbers from `number` on.
+    pub fn add_all(&mut self, number: u32, entries: &[Shell]) -> Result<(), AllocError>
+        requires room { number + length entries.now ≤ 1000001 }
+        requires few { self.old.len + length entries.now ≤ 1000001 }
+        requires fresh { (id : Id) (k : ℕ) → number ≤ k → is_listed self.old id k ≡ false }
+        ensures ok { OnOk result (IsWithAdded self.new self.old number entries.now) }
+        ensures err { OnErr result (IsUnchanged self.new self.old) }
+    {
+        for index in 0..entries.len() {
+            match self.add_entry(number + index as u32, &entries[index]) {
+                Ok(()) => {}
+                Err(refused) => {
+                    self.remove_first(number, entries, index);
+                    return Err(refused);
+                }
+            }
+        }
+        Ok(())
+    }
+
+    fn add_entry(&mut self, number: u32, entry: &Shell) -> Result<(), AllocError>
+        requires few { self.old.len ≤ 1000000 }
+        requires fresh { (id : Id) → is_listed self.old id number ≡ false }
+        ensures listed { OnOk result ((id : Id) (k : ℕ) → is_listed self.new id k ≡ (if number == k then is_reached_by id entry.now else is_listed self.old id k)) }
+        ensures len { OnOk result (self.new.len ≡ self.old.len + in_reach entry.now) }
+        ensures err { OnErr result (IsUnchanged self.new self.old) }
+    {
+        match entry.id_in_reach() {
+            Some(id) => self.add(id, number),
+            None => Ok(()),
+        }
+    }
+
+    fn add(&mut self, id: &Id, number: u32) -> Result<(), AllocError>
+        requires few { self.old.len ≤ 1000000 }
+        ensures listed { OnOk result ((q : Id) (k : ℕ) → is_listed self.new q k ≡ (if same_id id.now q && (number == k) then true else is_listed self.old q k)) }
+        ensures len { OnOk result (self.new.len ≡ self.old.len + 1) }
+        ensures err { OnErr result (IsUnchanged self.new self.old) }
+    {
+        match self.numbers.get_mut(id) {
+            Some(others) => {
+                others.insert(number)?;
+                self.len += 1;
+                Ok(())
+            }
+            None => self.add_first(id, number),
+        }
+    }
+
+    /// Adds a number of an id that has none.
+    fn add_first(&mut self, id: &Id, number: u32) -> Result<(), AllocError>
+        requires few { self.old.len ≤ 1000000 }
+        requires none { (k : ℕ) → is_listed self.old id.now k ≡ false }
+        ensures listed { OnOk result ((q : Id) (k : ℕ) → is_listed self.new q k ≡ (if same_id id.now q && (number == k) then true else is_listed self.old q k)) }
+        ensures len { OnOk result (self.new.len ≡ self.old.len + 1) }
+        ensures err { OnErr result (IsUnchanged self.new self.old) }
+    {
+        let mut numbers = BTreeSet::new(self.alloc);
+        numbers.insert(number)?;
+        self.numbers.insert(id.clone()?, numbers)?;
+        self.len += 1;
+        Ok(())
+    }
+
+    /// Takes the first `count` of these entries out again.
+    fn remove_first(&mut self, number: u32, entries: &[Shell], count: usize)
+        requires count { count ≤ length entries.now }
+        requires room { number + length entries.now ≤ 1000001 }
+        ensures { (was : RequestsById) → ((id : Id) (k : ℕ) → number ≤ k → is_listed was id k ≡ false) → IsWithAdded self.old was number (take count entries.now) → IsUnchanged self.new was }
+    {
+        let mut left = count;
+        while left > 0 {
+            left -= 1;
+            self.remove_entry(number + left as u32, &entries[left]);
+        }
+    }
+}

@@ -1,0 +1,13 @@
+pub mod Asks
+pub mod Evaluating
+pub mod Follows
+pub mod Fronts
+pub mod Heard
+pub mod Heards
+pub mod Hearing
+pub mod KeptItems
+pub mod Outgoings
+pub mod Polls
+pub mod Rehearsing
+pub mod Runs
+pub mod Turns

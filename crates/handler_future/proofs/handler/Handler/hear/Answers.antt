@@ -1,0 +1,34 @@
+use Rattle.std.proofs.Common.{◌≡◌, ℕ, ◌<◌, ◌==◌, List, length, not, true, sym, ap, ◌∙◌, subst, arith}
+use Rattle.std.specs.List.{filter, list_any}
+use Rattle.handler_future.specs.Course.{Seen, seen}
+use Rattle.handler_future.specs.Evaluation.{Program}
+use Rattle.handler_future.specs.Front.{Heard}
+use Rattle.handler_future.specs.Handler.{program_of}
+use Rattle.handler_future.specs.Standing.{Stands}
+use Rattle.handler_future.proofs.Hearing.{hearing, stands-hears, fewer-wait}
+use Rattle.handler_future.proofs.handler.Handler.hear.Goals as goal
+
+pub invariant_of-self : goal.invariant_of-self
+invariant_of-self c =
+    let h = c.self.inside in
+    let p : Program = program_of h in
+    let now : Seen = seen h.course in
+    let t = c.args.turn in
+    let slice : c.as_slice.result.now ≡ now.waits = c.as_slice.ensures.value in
+    let any : list_any (λ u. u == t) now.waits ≡ true = ap (list_any (λ u. u == t)) (sym slice) ∙ sym c.contains.ensures.value ∙ c.if-not-contains.false in
+    let waits : c.drop_turn.new.waits.items ≡ filter (λ u. not (u == t)) now.waits = c.drop_turn.ensures in
+    let heard : c.push_reserved.new.self.items ≡ (hearing t c.args.reply now).heard = c.push_reserved.ensures.items in
+    let S : List ℕ → Heard → Type 0 = λ ws hs. Stands p h.is_over (record now { waits = ws; heard = hs }) in
+    let P : List ℕ → Type 0 = λ ws. S ws (hearing t c.args.reply now).heard in
+    let Q : Heard → Type 0 = λ hs. S c.drop_turn.new.waits.items hs in
+    let few = fewer-wait now.waits t any in
+    let n : length c.drop_turn.new.waits.items ≡ length (filter (λ u. not (u == t)) now.waits) = ap length waits in
+    let some : 0 < length now.waits = omega arith in
+    let room = c.self.invariant.room some in
+    let pushed = c.push_reserved.ensures.len in
+    let capacity = c.push_reserved.ensures.capacity in
+    record {
+      limits = c.self.invariant.limits;
+      room = λ _. omega arith;
+      stands = subst Q (sym heard) (subst P (sym waits) (stands-hears p h.is_over now t c.args.reply c.self.invariant.stands any));
+    }

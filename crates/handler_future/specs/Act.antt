@@ -1,0 +1,109 @@
+-- What a step does with the registers as they stand, by its kind. The replies to its calls are left aside here.
+use Rattle.std.specs.Prelude.{ℕ, ◌^◌, ◌+ℤ◌, ℤ, pos, negsuc, nat_lt, List, [], ◌∷◌, Option, Some, None, option_and_then, Result, Ok, Err, ok_or, Bool, if◌then◌else◌}
+use Rattle.std.specs.Str.{bytes_eq}
+use Rattle.serde_json.specs.Data.{Data, null, boolean, number, string, array, object, Members}
+use Rattle.serde_json.specs.Find.{as_number, as_i64, of_integer}
+use Rattle.serde_json.specs.Written.{compact_text}
+use Rattle.rpc_messages.specs.declared.outgoing.Outgoing.{Outgoing}
+use Rattle.rpc_messages.specs.declared.reply.Reply.TheVariants.{Done, Error, Standard as Fixed}
+use Rattle.rpc_messages.specs.declared.standard.Standard.{Standard}
+use Rattle.rpc_messages.specs.declared.standard.Standard.TheVariants.{InvalidParams, InternalError}
+use Rattle.method_steps.specs.declared.filling.FillFault.{FillFault}
+use Rattle.method_steps.specs.declared.filling.FillFault.TheVariants as fault
+use Rattle.method_steps.specs.declared.step.ListedCall.{ListedCall}
+use Rattle.method_steps.specs.Steps.{Step}
+use Rattle.method_steps.specs.declared.step.Step.TheVariants as step
+use Rattle.method_steps.specs.Shape.{Shape}
+use Rattle.method_steps.specs.Value.{value_of}
+use Rattle.handler_future.specs.declared.act.Act.{Act}
+use Rattle.handler_future.specs.declared.act.Act.TheVariants.{Put, Skip, Notify, Call, Calls, End}
+
+-- ---- values, or the error that ends the method
+
+abbrev pub and_then : {A B : Type 0} → Result A Standard → (A → Result B Standard) → Result B Standard
+and_then (Ok a) f = f a
+and_then (Err s) f = Err s
+
+-- a missing place in `params` is the caller's fault; any other is the method's own
+abbrev pub error_at : FillFault → Standard
+error_at fault.Params = InvalidParams
+error_at fault.Missing = InternalError
+error_at fault.Memory = InternalError
+
+abbrev pub or_error : {A : Type 0} → Result A FillFault → Result A Standard
+or_error (Ok a) = Ok a
+or_error (Err e) = Err (error_at e)
+
+abbrev pub filled : Members → Shape → Result Data Standard
+filled registers t = or_error (value_of registers t)
+
+-- ---- sums
+
+abbrev pub integer_in : Data → Result ℤ Standard
+integer_in d = ok_or (option_and_then as_i64 (as_number d)) InvalidParams
+
+-- the numbers of i64
+abbrev pub is_i64 : ℤ → Bool
+is_i64 (pos n) = nat_lt n (2 ^ 63)
+is_i64 (negsuc n) = nat_lt n (2 ^ 63)
+
+abbrev pub number_of : ℤ → Result Data Standard
+number_of z = if is_i64 z then Ok (number (of_integer z)) else Err InternalError
+
+-- both operands are filled, and then both are judged
+abbrev pub sum_of : Members → Shape → Shape → Result Data Standard
+sum_of registers left right =
+    and_then (filled registers left) (λ a. and_then (filled registers right) (λ b.
+    and_then (integer_in a) (λ x. and_then (integer_in b) (λ y. number_of (x +ℤ y)))))
+
+-- ---- skips
+
+-- whether both values have the same text with no space
+abbrev pub are_alike : Members → Shape → Shape → Result Bool Standard
+are_alike registers left right =
+    and_then (filled registers left) (λ a. and_then (filled registers right) (λ b. Ok (bytes_eq (compact_text a) (compact_text b))))
+
+-- ---- what goes out
+
+-- params are an array or an object (JSON-RPC 2.0, section 4.2)
+abbrev pub structured : Data → Result Data Standard
+structured null = Err InternalError
+structured (boolean b) = Err InternalError
+structured (number n) = Err InternalError
+structured (string s) = Err InternalError
+structured (array ds) = Ok (array ds)
+structured (object ms) = Ok (object ms)
+
+abbrev pub params_from : Members → Option Shape → Result (Option Data) Standard
+params_from registers None = Ok None
+params_from registers (Some t) = and_then (filled registers t) (λ d. and_then (structured d) (λ e. Ok (Some e)))
+
+abbrev pub outgoing_of : Members → List ℕ → Option Shape → Result Outgoing Standard
+outgoing_of registers method params = and_then (params_from registers params) (λ p. Ok (record { method = method; params = p }))
+
+-- the calls of a list in its order; the first fault counts
+abbrev pub outgoings_of : Members → List ListedCall → Result (List Outgoing) Standard
+outgoings_of registers [] = Ok []
+outgoings_of registers (c ∷ cs) =
+    and_then (outgoing_of registers c.method c.params) (λ o. and_then (outgoings_of registers cs) (λ os. Ok (o ∷ os)))
+
+-- ---- steps
+
+-- each kind
+abbrev pub tried : Members → Step → Result Act Standard
+tried registers (step.Set to value) = and_then (filled registers value) (λ d. Ok (Put d))
+tried registers (step.Add to left right) = and_then (sum_of registers left right) (λ d. Ok (Put d))
+tried registers (step.Skip left right count) = and_then (are_alike registers left right) (λ alike. Ok (Skip (if alike then count else 0)))
+tried registers (step.Call to method params on_error) = and_then (outgoing_of registers method params) (λ o. Ok (Call o))
+tried registers (step.Calls to list on_error) = and_then (outgoings_of registers list) (λ os. Ok (Calls os))
+tried registers (step.Notify method params) = and_then (outgoing_of registers method params) (λ o. Ok (Notify o))
+tried registers (step.Answer value) = and_then (filled registers value) (λ d. Ok (End (Done d)))
+tried registers (step.Fail code message) = Ok (End (Error (record { code = code; message = message; extra = None })))
+
+abbrev pub or_end : Result Act Standard → Act
+or_end (Ok a) = a
+or_end (Err s) = End (Fixed s)
+
+-- what the step does; its fault ends the method
+abbrev pub act_of : Members → Step → Act
+act_of registers s = or_end (tried registers s)

@@ -1,0 +1,13 @@
+pub mod Act
+pub mod Course
+pub mod Evaluation
+pub mod Fault
+pub mod Front
+pub mod Handler
+pub mod Kept
+pub mod Performed
+pub mod Ready
+pub mod Rehearsed
+pub mod Running
+pub mod Standing
+pub mod State

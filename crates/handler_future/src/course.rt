@@ -1,0 +1,204 @@
+//! A method under way.
+
+ghost use Rattle.std.specs.Prelude.{◌≡◌, ◌+◌, ◌≤◌, ◌<◌, ◌++◌, [], length, OnOk, OnErr, IfOk, vec_len, vec_capacity};
+ghost use Rattle.std.specs.List.{range_with_len};
+ghost use Rattle.method_steps.specs.Steps.{AreWithinLimits, KeepsLimits, calls_in};
+ghost use Rattle.handler_future.specs.Act.{act_of};
+ghost use Rattle.handler_future.specs.Course.{seen, with_value, with_notice, asking, moved, settled, HasRoom};
+ghost use Rattle.handler_future.specs.Kept.{register_of};
+ghost use Rattle.handler_future.specs.Running.{Grows, IsReady, IsRunnable, HasRoomToWait, run_from, proceeded};
+
+use crate::act::{Act, decide};
+use crate::kept::kept;
+use crate::message::Message;
+use method_steps::{Registers, Step};
+use rpc_messages::{Json, Outgoing, Reply};
+use std::alloc::{AllocError, Global};
+
+/// Where a method stands. Its deep parts are parameters, so that whether it may go to another thread is asked of each part
+/// by itself.
+#[derive(Debug, Drop)]
+pub(crate) struct CourseOf<R, M, H> {
+    /// How many steps are behind.
+    pub(crate) place: usize,
+    pub(crate) registers: R,
+    /// The turn of the next call; where calls were made at this place, that of the first of them.
+    pub(crate) turn: u32,
+    /// How many calls were made at this place.
+    pub(crate) asked: u32,
+    /// How many replies were heard before those calls.
+    pub(crate) settled: usize,
+    pub(crate) messages: M,
+    pub(crate) waits: Vec<u32>,
+    pub(crate) heard: H,
+}
+
+pub(crate) type Course = CourseOf<Registers, Vec<Message>, Vec<(u32, Reply)>>;
+
+/// What a course has come to.
+#[derive(Debug, Drop)]
+pub(crate) enum Progress {
+    Going,
+    Waiting,
+    Ended(Reply),
+}
+
+/// Goes on until the method waits for replies or ends. It waits for none as it begins.
+pub(crate) fn proceed(
+    alloc: Global,
+    steps: &[Step],
+    course: &mut Course,
+) -> Result<Progress, AllocError>
+    requires limits { AreWithinLimits steps.now }
+    requires ready { IsReady steps.now (seen course.old) }
+    ensures course { OnOk result (seen course.new ≡ (proceeded steps.now (seen course.old)).0) }
+    ensures progress { IfOk result (λ progress. progress ≡ (proceeded steps.now (seen course.old)).1) }
+    ensures err { OnErr result (proceeded steps.now (seen course.new) ≡ proceeded steps.now (seen course.old)) }
+    ensures no_waits { OnErr result (course.new.waits.items ≡ []) }
+    ensures grows { Grows (seen course.old) (seen course.new) }
+    ensures room { IfOk result (λ progress. HasRoomToWait progress course.new) }
+{
+    if course.asked == 0 {
+        return run(alloc, steps, course);
+    }
+    match settle(alloc, &steps[course.place], course)? {
+        Progress::Going => run(alloc, steps, course),
+        halt => Ok(halt),
+    }
+}
+
+fn run(alloc: Global, steps: &[Step], course: &mut Course) -> Result<Progress, AllocError>
+    requires limits { AreWithinLimits steps.now }
+    requires ready { IsRunnable steps.now (seen course.old) }
+    ensures course { OnOk result (seen course.new ≡ (run_from steps.now (seen course.old)).0) }
+    ensures progress { IfOk result (λ progress. progress ≡ (run_from steps.now (seen course.old)).1) }
+    ensures err { OnErr result (run_from steps.now (seen course.new) ≡ run_from steps.now (seen course.old)) }
+    ensures err_asked { OnErr result (course.new.asked ≡ 0) }
+    ensures no_waits { OnErr result (course.new.waits.items ≡ []) }
+    ensures grows { Grows (seen course.old) (seen course.new) }
+    ensures room { IfOk result (λ progress. HasRoomToWait progress course.new) }
+{
+    'steps: while course.place < steps.len() {
+        match follow(alloc, &steps[course.place], course)? {
+            Progress::Going => {}
+            halt => return Ok(halt),
+        }
+    }
+    Ok(Progress::Ended(Reply::Done(Json::null())))
+}
+
+/// Does the step at the course's place.
+fn follow(alloc: Global, step: &Step, course: &mut Course) -> Result<Progress, AllocError>
+    requires limits { KeepsLimits step.now }
+    requires place { course.old.place < 64 }
+    requires turns { course.old.turn + calls_in step.now ≤ 1025 }
+    requires no_waits { course.old.waits.items ≡ [] }
+    ensures course { OnOk result (seen course.new
+        ≡ (moved step.now (seen course.old) (act_of course.old.registers step.now)).0) }
+    ensures progress { IfOk result (λ progress. progress
+        ≡ (moved step.now (seen course.old) (act_of course.old.registers step.now)).1) }
+    ensures err { OnErr result (seen course.new ≡ seen course.old) }
+    ensures room { IfOk result (λ progress. HasRoomToWait progress course.new) }
+{
+    match decide(alloc, step, &course.registers)? {
+        Act::Put(value) => put(course, step, value),
+        Act::Skip(count) => {
+            course.place += 1 + count as usize;
+            Ok(Progress::Going)
+        }
+        Act::Notify(outgoing) => notify(course, outgoing),
+        Act::Call(outgoing) => ask(course, Message::Call(course.turn, outgoing), 1),
+        Act::Calls(calls) => {
+            let count = calls.len() as u32;
+            ask(course, Message::Calls(course.turn, calls), count)
+        }
+        Act::End(reply) => Ok(Progress::Ended(reply)),
+    }
+}
+
+fn put(course: &mut Course, step: &Step, value: Json) -> Result<Progress, AllocError>
+    requires { course.old.place < 64 }
+    ensures course { OnOk result (seen course.new ≡ with_value step.now value (seen course.old)) }
+    ensures progress { IfOk result (λ progress. progress ≡ Progress.Going) }
+    ensures err { OnErr result (seen course.new ≡ seen course.old) }
+{
+    course.registers.set(register_of(step), value)?;
+    course.place += 1;
+    Ok(Progress::Going)
+}
+
+fn notify(course: &mut Course, outgoing: Outgoing) -> Result<Progress, AllocError>
+    requires { course.old.place < 64 }
+    ensures course { OnOk result (seen course.new ≡ with_notice (Message.Notice outgoing) (seen course.old)) }
+    ensures progress { IfOk result (λ progress. progress ≡ Progress.Going) }
+    ensures err { OnErr result (seen course.new ≡ seen course.old) }
+{
+    course.messages.push(Message::Notice(outgoing))?;
+    course.place += 1;
+    Ok(Progress::Going)
+}
+
+/// Makes so many calls, and the room for their replies.
+fn ask(course: &mut Course, message: Message, calls: u32) -> Result<Progress, AllocError>
+    requires turns { course.old.turn + calls ≤ 1025 }
+    requires no_waits { course.old.waits.items ≡ [] }
+    ensures course { OnOk result (seen course.new ≡ asking message calls (seen course.old)) }
+    ensures progress { IfOk result (λ progress. progress ≡ Progress.Waiting) }
+    ensures err { OnErr result (seen course.new ≡ seen course.old) }
+    ensures room { OnOk result (HasRoom course.new) }
+{
+    course.heard.reserve(calls as usize)?;
+    course.waits.reserve(calls as usize)?;
+    course.messages.push(message)?;
+    push_turns(&mut course.waits, course.turn, calls);
+    course.asked = calls;
+    course.settled = course.heard.len();
+    Ok(Progress::Waiting)
+}
+
+/// Awaits so many turns from this one on, for which there is room.
+fn push_turns(waits: &mut Vec<u32>, turn: u32, calls: u32)
+    requires room { vec_len waits.old + calls ≤ vec_capacity waits.old }
+    requires turns { turn + calls ≤ 1025 }
+    ensures { waits.new.items ≡ waits.old.items ++ range_with_len turn calls }
+{
+    for awaited in turn..turn + calls {
+        waits.push_reserved(awaited);
+    }
+}
+
+/// Puts the replies to the step's calls into its register, or ends with an error among them.
+fn settle(alloc: Global, step: &Step, course: &mut Course) -> Result<Progress, AllocError>
+    requires place { course.old.place < 64 }
+    requires turns { course.old.turn + course.old.asked ≤ 1025 }
+    requires asked { 0 < course.old.asked }
+    requires heard { course.old.settled ≤ length course.old.heard.items }
+    ensures course { OnOk result (seen course.new ≡ (settled step.now (seen course.old)).0) }
+    ensures progress { IfOk result (λ progress. progress ≡ (settled step.now (seen course.old)).1) }
+    ensures err { OnErr result (seen course.new ≡ seen course.old) }
+{
+    let heard = &course.heard.as_slice()[course.settled..];
+    match kept(alloc, step, heard, course.turn, course.asked)? {
+        Ok(value) => {
+            course.registers.set(register_of(step), value)?;
+            course.place += 1;
+            course.turn += course.asked;
+            course.asked = 0;
+            Ok(Progress::Going)
+        }
+        Err(reply) => Ok(Progress::Ended(reply)),
+    }
+}
+
+/// The register that the step puts a value into.
+pub(crate) fn register_of(step: &Step) -> &str
+    ensures { result.now ≡ register_of step.now }
+{
+    match step {
+        Step::Set { to, .. }
+        | Step::Add { to, .. }
+        | Step::Call { to, .. }
+        | Step::Calls { to, .. } => to.as_str(),
+        _ => "",
+    }
+}

@@ -1,0 +1,13 @@
+use lsp_frames::Items;
+use rpc_messages::Outgoing;
+
+/// What a handler sends to the other side.
+#[derive(Debug, Drop)]
+pub enum Message {
+    /// The call of this turn.
+    Call(u32, Outgoing),
+    /// A batch of calls; the first has this turn, and each further one the next.
+    Calls(u32, Items<Outgoing>),
+    /// A notification.
+    Notice(Outgoing),
+}

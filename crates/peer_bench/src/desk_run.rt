@@ -1,0 +1,161 @@
+//! The desk's work: requests that all arrive first, and then are finished in one order or another.
+ghost use Rattle.std.specs.Prelude.{◌≡◌, ◌+◌, ◌<◌, ◌≤◌, OnOk};
+ghost use Rattle.answer_desk.specs.Desk.{view};
+ghost use Rattle.answer_desk.specs.State.{next_number};
+
+use crate::failure::Failure;
+use answer_desk::{Desk, Kind, Place, Shape};
+use lsp_frames::Items;
+use rpc_messages::{Id, Json, Reply, Standard};
+use std::alloc::Global;
+
+/// How many requests are finished in reverse at a time.
+const WINDOW: u32 = 1_000;
+
+/// The order in which requests are finished.
+#[derive(Clone, Copy)]
+pub enum Finishing {
+    /// As they came, once all have come.
+    Straight,
+    /// In reverse within each 1,000 as they came, once all have come.
+    Windows,
+    /// As they came, once all have come, each when a cancel of its id has reached it.
+    Cancels,
+    /// Each before the next comes.
+    Stream,
+    /// Each before the next comes, but the first unit is a notification that is never finished.
+    Behind,
+}
+
+impl Finishing {
+    /// Each order.
+    pub const ALL: [Finishing; 5] = [
+        Finishing::Straight,
+        Finishing::Windows,
+        Finishing::Cancels,
+        Finishing::Stream,
+        Finishing::Behind,
+    ];
+}
+
+/// Opens so many units of one call each, at most 1,000,000, finishes them in some order, and releases the answers as they come.
+/// It gives how many answers were released.
+pub fn run_desk(alloc: Global, finishing: Finishing, units: u32) -> Result<usize, Failure> {
+    let units = units.min(1_000_000);
+    let mut desk = Desk::new(alloc);
+    match finishing {
+        Finishing::Straight => {
+            open_all(alloc, &mut desk, units)?;
+            finish_by_windows(&mut desk, units, 1)
+        }
+        Finishing::Windows => {
+            open_all(alloc, &mut desk, units)?;
+            finish_by_windows(&mut desk, units, WINDOW)
+        }
+        Finishing::Cancels => {
+            open_all(alloc, &mut desk, units)?;
+            cancel_all(&mut desk, units)
+        }
+        Finishing::Stream => answer_each(alloc, &mut desk, units),
+        Finishing::Behind => {
+            let Some(requests) = units.checked_sub(1) else {
+                return Ok(0);
+            };
+            open(alloc, &mut desk, None)?;
+            answer_each(alloc, &mut desk, requests)
+        }
+    }
+}
+
+/// Opens so many requests, whose ids are their numbers in a new desk.
+fn open_all(alloc: Global, desk: &mut Desk, units: u32) -> Result<(), Failure>
+    requires { next_number (view desk.old) + units ≤ 1000001 }
+{
+    for index in 0..units {
+        open(alloc, desk, Some(id_of(index.saturating_add(1))))?;
+    }
+    Ok(())
+}
+
+/// Opens a unit of one call, and gives its number.
+fn open(alloc: Global, desk: &mut Desk, id: Option<Id>) -> Result<u32, Failure>
+    requires { next_number (view desk.old) ≤ 1000000 }
+    ensures { OnOk result (next_number (view desk.new) ≡ next_number (view desk.old) + 1) }
+{
+    let call = Place::Numbered { id, most: 0 };
+    let places = Items::from(vec![in alloc; call]?);
+    Ok(desk.open_unit(Shape {
+        kind: Kind::Single,
+        places,
+    })?)
+}
+
+fn id_of(number: u32) -> Id {
+    Id::Unsigned(number as u64)
+}
+
+/// Finishes the requests window by window, and each window from its end.
+fn finish_by_windows(desk: &mut Desk, units: u32, window: u32) -> Result<usize, Failure>
+    requires { 0 < window }
+{
+    let mut released = 0usize;
+    for index in 0..units.div_ceil(window) {
+        let before = index.saturating_mul(window);
+        let last = before.saturating_add(window).min(units);
+        released = released.saturating_add(finish_in_reverse(desk, before, last)?);
+    }
+    Ok(released)
+}
+
+/// Finishes the requests after the number `before`, from `last` down.
+fn finish_in_reverse(desk: &mut Desk, before: u32, last: u32) -> Result<usize, Failure> {
+    let mut released = 0usize;
+    for number in (before..last).rev() {
+        let reply = Reply::Done(Json::boolean(true));
+        finish(desk, number.saturating_add(1), reply);
+        released = released.saturating_add(release(desk)?);
+    }
+    Ok(released)
+}
+
+/// Cancels the requests as they came, and finishes each that the cancel reached.
+fn cancel_all(desk: &mut Desk, units: u32) -> Result<usize, Failure> {
+    let mut released = 0usize;
+    for number in 1..=units {
+        desk.mark(&id_of(number), units.saturating_add(1));
+        if let Some(reached) = desk.take_marked() {
+            finish(desk, reached, Reply::Standard(Standard::Cancelled));
+        }
+        released = released.saturating_add(release(desk)?);
+    }
+    Ok(released)
+}
+
+/// Opens so many requests, each once the one before it is finished.
+fn answer_each(alloc: Global, desk: &mut Desk, requests: u32) -> Result<usize, Failure>
+    requires { next_number (view desk.old) + requests ≤ 1000001 }
+{
+    let mut released = 0usize;
+    for index in 0..requests {
+        let number = open(alloc, desk, Some(id_of(index.saturating_add(1))))?;
+        finish(desk, number, Reply::Done(Json::boolean(true)));
+        released = released.saturating_add(release(desk)?);
+    }
+    Ok(released)
+}
+
+/// The end of a request, where it is open.
+fn finish(desk: &mut Desk, number: u32, reply: Reply)
+    ensures { next_number (view desk.new) ≡ next_number (view desk.old) }
+{
+    if desk.is_open(number) {
+        desk.finish(number, reply);
+    }
+}
+
+/// How many answers are released now.
+fn release(desk: &mut Desk) -> Result<usize, Failure>
+    ensures { OnOk result (next_number (view desk.new) ≡ next_number (view desk.old)) }
+{
+    Ok(desk.release()?.len())
+}
