@@ -9,7 +9,8 @@ use Rattle.method_steps.specs.declared.step.Step.TheVariants as step
 use Rattle.method_steps.specs.Steps.{Step, KeepsLimits, calls_in}
 use Rattle.handler_future.specs.declared.act.Act.{Act}
 use Rattle.handler_future.specs.declared.act.Act.TheVariants as act
-use Rattle.handler_future.specs.Act.{and_then, or_end, filled, sum_of, are_alike, outgoing_of, outgoings_of, act_of}
+use Rattle.handler_future.specs.Act.{or_end, filled, sum_of, are_alike, outgoing_of, outgoings_of, act_of}
+use Rattle.handler_future.specs.Results.{and_then}
 
 abbrev pub asked : Act → ℕ
 asked (act.Call o) = 1

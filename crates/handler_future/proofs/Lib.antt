@@ -1,4 +1,5 @@
 pub mod Asks
+pub mod Crossing
 pub mod Evaluating
 pub mod Follows
 pub mod Fronts

@@ -4,7 +4,8 @@ use Rattle.serde_json.specs.Data.{Members}
 use Rattle.rpc_messages.specs.declared.outgoing.Outgoing.{Outgoing}
 use Rattle.rpc_messages.specs.declared.standard.Standard.{Standard}
 use Rattle.method_steps.specs.declared.step.ListedCall.{ListedCall}
-use Rattle.handler_future.specs.Act.{and_then, outgoing_of, outgoings_of}
+use Rattle.handler_future.specs.Act.{outgoing_of, outgoings_of}
+use Rattle.handler_future.specs.Results.{and_then}
 
 -- these calls, and then those of the list's rest
 abbrev pub beside : List Outgoing → Result (List Outgoing) Standard → Result (List Outgoing) Standard

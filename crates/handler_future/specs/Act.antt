@@ -17,12 +17,9 @@ use Rattle.method_steps.specs.Shape.{Shape}
 use Rattle.method_steps.specs.Value.{value_of}
 use Rattle.handler_future.specs.declared.act.Act.{Act}
 use Rattle.handler_future.specs.declared.act.Act.TheVariants.{Put, Skip, Notify, Call, Calls, End}
+use Rattle.handler_future.specs.Results.{and_then}
 
 -- ---- values, or the error that ends the method
-
-abbrev pub and_then : {A B : Type 0} → Result A Standard → (A → Result B Standard) → Result B Standard
-and_then (Ok a) f = f a
-and_then (Err s) f = Err s
 
 -- a missing place in `params` is the caller's fault; any other is the method's own
 abbrev pub error_at : FillFault → Standard

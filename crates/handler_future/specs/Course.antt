@@ -46,7 +46,7 @@ seen c = record {
   heard = c.heard.items;
 }
 
--- ---- one step
+-- ---- one step, for private functions' clauses
 
 abbrev pub with_value : Step → Data → Seen → Seen
 with_value s d c = record c { place = c.place + 1; registers = put (register_of s) d c.registers }

@@ -10,6 +10,7 @@ use Rattle.method_steps.specs.declared.step.OnError.{OnError}
 use Rattle.method_steps.specs.declared.step.OnError.TheVariants.{Fail, Keep}
 use Rattle.method_steps.specs.Steps.{Step}
 use Rattle.method_steps.specs.declared.step.Step.TheVariants as step
+use Rattle.handler_future.specs.Results.{and_then}
 
 -- the register that the step puts a value into
 abbrev pub register_of : Step → List ℕ
@@ -40,10 +41,6 @@ kept_reply Fail (Fixed s) = Err (Fixed s)
 kept_reply Keep (Done d) = Ok (kept_result d)
 kept_reply Keep (Error e) = Ok (kept_error e)
 kept_reply Keep (Fixed s) = Ok (kept_error (standard_error s))
-
-abbrev pub and_then : {A B : Type 0} → Result A Reply → (A → Result B Reply) → Result B Reply
-and_then (Ok a) f = f a
-and_then (Err r) f = Err r
 
 -- the values of replies in their order, or the first error reply that ends the method
 abbrev pub kept_items : OnError → List Reply → Result Items Reply

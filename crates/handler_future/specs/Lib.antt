@@ -8,6 +8,7 @@ pub mod Kept
 pub mod Performed
 pub mod Ready
 pub mod Rehearsed
+pub mod Results
 pub mod Running
 pub mod Standing
 pub mod State

@@ -1,4 +1,5 @@
--- A method under way, until it waits for replies or ends.
+-- A method under way, until it waits for replies or ends. Only private functions' clauses cite this: what a handler promises
+-- is told by State, over the evaluation.
 use Rattle.std.specs.Prelude.{◌≡◌, ℕ, zero, suc, ◌+◌, ◌≤◌, ◌<◌, ◌==◌, List, [], ◌∷◌, ◌++◌, length, drop, if◌then◌else◌}
 use Rattle.serde_json.specs.Data.{null}
 use Rattle.rpc_messages.specs.declared.reply.Reply.TheVariants.{Done}

@@ -13,6 +13,8 @@ mod listed;
 mod message;
 mod outcome;
 mod rehearsal;
+#[cfg(test)]
+mod tests;
 
 pub use awaiting::Awaiting;
 pub use evaluation::{Evaluation, evaluate};

@@ -1,5 +1,5 @@
 -- A response's text, part by part, and that it is read back.
-use Rattle.std.proofs.Common.{◌≡◌, ℕ, ◌≤◌, ◌++◌, List, codes, false, Some, Result, Ok, Err, OnOk, refl, ap, sym, subst, ◌∙◌, arith, [], ◌∷◌, append-nil, pos, negsuc, ◌||◌}
+use Rattle.std.proofs.Common.{◌≡◌, ℕ, ◌≤◌, ◌++◌, List, codes, false, Some, Result, Ok, Err, OnOk, refl, ap, sym, subst, ◌∙◌, arith, [], ◌∷◌, append-nil, ℤ, pos, negsuc, FitsSigned, w64, ◌||◌}
 use Rattle.std.specs.Fmt.{digits}
 use Rattle.json.specs.Print.{print, quoted}
 use Rattle.json.specs.Token as token
@@ -61,6 +61,11 @@ id_reads_back id seen is sound whole shallow =
     let P : Id → Type 0 = λ i. read (compact_text (id_data i)) ≡ Some (id_data i) in
     subst P (sym is) (read-compact_text (id_data id) sound whole shallow)
 
+-- a number of i64 fits
+pub signed_sound : (z : ℤ) → FitsSigned w64 z → Sound (id_data (Signed z))
+signed_sound (pos n) fits = omega (arith, fits)
+signed_sound (negsuc n) fits = omega (arith, fits)
+
 -- a string's text is its one token's
 pub print-string : (s : List ℕ) → print (token.string s ∷ []) ≡ quoted s
 unfolding json_on_literals
@@ -68,7 +73,7 @@ print-string s = append-nil (quoted s)
 
 -- ---- reading back
 
-id_whole : (id : Id) → has_float (id_data id) ≡ false
+pub id_whole : (id : Id) → has_float (id_data id) ≡ false
 id_whole Null = refl
 id_whole (Text s) = refl
 id_whole (Signed (pos n)) = refl

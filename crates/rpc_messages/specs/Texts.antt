@@ -89,7 +89,7 @@ notice_text_of o = compact_text (notice_of o)
 abbrev pub batch_text_of : List (List ℕ) → List ℕ
 batch_text_of texts = codes "[" ++ join_with_byte 44 texts ++ codes "]"
 
--- the parts of a response's text around the text of its result or error
+-- the parts of a response's text around the text of its result or error; only private functions' clauses cite them
 abbrev pub done_text : Id → List ℕ → List ℕ
 done_text id text = codes "{\"id\":" ++ (compact_text (id_data id) ++ (codes ",\"jsonrpc\":\"2.0\",\"result\":" ++ (text ++ codes "}")))
 

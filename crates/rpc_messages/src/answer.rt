@@ -81,7 +81,10 @@ fn put_id(alloc: Global, bytes: &mut Vec<u8>, id: &Id) -> Result<(), AllocError>
     match id {
         Id::Null => bytes.extend_from_slice(b"null"),
         Id::Text(text) => put_quoted(alloc, bytes, text.as_str()),
-        Id::Signed(_) => bytes.extend_from_slice(id.to_json()?.to_bytes(alloc)?.as_slice()),
+        Id::Signed(number) => {
+            let mut digits = Buffer::new();
+            bytes.extend_from_slice(digits.format(number.get()).as_bytes())
+        }
         Id::Unsigned(number) => {
             let mut digits = Buffer::new();
             bytes.extend_from_slice(digits.format(*number).as_bytes())
