@@ -1,29 +1,24 @@
 -- What a poll answers, and what it leaves.
-use Rattle.std.proofs.Common.{◌≡◌, ℕ, ◌+◌, ◌≤◌, ◌<◌, List, [], length, All, Bool, true, false, not, Some, None, refl, ap, sym, ◌∙◌, subst, arith, append-nil, ◌⊎◌, inl, inr}
+use Rattle.std.proofs.Common.{◌≡◌, ℕ, ◌+◌, ◌≤◌, ◌<◌, List, [], length, All, Bool, true, false, not, Some, None, refl, ap, sym, subst, arith, append-nil, ◌⊎◌, inl, inr}
 use Rattle.std.proofs.lemmas.Bool.{cases_lt}
 use Rattle.std.proofs.lemmas.List.Elements.{All-filter}
 use Rattle.std.proofs.lemmas.List.FromFn.{length-range_with_len, get_or-range_with_len}
 use Rattle.std.specs.List.{range_with_len}
 use Rattle.rpc_messages.specs.declared.reply.Reply.{Reply}
-use Rattle.method_steps.specs.Steps.{KeepsLimits, calls_of}
-use Rattle.handler_future.specs.declared.course.Progress.{Progress}
-use Rattle.handler_future.specs.declared.course.Progress.TheVariants.{Going, Waiting, Ended}
+use Rattle.method_steps.specs.Steps.{calls_of}
 use Rattle.handler_future.specs.declared.outcome.Outcome.TheVariants.{Answer, Failed}
-use Rattle.handler_future.specs.Course.{Seen, Course, HasRoom}
-use Rattle.handler_future.specs.Evaluation.{Program, Evaluation}
+use Rattle.handler_future.specs.Course.{Seen}
+use Rattle.handler_future.specs.Evaluation.{Program}
 use Rattle.handler_future.specs.Front.{is_heard}
-use Rattle.handler_future.specs.Running.{proceeded, Grows, HasRoomToWait}
+use Rattle.handler_future.specs.Running.{Stays}
 use Rattle.handler_future.specs.Standing.{IsParked, IsUnderWay, HasCome, Begins, Stands}
-use Rattle.handler_future.specs.State.{HandlerState, IsWaiting, HasEnded, IsPoll}
-use Rattle.handler_future.proofs.Follows.{Leads, parked-front, parked-waits, proceeded-leads, proceeded-begins, proceeded-heard, proceeded-stays}
+use Rattle.handler_future.specs.State.{HandlerState, IsWaiting, IsPoll}
+use Rattle.handler_future.proofs.Follows.{parked-front, parked-waits}
 
 abbrev pub state_at : ℕ → Program → Seen → Bool → HandlerState
 state_at n p c over = record { number = n; program = p; messages = c.messages; heard = c.heard; waits = c.waits; is_over = over }
 
 -- ---- waits
-
-abbrev IsTurn : Program → ℕ → Type 0
-IsTurn p t = (1 ≤ t) × (t ≤ calls_of p.steps)
 
 row-within : (p : Program) (t k : ℕ) → 1 ≤ t → t + k ≤ 1 + calls_of p.steps → All (λ u. (1 ≤ u) × (u ≤ calls_of p.steps)) (range_with_len t k)
 row-within p t k one most = λ i d l. let e = get_or-range_with_len t k i d (let n = length-range_with_len t k in omega arith) in let n = length-range_with_len t k in (omega arith, omega arith)
@@ -73,78 +68,37 @@ poll-again n p c u some = record {
     either (inr none) = let e = ap length ((u.before (omega arith)).no_waits) in absurd (omega arith)
 
 -- a poll that ends
-ended-leaves : (n : ℕ) (p : Program) (d : Seen) (r : Reply) → HasCome p d r → HasEnded (state_at n p d true) r
-ended-leaves n p d r h = record { heard = h.heard; evaluated = h.law; no_waits = h.no_waits; over = refl }
-
-pub leads-to : (p : Program) (c d : Seen) (q : Progress) → All KeepsLimits p.steps → IsUnderWay p c → c.waits ≡ [] → d ≡ (proceeded p.steps c).0 → q ≡ (proceeded p.steps c).1 → Leads p d q
-leads-to p c d q limits u waits is halt = let P : Seen × Progress → Type 0 = λ x. Leads p x.0 x.1 in
-    let e : (d, q) ≡ proceeded p.steps c = λ i. (is i, halt i) in subst P (sym e) (proceeded-leads p c limits u waits)
-
-heard-stays : (p : Program) (c d : Seen) → d ≡ (proceeded p.steps c).0 → d.heard ≡ c.heard
-heard-stays p c d is = let h = proceeded-stays p.steps c in ap (λ (x : Seen). x.heard) is ∙ h.heard
-
-pub poll-ended : (n : ℕ) (p : Program) (c d : Seen) (r : Reply) → All KeepsLimits p.steps → IsUnderWay p c → c.waits ≡ [] → d ≡ (proceeded p.steps c).0 → Ended r ≡ (proceeded p.steps c).1
-    → Grows c d → IsPoll (state_at n p c false) (state_at n p d true) (Some (Answer r))
-poll-ended n p c d r limits u waits is halt grows = record {
+pub poll-ended : (n : ℕ) (p : Program) (c d : Seen) (r : Reply) → HasCome p d r → Stays c d → IsPoll (state_at n p c false) (state_at n p d true) (Some (Answer r))
+poll-ended n p c d r h stays = record {
   same_number = refl;
   same_program = refl;
-  same_heard = heard-stays p c d is;
-  messages_stay = grows;
-  leaves = ended-leaves n p d r (leads-to p c d (Ended r) limits u waits is halt);
+  same_heard = stays.heard;
+  messages_stay = stays.messages;
+  leaves = record { heard = h.heard; evaluated = h.law; no_waits = h.no_waits; over = refl };
   after_ready = λ h. cc;
 }
 
-pub ended-begins : (p : Program) (c d : Seen) (r : Reply) → All KeepsLimits p.steps → IsUnderWay p c → c.waits ≡ [] → d ≡ (proceeded p.steps c).0 → Ended r ≡ (proceeded p.steps c).1 → Begins p d
-ended-begins p c d r limits u waits is halt =
-    let h : HasCome p d r = leads-to p c d (Ended r) limits u waits is halt in
-    record { law = λ R agrees. ([], ap (λ (e : Evaluation). e.messages) (h.law R agrees) ∙ sym (append-nil d.messages)); no_waits = h.no_waits }
-
 -- a poll that waits
-NotEnded : Progress → Type 0
-NotEnded q = (r : Reply) → q ≡ Ended r → ⊥
-
-waits-parked : (p : Program) (d : Seen) (q : Progress) → Leads p d q → ((r : Reply) → q ≡ Ended r → ⊥) → IsParked p d × (0 < length d.waits)
-waits-parked p d Going h unended = absurd h
-waits-parked p d Waiting h unended = h
-waits-parked p d (Ended r) h unended = absurd (unended r refl)
-
-pub poll-parks : (p : Program) (c d : Seen) (q : Progress) → All KeepsLimits p.steps → IsUnderWay p c → c.waits ≡ [] → d ≡ (proceeded p.steps c).0 → q ≡ (proceeded p.steps c).1
-    → ((r : Reply) → q ≡ Ended r → ⊥) → IsParked p d × (0 < length d.waits)
-poll-parks p c d q limits u waits is halt unended = waits-parked p d q (leads-to p c d q limits u waits is halt) unended
-
-pub poll-waits : (n : ℕ) (p : Program) (c d : Seen) (q : Progress) → All KeepsLimits p.steps → IsUnderWay p c → c.waits ≡ [] → d ≡ (proceeded p.steps c).0 → q ≡ (proceeded p.steps c).1
-    → ((r : Reply) → q ≡ Ended r → ⊥) → Grows c d → IsPoll (state_at n p c false) (state_at n p d false) None
-poll-waits n p c d q limits u waits is halt unended grows =
-    let h = poll-parks p c d q limits u waits is halt unended in
-    record {
-      same_number = refl;
-      same_program = refl;
-      same_heard = heard-stays p c d is;
-      messages_stay = grows;
-      leaves = parked-waiting n p d h.0 h.1;
-      after_ready = λ e. cc;
-    }
+pub poll-waits : (n : ℕ) (p : Program) (c d : Seen) → IsParked p d × (0 < length d.waits) → Stays c d → IsPoll (state_at n p c false) (state_at n p d false) None
+poll-waits n p c d h stays = record {
+  same_number = refl;
+  same_program = refl;
+  same_heard = stays.heard;
+  messages_stay = stays.messages;
+  leaves = parked-waiting n p d h.0 h.1;
+  after_ready = λ e. cc;
+}
 
 pub parked-under_way : (p : Program) (d : Seen) → IsParked p d → IsUnderWay p d
 parked-under_way p d h = record { before = λ e. let s = h.some in absurd (omega arith); parked = λ _. h }
 
-pub waits-room : (p : Program) (c d : Seen) (q : Progress) (course : Course) → All KeepsLimits p.steps → IsUnderWay p c → c.waits ≡ [] → d ≡ (proceeded p.steps c).0 → q ≡ (proceeded p.steps c).1
-    → ((r : Reply) → q ≡ Ended r → ⊥) → HasRoomToWait q course → HasRoom course
-waits-room p c d q course limits u waits is halt unended room = both q (leads-to p c d q limits u waits is halt) unended room
-  where
-    both : (x : Progress) → Leads p d x → ((r : Reply) → x ≡ Ended r → ⊥) → HasRoomToWait x course → HasRoom course
-    both Going h unended room = absurd h
-    both Waiting h unended room = room
-    both (Ended r) h unended room = absurd (unended r refl)
-
 -- a poll that fails
-pub poll-failed : (n : ℕ) (p : Program) (c e : Seen) → All KeepsLimits p.steps → IsUnderWay p c → c.waits ≡ [] → proceeded p.steps e ≡ proceeded p.steps c → e.waits ≡ []
-    → Grows c e → IsPoll (state_at n p c false) (state_at n p e true) (Some Failed)
-poll-failed n p c e limits u waits same none grows = let b = proceeded-begins p c e limits u waits same none in record {
+pub poll-failed : (n : ℕ) (p : Program) (c d : Seen) → Begins p d → Stays c d → IsPoll (state_at n p c false) (state_at n p d true) (Some Failed)
+poll-failed n p c d b stays = record {
   same_number = refl;
   same_program = refl;
-  same_heard = proceeded-heard p c e same;
-  messages_stay = grows;
+  same_heard = stays.heard;
+  messages_stay = stays.messages;
   leaves = record { begins = b.law; no_waits = b.no_waits; over = refl };
   after_ready = λ h. cc;
 }

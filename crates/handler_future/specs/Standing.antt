@@ -5,6 +5,8 @@ use Rattle.rpc_messages.specs.declared.reply.Reply.{Reply}
 use Rattle.method_steps.specs.Steps.{Step, calls_of}
 use Rattle.handler_future.specs.declared.act.Act.{Act}
 use Rattle.handler_future.specs.declared.act.Act.TheVariants as act
+use Rattle.handler_future.specs.declared.course.Progress.{Progress}
+use Rattle.handler_future.specs.declared.course.Progress.TheVariants.{Going, Waiting, Ended}
 use Rattle.handler_future.specs.declared.message.Message.{Message}
 use Rattle.handler_future.specs.declared.message.Message.TheVariants as message
 use Rattle.handler_future.specs.Act.{act_of}
@@ -12,11 +14,10 @@ use Rattle.handler_future.specs.Course.{Seen}
 use Rattle.handler_future.specs.Evaluation.{Replies, Program, evaluation, eval, preceded}
 use Rattle.handler_future.specs.Front.{is_heard, AgreesWith, unheard, are_heard}
 
--- With so many of these steps to pass over, the evaluation is the messages so far and then the evaluation from here on,
--- whatever is still to be heard.
-pub record StandsBefore (p : Program) (k : ℕ) (steps : List Step) (c : Seen) : Type 0 where
-  pub law : (R : Replies) → AgreesWith c.heard R → evaluation R p ≡ preceded c.messages (eval R k steps c.registers c.turn)
-  pub here : drop k steps ≡ drop c.place p.steps
+-- Nothing is awaited: the evaluation is the messages so far and then the evaluation from its place on, whatever is still to
+-- be heard.
+pub record StandsBefore (p : Program) (c : Seen) : Type 0 where
+  pub law : (R : Replies) → AgreesWith c.heard R → evaluation R p ≡ preceded c.messages (eval R 0 (drop c.place p.steps) c.registers c.turn)
   pub heard : are_heard c.heard c.messages ≡ true
   pub none_ahead : (t : ℕ) → c.turn ≤ t → is_heard c.heard t ≡ false
   pub no_waits : c.waits ≡ []
@@ -49,7 +50,7 @@ pub record IsParked (p : Program) (c : Seen) : Type 0 where
   pub turns : (c.turn + c.asked) + calls_of (drop (c.place + 1) p.steps) ≤ 1 + calls_of p.steps
 
 pub record IsUnderWay (p : Program) (c : Seen) : Type 0 where
-  pub before : c.asked ≡ 0 → StandsBefore p 0 (drop c.place p.steps) c
+  pub before : c.asked ≡ 0 → StandsBefore p c
   pub parked : 0 < c.asked → IsParked p c
 
 -- It has come to its end.
@@ -62,6 +63,12 @@ pub record HasCome (p : Program) (c : Seen) (answer : Reply) : Type 0 where
 pub record Begins (p : Program) (c : Seen) : Type 0 where
   pub law : (R : Replies) → AgreesWith c.heard R → (more : List Message) × ((evaluation R p).messages ≡ c.messages ++ more)
   pub no_waits : c.waits ≡ []
+
+-- where it stands, by what it came to
+abbrev pub Leads : Program → Seen → Progress → Type 0
+Leads p c Going = StandsBefore p c
+Leads p c Waiting = IsParked p c × (0 < length c.waits)
+Leads p c (Ended r) = HasCome p c r
 
 abbrev pub Stands : Program → Bool → Seen → Type 0
 Stands p true c = Begins p c

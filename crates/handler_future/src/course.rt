@@ -1,12 +1,14 @@
 //! A method under way.
 
-ghost use Rattle.std.specs.Prelude.{◌≡◌, ◌+◌, ◌≤◌, ◌<◌, ◌++◌, [], length, OnOk, OnErr, IfOk, vec_len, vec_capacity};
+ghost use Rattle.std.specs.Prelude.{◌≡◌, ◌≢◌, ◌+◌, ◌≤◌, ◌<◌, ◌++◌, [], length, OnOk, OnErr, IfOk, vec_len, vec_capacity};
 ghost use Rattle.std.specs.List.{range_with_len};
 ghost use Rattle.method_steps.specs.Steps.{AreWithinLimits, KeepsLimits, calls_in};
 ghost use Rattle.handler_future.specs.Act.{act_of};
 ghost use Rattle.handler_future.specs.Course.{seen, with_value, with_notice, asking, moved, settled, HasRoom};
 ghost use Rattle.handler_future.specs.Kept.{register_of};
-ghost use Rattle.handler_future.specs.Running.{Grows, IsReady, IsRunnable, HasRoomToWait, run_from, proceeded};
+ghost use Rattle.handler_future.specs.Evaluation.{Program};
+ghost use Rattle.handler_future.specs.Running.{Stays, IsReady, IsRunnable, HasRoomToWait};
+ghost use Rattle.handler_future.specs.Standing.{StandsBefore, IsUnderWay, Leads, Begins};
 
 use crate::act::{Act, decide};
 use crate::kept::kept;
@@ -51,11 +53,12 @@ pub(crate) fn proceed(
 ) -> Result<Progress, AllocError>
     requires limits { AreWithinLimits steps.now }
     requires ready { IsReady steps.now (seen course.old) }
-    ensures course { OnOk result (seen course.new ≡ (proceeded steps.now (seen course.old)).0) }
-    ensures progress { IfOk result (λ progress. progress ≡ (proceeded steps.now (seen course.old)).1) }
-    ensures err { OnErr result (proceeded steps.now (seen course.new) ≡ proceeded steps.now (seen course.old)) }
-    ensures no_waits { OnErr result (course.new.waits.items ≡ []) }
-    ensures grows { Grows (seen course.old) (seen course.new) }
+    ensures leads { IfOk result (λ progress. (program : Program) → program.steps ≡ steps.now
+        → IsUnderWay program (seen course.old) → Leads program (seen course.new) progress) }
+    ensures halts { IfOk result (λ progress. progress ≢ Progress.Going) }
+    ensures err { OnErr result ((program : Program) → program.steps ≡ steps.now
+        → IsUnderWay program (seen course.old) → Begins program (seen course.new)) }
+    ensures stays { Stays (seen course.old) (seen course.new) }
     ensures room { IfOk result (λ progress. HasRoomToWait progress course.new) }
 {
     if course.asked == 0 {
@@ -70,12 +73,12 @@ pub(crate) fn proceed(
 fn run(alloc: Global, steps: &[Step], course: &mut Course) -> Result<Progress, AllocError>
     requires limits { AreWithinLimits steps.now }
     requires ready { IsRunnable steps.now (seen course.old) }
-    ensures course { OnOk result (seen course.new ≡ (run_from steps.now (seen course.old)).0) }
-    ensures progress { IfOk result (λ progress. progress ≡ (run_from steps.now (seen course.old)).1) }
-    ensures err { OnErr result (run_from steps.now (seen course.new) ≡ run_from steps.now (seen course.old)) }
-    ensures err_asked { OnErr result (course.new.asked ≡ 0) }
-    ensures no_waits { OnErr result (course.new.waits.items ≡ []) }
-    ensures grows { Grows (seen course.old) (seen course.new) }
+    ensures leads { IfOk result (λ progress. (program : Program) → program.steps ≡ steps.now
+        → StandsBefore program (seen course.old) → Leads program (seen course.new) progress) }
+    ensures halts { IfOk result (λ progress. progress ≢ Progress.Going) }
+    ensures err { OnErr result ((program : Program) → program.steps ≡ steps.now
+        → StandsBefore program (seen course.old) → Begins program (seen course.new)) }
+    ensures stays { Stays (seen course.old) (seen course.new) }
     ensures room { IfOk result (λ progress. HasRoomToWait progress course.new) }
 {
     'steps: while course.place < steps.len() {

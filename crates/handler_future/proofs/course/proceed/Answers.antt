@@ -1,9 +1,11 @@
-use Rattle.std.proofs.Common.{◌≡◌, ◌<◌, get_or, sym, ap, arith}
+use Rattle.std.proofs.Common.{◌≡◌, ◌<◌, get_or, sym, subst, ◌∙◌, arith}
 use Rattle.method_steps.specs.Steps.{Step}
 use Rattle.handler_future.specs.declared.course.Progress.{Progress}
-use Rattle.handler_future.specs.Course.{Seen, seen}
-use Rattle.handler_future.specs.Running.{proceeded}
-use Rattle.handler_future.proofs.Runs.{proceeded_halts, settled_grows, settled_room}
+use Rattle.handler_future.specs.declared.course.Progress.TheVariants.{Going}
+use Rattle.handler_future.specs.Course.{Seen, seen, settled}
+use Rattle.handler_future.specs.Standing.{Begins}
+use Rattle.handler_future.proofs.Follows.{settled-leads, parked-begins}
+use Rattle.handler_future.proofs.Runs.{here_in, stays_settled, settled_room, if_ok, on_err, on_err-map}
 use Rattle.handler_future.proofs.course.proceed.Goals as goal
 
 pub returns-in_default : goal.returns-in_default
@@ -12,17 +14,53 @@ returns-in_default c =
     let now : Seen = seen c.args.course.now in
     let new : Seen = seen c.settle.new.course in
     let s : Step = c.index-steps-course.result in
-    let p : Progress = c.in_ok-halt.halt in
+    let q : Progress = c.in_ok-halt.halt in
     let asked : 0 < now.asked = omega arith in
     let ready = c.requires.ready.settle asked in
     let here : get_or steps now.place s ≡ s = sym c.index-steps-course.is in
     let told = c.in_ok-halt.ensures in
-    let e : proceeded steps now ≡ (new, p) = proceeded_halts steps now new p s asked ready.place here told.course told.progress c.in_default.not-Going in
     record {
-      course = sym (ap (λ x. x.0) e);
-      progress = sym (ap (λ x. x.1) e);
+      leads = λ p same under. settled-leads p s now new q (under.parked asked) (here_in p steps now.place s same ready.place here) ready.no_waits told.course told.progress;
+      halts = c.in_default.not-Going;
       err = tt;
-      no_waits = tt;
-      grows = settled_grows now new s told.course;
-      room = settled_room now s p c.settle.new.course told.progress;
+      stays = stays_settled now new s told.course;
+      room = settled_room now s q c.settle.new.course told.progress;
     }
+
+pub returns-in_err-halt-clause-err : goal.returns-in_err-halt-clause-err
+returns-in_err-halt-clause-err c =
+    let now : Seen = seen c.args.course.now in
+    let new : Seen = seen c.settle.new.course in
+    let asked : 0 < now.asked = omega arith in
+    let waits = (c.requires.ready.settle asked).no_waits in
+    let same_course : new ≡ now = c.in_err-halt.ensures.err in
+    on_err c.from_residual.result (λ p same under. let P : Seen → Type 0 = Begins p in
+    subst P (sym same_course) (record { law = parked-begins p now (under.parked asked); no_waits = waits }))
+
+pub returns-in-Going-clause-leads : goal.returns-in-Going-clause-leads
+returns-in-Going-clause-leads c =
+    let steps = c.args.steps.now in
+    let now : Seen = seen c.args.course.now in
+    let new : Seen = seen c.settle.new.course in
+    let s : Step = c.index-steps-course.result in
+    let asked : 0 < now.asked = omega arith in
+    let ready = c.requires.ready.settle asked in
+    let here : get_or steps now.place s ≡ s = sym c.index-steps-course.is in
+    let told = c.in_ok-halt.ensures in
+    let going : Going ≡ (settled s now).1 = sym c.in-Going.is ∙ told.progress in
+    if_ok c.run-in-Going.result (λ q leads p same under. leads p same
+    (settled-leads p s now new Going (under.parked asked) (here_in p steps now.place s same ready.place here) ready.no_waits told.course going)) c.run-in-Going.ensures.leads
+
+pub returns-in-Going-clause-err : goal.returns-in-Going-clause-err
+returns-in-Going-clause-err c =
+    let steps = c.args.steps.now in
+    let now : Seen = seen c.args.course.now in
+    let new : Seen = seen c.settle.new.course in
+    let s : Step = c.index-steps-course.result in
+    let asked : 0 < now.asked = omega arith in
+    let ready = c.requires.ready.settle asked in
+    let here : get_or steps now.place s ≡ s = sym c.index-steps-course.is in
+    let told = c.in_ok-halt.ensures in
+    let going : Going ≡ (settled s now).1 = sym c.in-Going.is ∙ told.progress in
+    on_err-map c.run-in-Going.result (λ begins p same under. begins p same
+    (settled-leads p s now new Going (under.parked asked) (here_in p steps now.place s same ready.place here) ready.no_waits told.course going)) c.run-in-Going.ensures.err

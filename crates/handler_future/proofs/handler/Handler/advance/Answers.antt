@@ -1,17 +1,16 @@
-use Rattle.std.proofs.Common.{◌≡◌, ◌<◌, length, [], Bool, true, false, Some, None, sym, ap, ◌∙◌, subst, arith}
+use Rattle.std.proofs.Common.{◌≡◌, ◌<◌, length, Bool, true, false, Some, None, sym, ap, ◌∙◌, subst, arith}
 use Rattle.std.proofs.lemmas.Bool.Decides.{nat_tests}
 use Rattle.std.proofs.lemmas.Grind.{common_steps}
 use Rattle.handler_future.specs.Course.{Seen, seen}
 use Rattle.handler_future.specs.Evaluation.{Program}
 use Rattle.handler_future.specs.Handler.{program_of}
-use Rattle.handler_future.specs.declared.course.Progress.TheVariants.{Going, Waiting, Ended}
 use Rattle.handler_future.specs.declared.outcome.Outcome.TheVariants.{Answer, Failed}
 use Rattle.handler_future.specs.declared.course.Progress.{Progress}
-use Rattle.handler_future.specs.Running.{proceeded, HasRoomToWait}
-use Rattle.handler_future.proofs.Follows.{proceeded-begins}
-use Rattle.handler_future.specs.Standing.{Stands, IsUnderWay}
+use Rattle.handler_future.specs.Running.{HasRoomToWait}
+use Rattle.handler_future.proofs.Follows.{come-begins}
+use Rattle.handler_future.specs.Standing.{Stands, IsUnderWay, IsParked, HasCome, Begins, Leads}
 use Rattle.handler_future.specs.State.{HandlerState, IsPoll}
-use Rattle.handler_future.proofs.Polls.{state_at, poll-again, poll-ended, poll-waits, poll-failed, poll-parks, parked-under_way, ended-begins, leads-to}
+use Rattle.handler_future.proofs.Polls.{state_at, poll-again, poll-ended, poll-waits, poll-failed, parked-under_way}
 use Rattle.handler_future.proofs.handler.Handler.advance.Goals as goal
 
 pub returns-then-not-is_empty : goal.returns-then-not-is_empty
@@ -34,14 +33,13 @@ returns-in-Ok-Ended c =
     let new : Seen = seen c.proceed.new.course in
     let S : Bool → Type 0 = λ b. Stands p b now in
     let under : IsUnderWay p now = subst S c.if-self.false c.self.invariant.stands in
-    let before : state_at h.number p now false ≡ c.args.self.now = ap (state_at h.number p now) (sym c.if-self.false) ∙ c.self.view_is in
-    let none : now.waits ≡ [] = grind (arith, nat_tests, common_steps) in
     let steps : c.as_slice.result.now ≡ p.steps = c.as_slice.ensures.value ∙ ap (λ v. v.items) c.deref.ensures in
+    let before : state_at h.number p now false ≡ c.args.self.now = ap (state_at h.number p now) (sym c.if-self.false) ∙ c.self.view_is in
     let told = c.in-Ok-Ended.ensures in
-    let is : new ≡ (proceeded p.steps now).0 = rw steps at told.course in
-    let halt : Ended c.in-Ok-Ended.reply ≡ (proceeded p.steps now).1 = sym c.in-Ok-Ended.field-0-is ∙ (rw steps at told.progress) in
+    let L : Progress → Type 0 = λ q. Leads p new q in
+    let come : HasCome p new c.in-Ok-Ended.reply = subst L c.in-Ok-Ended.field-0-is (told.leads p (sym steps) under) in
     let P : HandlerState → Type 0 = λ x. IsPoll x (state_at h.number p new true) (Some (Answer c.in-Ok-Ended.reply)) in
-    subst P before (poll-ended h.number p now new c.in-Ok-Ended.reply c.self.invariant.limits.each under none is halt told.grows)
+    subst P before (poll-ended h.number p now new c.in-Ok-Ended.reply come told.stays)
 
 pub invariant_of-self : goal.invariant_of-self
 invariant_of-self c =
@@ -51,13 +49,11 @@ invariant_of-self c =
     let new : Seen = seen c.proceed.new.course in
     let S : Bool → Type 0 = λ b. Stands p b now in
     let under : IsUnderWay p now = subst S c.if-self.false c.self.invariant.stands in
-    let none : now.waits ≡ [] = grind (arith, nat_tests, common_steps) in
     let steps : c.as_slice.result.now ≡ p.steps = c.as_slice.ensures.value ∙ ap (λ v. v.items) c.deref.ensures in
-    let limits = c.self.invariant.limits.each in
     let told = c.in-Ok-Ended.ensures in
-    let is : new ≡ (proceeded p.steps now).0 = rw steps at told.course in
-    let halt : Ended c.in-Ok-Ended.reply ≡ (proceeded p.steps now).1 = sym c.in-Ok-Ended.field-0-is ∙ (rw steps at told.progress) in
-    let b = ended-begins p now new c.in-Ok-Ended.reply limits under none is halt in
+    let L : Progress → Type 0 = λ q. Leads p new q in
+    let come : HasCome p new c.in-Ok-Ended.reply = subst L c.in-Ok-Ended.field-0-is (told.leads p (sym steps) under) in
+    let b = come-begins p new c.in-Ok-Ended.reply come in
     record { limits = c.self.invariant.limits; room = λ some. absurd (let e = ap length b.no_waits in omega arith); stands = b }
 
 pub invariant_of-self-in-Ok-Waiting : goal.invariant_of-self-in-Ok-Waiting
@@ -68,35 +64,19 @@ invariant_of-self-in-Ok-Waiting c =
     let new : Seen = seen c.proceed.new.course in
     let S : Bool → Type 0 = λ b. Stands p b now in
     let under : IsUnderWay p now = subst S c.if-self.false c.self.invariant.stands in
-    let none : now.waits ≡ [] = grind (arith, nat_tests, common_steps) in
     let steps : c.as_slice.result.now ≡ p.steps = c.as_slice.ensures.value ∙ ap (λ v. v.items) c.deref.ensures in
-    let limits = c.self.invariant.limits.each in
     let told = c.in-Ok-Waiting.ensures in
-    let is : new ≡ (proceeded p.steps now).0 = rw steps at told.course in
-    let halt : Waiting ≡ (proceeded p.steps now).1 = sym c.in-Ok-Waiting.field-0-is ∙ (rw steps at told.progress) in
-    let h2 = poll-parks p now new Waiting limits under none is halt (λ r e. cc) in
+    let L : Progress → Type 0 = λ q. Leads p new q in
+    let parked : IsParked p new × (0 < length new.waits) = subst L c.in-Ok-Waiting.field-0-is (told.leads p (sym steps) under) in
     let T : Bool → Type 0 = λ b. Stands p b new in
     record {
       limits = c.self.invariant.limits;
       room = λ some. (let R : Progress → Type 0 = λ q. HasRoomToWait q c.proceed.new.course in subst R c.in-Ok-Waiting.field-0-is told.room);
-      stands = subst T (sym c.if-self.false) (parked-under_way p new h2.0);
+      stands = subst T (sym c.if-self.false) (parked-under_way p new parked.0);
     }
 
 pub unreachable-requires : goal.unreachable-requires
-unreachable-requires c =
-    let h = c.self.inside in
-    let p : Program = program_of h in
-    let now : Seen = seen h.course in
-    let new : Seen = seen c.proceed.new.course in
-    let S : Bool → Type 0 = λ b. Stands p b now in
-    let under : IsUnderWay p now = subst S c.if-self.false c.self.invariant.stands in
-    let none : now.waits ≡ [] = grind (arith, nat_tests, common_steps) in
-    let steps : c.as_slice.result.now ≡ p.steps = c.as_slice.ensures.value ∙ ap (λ v. v.items) c.deref.ensures in
-    let limits = c.self.invariant.limits.each in
-    let told = c.in-Ok-Going.ensures in
-    let is : new ≡ (proceeded p.steps now).0 = rw steps at told.course in
-    let halt : Going ≡ (proceeded p.steps now).1 = sym c.in-Ok-Going.field-0-is ∙ (rw steps at told.progress) in
-    leads-to p now new Going limits under none is halt
+unreachable-requires c = c.in-Ok-Going.ensures.halts c.in-Ok-Going.field-0-is
 
 pub returns-in-Ok-Waiting : goal.returns-in-Ok-Waiting
 returns-in-Ok-Waiting c =
@@ -106,16 +86,14 @@ returns-in-Ok-Waiting c =
     let new : Seen = seen c.proceed.new.course in
     let S : Bool → Type 0 = λ b. Stands p b now in
     let under : IsUnderWay p now = subst S c.if-self.false c.self.invariant.stands in
-    let none : now.waits ≡ [] = grind (arith, nat_tests, common_steps) in
     let steps : c.as_slice.result.now ≡ p.steps = c.as_slice.ensures.value ∙ ap (λ v. v.items) c.deref.ensures in
-    let limits = c.self.invariant.limits.each in
     let before : state_at h.number p now false ≡ c.args.self.now = ap (state_at h.number p now) (sym c.if-self.false) ∙ c.self.view_is in
     let told = c.in-Ok-Waiting.ensures in
-    let is : new ≡ (proceeded p.steps now).0 = rw steps at told.course in
-    let halt : Waiting ≡ (proceeded p.steps now).1 = sym c.in-Ok-Waiting.field-0-is ∙ (rw steps at told.progress) in
+    let L : Progress → Type 0 = λ q. Leads p new q in
+    let parked : IsParked p new × (0 < length new.waits) = subst L c.in-Ok-Waiting.field-0-is (told.leads p (sym steps) under) in
     let P : HandlerState → Type 0 = λ x. IsPoll x (state_at h.number p new false) None in
     let Q : Bool → Type 0 = λ b. IsPoll c.args.self.now (state_at h.number p new b) None in
-    subst Q (sym c.if-self.false) (subst P before (poll-waits h.number p now new Waiting limits under none is halt (λ r e. cc) told.grows))
+    subst Q (sym c.if-self.false) (subst P before (poll-waits h.number p now new parked told.stays))
 
 pub invariant_of-self-in-Err : goal.invariant_of-self-in-Err
 invariant_of-self-in-Err c =
@@ -125,12 +103,8 @@ invariant_of-self-in-Err c =
     let new : Seen = seen c.proceed.new.course in
     let S : Bool → Type 0 = λ b. Stands p b now in
     let under : IsUnderWay p now = subst S c.if-self.false c.self.invariant.stands in
-    let none : now.waits ≡ [] = grind (arith, nat_tests, common_steps) in
     let steps : c.as_slice.result.now ≡ p.steps = c.as_slice.ensures.value ∙ ap (λ v. v.items) c.deref.ensures in
-    let limits = c.self.invariant.limits.each in
-    let told = c.in-Err.ensures in
-    let same : proceeded p.steps new ≡ proceeded p.steps now = rw steps at told.err in
-    let b = proceeded-begins p now new limits under none same told.no_waits in
+    let b : Begins p new = c.in-Err.ensures.err p (sym steps) under in
     record { limits = c.self.invariant.limits; room = λ some. absurd (let e = ap length b.no_waits in omega arith); stands = b }
 
 pub returns-in-Err : goal.returns-in-Err
@@ -141,11 +115,8 @@ returns-in-Err c =
     let new : Seen = seen c.proceed.new.course in
     let S : Bool → Type 0 = λ b. Stands p b now in
     let under : IsUnderWay p now = subst S c.if-self.false c.self.invariant.stands in
-    let none : now.waits ≡ [] = grind (arith, nat_tests, common_steps) in
     let steps : c.as_slice.result.now ≡ p.steps = c.as_slice.ensures.value ∙ ap (λ v. v.items) c.deref.ensures in
-    let limits = c.self.invariant.limits.each in
     let before : state_at h.number p now false ≡ c.args.self.now = ap (state_at h.number p now) (sym c.if-self.false) ∙ c.self.view_is in
     let told = c.in-Err.ensures in
-    let same : proceeded p.steps new ≡ proceeded p.steps now = rw steps at told.err in
     let P : HandlerState → Type 0 = λ x. IsPoll x (state_at h.number p new true) (Some Failed) in
-    subst P before (poll-failed h.number p now new limits under none same told.no_waits told.grows)
+    subst P before (poll-failed h.number p now new (told.err p (sym steps) under) told.stays)
