@@ -25,7 +25,7 @@ use Rattle.handler_future.specs.Running.{IsReady}
 use Rattle.handler_future.specs.Standing.{StandsBefore, Asks, IsParked, IsUnderWay, HasCome, Begins, Leads}
 use Rattle.handler_future.proofs.Asks.{asked, asks, act-within}
 use Rattle.handler_future.proofs.Heards.{unheard-all, are_heard-append, all-heard, known-in-row, replies-same, late-replies, until_waiting-last, last_turns-append, not-all-heard}
-use Rattle.handler_future.proofs.Runs.{drop-drop, calls_of-drop}
+use Rattle.handler_future.proofs.Runs.{drop-drop, fewer}
 
 -- ---- evaluations
 
@@ -53,9 +53,6 @@ asks-turns t (act.Calls os) m k h = ap turns_of h.0 ∙ ap (range_with_len t) (s
 asks-turns t (act.End r) m k h = absurd h
 
 -- ---- lists
-
-fewer : (steps : List Step) (p k t limit : ℕ) → t + calls_of (drop p steps) ≤ limit → t + calls_of (drop (p + k) steps) ≤ limit
-fewer steps p k t limit h = let e : drop (p + k) steps ≡ drop k (drop p steps) = sym (drop-drop k p steps) in let l : calls_of (drop (p + k) steps) ≤ calls_of (drop p steps) = rw e (calls_of-drop k (drop p steps)) in omega arith
 
 calls-first : (s : Step) (ss : List Step) → calls_of (s ∷ ss) ≡ calls_in s + calls_of ss
 calls-first s ss = sum_by-drop_more calls_in (s ∷ ss) 0 s (omega arith)

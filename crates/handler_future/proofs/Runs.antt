@@ -50,13 +50,13 @@ here_in p steps place s same within here = let P : List Step → Type 0 = λ xs.
 
 -- ---- what may be counted on lasts
 
-fewer : (steps : List Step) (p k t : ℕ) → t + calls_of (drop p steps) ≤ 1025 → t + calls_of (drop (p + k) steps) ≤ 1025
-fewer steps p k t h = let e : drop (p + k) steps ≡ drop k (drop p steps) = sym (drop-drop k p steps) in let l : calls_of (drop (p + k) steps) ≤ calls_of (drop p steps) = rw e (calls_of-drop k (drop p steps)) in omega arith
+pub fewer : (steps : List Step) (p k t limit : ℕ) → t + calls_of (drop p steps) ≤ limit → t + calls_of (drop (p + k) steps) ≤ limit
+fewer steps p k t limit h = let e : drop (p + k) steps ≡ drop k (drop p steps) = sym (drop-drop k p steps) in let l : calls_of (drop (p + k) steps) ≤ calls_of (drop p steps) = rw e (calls_of-drop k (drop p steps)) in omega arith
 
 moved-runnable : (steps : List Step) (c : Seen) (s : Step) (a : Act) → IsRunnable steps c → Going ≡ (moved s c a).1 → IsRunnable steps (moved s c a).0
-moved-runnable steps c s (act.Put v) r h = record { no_waits = r.no_waits; not_asked = r.not_asked; turns = fewer steps c.place 1 c.turn r.turns }
-moved-runnable steps c s (act.Skip n) r h = record { no_waits = r.no_waits; not_asked = r.not_asked; turns = fewer steps c.place (1 + n) c.turn r.turns }
-moved-runnable steps c s (act.Notify o) r h = record { no_waits = r.no_waits; not_asked = r.not_asked; turns = fewer steps c.place 1 c.turn r.turns }
+moved-runnable steps c s (act.Put v) r h = record { no_waits = r.no_waits; not_asked = r.not_asked; turns = fewer steps c.place 1 c.turn 1025 r.turns }
+moved-runnable steps c s (act.Skip n) r h = record { no_waits = r.no_waits; not_asked = r.not_asked; turns = fewer steps c.place (1 + n) c.turn 1025 r.turns }
+moved-runnable steps c s (act.Notify o) r h = record { no_waits = r.no_waits; not_asked = r.not_asked; turns = fewer steps c.place 1 c.turn 1025 r.turns }
 moved-runnable steps c s (act.Call o) r h = cc
 moved-runnable steps c s (act.Calls os) r h = cc
 moved-runnable steps c s (act.End e) r h = cc
@@ -92,9 +92,6 @@ moved-stays s c (act.End r) = record { heard = refl; messages = ([], sym (append
 
 pub stays_moved : (c d : Seen) (s : Step) → d ≡ (moved s c (act_of c.registers s)).0 → Stays c d
 stays_moved c d s is = let P : Seen → Type 0 = λ x. Stays c x in subst P (sym is) (moved-stays s c (act_of c.registers s))
-
-pub stays_same : (c d : Seen) → d ≡ c → Stays c d
-stays_same c d is = let P : Seen → Type 0 = λ x. Stays c x in subst P (sym is) (stays_none c)
 
 -- ---- after the replies
 
