@@ -1,0 +1,5 @@
+mod Sums
+mod Ranks
+mod Sets
+mod Along
+mod Chains

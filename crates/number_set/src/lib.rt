@@ -1,0 +1,8 @@
+//! A set of numbers that is asked for the number at a place: to put a number in, to take one out and to find the
+//! one at a place each take logarithmic time and no memory, which room is made for beforehand.
+#![tactic(auto)]
+
+mod levels;
+mod number_set;
+
+pub use number_set::NumberSet;
