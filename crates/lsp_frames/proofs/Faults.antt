@@ -2,7 +2,7 @@
 use Rattle.std.proofs.Common.{◌≡◌, ℕ, ◌-◌, ◌≤◌, ◌≢◌, inl, inr, true, List, [], ◌∷◌, ◌++◌, length, refl, ap, sym, ◌∙◌, arith, append_assoc, codes}
 use Rattle.std.proofs.lemmas.Grind.{common_steps}
 use Rattle.std.proofs.lemmas.List.Folds.{list_all-append}
-use Rattle.lsp_frames.specs.Lines.{said}
+use Rattle.lsp_frames.specs.Lines.{line_meaning}
 use Rattle.lsp_frames.specs.Heads.{Breaks, Step, Goes, Completes, Shows, step, head_from}
 use Rattle.lsp_frames.specs.Frames.{lines_text, Say, HasNoLf}
 use Rattle.lsp_frames.specs.declared.frame.FrameFault.{FrameFault}
@@ -10,12 +10,12 @@ use Rattle.lsp_frames.specs.declared.frame.FrameFault.TheVariants.{HeadTooLong}
 use Rattle.lsp_frames.specs.declared.line.Fields.{Fields}
 use Rattle.lsp_frames.specs.declared.line.Line.TheVariants.{Fault}
 use Rattle.lsp_frames.proofs.Reading.{after_step, head_from-cons, head_from-nil}
-use Rattle.lsp_frames.proofs.Saying.{is_no_lf, IsMore, said_more}
+use Rattle.lsp_frames.proofs.Saying.{is_no_lf, IsMore, meaning_more}
 use Rattle.lsp_frames.proofs.Steps.{step_goes, ShowsAs, InLine, FullAtLf, FullElsewhere, step_shows}
 
 -- Behind a line under way, so many of the bytes show the fault: in a line, or since they fill the head.
 pub data Showing (limit : ℕ) (fields : Fields) (line : List ℕ) (room : ℕ) (text : List ℕ) (fault : FrameFault) : Type 0 where
-  ByLine : (lines : List (List ℕ)) (after : Fields) (last : List ℕ) → Say limit fields lines after → HasNoLf last → said limit after last ≡ Fault fault → length text ≤ room → line ++ text ≡ lines_text lines ++ (last ++ 10 ∷ []) → Showing limit fields line room text fault
+  ByLine : (lines : List (List ℕ)) (after : Fields) (last : List ℕ) → Say limit fields lines after → HasNoLf last → line_meaning limit after last ≡ Fault fault → length text ≤ room → line ++ text ≡ lines_text lines ++ (last ++ 10 ∷ []) → Showing limit fields line room text fault
   ByLength : (lines : List (List ℕ)) (after : Fields) (part : List ℕ) → Say limit fields lines after → HasNoLf part → fault ≡ HeadTooLong → length text ≡ room → line ++ text ≡ lines_text lines ++ part → Showing limit fields line room text fault
 
 pub record IsShown (limit : ℕ) (fields : Fields) (line : List ℕ) (room : ℕ) (bytes : List ℕ) (fault : FrameFault) : Type 0 where
@@ -49,7 +49,7 @@ no_lf_more line b h k =
 shown_now : (limit : ℕ) (fields : Fields) (line : List ℕ) (room b : ℕ) (fault : FrameFault) → 1 ≤ room → HasNoLf line → ShowsAs limit fields line room b fault → Showing limit fields line room (b ∷ []) fault
 shown_now limit fields line room b fault k no_lf (InLine lf says) = ByLine [] fields line refl no_lf says k (ap (λ (x : ℕ). line ++ x ∷ []) lf)
 shown_now limit fields line room b fault k no_lf (FullAtLf next lf full too_long says) =
-    let more : IsMore limit fields next line = said_more limit fields next line says in
+    let more : IsMore limit fields next line = meaning_more limit fields next line says in
     ByLength (more.line ∷ []) next [] (next, more.judges, refl) refl too_long (omega arith) (ap (λ (x : ℕ). line ++ x ∷ []) lf ∙ lines_more line more.line [] [] [] more.whole refl)
 shown_now limit fields line room b fault k no_lf (FullElsewhere other full too_long) =
     ByLength [] fields (line ++ b ∷ []) refl (no_lf_more line b no_lf other) too_long (omega arith) refl
@@ -67,7 +67,7 @@ fault_shown limit fields line room (b ∷ bytes) fault k no_lf h =
             text = 10 ∷ rest.text;
             more = rest.more;
             whole = ap (λ (xs : List ℕ). b ∷ xs) rest.whole ∙ ap (λ (x : ℕ). x ∷ (rest.text ++ rest.more)) lf.0;
-            shows = showing_lf limit fields next line room rest.text fault (said_more limit fields next line lf.1.says) lf.1.has_room rest.shows;
+            shows = showing_lf limit fields next line room rest.text fault (meaning_more limit fields next line lf.1.says) lf.1.has_room rest.shows;
           })
       | inr on ↦ (let g : head_from limit fields (line ++ b ∷ []) (room - 1) bytes ≡ Breaks fault =
           ap (λ (x : Fields). head_from limit x (line ++ b ∷ []) (room - 1) bytes) on.1.same ∙ ap (λ (l : List ℕ). head_from limit next l (room - 1) bytes) on.1.adds ∙ f in

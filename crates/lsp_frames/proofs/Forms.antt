@@ -1,12 +1,12 @@
 -- A head that was read has lines, and a fault that was found is shown.
 use Rattle.std.proofs.Common.{◌≡◌, ℕ, ◌+◌, ◌-◌, ◌≤◌, inl, inr, Bool, List, [], ◌∷◌, ◌++◌, length, Some, refl, ap, sym, ◌∙◌, arith, append_assoc, length-append, codes}
-use Rattle.lsp_frames.specs.Lines.{said}
+use Rattle.lsp_frames.specs.Lines.{line_meaning}
 use Rattle.lsp_frames.specs.Heads.{Ends, Step, Goes, Completes, Shows, step, head_from}
 use Rattle.lsp_frames.specs.Frames.{lines_text, head_text, Say}
 use Rattle.lsp_frames.specs.declared.line.Fields.{Fields}
 use Rattle.lsp_frames.specs.declared.line.Line.TheVariants.{End}
 use Rattle.lsp_frames.proofs.Reading.{after_step, head_from-cons, head_from-nil}
-use Rattle.lsp_frames.proofs.Saying.{IsMore, said_more, IsEnd, said_end}
+use Rattle.lsp_frames.proofs.Saying.{IsMore, meaning_more, IsEnd, said_end}
 use Rattle.lsp_frames.proofs.Steps.{step_goes, step_completes}
 
 -- the bytes of a line under way and those behind it are a head and the rest
@@ -56,7 +56,7 @@ head_form limit fields line room (b ∷ bytes) n foreign rest k h =
     go (Goes next more) e f again = elim (step_goes limit fields line room b next more e) [
       | inl lf ↦ (let g : head_from limit next [] (room - 1) bytes ≡ Ends n foreign rest = ap (λ (l : List ℕ). head_from limit next l (room - 1) bytes) (sym lf.1.empty) ∙ f in
           let head : IsHead limit next [] (room - 1) bytes n foreign rest = again next [] (room - 1) (omega (arith, lf.1.has_room)) g in
-          rw lf.0 (head_more limit fields next line room bytes n foreign rest (said_more limit fields next line lf.1.says) lf.1.has_room head))
+          rw lf.0 (head_more limit fields next line room bytes n foreign rest (meaning_more limit fields next line lf.1.says) lf.1.has_room head))
       | inr on ↦ (let g : head_from limit fields (line ++ b ∷ []) (room - 1) bytes ≡ Ends n foreign rest =
           ap (λ (x : Fields). head_from limit x (line ++ b ∷ []) (room - 1) bytes) on.1.same ∙ ap (λ (l : List ℕ). head_from limit next l (room - 1) bytes) on.1.adds ∙ f in
           head_other limit fields line room b bytes n foreign rest on.1.has_room (again fields (line ++ b ∷ []) (room - 1) (omega (arith, on.1.has_room)) g))
@@ -66,6 +66,6 @@ head_form limit fields line room (b ∷ bytes) n foreign rest k h =
         let count : m ≡ n = cc in
         let kind : fg ≡ foreign = cc in
         let left : bytes ≡ rest = cc in
-        let says : said limit fields line ≡ End n foreign = done.1 ∙ ap (λ (x : ℕ). End x fg) count ∙ ap (End n) kind in
+        let says : line_meaning limit fields line ≡ End n foreign = done.1 ∙ ap (λ (x : ℕ). End x fg) count ∙ ap (End n) kind in
         rw (done.0, left) (head_empty limit fields line room n foreign rest (said_end limit fields n foreign line says) k)
     go (Shows fault) e f again = cc

@@ -4,13 +4,13 @@ use Rattle.std.proofs.lemmas.Grind.{common_steps}
 use Rattle.std.proofs.lemmas.List.{take-append-drop, take-append-le, drop-append-le}
 use Rattle.std.proofs.Math.Seq.{take-append_seam, drop-append_seam}
 use Rattle.lsp_frames.specs.Lines.{no_fields}
-use Rattle.lsp_frames.specs.Heads.{HeadRead, Ends, Breaks, Unended, Step, Goes, Completes, Shows, step, head_from, head_at}
+use Rattle.lsp_frames.specs.Heads.{HeadRead, Reading, Ends, Breaks, Unended, Step, Goes, Completes, Shows, step, head_from, head_at}
 use Rattle.lsp_frames.specs.Frames.{Whole, Faulty, Less, content_front, front_of, front, head_text, lines_text, HasForm, ShowsInLine, IsTooLong, ShowsFault}
 use Rattle.lsp_frames.specs.declared.frame.Frame.{Frame}
 use Rattle.lsp_frames.specs.declared.frame.FrameFault.{FrameFault}
 use Rattle.lsp_frames.specs.declared.frame.FrameFault.TheVariants.{HeadTooLong}
 use Rattle.lsp_frames.specs.declared.line.Fields.{Fields}
-use Rattle.lsp_frames.proofs.Choices.{chosen}
+use Rattle.lsp_frames.proofs.Choices.{choice}
 use Rattle.lsp_frames.proofs.Reading.{after_step, head_from-cons, head_from-nil, step_fault}
 use Rattle.lsp_frames.proofs.Walks.{walk_part, walk_lines, walk_head, walk_too_long}
 use Rattle.lsp_frames.proofs.Forms.{IsHead, head_form}
@@ -21,29 +21,33 @@ frame_of content foreign = record { content = content; foreign = foreign }
 
 -- more bytes behind a head, or behind a fault
 
-abbrev pub Stays : HeadRead → List ℕ → HeadRead → Type 0
-Stays (Ends n foreign rest) more whole = whole ≡ Ends n foreign (rest ++ more)
-Stays (Breaks fault) more whole = whole ≡ Breaks fault
-Stays Unended more whole = Unit {0}
+abbrev pub Stays : ℕ → HeadRead → List ℕ → HeadRead → Type 0
+Stays limit (Ends n foreign rest) more whole = whole ≡ Ends n foreign (rest ++ more)
+Stays limit (Breaks fault) more whole = whole ≡ Breaks fault
+Stays limit (Unended reading) more whole = whole ≡ head_from limit reading.fields reading.line reading.room more
 
-pub head_stays : (limit : ℕ) (fields : Fields) (line : List ℕ) (room : ℕ) (bytes more : List ℕ) → Stays (head_from limit fields line room bytes) more (head_from limit fields line room (bytes ++ more))
-head_stays limit fields line room [] more = rw (head_from-nil limit fields line room) tt
+pub head_stays : (limit : ℕ) (fields : Fields) (line : List ℕ) (room : ℕ) (bytes more : List ℕ) → Stays limit (head_from limit fields line room bytes) more (head_from limit fields line room (bytes ++ more))
+head_stays limit fields line room [] more = rw (head_from-nil limit fields line room) refl
 head_stays limit fields line room (b ∷ bytes) more =
     rw (head_from-cons limit fields line room b bytes, head_from-cons limit fields line room b (bytes ++ more))
     (go (step limit fields line room b) (λ next l r. head_stays limit next l r bytes more))
   where
-    go : (s : Step) → ((next : Fields) (l : List ℕ) (r : ℕ) → Stays (head_from limit next l r bytes) more (head_from limit next l r (bytes ++ more))) → Stays (after_step limit room bytes s) more (after_step limit room (bytes ++ more) s)
+    go : (s : Step) → ((next : Fields) (l : List ℕ) (r : ℕ) → Stays limit (head_from limit next l r bytes) more (head_from limit next l r (bytes ++ more))) → Stays limit (after_step limit room bytes s) more (after_step limit room (bytes ++ more) s)
     go (Goes next l) again = again next l (room - 1)
     go (Completes n foreign) again = refl
     go (Shows fault) again = refl
 
 pub ends_stay : (limit : ℕ) (bytes more : List ℕ) (n : ℕ) (foreign : Bool) (rest : List ℕ) → head_at limit bytes ≡ Ends n foreign rest → head_at limit (bytes ++ more) ≡ Ends n foreign (rest ++ more)
 unfolding head_at
-ends_stay limit bytes more n foreign rest h = let P : HeadRead → Type 0 = λ r. Stays r more (head_from limit no_fields [] 4096 (bytes ++ more)) in subst P h (head_stays limit no_fields [] 4096 bytes more)
+ends_stay limit bytes more n foreign rest h = let P : HeadRead → Type 0 = λ r. Stays limit r more (head_from limit no_fields [] 4096 (bytes ++ more)) in subst P h (head_stays limit no_fields [] 4096 bytes more)
 
 pub breaks_stay : (limit : ℕ) (bytes more : List ℕ) (fault : FrameFault) → head_at limit bytes ≡ Breaks fault → head_at limit (bytes ++ more) ≡ Breaks fault
 unfolding head_at
-breaks_stay limit bytes more fault h = let P : HeadRead → Type 0 = λ r. Stays r more (head_from limit no_fields [] 4096 (bytes ++ more)) in subst P h (head_stays limit no_fields [] 4096 bytes more)
+breaks_stay limit bytes more fault h = let P : HeadRead → Type 0 = λ r. Stays limit r more (head_from limit no_fields [] 4096 (bytes ++ more)) in subst P h (head_stays limit no_fields [] 4096 bytes more)
+
+pub unended_goes_on : (limit : ℕ) (bytes more : List ℕ) (reading : Reading) → head_at limit bytes ≡ Unended reading → head_at limit (bytes ++ more) ≡ head_from limit reading.fields reading.line reading.room more
+unfolding head_at
+unended_goes_on limit bytes more reading h = let P : HeadRead → Type 0 = λ r. Stays limit r more (head_from limit no_fields [] 4096 (bytes ++ more)) in subst P h (head_stays limit no_fields [] 4096 bytes more)
 
 -- a front, from its head
 
@@ -55,9 +59,9 @@ pub front_breaks : (limit : ℕ) (bytes : List ℕ) (fault : FrameFault) → hea
 unfolding front
 front_breaks limit bytes fault h = ap front_of h
 
-pub front_unended : (limit : ℕ) (bytes : List ℕ) → head_at limit bytes ≡ Unended → front limit bytes ≡ Less
+pub front_unended : (limit : ℕ) (bytes : List ℕ) (reading : Reading) → head_at limit bytes ≡ Unended reading → front limit bytes ≡ Less
 unfolding front
-front_unended limit bytes h = ap front_of h
+front_unended limit bytes reading h = ap front_of h
 
 pub content_whole : (n : ℕ) (foreign : Bool) (bytes : List ℕ) → n ≤ length bytes → content_front n foreign bytes ≡ Whole (frame_of (take n bytes) foreign) (drop n bytes)
 unfolding content_front
@@ -80,7 +84,7 @@ pub record IsWhole (limit : ℕ) (bytes : List ℕ) (frame : Frame) (rest : List
 
 content_is_whole : (limit : ℕ) (bytes : List ℕ) (frame : Frame) (rest : List ℕ) (n : ℕ) (foreign : Bool) (behind : List ℕ) → head_at limit bytes ≡ Ends n foreign behind → content_front n foreign behind ≡ Whole frame rest → IsWhole limit bytes frame rest
 unfolding content_front
-content_is_whole limit bytes frame rest n foreign behind e h = elim (chosen (leb n (length behind)) _ _ _ h) [
+content_is_whole limit bytes frame rest n foreign behind e h = elim (choice (leb n (length behind)) _ _ _ h) [
   | inl hit ↦ record { size = n; kind = foreign; behind = behind; head = e; enough = grind (arith, common_steps, hit.0); content = (let f = hit.1 in cc); left = (let f = hit.1 in cc) }
   | inr miss ↦ cc
 ]
@@ -92,11 +96,11 @@ whole_is limit bytes frame rest h = go (head_at limit bytes) refl h
     go : (r : HeadRead) → head_at limit bytes ≡ r → front_of r ≡ Whole frame rest → IsWhole limit bytes frame rest
     go (Ends n foreign behind) e f = content_is_whole limit bytes frame rest n foreign behind e f
     go (Breaks fault) e f = cc
-    go Unended e f = cc
+    go (Unended reading) e f = cc
 
 content_is_not_faulty : (n : ℕ) (foreign : Bool) (bytes : List ℕ) (fault : FrameFault) → content_front n foreign bytes ≡ Faulty fault → ⊥
 unfolding content_front
-content_is_not_faulty n foreign bytes fault h = elim (chosen (leb n (length bytes)) _ _ _ h) [ inl hit ↦ cc | inr miss ↦ cc ]
+content_is_not_faulty n foreign bytes fault h = elim (choice (leb n (length bytes)) _ _ _ h) [ inl hit ↦ cc | inr miss ↦ cc ]
 
 pub faulty_is : (limit : ℕ) (bytes : List ℕ) (fault : FrameFault) → front limit bytes ≡ Faulty fault → head_at limit bytes ≡ Breaks fault
 unfolding front
@@ -105,7 +109,7 @@ faulty_is limit bytes fault h = go (head_at limit bytes) refl h
     go : (r : HeadRead) → head_at limit bytes ≡ r → front_of r ≡ Faulty fault → head_at limit bytes ≡ Breaks fault
     go (Ends n foreign behind) e f = absurd (content_is_not_faulty n foreign behind fault f)
     go (Breaks other) e f = e ∙ (let same : other ≡ fault = cc in ap Breaks same)
-    go Unended e f = cc
+    go (Unended reading) e f = cc
 
 -- more bytes behind a frame, or behind a fault
 
@@ -140,8 +144,8 @@ pub record IsFormed (limit : ℕ) (bytes : List ℕ) (frame : Frame) (rest : Lis
   pub whole : bytes ≡ first ++ rest
   pub form : HasForm limit first frame
 
-formed : (limit : ℕ) (bytes : List ℕ) (n : ℕ) (foreign : Bool) (behind : List ℕ) → n ≤ length behind → IsHead limit no_fields [] 4096 bytes n foreign behind → IsFormed limit bytes (frame_of (take n behind) foreign) (drop n behind)
-formed limit bytes n foreign behind k head =
+form_of_head : (limit : ℕ) (bytes : List ℕ) (n : ℕ) (foreign : Bool) (behind : List ℕ) → n ≤ length behind → IsHead limit no_fields [] 4096 bytes n foreign behind → IsFormed limit bytes (frame_of (take n behind) foreign) (drop n behind)
+form_of_head limit bytes n foreign behind k head =
     let size : n ≡ length (take n behind) = omega (arith, length-take n behind) in
     let P : ℕ → Type 0 = λ m. HasForm limit (head_text head.lines ++ take n behind) (frame_of (take n behind) foreign) in
     record {
@@ -154,7 +158,7 @@ pub whole_is_formed : (limit : ℕ) (bytes : List ℕ) (frame : Frame) (rest : L
 unfolding head_at
 whole_is_formed limit bytes frame rest h =
     let w : IsWhole limit bytes frame rest = whole_is limit bytes frame rest h in
-    let f : IsFormed limit bytes (frame_of (take w.size w.behind) w.kind) (drop w.size w.behind) = formed limit bytes w.size w.kind w.behind w.enough (head_form limit no_fields [] 4096 bytes w.size w.kind w.behind (lit≤ tt) w.head) in
+    let f : IsFormed limit bytes (frame_of (take w.size w.behind) w.kind) (drop w.size w.behind) = form_of_head limit bytes w.size w.kind w.behind w.enough (head_form limit no_fields [] 4096 bytes w.size w.kind w.behind (lit≤ tt) w.head) in
     let P : Frame → Type 0 = λ x. IsFormed limit bytes x (drop w.size w.behind) in
     let Q : List ℕ → Type 0 = λ xs. IsFormed limit bytes frame xs in
     subst Q w.left (subst P w.content f)

@@ -10,6 +10,7 @@ pub mod Fronts
 pub mod Writings
 pub mod Streams
 pub mod Laws
+pub mod DeviceSteps
 pub mod Cuts
-pub mod Pieces
+pub mod Units
 pub mod Standings

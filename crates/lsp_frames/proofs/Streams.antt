@@ -5,7 +5,7 @@ use Rattle.lsp_frames.specs.Contents.{Standing, Open, Broken, IsContents}
 use Rattle.lsp_frames.specs.declared.frame.Frame.{Frame}
 use Rattle.lsp_frames.specs.declared.frame.FrameFault.{FrameFault}
 use Rattle.lsp_frames.specs.declared.frame.FrameFault.TheVariants.{Truncated}
-use Rattle.lsp_frames.proofs.Saying.{said_is_not_truncated}
+use Rattle.lsp_frames.proofs.Saying.{meaning_is_not_truncated}
 use Rattle.lsp_frames.proofs.Fronts.{whole_stays, faulty_stays, IsFormed, whole_is_formed, IsShowing, faulty_is_shown}
 
 -- more bytes keep a fault, and go on behind the rest
@@ -76,7 +76,7 @@ contents_of limit bytes = some_contents (suc (length bytes)) limit bytes (omega 
 
 shows_no_end : (limit : ℕ) (bytes : List ℕ) → IsShowing limit bytes Truncated → ⊥
 shows_no_end limit bytes s = elim s.shows [
-  | inl l ↦ said_is_not_truncated limit l.fields l.line l.shows
+  | inl l ↦ meaning_is_not_truncated limit l.fields l.line l.shows
   | inr l ↦ (let e = l.0 in cc)
 ]
 

@@ -2,14 +2,14 @@
 use Rattle.std.proofs.Common.{◌≡◌, ℕ, zero, suc, ◌+◌, ◌-◌, ◌<◌, ◌≤◌, ◌≢◌, Bool, true, List, [], ◌∷◌, ◌++◌, length, Some, Ok, refl, ap, sym, ◌∙◌, arith, append-nil, append_assoc, length-append, codes}
 use Rattle.std.specs.List.{list_all}
 use Rattle.std.proofs.lemmas.List.Folds.{list_all-append}
-use Rattle.lsp_frames.specs.Lines.{judged}
+use Rattle.lsp_frames.specs.Lines.{fields_after}
 use Rattle.lsp_frames.specs.Heads.{Ends, Breaks, Goes, step, head_from}
 use Rattle.lsp_frames.specs.Frames.{lines_text, head_text, Say, HasNoLf}
 use Rattle.lsp_frames.specs.declared.frame.FrameFault.TheVariants.{HeadTooLong}
 use Rattle.lsp_frames.specs.declared.line.Fields.{Fields}
 use Rattle.lsp_frames.proofs.Choices.{both}
 use Rattle.lsp_frames.proofs.Reading.{after_step, head_from-cons, step_other, step_other_full, step_more, step_more_full, step_end}
-use Rattle.lsp_frames.proofs.Saying.{is_no_lf, IsLine, judged_is_line, said_line, said_empty}
+use Rattle.lsp_frames.proofs.Saying.{is_no_lf, IsLine, fields_after_is_line, meaning_of_line, meaning_of_empty}
 
 -- a byte that goes on
 pub walk_byte : (limit : ℕ) (fields next : Fields) (line more : List ℕ) (room b : ℕ) (bytes : List ℕ) → step limit fields line room b ≡ Goes next more → head_from limit fields line room (b ∷ bytes) ≡ head_from limit next more (room - 1) bytes
@@ -49,9 +49,9 @@ pub no_lf_cr : (line : List ℕ) → HasNoLf line → HasNoLf (line ++ 13 ∷ []
 no_lf_cr line h = rw (list_all-append is_no_lf line (13 ∷ []), h)
 
 -- a line's bytes with its CR, up to its LF
-pub walk_to_lf : (limit : ℕ) (fields next : Fields) (line : List ℕ) (room : ℕ) (more : List ℕ) → judged limit fields line ≡ Ok next → length line + 1 < room → head_from limit fields [] room ((line ++ codes "\r\n") ++ more) ≡ head_from limit fields (line ++ 13 ∷ []) (room - (length line + 1)) (10 ∷ more)
+pub walk_to_lf : (limit : ℕ) (fields next : Fields) (line : List ℕ) (room : ℕ) (more : List ℕ) → fields_after limit fields line ≡ Ok next → length line + 1 < room → head_from limit fields [] room ((line ++ codes "\r\n") ++ more) ≡ head_from limit fields (line ++ 13 ∷ []) (room - (length line + 1)) (10 ∷ more)
 walk_to_lf limit fields next line room more h k =
-    let is : IsLine line = judged_is_line limit fields next line h in
+    let is : IsLine line = fields_after_is_line limit fields next line h in
     let cut : (line ++ codes "\r\n") ++ more ≡ (line ++ 13 ∷ []) ++ 10 ∷ more = append_assoc line (codes "\r\n") more ∙ sym (append_assoc line (13 ∷ []) (10 ∷ more)) in
     let size : length (line ++ 13 ∷ []) ≡ length line + 1 = length-append line (13 ∷ []) in
     ap (head_from limit fields [] room) cut
@@ -59,19 +59,19 @@ walk_to_lf limit fields next line room more h k =
     ∙ ap (λ (n : ℕ). head_from limit fields (line ++ 13 ∷ []) (room - n) (10 ∷ more)) size
 
 -- a line that adds to the fields
-pub walk_line : (limit : ℕ) (fields next : Fields) (line : List ℕ) (room : ℕ) (more : List ℕ) → judged limit fields line ≡ Ok next → length line + 2 < room → head_from limit fields [] room ((line ++ codes "\r\n") ++ more) ≡ head_from limit next [] (room - (length line + 2)) more
+pub walk_line : (limit : ℕ) (fields next : Fields) (line : List ℕ) (room : ℕ) (more : List ℕ) → fields_after limit fields line ≡ Ok next → length line + 2 < room → head_from limit fields [] room ((line ++ codes "\r\n") ++ more) ≡ head_from limit next [] (room - (length line + 2)) more
 walk_line limit fields next line room more h k =
     let left : room - (length line + 1) - 1 ≡ room - (length line + 2) = omega arith in
     walk_to_lf limit fields next line room more h (omega arith)
-    ∙ walk_byte limit fields next (line ++ 13 ∷ []) [] (room - (length line + 1)) 10 more (step_more limit fields (line ++ 13 ∷ []) (room - (length line + 1)) next (said_line limit fields next line h) (omega arith))
+    ∙ walk_byte limit fields next (line ++ 13 ∷ []) [] (room - (length line + 1)) 10 more (step_more limit fields (line ++ 13 ∷ []) (room - (length line + 1)) next (meaning_of_line limit fields next line h) (omega arith))
     ∙ ap (λ (n : ℕ). head_from limit next [] n more) left
 
 -- a line that fills the head
-pub walk_last_line : (limit : ℕ) (fields next : Fields) (line : List ℕ) (room : ℕ) (more : List ℕ) → judged limit fields line ≡ Ok next → length line + 2 ≡ room → head_from limit fields [] room ((line ++ codes "\r\n") ++ more) ≡ Breaks HeadTooLong
+pub walk_last_line : (limit : ℕ) (fields next : Fields) (line : List ℕ) (room : ℕ) (more : List ℕ) → fields_after limit fields line ≡ Ok next → length line + 2 ≡ room → head_from limit fields [] room ((line ++ codes "\r\n") ++ more) ≡ Breaks HeadTooLong
 walk_last_line limit fields next line room more h k =
     walk_to_lf limit fields next line room more h (omega arith)
     ∙ head_from-cons limit fields (line ++ 13 ∷ []) (room - (length line + 1)) 10 more
-    ∙ ap (after_step limit (room - (length line + 1)) more) (step_more_full limit fields (line ++ 13 ∷ []) (room - (length line + 1)) next (said_line limit fields next line h) (omega arith))
+    ∙ ap (after_step limit (room - (length line + 1)) more) (step_more_full limit fields (line ++ 13 ∷ []) (room - (length line + 1)) next (meaning_of_line limit fields next line h) (omega arith))
 
 pub lines_text-cons : (line : List ℕ) (lines : List (List ℕ)) (more : List ℕ) → lines_text (line ∷ lines) ++ more ≡ (line ++ codes "\r\n") ++ (lines_text lines ++ more)
 lines_text-cons line lines more = append_assoc (line ++ codes "\r\n") (lines_text lines) more
@@ -98,7 +98,7 @@ walk_end limit n foreign room more k =
     let fields : Fields = record { content_length = Some n; foreign = foreign } in
     walk_byte limit fields fields [] (13 ∷ []) room 13 (10 ∷ more) (step_other limit fields [] room 13 (λ e. cc) k)
     ∙ head_from-cons limit fields (13 ∷ []) (room - 1) 10 more
-    ∙ ap (after_step limit (room - 1) more) (step_end limit fields (13 ∷ []) (room - 1) n foreign (said_empty limit n foreign))
+    ∙ ap (after_step limit (room - 1) more) (step_end limit fields (13 ∷ []) (room - 1) n foreign (meaning_of_empty limit n foreign))
 
 -- a whole head
 pub walk_head : (limit n : ℕ) (foreign : Bool) (fields : Fields) (lines : List (List ℕ)) (room : ℕ) (more : List ℕ) → Say limit fields lines (record { content_length = Some n; foreign = foreign }) → length (head_text lines) ≤ room → head_from limit fields [] room (head_text lines ++ more) ≡ Ends n foreign more

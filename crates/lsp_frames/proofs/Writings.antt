@@ -7,8 +7,8 @@ use Rattle.std.proofs.lemmas.Fmt.{decimal_is_IsNumeral, length-decimal-le}
 use Rattle.std.specs.List.{list_all}
 use Rattle.std.specs.Char.{is_ascii_digit, digit_value}
 use Rattle.std.specs.Str.Parse.{AllDigits, digits_value}
-use Rattle.lsp_frames.specs.Fields.{is_blank, is_colon, is_value_byte, without_leading_blanks, without_trailing_blanks, trimmed, field_at, field_of, is_named, length_of}
-use Rattle.lsp_frames.specs.Lines.{no_fields, with_length, field_judged, judged}
+use Rattle.lsp_frames.specs.Fields.{is_blank, is_colon, is_value_byte, without_leading_blanks, without_trailing_blanks, without_outer_blanks, field_at, field_of, is_named, length_of}
+use Rattle.lsp_frames.specs.Lines.{no_fields, with_length, fields_with, fields_after}
 use Rattle.lsp_frames.specs.Frames.{head_text, HasForm, written}
 use Rattle.lsp_frames.proofs.Choices.{both, all_of}
 
@@ -41,8 +41,8 @@ reversed_digits (d ∷ ds) h =
     let parts = both (is_ascii_digit d) (list_all is_ascii_digit ds) h in
     ap (list_all is_ascii_digit) (reverse_onto ds d []) ∙ list_all-append is_ascii_digit (reverse ds) (d ∷ []) ∙ rw (reversed_digits ds parts.1, parts.0)
 
-digits_trimmed : (ds : List ℕ) → list_all is_ascii_digit ds ≡ true → trimmed (32 ∷ ds) ≡ ds
-unfolding trimmed
+digits_trimmed : (ds : List ℕ) → list_all is_ascii_digit ds ≡ true → without_outer_blanks (32 ∷ ds) ≡ ds
+unfolding without_outer_blanks
 digits_trimmed ds h =
     ap without_trailing_blanks (none_leading ds h) ∙ ap reverse (none_leading (reverse ds) (reversed_digits ds h)) ∙ reverse-reverse ds
 
@@ -65,7 +65,7 @@ unfolding field_of
 field_is ds digits =
     let values : list_all is_value_byte ds ≡ true = all_of is_ascii_digit is_value_byte digit_is_value ds digits in
     ap (field_at (codes "Content-Length: " ++ ds)) (place_is ds)
-    ∙ ap (λ (t : Bool). cond t (Some (codes "Content-Length", trimmed (32 ∷ ds))) None) values
+    ∙ ap (λ (t : Bool). cond t (Some (codes "Content-Length", without_outer_blanks (32 ∷ ds))) None) values
     ∙ ap (λ (xs : List ℕ). Some (codes "Content-Length", xs)) (digits_trimmed ds digits)
 
 with_length_is : (limit n : ℕ) → n ≤ limit → with_length limit no_fields (Some n) ≡ Ok (record { content_length = Some n; foreign = false })
@@ -73,10 +73,10 @@ with_length_is limit n h =
     let low : ltb limit n ≡ false = grind (arith, common_steps) in
     rw low
 
-judged_is : (limit n : ℕ) (ds : List ℕ) → n ≤ limit → list_all is_ascii_digit ds ≡ true → 0 < length ds → length ds ≤ 10 → digits_value 10 ds ≡ n → judged limit no_fields (codes "Content-Length: " ++ ds) ≡ Ok (record { content_length = Some n; foreign = false })
-unfolding judged is_named
+judged_is : (limit n : ℕ) (ds : List ℕ) → n ≤ limit → list_all is_ascii_digit ds ≡ true → 0 < length ds → length ds ≤ 10 → digits_value 10 ds ≡ n → fields_after limit no_fields (codes "Content-Length: " ++ ds) ≡ Ok (record { content_length = Some n; foreign = false })
+unfolding fields_after is_named
 judged_is limit n ds h digits some short value =
-    ap (field_judged limit no_fields) (field_is ds digits)
+    ap (fields_with limit no_fields) (field_is ds digits)
     ∙ ap (with_length limit no_fields) (length_is ds n digits some short value)
     ∙ with_length_is limit n h
 

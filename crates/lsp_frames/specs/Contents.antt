@@ -1,5 +1,5 @@
 -- The frames of a byte string, and what is left (LSP 3.17, "Base Protocol").
-use Rattle.std.specs.Prelude.{◌≡◌, ℕ, List, [], ◌∷◌, ◌++◌}
+use Rattle.std.specs.Prelude.{◌≡◌, ℕ, List, [], ◌∷◌}
 use Rattle.lsp_frames.specs.Frames.{front, Whole, Faulty, Less}
 use Rattle.lsp_frames.specs.declared.frame.Frame.{Frame}
 use Rattle.lsp_frames.specs.declared.frame.FrameFault.{FrameFault}
@@ -24,12 +24,3 @@ abbrev pub end_of : Standing → End
 end_of (Open []) = Clean
 end_of (Open (b ∷ bytes)) = Fault Truncated
 end_of (Broken fault) = Fault fault
-
--- More bytes may make more frames.
-abbrev pub IsOpen : Standing → Type 0
-IsOpen (Open rest) = Unit {0}
-IsOpen (Broken fault) = ⊥
-
--- The frames of these bytes stand behind those that were there.
-abbrev pub Cuts : ℕ → List Frame → List Frame → List ℕ → Standing → Type 0
-Cuts limit old new bytes standing = (frames : List Frame) × (new ≡ old ++ frames) × IsContents limit bytes frames standing

@@ -4,6 +4,7 @@ use Rattle.std.specs.List.{list_all, list_any, before_first}
 use Rattle.std.specs.Char.{is_ascii_alphanumeric, is_ascii_digit}
 use Rattle.std.specs.Str.{str_to_ascii_lowercase}
 use Rattle.std.specs.Str.Parse.{digits_value}
+use Rattle.lsp_frames.specs.declared.limits.TheConstants.{LONGEST_NUMBER}
 
 -- A name is of letters, digits and these signs.
 abbrev pub is_name_byte : ℕ → Bool
@@ -32,8 +33,8 @@ abbrev pub without_trailing_blanks : List ℕ → List ℕ
 without_trailing_blanks bytes = reverse (without_leading_blanks (reverse bytes))
 
 -- the bytes without the blanks at both ends
-unfoldable pub trimmed : List ℕ → List ℕ
-trimmed bytes = without_trailing_blanks (without_leading_blanks bytes)
+unfoldable pub without_outer_blanks : List ℕ → List ℕ
+without_outer_blanks bytes = without_trailing_blanks (without_leading_blanks bytes)
 
 abbrev pub is_name : List ℕ → Bool
 is_name bytes = nat_lt 0 (length bytes) && list_all is_name_byte bytes
@@ -42,7 +43,7 @@ is_name bytes = nat_lt 0 (length bytes) && list_all is_name_byte bytes
 abbrev pub field_at : List ℕ → Option ℕ → Option (List ℕ × List ℕ)
 field_at line None = None
 field_at line (Some colon) = if is_name (take colon line) && list_all is_value_byte (drop (colon + 1) line)
-    then Some (take colon line, trimmed (drop (colon + 1) line)) else None
+    then Some (take colon line, without_outer_blanks (drop (colon + 1) line)) else None
 
 -- the name and the trimmed value of a line `name:value`, if it is one
 unfoldable pub field_of : List ℕ → Option (List ℕ × List ℕ)
@@ -54,7 +55,7 @@ is_named name wanted = bytes_eq (str_to_ascii_lowercase name) (str_to_ascii_lowe
 
 -- the number that 1 to 10 decimal digits write, leading zeros allowed
 unfoldable pub length_of : List ℕ → Option ℕ
-length_of value = if nat_lt 0 (length value) && nat_le (length value) 10 && list_all is_ascii_digit value
+length_of value = if nat_lt 0 (length value) && nat_le (length value) LONGEST_NUMBER && list_all is_ascii_digit value
     then Some (digits_value 10 value) else None
 
 -- what follows the first place where a word stands, in any case
@@ -64,13 +65,13 @@ after_word word (b ∷ bytes) = if is_named (take (length word) (b ∷ bytes)) w
     then Some (drop (length word) (b ∷ bytes)) else after_word word bytes
 
 -- the bytes without a double quote at each end, where there are both
-unfoldable pub unquoted : List ℕ → List ℕ
-unquoted bytes = if nat_le 2 (length bytes) && slice_index bytes 0 == 34 && slice_index bytes (length bytes - 1) == 34
+unfoldable pub without_quotes : List ℕ → List ℕ
+without_quotes bytes = if nat_le 2 (length bytes) && slice_index bytes 0 == 34 && slice_index bytes (length bytes - 1) == 34
     then slice_range bytes 1 (length bytes - 1) else bytes
 
 -- what `charset=` says in the value of a `Content-Type`, up to a semicolon
 unfoldable pub charset_of : List ℕ → Option (List ℕ)
-charset_of value = option_map (λ text. unquoted (trimmed (before_first is_semicolon text))) (after_word (codes "charset=") value)
+charset_of value = option_map (λ text. without_quotes (without_outer_blanks (before_first is_semicolon text))) (after_word (codes "charset=") value)
 
 abbrev pub is_other_charset : Option (List ℕ) → Bool
 is_other_charset None = false

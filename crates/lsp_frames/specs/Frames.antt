@@ -1,11 +1,12 @@
 -- Frames as whole byte strings (LSP 3.17, "Base Protocol").
 use Rattle.std.specs.Prelude.{◌≡◌, ℕ, ◌≤◌, Bool, not, List, [], ◌∷◌, ◌++◌, length, take, drop, Some, Ok, ◌==◌, nat_le, if◌then◌else◌, ◌⊎◌, flat_map, codes, decimal, IsTrue}
 use Rattle.std.specs.List.{list_all}
-use Rattle.lsp_frames.specs.Lines.{no_fields, judged, said}
+use Rattle.lsp_frames.specs.Lines.{no_fields, fields_after, line_meaning}
 use Rattle.lsp_frames.specs.Heads.{HeadRead, Ends, Breaks, Unended, head_at}
 use Rattle.lsp_frames.specs.declared.frame.Frame.{Frame}
 use Rattle.lsp_frames.specs.declared.frame.FrameFault.{FrameFault}
 use Rattle.lsp_frames.specs.declared.frame.FrameFault.TheVariants.{HeadTooLong}
+use Rattle.lsp_frames.specs.declared.limits.TheConstants.{LONGEST_HEAD}
 use Rattle.lsp_frames.specs.declared.line.Fields.{Fields}
 use Rattle.lsp_frames.specs.declared.line.Line.TheVariants.{Fault}
 
@@ -20,14 +21,14 @@ head_text lines = lines_text lines ++ codes "\r\n"
 -- The lines, read one after another from these fields, say those.
 abbrev pub Say : ℕ → Fields → List (List ℕ) → Fields → Type 0
 Say limit before [] after = before ≡ after
-Say limit before (line ∷ lines) after = (next : Fields) × (judged limit before line ≡ Ok next) × Say limit next lines after
+Say limit before (line ∷ lines) after = (next : Fields) × (fields_after limit before line ≡ Ok next) × Say limit next lines after
 
 -- The bytes are a frame: a head of at most 4,096 bytes, whose lines say the length of the content and whether it is
 -- foreign, and then the content.
 pub record HasForm (limit : ℕ) (bytes : List ℕ) (frame : Frame) : Type 0 where
   pub lines : List (List ℕ)
   pub say : Say limit no_fields lines (record { content_length = Some (length frame.content); foreign = frame.foreign })
-  pub short : length (head_text lines) ≤ 4096
+  pub short : length (head_text lines) ≤ LONGEST_HEAD
   pub whole : bytes ≡ head_text lines ++ frame.content
 
 -- no byte is an LF
@@ -41,8 +42,8 @@ pub record ShowsInLine (limit : ℕ) (text : List ℕ) (fault : FrameFault) : Ty
   pub say : Say limit no_fields lines fields
   pub line : List ℕ
   pub one_line : HasNoLf line
-  pub shows : said limit fields line ≡ Fault fault
-  pub short : length text ≤ 4096
+  pub shows : line_meaning limit fields line ≡ Fault fault
+  pub short : length text ≤ LONGEST_HEAD
   pub whole : text ≡ lines_text lines ++ line ++ 10 ∷ []
 
 -- The text is 4,096 bytes of lines that show no fault, with no empty line.
@@ -52,7 +53,7 @@ pub record IsTooLong (limit : ℕ) (text : List ℕ) : Type 0 where
   pub say : Say limit no_fields lines fields
   pub part : List ℕ
   pub one_line : HasNoLf part
-  pub long : length text ≡ 4096
+  pub long : length text ≡ LONGEST_HEAD
   pub whole : text ≡ lines_text lines ++ part
 
 -- The text is the shortest front of a head that shows the fault.
@@ -73,7 +74,7 @@ content_front n foreign bytes = if nat_le n (length bytes)
 abbrev pub front_of : HeadRead → Front
 front_of (Ends n foreign rest) = content_front n foreign rest
 front_of (Breaks fault) = Faulty fault
-front_of Unended = Less
+front_of (Unended reading) = Less
 
 -- peels one frame off the front
 unfoldable pub front : ℕ → List ℕ → Front

@@ -1,7 +1,9 @@
-pub mod Fields
-pub mod Lines
-pub mod Heads
-pub mod Frames
 pub mod Contents
-pub mod Partials
 pub mod Decoding
+pub mod Devices
+pub mod Fields
+pub mod Frames
+pub mod Heads
+pub mod Inner
+pub mod Lines
+pub mod MemDevices

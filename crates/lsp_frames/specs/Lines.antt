@@ -17,19 +17,19 @@ with_length limit fields None = Err BadLength
 with_length limit fields (Some n) = if nat_lt limit n then Err TooLarge else Ok (record fields { content_length = Some n })
 
 -- a `Content-Length` after the lines before it
-abbrev pub length_judged : ℕ → Fields → Option ℕ → List ℕ → Result Fields FrameFault
-length_judged limit fields (Some before) value = Err TwoLengths
-length_judged limit fields None value = with_length limit fields (length_of value)
+abbrev pub fields_with_length : ℕ → Fields → Option ℕ → List ℕ → Result Fields FrameFault
+fields_with_length limit fields (Some before) value = Err TwoLengths
+fields_with_length limit fields None value = with_length limit fields (length_of value)
 
-abbrev pub field_judged : ℕ → Fields → Option (List ℕ × List ℕ) → Result Fields FrameFault
-field_judged limit fields None = Err BadHead
-field_judged limit fields (Some (name, value)) =
-    if is_named name (codes "Content-Length") then length_judged limit fields fields.content_length value
+abbrev pub fields_with : ℕ → Fields → Option (List ℕ × List ℕ) → Result Fields FrameFault
+fields_with limit fields None = Err BadHead
+fields_with limit fields (Some (name, value)) =
+    if is_named name (codes "Content-Length") then fields_with_length limit fields fields.content_length value
     else (if is_named name (codes "Content-Type") then Ok (record fields { foreign = fields.foreign || is_foreign value }) else Ok fields)
 
 -- what a line `name:value` adds to the lines before it, or the first of its faults
-unfoldable pub judged : ℕ → Fields → List ℕ → Result Fields FrameFault
-judged limit fields line = field_judged limit fields (field_of line)
+unfoldable pub fields_after : ℕ → Fields → List ℕ → Result Fields FrameFault
+fields_after limit fields line = fields_with limit fields (field_of line)
 
 -- the empty line
 abbrev pub head_end : Fields → Option ℕ → Line
@@ -41,11 +41,11 @@ line_of (Ok fields) = More fields
 line_of (Err fault) = Fault fault
 
 -- a line without its CR LF
-abbrev pub line_said : ℕ → Fields → List ℕ → Line
-line_said limit fields [] = head_end fields fields.content_length
-line_said limit fields (b ∷ bytes) = line_of (judged limit fields (b ∷ bytes))
+abbrev pub meaning_of : ℕ → Fields → List ℕ → Line
+meaning_of limit fields [] = head_end fields fields.content_length
+meaning_of limit fields (b ∷ bytes) = line_of (fields_after limit fields (b ∷ bytes))
 
 -- what a line says once its LF has come, after the lines before it: `text` is all of it before the LF
-unfoldable pub said : ℕ → Fields → List ℕ → Line
-said limit fields text = if slice_index text (length text - 1) == 13
-    then line_said limit fields (take (length text - 1) text) else Fault BadHead
+unfoldable pub line_meaning : ℕ → Fields → List ℕ → Line
+line_meaning limit fields text = if slice_index text (length text - 1) == 13
+    then meaning_of limit fields (take (length text - 1) text) else Fault BadHead

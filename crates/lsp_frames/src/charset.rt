@@ -2,9 +2,9 @@
 
 ghost use Rattle.std.specs.Prelude.{◌≡◌, option_copied};
 ghost use Rattle.std.specs.List.{before_first};
-ghost use Rattle.lsp_frames.specs.Fields.{is_semicolon, after_word, charset_of, is_foreign, unquoted};
+ghost use Rattle.lsp_frames.specs.Fields.{is_semicolon, after_word, charset_of, is_foreign, without_quotes};
 
-use crate::field::{is_named, place_of, trimmed};
+use crate::field::{is_named, place_of, without_outer_blanks};
 
 /// What follows the first place where a word stands, in any case.
 #[tactic(auto, unfolding(crate::specs::Fields::after_word))]
@@ -23,9 +23,9 @@ fn after_word<'a>(mut bytes: &'a [u8], word: &[u8]) -> Option<&'a [u8]>
 }
 
 /// The bytes without a double quote at each end, where there are both.
-#[tactic(auto, unfolding(crate::specs::Fields::unquoted))]
-fn unquoted(bytes: &[u8]) -> &[u8]
-    ensures { result.now ≡ unquoted bytes.now }
+#[tactic(auto, unfolding(crate::specs::Fields::without_quotes))]
+fn without_quotes(bytes: &[u8]) -> &[u8]
+    ensures { result.now ≡ without_quotes bytes.now }
 {
     let size = bytes.len();
     if size >= 2 && bytes[0] == b'"' && bytes[size - 1] == b'"' {
@@ -49,7 +49,7 @@ fn charset_of(value: &[u8]) -> Option<&[u8]>
     ensures { option_copied result ≡ charset_of value.now }
 {
     let text = after_word(value, b"charset=")?;
-    Some(unquoted(trimmed(before_semicolon(text))))
+    Some(without_quotes(without_outer_blanks(before_semicolon(text))))
 }
 
 /// Whether the value of a `Content-Type` names a charset, and another than UTF-8.

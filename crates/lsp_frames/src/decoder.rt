@@ -4,23 +4,21 @@ ghost use Rattle.std.specs.Prelude.{◌≡◌, ◌≤◌, ◌++◌, ℕ, List, [
 ghost use Rattle.lsp_frames.specs.declared.frame.Frame.{Frame};
 ghost use Rattle.lsp_frames.specs.declared.frame.FrameFault.{FrameFault};
 ghost use Rattle.lsp_frames.specs.declared.fault.FeedFault.TheVariants.{Memory, Ended};
-ghost use Rattle.lsp_frames.specs.Contents.{Broken, IsOpen, end_of};
-ghost use Rattle.lsp_frames.specs.Decoding.{IfEnded, IfFed, StandsAfter};
+ghost use Rattle.lsp_frames.specs.Contents.{Standing, IsContents, end_of};
+ghost use Rattle.lsp_frames.specs.Decoding.{Broken, IfEnded, IfFed, IsOpen, StandsAfter, end_known};
 
 use crate::fault::FeedFault;
 use crate::frame::{End, Frame};
-use crate::items::Items;
-use crate::partial::{Partial, Stage};
+use crate::limits::LARGEST_CONTENT;
+use crate::partial::{Partial, Place, Stage};
+use json_values::Items;
 use std::alloc::Global;
 use std::marker::Model;
 
-/// No content is larger, whatever the limit that a decoder is given.
-pub const LARGEST_CONTENT: u32 = 16_777_216;
-
 /// Cuts a stream into frames, in whatever pieces it comes (LSP 3.17, "Base Protocol").
 ///
-/// It keeps the bytes of the frame under way and no others, and makes room for a byte only once it has come: a head
-/// that promises much costs nothing. A feed costs its piece, the frames that it gives, and at most one head.
+/// It holds the bytes of the line or the content under way and no others, and makes room for a byte only once it has
+/// come: a head that promises much costs nothing. A feed costs its piece and the frames that it gives.
 #[derive(Drop)]
 pub struct Decoder {
     alloc: Global,
@@ -30,13 +28,16 @@ pub struct Decoder {
 
 impl Model for Decoder {
     ghost use Rattle.lsp_frames.specs.Decoding.{Decoding};
-    ghost use Rattle.lsp_frames.specs.Partials.{IsPartial, standing_of};
+    ghost use Rattle.lsp_frames.specs.Inner.Partials.{IsPartial, known_read, read_of};
 
     ghost Value = { Decoding };
 
-    ghost view = { λ decoder. record { limit = decoder.limit; standing = standing_of decoder.partial } };
+    ghost view = { λ decoder. record {
+      limit = decoder.limit;
+      standing = known_read (read_of decoder.partial);
+    } };
 
-    ghost invariant = { λ decoder. IsPartial decoder.limit decoder.partial };
+    ghost invariant = { λ decoder. IsPartial decoder.partial };
 }
 
 impl Decoder {
@@ -49,7 +50,7 @@ impl Decoder {
         Decoder {
             alloc,
             limit,
-            partial: Partial::in_head(alloc, Vec::new(alloc)),
+            partial: Partial::new(alloc, Stage::Head(Place::FIRST)),
         }
     }
 
@@ -58,7 +59,8 @@ impl Decoder {
         ensures limit { self.new.limit ≡ self.old.limit }
 
         // The frames given so far are those of the bytes fed so far, and so is what is left.
-        ensures stands { (bytes : List ℕ) (frames : List Frame) → StandsAfter self.old bytes frames →
+        ensures stands { (bytes : List ℕ) (frames : List Frame) →
+            StandsAfter self.old bytes frames →
             IfFed result (λ given. StandsAfter self.new (bytes ++ piece.now) (frames ++ given)) }
         ensures open { OnOk result (IsOpen self.new.standing) }
         ensures ended { IfEnded result (λ fault. self.new.standing ≡ Broken fault) }
@@ -67,17 +69,14 @@ impl Decoder {
         ensures memory { result ≡ Err Memory → self.new ≡ self.old }
 
         // After a fault there are no more frames, and memory isn't wanted.
-        ensures over { (fault : FrameFault) → self.old.standing ≡ Broken fault → result ≡ Err (Ended fault []) }
+        ensures over { (fault : FrameFault) → self.old.standing ≡ Broken fault →
+            result ≡ Err (Ended fault []) }
     {
         let frames = match self.partial.stage {
             Stage::Ended(fault) => {
                 return Err(FeedFault::Ended(fault, Items::new(self.alloc)));
             }
-            Stage::Head => self.partial.feed_head(self.alloc, self.limit, piece)?,
-            Stage::Content(size, foreign) => {
-                self.partial
-                    .feed_content(self.alloc, self.limit, size, foreign, piece)?
-            }
+            _ => self.partial.feed(self.alloc, self.limit, piece)?,
         };
         match self.partial.stage {
             Stage::Ended(fault) => Err(FeedFault::Ended(fault, frames.into())),
@@ -87,11 +86,11 @@ impl Decoder {
 
     /// How the stream ends, if no more bytes come.
     pub fn end(&self) -> End
-        ensures { result ≡ end_of self.now.standing }
+        ensures standing { result ≡ end_known self.now.standing }
+        ensures contents { (bytes : List ℕ) (frames : List Frame) (left : Standing) →
+            StandsAfter self.now bytes frames →
+            IsContents self.now.limit bytes frames left → result ≡ end_of left }
     {
         self.partial.end()
     }
 }
-
-#[cfg(test)]
-mod tests;

@@ -1,7 +1,7 @@
 //! Why a feed gives no more frames.
 
 use crate::frame::{Frame, FrameFault};
-use crate::items::Items;
+use json_values::Items;
 use std::alloc::AllocError;
 
 /// Why a feed is refused.

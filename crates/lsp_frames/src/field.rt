@@ -2,9 +2,9 @@
 
 ghost use Rattle.std.specs.Prelude.{◌≡◌, ◌==◌, option_map, position};
 ghost use Rattle.std.specs.List.{list_all};
-ghost use Rattle.lsp_frames.specs.Fields.{field_of, is_blank, is_name_byte, is_value_byte, is_name, is_named, length_of, trimmed, without_leading_blanks, without_trailing_blanks};
+ghost use Rattle.lsp_frames.specs.Fields.{field_of, is_blank, is_name_byte, is_value_byte, is_name, is_named, length_of, without_outer_blanks, without_leading_blanks, without_trailing_blanks};
 
-const LONGEST_NUMBER: usize = 10;
+use crate::limits::LONGEST_NUMBER;
 
 fn is_blank(b: u8) -> bool
     ensures { result ≡ is_blank b }
@@ -49,9 +49,9 @@ fn without_trailing_blanks(mut bytes: &[u8]) -> &[u8]
 }
 
 /// The bytes without the spaces and tabs at both ends.
-#[tactic(auto, unfolding(crate::specs::Fields::trimmed))]
-pub(crate) fn trimmed(bytes: &[u8]) -> &[u8]
-    ensures { result.now ≡ trimmed bytes.now }
+#[tactic(auto, unfolding(crate::specs::Fields::without_outer_blanks))]
+pub(crate) fn without_outer_blanks(bytes: &[u8]) -> &[u8]
+    ensures { result.now ≡ without_outer_blanks bytes.now }
 {
     without_trailing_blanks(without_leading_blanks(bytes))
 }
@@ -91,7 +91,7 @@ pub(crate) fn field_of(line: &[u8]) -> Option<(&[u8], &[u8])>
     };
     let (name, value) = (&line[..colon], &line[colon + 1..]);
     if is_name(name) && has_value_bytes(value) {
-        Some((name, trimmed(value)))
+        Some((name, without_outer_blanks(value)))
     } else {
         None
     }

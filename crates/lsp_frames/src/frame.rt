@@ -1,6 +1,6 @@
 //! What is read from a stream of frames.
 
-use crate::items::Items;
+use json_values::Items;
 
 /// One frame of a stream (LSP 3.17, "Base Protocol"), without its head.
 #[derive(Debug, Drop, PartialEq, Eq)]

@@ -7,39 +7,46 @@ ghost use Rattle.lsp_frames.specs.declared.frame.FrameFault.TheVariants.{Truncat
 ghost use Rattle.lsp_frames.specs.Frames.{HasForm, ShowsFault, front, Whole, Faulty, written};
 ghost use Rattle.lsp_frames.specs.Contents.{Standing, Open, Broken, IsContents};
 
-use crate::decoder::LARGEST_CONTENT;
+use crate::limits::LARGEST_CONTENT;
 
 /// A frame is peeled off the front exactly where some front of the bytes has a frame's form.
 pub fn front_is_a_frame()
     ensures { (limit : ℕ) (bytes : List ℕ) (frame : Frame) (rest : List ℕ) →
-        (front limit bytes ≡ Whole frame rest) ↔ ((first : List ℕ) × (bytes ≡ first ++ rest) × HasForm limit first frame) }
+        (front limit bytes ≡ Whole frame rest) ↔
+        ((first : List ℕ) × (bytes ≡ first ++ rest) × HasForm limit first frame) }
 {}
 
 /// A fault is found exactly where some front of the bytes shows it.
 pub fn front_shows_a_fault()
     ensures { (limit : ℕ) (bytes : List ℕ) (fault : FrameFault) →
-        (front limit bytes ≡ Faulty fault) ↔ ((text : List ℕ) × (more : List ℕ) × (bytes ≡ text ++ more) × ShowsFault limit text fault) }
+        (front limit bytes ≡ Faulty fault) ↔
+        ((text : List ℕ) × (more : List ℕ) × (bytes ≡ text ++ more) × ShowsFault limit text fault) }
 {}
 
 /// No frame is a proper prefix of another.
 pub fn no_frame_extends_another()
     ensures { (limit : ℕ) (bytes more : List ℕ) (frame other : Frame) →
-        HasForm limit bytes frame → HasForm limit (bytes ++ more) other → (more ≡ []) × (frame ≡ other) }
+        HasForm limit bytes frame →
+        HasForm limit (bytes ++ more) other → (more ≡ []) × (frame ≡ other) }
 {}
 
 /// A written content is a frame with that content, and is read back whatever follows it.
 pub fn written_frame_is_read_back()
-    ensures form { (limit : ℕ) (content : List ℕ) → length content ≤ limit → limit ≤ LARGEST_CONTENT →
+    ensures form { (limit : ℕ) (content : List ℕ) → length content ≤ limit →
+        limit ≤ LARGEST_CONTENT →
         HasForm limit (written content) (record { content = content; foreign = false }) }
-    ensures read { (limit : ℕ) (content more : List ℕ) → length content ≤ limit → limit ≤ LARGEST_CONTENT →
-        front limit (written content ++ more) ≡ Whole (record { content = content; foreign = false }) more }
+    ensures read { (limit : ℕ) (content more : List ℕ) → length content ≤ limit →
+        limit ≤ LARGEST_CONTENT →
+        front limit (written content ++ more) ≡
+        Whole (record { content = content; foreign = false }) more }
 {}
 
 /// All bytes have contents, and no others.
 pub fn contents_are_a_function_of_the_bytes()
     ensures exist { (limit : ℕ) (bytes : List ℕ) →
         (frames : List Frame) × (standing : Standing) × IsContents limit bytes frames standing }
-    ensures unique { (limit : ℕ) (bytes : List ℕ) (frames others : List Frame) (standing other : Standing) →
+    ensures unique { (limit : ℕ) (bytes : List ℕ) (frames others : List Frame)
+        (standing other : Standing) →
         IsContents limit bytes frames standing → IsContents limit bytes others other →
         (frames ≡ others) × (standing ≡ other) }
 {}
@@ -47,7 +54,8 @@ pub fn contents_are_a_function_of_the_bytes()
 /// More bytes keep the frames and a fault. Where there is none, the frames go on with those of the rest and the bytes.
 pub fn contents_stay()
     ensures fault { (limit : ℕ) (bytes more : List ℕ) (frames : List Frame) (fault : FrameFault) →
-        IsContents limit bytes frames (Broken fault) → IsContents limit (bytes ++ more) frames (Broken fault) }
+        IsContents limit bytes frames (Broken fault) →
+        IsContents limit (bytes ++ more) frames (Broken fault) }
     ensures rest { (limit : ℕ) (bytes more : List ℕ) (frames : List Frame) (rest : List ℕ) →
         (later : List Frame) (standing : Standing) →
         IsContents limit bytes frames (Open rest) → IsContents limit (rest ++ more) later standing →

@@ -3,24 +3,30 @@
 #![tactic(auto)]
 
 mod charset;
-mod cut;
 mod decoder;
+mod device;
 mod fault;
 mod field;
 mod frame;
-mod head;
-mod items;
 mod law;
+mod limits;
 mod line;
+mod mem_sink;
+mod mem_source;
 mod partial;
+mod std_device;
 mod writing;
 
-pub use decoder::{Decoder, LARGEST_CONTENT};
+pub use decoder::Decoder;
+pub use device::{IoFault, PutFault, Sink, Source, put_all};
 pub use fault::FeedFault;
 pub use frame::{End, Frame, FrameFault};
-pub use items::Items;
 pub use law::{
     contents_are_a_function_of_the_bytes, contents_stay, front_is_a_frame, front_shows_a_fault,
     no_bytes_show_an_end, no_frame_extends_another, written_frame_is_read_back,
 };
+pub use limits::LARGEST_CONTENT;
+pub use mem_sink::MemSink;
+pub use mem_source::MemSource;
+pub use std_device::{StdSink, StdSource};
 pub use writing::{encode, put_frame, put_head};

@@ -1,7 +1,7 @@
 //! What one line of a head says.
 
 ghost use Rattle.std.specs.Prelude.{◌≡◌};
-ghost use Rattle.lsp_frames.specs.Lines.{judged, length_judged, said};
+ghost use Rattle.lsp_frames.specs.Lines.{fields_after, fields_with_length, line_meaning};
 
 use crate::charset::is_foreign;
 use crate::field::{field_of, is_named, length_of};
@@ -31,8 +31,8 @@ impl Fields {
     };
 }
 
-fn length_judged(limit: u32, fields: Fields, value: &[u8]) -> Result<Fields, FrameFault>
-    ensures { result ≡ length_judged limit fields fields.content_length value.now }
+fn fields_with_length(limit: u32, fields: Fields, value: &[u8]) -> Result<Fields, FrameFault>
+    ensures { result ≡ fields_with_length limit fields fields.content_length value.now }
 {
     if fields.content_length.is_some() {
         return Err(FrameFault::TwoLengths);
@@ -50,15 +50,15 @@ fn length_judged(limit: u32, fields: Fields, value: &[u8]) -> Result<Fields, Fra
 }
 
 /// What a line `name:value` adds to the lines before it, or the first of its faults.
-#[tactic(auto, unfolding(crate::specs::Lines::judged))]
-fn judged(limit: u32, fields: Fields, line: &[u8]) -> Result<Fields, FrameFault>
-    ensures { result ≡ judged limit fields line.now }
+#[tactic(auto, unfolding(crate::specs::Lines::fields_after))]
+fn fields_after(limit: u32, fields: Fields, line: &[u8]) -> Result<Fields, FrameFault>
+    ensures { result ≡ fields_after limit fields line.now }
 {
     let Some((name, value)) = field_of(line) else {
         return Err(FrameFault::BadHead);
     };
     if is_named(name, b"Content-Length") {
-        length_judged(limit, fields, value)
+        fields_with_length(limit, fields, value)
     } else if is_named(name, b"Content-Type") {
         Ok(Fields {
             content_length: fields.content_length,
@@ -70,9 +70,9 @@ fn judged(limit: u32, fields: Fields, line: &[u8]) -> Result<Fields, FrameFault>
 }
 
 /// What a line says, given all of it before its LF.
-#[tactic(auto, unfolding(crate::specs::Lines::said))]
-pub(crate) fn said(limit: u32, fields: Fields, text: &[u8]) -> Line
-    ensures { result ≡ said limit fields text.now }
+#[tactic(auto, unfolding(crate::specs::Lines::line_meaning))]
+pub(crate) fn line_meaning(limit: u32, fields: Fields, text: &[u8]) -> Line
+    ensures { result ≡ line_meaning limit fields text.now }
 {
     let size = text.len();
     if size == 0 || text[size - 1] != b'\r' {
@@ -85,7 +85,7 @@ pub(crate) fn said(limit: u32, fields: Fields, text: &[u8]) -> Line
             Some(length) => Line::End(length, fields.foreign),
         };
     }
-    match judged(limit, fields, line) {
+    match fields_after(limit, fields, line) {
         Ok(fields) => Line::More(fields),
         Err(fault) => Line::Fault(fault),
     }

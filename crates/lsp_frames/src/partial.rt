@@ -1,186 +1,301 @@
-//! What has come of the frame under way.
+//! What has come of the frame under way, and what a piece adds to it.
 
-ghost use Rattle.std.specs.Prelude.{◌≡◌, ℕ, ◌-◌, ◌<◌, ◌≤◌, ◌++◌, [], length, take, IfOk, OnOk, OnErr};
-ghost use Rattle.lsp_frames.specs.Heads.{head_at, Ends, Unended};
-ghost use Rattle.lsp_frames.specs.Contents.{Open, Broken, IsContents, end_of};
-ghost use Rattle.lsp_frames.specs.Partials.{IsPartial, IsSame, standing_of};
+ghost use Rattle.std.specs.Prelude.{◌≡◌, ◌==◌, ◌<◌, ◌++◌, ◌∷◌, ℕ, List, [], length, position, take, IfOk, OnErr, OnOk};
+ghost use Rattle.lsp_frames.specs.Heads.{head_from};
+ghost use Rattle.lsp_frames.specs.Decoding.{end_known};
+ghost use Rattle.lsp_frames.specs.Inner.Partials.{Cuts, Gives, HasKept, IsPartial, IsSame, IsUnderWay, Takes, frames_of, known_read, read_at, read_of, read_on};
 
-use crate::cut::{cut, cut_content};
+use crate::field::place_of;
 use crate::frame::{End, Frame, FrameFault};
-use crate::head::{Head, LONGEST_HEAD, read_head};
-use crate::items::Items;
+use crate::limits::LONGEST_HEAD;
+use crate::line::{Fields, Line, line_meaning};
+use json_values::Items;
 use std::alloc::{AllocError, Global};
 use std::mem;
 
-/// What comes next.
+/// How far a head was read.
+#[derive(Clone, Copy, Debug)]
+pub(crate) struct Place {
+    /// What its whole lines have said.
+    pub(crate) fields: Fields,
+    /// It may have so many bytes more.
+    pub(crate) room: usize,
+}
+
+/// What the bytes that come next belong to.
 #[derive(Clone, Copy, Debug)]
 pub(crate) enum Stage {
-    /// More of the head.
-    Head,
-    /// More of a content of so many bytes, foreign or not.
+    /// A line of a head.
+    Head(Place),
+    /// A content of so many bytes, foreign or not.
     Content(u32, bool),
     /// Nothing: the stream has this fault.
     Ended(FrameFault),
 }
 
-/// The bytes that have come of the frame under way, or the fault in its place. The head is kept as it came.
+/// What was taken of a piece.
+pub(crate) enum Taken<'a> {
+    /// All of it.
+    All,
+    /// Its front, with which a line or a content is whole. What comes next, and the bytes behind.
+    Front(Stage, &'a [u8]),
+}
+
+/// A line or a content, and the bytes that have come of it.
 #[derive(Debug, Drop)]
 pub(crate) struct Partial {
     pub(crate) stage: Stage,
-    pub(crate) head: Vec<u8>,
-    pub(crate) content: Vec<u8>,
+    pub(crate) held: Vec<u8>,
 }
 
-/// The bytes of a head, with as many of a piece as a head may have.
-fn joined(alloc: Global, held: &[u8], piece: &[u8]) -> Result<Vec<u8>, AllocError>
-    requires { length held.now ≤ LONGEST_HEAD }
-    ensures { IfOk result (λ head. head.items ≡ held.now ++ take (LONGEST_HEAD - length held.now) piece.now) }
-{
-    let end = piece.len().min(LONGEST_HEAD - held.len());
-    let mut head = Vec::with_capacity(alloc, held.len() + end)?;
-    head.extend_from_slice(held)?;
-    head.extend_from_slice(&piece[..end])?;
-    Ok(head)
+impl Place {
+    pub(crate) const FIRST: Place = Place {
+        fields: Fields::NONE,
+        room: LONGEST_HEAD,
+    };
+
+    /// What comes behind a line of a head, given all of it before its LF. The room is that before the LF.
+    fn behind_line(self, limit: u32, text: &[u8]) -> Stage
+        requires { 0 < self.room }
+        ensures read { (more : List ℕ) → read_on limit (read_at result []) more ≡
+            head_from limit self.fields text.now self.room (10 ∷ more) }
+        ensures under_way { IsUnderWay result [] }
+    {
+        match line_meaning(limit, self.fields, text) {
+            Line::More(fields) => {
+                if self.room > 1 {
+                    Stage::Head(Place {
+                        fields,
+                        room: self.room - 1,
+                    })
+                } else {
+                    Stage::Ended(FrameFault::HeadTooLong)
+                }
+            }
+            Line::End(size, foreign) => Stage::Content(size, foreign),
+            Line::Fault(fault) => Stage::Ended(fault),
+        }
+    }
 }
 
-/// The bytes without so many at their end.
-fn front_of(bytes: &[u8], behind: usize) -> &[u8]
-    requires { behind ≤ length bytes.now }
-    ensures { result.now ≡ take (length bytes.now - behind) bytes.now }
+/// Where the first line ends, if it does among the first `room` bytes.
+fn line_end(bytes: &[u8], room: usize) -> Option<usize>
+    ensures { result ≡ position (λ b. b == 10) (take room bytes.now) }
 {
-    &bytes[..bytes.len() - behind]
+    let within = bytes.len().min(room);
+    place_of(b'\n', &bytes[..within])
 }
 
 impl Partial {
-    /// Less than a head. Takes no memory.
-    pub(crate) fn in_head(alloc: Global, head: Vec<u8>) -> Self
-        ensures standing { standing_of result ≡ Open head.items }
-        ensures partial { (limit : ℕ) → head_at limit head.items ≡ Unended → IsPartial limit result }
+    /// Nothing of it has come. Takes no memory.
+    pub(crate) fn new(alloc: Global, stage: Stage) -> Self
+        ensures stage { result.stage ≡ stage }
+        ensures held { result.held.items ≡ [] }
     {
         Partial {
-            stage: Stage::Head,
-            head,
-            content: Vec::new(alloc),
+            stage,
+            held: Vec::new(alloc),
         }
     }
 
-    /// A head, and less than its content. Takes no memory.
-    pub(crate) fn in_content(size: u32, foreign: bool, head: Vec<u8>, content: Vec<u8>) -> Self
-        ensures standing { standing_of result ≡ Open (head.items ++ content.items) }
-        ensures partial { (limit : ℕ) → head_at limit head.items ≡ Ends size foreign [] → length content.items < size → IsPartial limit result }
-    {
-        Partial {
-            stage: Stage::Content(size, foreign),
-            head,
-            content,
-        }
-    }
-
-    /// Takes no memory.
-    pub(crate) fn ended(alloc: Global, fault: FrameFault) -> Self
-        ensures standing { standing_of result ≡ Broken fault }
-        ensures partial { (limit : ℕ) → IsPartial limit result }
-    {
-        Partial {
-            stage: Stage::Ended(fault),
-            head: Vec::new(alloc),
-            content: Vec::new(alloc),
-        }
-    }
-
-    /// Takes a piece in a head, and gives the frames that it completes.
-    pub(crate) fn feed_head(
+    /// Takes the bytes of the line or the content under way.
+    fn take_front<'a>(
         &mut self,
         alloc: Global,
         limit: u32,
-        piece: &[u8],
-    ) -> Result<Vec<Frame>, AllocError>
-        requires { head_at limit self.old.head.items ≡ Unended }
-        ensures contents { IfOk result (λ given. IsContents limit (self.old.head.items ++ piece.now) given.items (standing_of self.new)) }
-        ensures partial { OnOk result (IsPartial limit self.new) }
-        ensures err { OnErr result (IsSame self.old self.new) }
+        piece: &'a [u8],
+    ) -> Result<Taken<'a>, AllocError>
+        requires { IsPartial self.old }
+        ensures ok { IfOk result (λ taken. Takes limit self.old self.new piece.now taken) }
+        ensures err { OnErr result (HasKept self.old self.new) }
     {
-        let had = self.head.len();
-        let head = joined(alloc, self.head.as_slice(), piece)?;
-        match read_head(limit, head.as_slice()) {
-            Head::Unended => {
-                *self = Partial::in_head(alloc, head);
-                Ok(Vec::new(alloc))
-            }
-            Head::Breaks(fault) => {
-                *self = Partial::ended(alloc, fault);
-                Ok(Vec::new(alloc))
-            }
-            Head::Ends(size, foreign, after) => {
-                let text = front_of(head.as_slice(), after.len());
-                let behind = &piece[text.len() - had..];
-                let (frames, partial) = cut_content(alloc, limit, text, size, foreign, behind)?;
-                *self = partial;
-                Ok(frames)
+        match self.stage {
+            Stage::Ended(_) => Ok(Taken::All),
+            Stage::Head(place) => self.take_line(alloc, limit, place, piece),
+            Stage::Content(size, _) => {
+                let missing = size as usize - self.held.len();
+                if piece.len() < missing {
+                    self.held.extend_from_slice(piece)?;
+                    return Ok(Taken::All);
+                }
+                let (last, behind) = piece.split_at(missing);
+                self.held.extend_from_slice(last)?;
+                Ok(Taken::Front(Stage::Head(Place::FIRST), behind))
             }
         }
     }
 
-    /// Takes a piece in a content, and gives the frames that it completes.
-    pub(crate) fn feed_content(
+    fn take_line<'a>(
         &mut self,
         alloc: Global,
         limit: u32,
-        size: u32,
-        foreign: bool,
-        piece: &[u8],
-    ) -> Result<Vec<Frame>, AllocError>
-        requires stage { self.old.stage ≡ Stage.Content size foreign }
-        requires head { head_at limit self.old.head.items ≡ Ends size foreign [] }
-        requires short { length self.old.content.items < size }
-        ensures contents { IfOk result (λ given. IsContents limit (self.old.head.items ++ self.old.content.items ++ piece.now) given.items (standing_of self.new)) }
-        ensures partial { OnOk result (IsPartial limit self.new) }
-        ensures err { OnErr result (IsSame self.old self.new) }
+        place: Place,
+        piece: &'a [u8],
+    ) -> Result<Taken<'a>, AllocError>
+        requires stage { self.old.stage ≡ Stage.Head place }
+        requires room { 0 < place.room }
+        ensures ok { IfOk result (λ taken. Takes limit self.old self.new piece.now taken) }
+        ensures err { OnErr result (HasKept self.old self.new) }
+    {
+        let Place { fields, room } = place;
+        match line_end(piece, room) {
+            Some(end) => {
+                let before_lf = Place {
+                    fields,
+                    room: room - end,
+                };
+                let next = self.end_line(limit, before_lf, &piece[..end])?;
+                Ok(Taken::Front(next, &piece[end + 1..]))
+            }
+            None => {
+                if piece.len() < room {
+                    self.held.extend_from_slice(piece)?;
+                    self.stage = Stage::Head(Place {
+                        fields,
+                        room: room - piece.len(),
+                    });
+                } else {
+                    *self = Partial::new(alloc, Stage::Ended(FrameFault::HeadTooLong));
+                }
+                Ok(Taken::All)
+            }
+        }
+    }
+
+    /// What comes behind the line under way, which ends so. The place is that before the LF.
+    fn end_line(&mut self, limit: u32, place: Place, last: &[u8]) -> Result<Stage, AllocError>
+        requires { 0 < place.room }
+        ensures read { IfOk result (λ next. (more : List ℕ) →
+            read_on limit (read_at next []) more ≡
+            head_from limit place.fields (self.old.held.items ++ last.now) place.room (10 ∷ more)) }
+        ensures under_way { IfOk result (λ next. IsUnderWay next []) }
+        ensures kept { HasKept self.old self.new }
+    {
+        if self.held.is_empty() {
+            return Ok(place.behind_line(limit, last));
+        }
+        self.held.extend_from_slice(last)?;
+        Ok(place.behind_line(limit, self.held.as_slice()))
+    }
+
+    /// Takes a piece, and gives the frames that it completes. Where it fails, some of the piece may stand behind what
+    /// was held.
+    fn take(&mut self, alloc: Global, limit: u32, piece: &[u8]) -> Result<Vec<Frame>, AllocError>
+        requires { IsPartial self.old }
+        ensures given { IfOk result (λ given.
+            Gives limit (read_on limit (read_of self.old) piece.now) given.items (read_of self.new)) }
+        ensures partial { OnOk result (IsPartial self.new) }
+        ensures err { OnErr result (HasKept self.old self.new) }
     {
         let mut frames = Vec::new(alloc);
-        let missing = size as usize - self.content.len();
-        if piece.len() < missing {
-            self.content.extend_from_slice(piece)?;
-            return Ok(frames);
+        match self.take_front(alloc, limit, piece)? {
+            Taken::All => Ok(frames),
+            Taken::Front(next, behind) => match self.stage {
+                Stage::Content(_, foreign) => {
+                    // The frame's content is put in once nothing can fail any more.
+                    frames.push(Frame {
+                        content: Items::new(alloc),
+                        foreign,
+                    })?;
+                    let partial = cut(alloc, limit, next, &mut frames, behind)?;
+                    let whole = mem::replace(self, partial);
+                    frames[0] = Frame {
+                        content: whole.held.into(),
+                        foreign,
+                    };
+                    Ok(frames)
+                }
+                _ => {
+                    let partial = cut(alloc, limit, next, &mut frames, behind)?;
+                    *self = partial;
+                    Ok(frames)
+                }
+            },
         }
-        let (last, rest) = piece.split_at(missing);
+    }
 
-        // The frame's content is put in once nothing can fail any more.
-        frames.push(Frame {
-            content: Items::new(alloc),
-            foreign,
-        })?;
-        let partial = cut(alloc, limit, &mut frames, rest)?;
-        self.content.extend_from_slice(last)?;
-        let whole = mem::replace(self, partial);
-        frames[0] = Frame {
-            content: whole.content.into(),
-            foreign,
-        };
-        Ok(frames)
+    /// Takes a piece, and gives the frames that it completes.
+    pub(crate) fn feed(
+        &mut self,
+        alloc: Global,
+        limit: u32,
+        piece: &[u8],
+    ) -> Result<Vec<Frame>, AllocError>
+        requires { IsPartial self.old }
+        ensures given { IfOk result (λ given.
+            Gives limit (read_on limit (read_of self.old) piece.now) given.items (read_of self.new)) }
+        ensures partial { OnOk result (IsPartial self.new) }
+        ensures err { OnErr result (IsSame self.old self.new) }
+    {
+        let had = self.held.len();
+        match self.take(alloc, limit, piece) {
+            Ok(frames) => Ok(frames),
+            Err(error) => {
+                self.held.truncate(had);
+                Err(error)
+            }
+        }
     }
 
     /// How the stream ends, if no more bytes come.
     pub(crate) fn end(&self) -> End
-        ensures { result ≡ end_of (standing_of self.now) }
+        ensures { result ≡ end_known (known_read (read_of self.now)) }
     {
         match self.stage {
-            Stage::Head => self.end_of_bytes(),
-            Stage::Content(..) => self.end_of_bytes(),
+            Stage::Head(place) => {
+                if place.room == LONGEST_HEAD {
+                    End::Clean
+                } else {
+                    End::Fault(FrameFault::Truncated)
+                }
+            }
+            Stage::Content(..) => End::Fault(FrameFault::Truncated),
             Stage::Ended(fault) => End::Fault(fault),
         }
     }
+}
 
-    fn end_of_bytes(&self) -> End
-        ensures { result ≡ end_of (Open (self.now.head.items ++ self.now.content.items)) }
-    {
-        if !self.head.is_empty() {
-            return End::Fault(FrameFault::Truncated);
+/// Puts the frame of a whole content behind the others. A line makes none.
+fn push_whole(frames: &mut Vec<Frame>, whole: Partial) -> Result<(), AllocError>
+    ensures { OnOk result (frames.new.items ≡
+        frames.old.items ++ frames_of whole.stage whole.held.items) }
+{
+    match whole.stage {
+        Stage::Content(_, foreign) => {
+            frames.push(Frame {
+                content: whole.held.into(),
+                foreign,
+            })?;
+            Ok(())
         }
-        if self.content.is_empty() {
-            End::Clean
-        } else {
-            End::Fault(FrameFault::Truncated)
+        Stage::Head(_) => Ok(()),
+        Stage::Ended(_) => Ok(()),
+    }
+}
+
+/// Cuts the frames off the front of the bytes, which begin at this stage, adds them to `frames`, and keeps what is left.
+fn cut(
+    alloc: Global,
+    limit: u32,
+    stage: Stage,
+    frames: &mut Vec<Frame>,
+    bytes: &[u8],
+) -> Result<Partial, AllocError>
+    requires { IsUnderWay stage [] }
+    ensures given { IfOk result (λ partial. Cuts limit frames.old.items frames.new.items
+        (read_on limit (read_at stage []) bytes.now) (read_of partial)) }
+    ensures partial { IfOk result (λ partial. IsPartial partial) }
+{
+    let mut partial = Partial::new(alloc, stage);
+    let mut rest = bytes;
+    loop {
+        match partial.take_front(alloc, limit, rest)? {
+            Taken::All => return Ok(partial),
+            Taken::Front(next, behind) => {
+                let whole = mem::replace(&mut partial, Partial::new(alloc, next));
+                push_whole(frames, whole)?;
+                rest = behind;
+            }
         }
     }
 }

@@ -1,6 +1,6 @@
 //! Writing a frame.
 
-ghost use Rattle.std.specs.Prelude.{◌≡◌, ◌++◌, IfOk, OnOk, codes, decimal, length};
+ghost use Rattle.std.specs.Prelude.{◌≡◌, ◌++◌, IfOk, OnOk, OnErr, codes, decimal, length, take};
 
 use itoa::Buffer;
 use std::alloc::{AllocError, Global};
@@ -11,30 +11,56 @@ const HEAD_ROOM: usize = 40;
 /// The frame of a content: `Content-Length: N`, CR LF, CR LF, and the content.
 pub fn encode(alloc: Global, content: &[u8]) -> Result<Vec<u8>, AllocError>
     ensures { IfOk result (λ bytes.
-        bytes.items ≡ codes "Content-Length: " ++ decimal (length content.now) ++ codes "\r\n\r\n" ++ content.now) }
+        bytes.items ≡ codes "Content-Length: " ++ decimal (length content.now)
+        ++ codes "\r\n\r\n" ++ content.now) }
 {
     let mut bytes = Vec::with_capacity(alloc, HEAD_ROOM + content.len())?;
     put_frame(&mut bytes, content)?;
     Ok(bytes)
 }
 
-/// Puts the frame of a content behind the bytes; the content is copied once. After an error a part of it may stand there.
+/// Puts the frame of a content behind the bytes; the content is copied once.
 pub fn put_frame(bytes: &mut Vec<u8>, content: &[u8]) -> Result<(), AllocError>
-    ensures { OnOk result (bytes.new.items ≡ bytes.old.items
-        ++ codes "Content-Length: " ++ decimal (length content.now) ++ codes "\r\n\r\n" ++ content.now) }
+    ensures ok { OnOk result (bytes.new.items ≡ bytes.old.items
+        ++ codes "Content-Length: " ++ decimal (length content.now)
+        ++ codes "\r\n\r\n" ++ content.now) }
+    ensures err { OnErr result (bytes.new.items ≡ bytes.old.items) }
 {
+    let before = bytes.len();
     put_head(bytes, content.len())?;
-    bytes.extend_from_slice(content)
+    match bytes.extend_from_slice(content) {
+        Ok(()) => Ok(()),
+        Err(error) => {
+            bytes.truncate(before);
+            Err(error)
+        }
+    }
 }
 
-/// Puts the head of a content of `length` bytes behind the bytes: `Content-Length: N`, CR LF, CR LF. After an error a part of it
-/// may stand there.
+/// Puts the head of a content of `length` bytes behind the bytes: `Content-Length: N`, CR LF, CR LF.
 pub fn put_head(bytes: &mut Vec<u8>, length: usize) -> Result<(), AllocError>
-    ensures { OnOk result (bytes.new.items ≡ bytes.old.items
+    ensures ok { OnOk result (bytes.new.items ≡ bytes.old.items
         ++ codes "Content-Length: " ++ decimal length ++ codes "\r\n\r\n") }
+    ensures err { OnErr result (bytes.new.items ≡ bytes.old.items) }
+{
+    let before = bytes.len();
+    match put_head_parts(bytes, length) {
+        Ok(()) => Ok(()),
+        Err(error) => {
+            bytes.truncate(before);
+            Err(error)
+        }
+    }
+}
+
+/// The same; where it fails, a part of the head may stand behind the bytes.
+fn put_head_parts(bytes: &mut Vec<u8>, size: usize) -> Result<(), AllocError>
+    ensures ok { OnOk result (bytes.new.items ≡ bytes.old.items
+        ++ codes "Content-Length: " ++ decimal size ++ codes "\r\n\r\n") }
+    ensures err { OnErr result (take (length bytes.old.items) bytes.new.items ≡ bytes.old.items) }
 {
     let mut digits = Buffer::new();
     bytes.extend_from_slice(b"Content-Length: ")?;
-    bytes.extend_from_slice(digits.format(length).as_bytes())?;
+    bytes.extend_from_slice(digits.format(size).as_bytes())?;
     bytes.extend_from_slice(b"\r\n\r\n")
 }

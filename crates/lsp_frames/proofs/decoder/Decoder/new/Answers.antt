@@ -1,10 +1,18 @@
-use Rattle.std.proofs.Common.{ap, ◌∙◌}
-use Rattle.lsp_frames.specs.Heads.{head_at}
-use Rattle.lsp_frames.proofs.Cuts.{nothing_read, open_in_head}
+use Rattle.std.proofs.Common.{◌≡◌, ℕ, List, [], ap, sym, ◌∙◌, subst}
+use Rattle.lsp_frames.specs.Lines.{no_fields}
+use Rattle.lsp_frames.specs.Heads.{Unended, head_at, head_from}
+use Rattle.lsp_frames.specs.Decoding.{Known, StandsAfter}
+use Rattle.lsp_frames.specs.Inner.Partials.{known_read, read_at, read_of}
+use Rattle.lsp_frames.specs.declared.partial.Stage.{Stage}
+use Rattle.lsp_frames.proofs.Reading.{head_from-nil}
+use Rattle.lsp_frames.proofs.Standings.{stands_first}
 use Rattle.lsp_frames.proofs.decoder.Decoder.new.Goals as goal
 
-pub invariant_of-result : goal.invariant_of-result
-invariant_of-result c = c.in_head.ensures.partial c.args.limit (ap (head_at c.args.limit) c.new.ensures.items ∙ nothing_read c.args.limit)
-
 pub returns-clause-start : goal.returns-clause-start
-returns-clause-start c = rw (c.in_head.ensures.standing, c.new.ensures.items) (open_in_head c.args.limit _ (nothing_read c.args.limit))
+unfolding head_at head_from
+returns-clause-start c =
+    let read : read_of c.new.result ≡ head_at c.args.limit [] =
+    ap (λ (s : Stage). read_at s c.new.result.held.items) c.new.ensures.stage ∙ ap (λ (xs : List ℕ). Unended (record { fields = no_fields; line = xs; room = 4096 })) c.new.ensures.held
+    ∙ sym (head_from-nil c.args.limit no_fields [] 4096) in
+    let P : Known → Type 0 = λ k. StandsAfter (record { limit = c.args.limit; standing = k }) [] [] in
+    subst P (sym (ap known_read read)) (stands_first c.args.limit)

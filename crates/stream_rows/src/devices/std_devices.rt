@@ -1,0 +1,93 @@
+//! Readers and writers that fail, and that fail for a while.
+
+use super::{flushes, gives, takes, takes_all};
+use lsp_frames::{IoFault, PutFault, StdSink, StdSource};
+use std::io::{self, Read, Write};
+use std::test::Fail;
+
+/// Gives the bytes at its second call, and fails at each other.
+#[derive(Drop)]
+struct Interrupted<'a> {
+    bytes: &'a [u8],
+    calls: u32,
+}
+
+impl Read for Interrupted<'_> {
+    fn read(&mut self, buf: &mut [u8]) -> io::Result<usize> {
+        self.calls = self.calls.saturating_add(1);
+        if self.calls != 2 {
+            return Err(io::Error::from(io::ErrorKind::Interrupted));
+        }
+        self.bytes.read(buf)
+    }
+}
+
+#[test]
+fn an_interrupted_read_is_a_failure(rt: HostRuntime) {
+    let mut source = StdSource::new(Interrupted {
+        bytes: b"abc",
+        calls: 0,
+    });
+    let mut room = [0; 2];
+    gives(&rt, &mut source, &mut room, Err(IoFault), 1);
+    gives(&rt, &mut source, &mut room, Ok(b"ab"), 1);
+    gives(&rt, &mut source, &mut room, Err(IoFault), 2);
+}
+
+#[test]
+fn a_slice_is_a_source_of_its_bytes(rt: HostRuntime) {
+    let mut source = StdSource::new(b"abc".as_slice());
+    let mut room = [0; 2];
+    gives(&rt, &mut source, &mut room, Ok(b"ab"), 0);
+    gives(&rt, &mut source, &mut room, Ok(b"c"), 0);
+    gives(&rt, &mut source, &mut room, Ok(b""), 0);
+}
+
+/// Takes two bytes, then none, then fails; and counts its flushes, of which the second fails.
+#[derive(Drop)]
+struct Faint {
+    writes: u32,
+    flushes: u32,
+}
+
+impl Write for Faint {
+    fn write(&mut self, buf: &[u8]) -> io::Result<usize> {
+        self.writes = self.writes.saturating_add(1);
+        match self.writes {
+            1 => Ok(buf.len().min(2)),
+            2 => Ok(0),
+            _ => Err(io::Error::from(io::ErrorKind::Interrupted)),
+        }
+    }
+
+    fn flush(&mut self) -> io::Result<()> {
+        self.flushes = self.flushes.saturating_add(1);
+        if self.flushes == 2 {
+            return Err(io::Error::from(io::ErrorKind::Other));
+        }
+        Ok(())
+    }
+}
+
+#[test]
+fn a_write_of_no_bytes_and_an_interrupted_one_are_failures(rt: HostRuntime) {
+    let mut writer = Faint {
+        writes: 0,
+        flushes: 0,
+    };
+    let mut sink = StdSink::new(&mut writer);
+    takes_all(&rt, &mut sink, b"abc", Err(PutFault { taken: 2 }), 1);
+    takes(&rt, &mut sink, b"c", Err(IoFault), 2);
+    flushes(&rt, &mut sink, Ok(()), 2);
+    flushes(&rt, &mut sink, Err(IoFault), 3);
+    assert!(rt; writer.writes == 3 && writer.flushes == 2);
+}
+
+#[test]
+fn a_vector_takes_the_bytes(rt: HostRuntime) {
+    let mut bytes = Vec::new(rt.alloc());
+    let mut sink = StdSink::new(&mut bytes);
+    takes_all(&rt, &mut sink, b"abc", Ok(()), 0);
+    flushes(&rt, &mut sink, Ok(()), 0);
+    assert!(rt; bytes.as_slice() == b"abc".as_slice());
+}

@@ -1,0 +1,93 @@
+//! Sinks that take few bytes at once, or stop.
+
+ghost use Rattle.std.specs.Prelude.{◌≤◌, length};
+
+use super::{flushes, takes, takes_all};
+use lsp_frames::{IoFault, MemSink, PutFault, Sink};
+use std::alloc::Global;
+use std::process::Abort;
+
+const FRAME: &[u8] =
+    b"Content-Length: 77\r\n\r\n{\"error\":{\"code\":-32601,\"message\":\"Method not found\"},\"id\":1,\"jsonrpc\":\"2.0\"}";
+
+/// Two writes into a sink of short puts, and what it then holds.
+fn goes_through(rt: &impl Abort, alloc: Global, most: u32)
+    requires { 1 ≤ most }
+{
+    let mut sink = MemSink::short(alloc, None, most);
+    takes_all(rt, &mut sink, FRAME, Ok(()), 0);
+    takes_all(rt, &mut sink, b"[]", Ok(()), 0);
+    assert!(rt; sink.bytes().strip_prefix(FRAME) == Some(b"[]".as_slice()));
+}
+
+#[test]
+fn all_bytes_come_through_short_writes(rt: HostRuntime) {
+    goes_through(&rt, rt.alloc(), 1);
+    goes_through(&rt, rt.alloc(), 2);
+    goes_through(&rt, rt.alloc(), 7);
+}
+
+#[test]
+fn a_put_takes_no_more_than_its_most(rt: HostRuntime) {
+    let mut sink = MemSink::short(rt.alloc(), Some(9), 7);
+    takes(&rt, &mut sink, FRAME, Ok(7), 0);
+    takes(&rt, &mut sink, FRAME, Ok(2), 0);
+    takes(&rt, &mut sink, FRAME, Err(IoFault), 1);
+    flushes(&rt, &mut sink, Ok(()), 1);
+    assert!(rt; sink.bytes() == b"ContentCo".as_slice());
+}
+
+/// Writes into a sink of short puts that stops after 30 bytes.
+fn stops_after_thirty(rt: &impl Abort, alloc: Global, most: u32)
+    requires { 1 ≤ most }
+{
+    let mut sink = MemSink::short(alloc, Some(30), most);
+    takes_all(rt, &mut sink, FRAME, Err(PutFault { taken: 30 }), 1);
+    assert!(rt; sink.bytes() == b"Content-Length: 77\r\n\r\n{\"error\"".as_slice());
+    takes_all(rt, &mut sink, FRAME, Err(PutFault { taken: 0 }), 2);
+    takes_all(rt, &mut sink, b"", Ok(()), 2);
+}
+
+#[test]
+fn a_sink_stops_after_thirty_bytes(rt: HostRuntime) {
+    stops_after_thirty(&rt, rt.alloc(), 1);
+    stops_after_thirty(&rt, rt.alloc(), 2);
+    stops_after_thirty(&rt, rt.alloc(), 7);
+    stops_after_thirty(&rt, rt.alloc(), 30);
+    stops_after_thirty(&rt, rt.alloc(), 1000);
+}
+
+#[test]
+fn a_sink_that_stops_behind_the_last_byte_takes_all(rt: HostRuntime) {
+    let mut sink = MemSink::new(rt.alloc(), Some(99));
+    takes_all(&rt, &mut sink, FRAME, Ok(()), 0);
+    assert!(rt; sink.into_vec().as_slice() == FRAME);
+}
+
+/// A put into a sink that has held so much and failed so often. Where it fails, the sink holds what it held.
+fn takes_or_keeps(rt: &impl Abort, sink: &mut MemSink, rest: &[u8])
+    requires { 1 ≤ length rest.now }
+{
+    let held = sink.bytes().len();
+    let failed = sink.failures();
+    let (taken, fault) = match sink.put(rest) {
+        Ok(taken) => (taken, 0),
+        Err(IoFault) => (0, 1),
+    };
+    assert!(rt; sink.bytes().len() == held.saturating_add(taken));
+    assert!(rt; sink.failures() == failed.saturating_add(fault));
+}
+
+/// A growth that is refused is a failure of the sink, and leaves what it had. `bin/test` runs this test with each request for
+/// memory refused in turn.
+#[test]
+fn a_refused_growth_is_a_failure_of_the_sink(rt: HostRuntime) {
+    let mut sink = MemSink::short(rt.alloc(), None, 40);
+    for _ in 0..4 {
+        match FRAME.get(sink.bytes().len()..) {
+            Some(rest) if !rest.is_empty() => takes_or_keeps(&rt, &mut sink, rest),
+            _ => break,
+        }
+    }
+    assert!(rt; sink.bytes() == FRAME);
+}

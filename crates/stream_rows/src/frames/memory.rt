@@ -1,0 +1,50 @@
+//! Pieces that are refused for memory.
+use lsp_frames::{Decoder, End, FeedFault, Frame, FrameFault, LARGEST_CONTENT};
+use std::process::Abort;
+
+const CONTENTS: &[&[u8]] = &[b"[]", br#"{"jsonrpc":"2.0","method":"nope","id":1}"#, b"1"];
+
+const STREAM: &[u8] =
+    b"Content-Length: 2\r\n\r\n[]content-length: 40\r\nX: y\r\n\r\n{\"jsonrpc\":\"2.0\",\"method\":\"nope\",\"id\":1}Content-Length: 1\r\n\r\n1x\r\n";
+
+const SIZES: &[usize] = &[1, 7, 30, 200];
+
+/// A piece that was refused for memory is fed again. `bin/test` runs this test with each request for memory refused in turn.
+#[test]
+fn a_piece_is_taken_again_after_memory(rt: HostRuntime) {
+    for size in SIZES {
+        let mut decoder = Decoder::new(rt.alloc(), LARGEST_CONTENT);
+        let mut seen = 0;
+        for piece in STREAM.chunks((*size).max(1)) {
+            seen = fed_until_taken(&rt, &mut decoder, piece, seen);
+        }
+        assert!(rt; seen == 3, "in pieces of {size}");
+        assert!(rt;
+            decoder.end() == End::Fault(FrameFault::BadHead),
+            "in pieces of {size}"
+        );
+    }
+}
+
+/// Feeds a piece until it is taken, compares the contents that it gives, and tells how many have come with those before.
+fn fed_until_taken(rt: &impl Abort, decoder: &mut Decoder, piece: &[u8], before: usize) -> usize {
+    for _ in 0..4 {
+        match decoder.feed(piece) {
+            Ok(frames) => return compared(rt, frames.as_slice(), before),
+            Err(FeedFault::Ended(_, frames)) => return compared(rt, frames.as_slice(), before),
+            Err(FeedFault::Memory) => {}
+        }
+    }
+    before
+}
+
+fn compared(rt: &impl Abort, frames: &[Frame], before: usize) -> usize {
+    let mut seen = before;
+    for frame in frames {
+        if let Some(content) = CONTENTS.get(seen) {
+            assert!(rt; frame.content.as_slice() == *content);
+        }
+        seen = seen.saturating_add(1);
+    }
+    seen
+}
