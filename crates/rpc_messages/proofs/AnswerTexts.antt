@@ -9,13 +9,14 @@ use Rattle.serde_json.specs.Read.{read, max_depth}
 use Rattle.serde_json.specs.Written.{compact_text, has_float}
 use Rattle.rpc_messages.specs.declared.standard.Standard.{Standard}
 use Rattle.rpc_messages.specs.declared.standard.Standard.TheVariants.{ParseError, InvalidRequest, MethodNotFound, InvalidParams, InternalError, Cancelled, NoReply, InvalidReply}
-use Rattle.rpc_messages.specs.Texts.{standard_error, answer_text_of, answer_of, error_answer_of, error_data, id_data, done_text, error_text}
+use Rattle.rpc_messages.specs.Texts.{standard_error, answer_text_of, answer_of, error_answer_of, error_data, id_data}
+use Rattle.rpc_messages.specs.Parts.{done_text, error_text}
 use Rattle.rpc_messages.specs.declared.error_value.ErrorValue.{ErrorValue}
 use Rattle.rpc_messages.specs.declared.id.Id.{Id}
 use Rattle.rpc_messages.specs.declared.id.Id.TheVariants.{Null, Text, Signed, Unsigned}
 use Rattle.rpc_messages.specs.declared.reply.Reply.{Reply}
 use Rattle.rpc_messages.specs.declared.reply.Reply.TheVariants.{Done}
-use Rattle.rpc_messages.proofs.ReadBack.{Sound, read-sound, read-compact_text}
+use Rattle.json_values.proofs.ReadBack.{Sound, read-sound, read-compact_text}
 
 pub done_text-is : (id : Id) (d : Data) → done_text id (compact_text d) ≡ compact_text (answer_of id (Done d))
 unfolding json_on_literals digits

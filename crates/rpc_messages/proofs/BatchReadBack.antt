@@ -6,14 +6,14 @@ use Rattle.serde_json.specs.Read.{read, max_depth}
 use Rattle.serde_json.specs.View.{items_of}
 use Rattle.serde_json.specs.Written.{compact_text, items_text, items_have_float}
 use Rattle.rpc_messages.specs.Texts.{batch_text_of, AreTextsOf}
-use Rattle.rpc_messages.proofs.ReadBack.{ItemsSound, read-sound, read-compact_text}
+use Rattle.json_values.proofs.ReadBack.{ItemsSound, read-sound, read-compact_text}
 
 -- what follows the first text, with the closing bracket
-abbrev later : List (List ℕ) → List ℕ
+abbrev pub later : List (List ℕ) → List ℕ
 later [] = 93 ∷ []
 later (s ∷ ss) = 44 ∷ (s ++ later ss)
 
-join-later : (s : List ℕ) (ss : List (List ℕ)) → join_with_byte 44 (s ∷ ss) ++ 93 ∷ [] ≡ s ++ later ss
+pub join-later : (s : List ℕ) (ss : List (List ℕ)) → join_with_byte 44 (s ∷ ss) ++ 93 ∷ [] ≡ s ++ later ss
 join-later s [] = refl
 join-later s (u ∷ ss) = append_assoc s _ _ ∙ ap (λ t. s ++ 44 ∷ t) (join-later u ss)
 

@@ -1,11 +1,13 @@
+mod AnswerArrays
 mod AnswerTexts
 mod BatchLemmas
 mod BatchReadBack
+mod CallTexts
 mod Contents
 mod Elements
+mod Fronts
 mod KeyLemmas
-mod ReadBack
 mod TakenMember
-mod WholeParts
+pub mod Ids
 pub mod Stream
 pub mod Units

@@ -3,7 +3,7 @@ use Rattle.std.specs.Prelude.{ℕ, ℤ, List, Option, Some, None, option_map, op
 use Rattle.serde_json.specs.Data.{Data, null, Members}
 use Rattle.serde_json.specs.Find.{get_member, get, as_str, as_number, as_i64}
 use Rattle.rpc_messages.specs.Call.{is_version_2}
-use Rattle.rpc_messages.specs.Whole.{whole}
+use Rattle.json_values.specs.Whole.{whole}
 use Rattle.rpc_messages.specs.declared.reply.Reply.{Reply}
 use Rattle.rpc_messages.specs.declared.reply.Reply.TheVariants.{Done, Error, Standard}
 use Rattle.rpc_messages.specs.declared.standard.Standard.TheVariants.{InvalidReply}

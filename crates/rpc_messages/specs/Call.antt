@@ -4,7 +4,7 @@ use Rattle.std.specs.Option.{option_map_or}
 use Rattle.std.specs.Str.{bytes_eq}
 use Rattle.serde_json.specs.Data.{Num, unsigned, negative, float, Data, null, number, string, array, object, Members}
 use Rattle.serde_json.specs.Find.{get_member, get, as_str}
-use Rattle.rpc_messages.specs.Whole.{whole}
+use Rattle.json_values.specs.Whole.{whole}
 use Rattle.rpc_messages.specs.declared.call.Call.{Call}
 use Rattle.rpc_messages.specs.declared.id.Id.{Id}
 use Rattle.rpc_messages.specs.declared.id.Id.TheVariants.{Null, Text, Signed, Unsigned}

@@ -1,10 +1,14 @@
 -- The answers that are due to units (JSON-RPC 2.0, sections 5 and 6).
-use Rattle.std.specs.Prelude.{ℕ, ◌+◌, List, [], ◌∷◌, ◌++◌, Option, Some, None}
+use Rattle.std.specs.Prelude.{ℕ, ◌+◌, List, [], ◌∷◌, ◌++◌, map, Option, Some, None}
 use Rattle.rpc_messages.specs.declared.id.Id.{Id}
 use Rattle.rpc_messages.specs.declared.id.Id.TheVariants.{Null}
+use Rattle.rpc_messages.specs.declared.kind.Kind.{Kind}
+use Rattle.rpc_messages.specs.declared.kind.Kind.TheVariants.{Single, Batch}
 use Rattle.rpc_messages.specs.declared.reply.Reply.{Reply}
 use Rattle.rpc_messages.specs.declared.reply.Reply.TheVariants.{Standard}
 use Rattle.rpc_messages.specs.declared.standard.Standard.TheVariants.{ParseError, InvalidRequest}
+use Rattle.rpc_messages.specs.declared.unit_answer.Answer.{Answer}
+use Rattle.rpc_messages.specs.declared.unit_answer.Answer.TheVariants as answer
 use Rattle.rpc_messages.specs.Entry.{SeenEntry, call, reply, stray, invalid}
 use Rattle.rpc_messages.specs.Unit.{SeenUnit, unreadable, single, batch}
 use Rattle.rpc_messages.specs.Numbering.{numbers_of, unit_numbers}
@@ -15,20 +19,40 @@ pub record Due : Type 0 where
   pub requests : List ℕ
   pub text : List ℕ
 
+-- An entry's answer: the reply to a request, under its id. What is no request is answered with an error under the id null.
+pub record SeenAnswer : Type 0 where
+  pub id : Id
+  pub reply : Reply
+
+-- what an `Answer` holds, wherever that lies in memory
+abbrev pub answer_seen : Answer → SeenAnswer
+answer_seen (answer.Reply id given) = record { id = id.now; reply = given.now }
+answer_seen (answer.Error standard) = record { id = Null; reply = Standard standard }
+
+abbrev pub text_of : SeenAnswer → List ℕ
+text_of a = answer_text_of a.id a.reply
+
+-- A unit is answered with one text, of the answers of its entries in their order: the answer of a single entry as it is, those of a
+-- batch as one array. Where no entry has an answer there is none.
+abbrev pub unit_text : Kind → List SeenAnswer → Option (List ℕ)
+unit_text kind [] = None
+unit_text Single (a ∷ answers) = Some (text_of a)
+unit_text Batch (a ∷ answers) = Some (batch_text_of (map text_of (a ∷ answers)))
+
 -- The answer of the call with this number, where it is a request; a notification has none.
-abbrev pub call_answers : (ℕ → Reply) → ℕ → Option Id → List (List ℕ)
+abbrev pub call_answers : (ℕ → Reply) → ℕ → Option Id → List SeenAnswer
 call_answers choice n None = []
-call_answers choice n (Some id) = answer_text_of id (choice n) ∷ []
+call_answers choice n (Some id) = record { id = id; reply = choice n } ∷ []
 
 -- The answer of an entry, where the next call has this number: an invalid entry is answered under the id null, and replies aren't answered.
-abbrev pub entry_answers : (ℕ → Reply) → ℕ → SeenEntry → List (List ℕ)
+abbrev pub entry_answers : (ℕ → Reply) → ℕ → SeenEntry → List SeenAnswer
 entry_answers choice n (call c) = call_answers choice n c.id
 entry_answers choice n (reply m t r) = []
 entry_answers choice n stray = []
-entry_answers choice n invalid = answer_text_of Null (Standard InvalidRequest) ∷ []
+entry_answers choice n invalid = record { id = Null; reply = Standard InvalidRequest } ∷ []
 
 -- the answers of entries, in their order
-abbrev pub answers_from : (ℕ → Reply) → ℕ → List SeenEntry → List (List ℕ)
+abbrev pub answers_from : (ℕ → Reply) → ℕ → List SeenEntry → List SeenAnswer
 answers_from choice n [] = []
 answers_from choice n (e ∷ es) = entry_answers choice n e ++ answers_from choice (n + numbers_of e) es
 
@@ -47,21 +71,29 @@ abbrev pub requests_from : ℕ → List SeenEntry → List ℕ
 requests_from n [] = []
 requests_from n (e ∷ es) = entry_request n e ++ requests_from (n + numbers_of e) es
 
--- A single entry's answer is due as it is.
-abbrev pub single_dues : List ℕ → List (List ℕ) → List Due
-single_dues requests [] = []
-single_dues requests (text ∷ texts) = record { requests = requests; text = text } ∷ []
+-- a unit by its kind, its answers and the numbers of its requests, where its first call has this number
+abbrev pub unit_kind : SeenUnit → Kind
+unit_kind unreadable = Single
+unit_kind (single e) = Single
+unit_kind (batch es) = Batch
 
--- A batch's answers are due as one array, and where there are none nothing is.
-abbrev pub batch_dues : List ℕ → List (List ℕ) → List Due
-batch_dues requests [] = []
-batch_dues requests (text ∷ texts) = record { requests = requests; text = batch_text_of (text ∷ texts) } ∷ []
+abbrev pub unit_answers : (ℕ → Reply) → ℕ → SeenUnit → List SeenAnswer
+unit_answers choice n unreadable = record { id = Null; reply = Standard ParseError } ∷ []
+unit_answers choice n (single e) = entry_answers choice n e
+unit_answers choice n (batch es) = answers_from choice n es
 
--- what is due to a unit whose first call has this number
+abbrev pub unit_requests : ℕ → SeenUnit → List ℕ
+unit_requests n unreadable = []
+unit_requests n (single e) = entry_request n e
+unit_requests n (batch es) = requests_from n es
+
+-- what is due to a unit: its text, where it has one
+abbrev pub due_if : List ℕ → Option (List ℕ) → List Due
+due_if requests None = []
+due_if requests (Some text) = record { requests = requests; text = text } ∷ []
+
 abbrev pub unit_dues : (ℕ → Reply) → ℕ → SeenUnit → List Due
-unit_dues choice n unreadable = record { requests = []; text = answer_text_of Null (Standard ParseError) } ∷ []
-unit_dues choice n (single e) = single_dues (entry_request n e) (entry_answers choice n e)
-unit_dues choice n (batch es) = batch_dues (requests_from n es) (answers_from choice n es)
+unit_dues choice n u = due_if (unit_requests n u) (unit_text (unit_kind u) (unit_answers choice n u))
 
 -- what is due to units, in their order
 abbrev pub dues : (ℕ → Reply) → ℕ → List SeenUnit → List Due

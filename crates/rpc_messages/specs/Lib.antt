@@ -1,12 +1,12 @@
 pub mod Answered
 pub mod Call
-pub mod Codes
 pub mod Dues
 pub mod Entry
+pub mod Ids
 pub mod Key
 pub mod Numbering
+pub mod Parts
 pub mod Replies
 pub mod Standard
 pub mod Texts
 pub mod Unit
-pub mod Whole

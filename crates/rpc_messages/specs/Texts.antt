@@ -70,6 +70,10 @@ calls_of n t (o ∷ os) = call_of n t o ∷ calls_of n (t + 1) os
 abbrev pub notice_of : Outgoing → Data
 notice_of o = object (versioned (method_members o))
 
+-- the withdrawal of call t of handler n (LSP 3.17, "Cancellation Support"): a notification that names the call's id
+abbrev pub withdrawal_of : ℕ → ℕ → Data
+withdrawal_of n t = notice_of (record { method = codes "$/cancelRequest"; params = Some (object (member (codes "id") (string (key_text n t)) no_members)) })
+
 -- ---- texts
 
 abbrev pub answer_text_of : Id → Reply → List ℕ
@@ -85,16 +89,12 @@ calls_text_of n t os = compact_text (array (items_of (calls_of n t os)))
 abbrev pub notice_text_of : Outgoing → List ℕ
 notice_text_of o = compact_text (notice_of o)
 
+abbrev pub withdraw_text_of : ℕ → ℕ → List ℕ
+withdraw_text_of n t = compact_text (withdrawal_of n t)
+
 -- a batch of answers (JSON-RPC 2.0, section 6): the texts with commas between, in brackets
 abbrev pub batch_text_of : List (List ℕ) → List ℕ
 batch_text_of texts = codes "[" ++ join_with_byte 44 texts ++ codes "]"
-
--- the parts of a response's text around the text of its result or error; only private functions' clauses cite them
-abbrev pub done_text : Id → List ℕ → List ℕ
-done_text id text = codes "{\"id\":" ++ (compact_text (id_data id) ++ (codes ",\"jsonrpc\":\"2.0\",\"result\":" ++ (text ++ codes "}")))
-
-abbrev pub error_text : Id → List ℕ → List ℕ
-error_text id text = codes "{\"error\":" ++ (text ++ (codes ",\"id\":" ++ (compact_text (id_data id) ++ codes ",\"jsonrpc\":\"2.0\"}")))
 
 -- ---- reading back
 

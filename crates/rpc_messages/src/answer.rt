@@ -1,17 +1,16 @@
-ghost use Rattle.std.specs.Prelude.{◌≡◌, ◌≤◌, ◌<◌, ◌++◌, Some, List, IfOk, OnOk, length, map};
-ghost use Rattle.json.specs.Print.{quoted};
+ghost use Rattle.std.specs.Prelude.{◌≡◌, ◌≤◌, ◌<◌, ◌++◌, Some, List, IfOk, OnOk, OnErr, length, map};
+ghost use Rattle.std.specs.Io.{StartsWith};
 ghost use Rattle.serde_json.specs.Data.{Data, depth, array};
 ghost use Rattle.serde_json.specs.Read.{read, max_depth};
 ghost use Rattle.serde_json.specs.View.{items_of};
 ghost use Rattle.serde_json.specs.Written.{compact_text};
-ghost use Rattle.rpc_messages.specs.Texts.{answer_of, answer_text_of, done_text, error_text, id_data, batch_text_of, AreTextsOf};
+ghost use Rattle.rpc_messages.specs.Parts.{done_text, error_text};
+ghost use Rattle.rpc_messages.specs.Texts.{answer_of, answer_text_of, id_data, batch_text_of, AreTextsOf};
 
 use crate::id::Id;
+use crate::parts::put_id;
 use crate::reply::Reply;
-use itoa::Buffer;
-use json::Writer;
 use std::alloc::{AllocError, Global};
-use std::mem;
 
 /// The room that is made for what stands around a response's result or error, in bytes. A long id takes more.
 const ROOM: usize = 64;
@@ -27,7 +26,7 @@ pub fn answer_text(alloc: Global, id: &Id, reply: &Reply) -> Result<Vec<u8>, All
     Ok(bytes)
 }
 
-/// Puts the text of a response (JSON-RPC 2.0, section 5) behind the bytes, with no space. After an error the bytes are of no use.
+/// Puts the text of a response (JSON-RPC 2.0, section 5) behind the bytes, with no space.
 pub fn put_answer(
     alloc: Global,
     bytes: &mut Vec<u8>,
@@ -37,6 +36,29 @@ pub fn put_answer(
     ensures text { OnOk result (bytes.new.items ≡ bytes.old.items ++ answer_text_of id.now reply.now) }
     ensures reads_back { OnOk result (depth (answer_of id.now reply.now) ≤ max_depth
         → read (answer_text_of id.now reply.now) ≡ Some (answer_of id.now reply.now)) }
+    ensures err { OnErr result (bytes.new.items ≡ bytes.old.items) }
+{
+    let before = bytes.len();
+    match put_response(alloc, bytes, id, reply) {
+        Ok(()) => Ok(()),
+        Err(error) => {
+            bytes.truncate(before);
+            Err(error)
+        }
+    }
+}
+
+/// Puts a response. Where it can't be put whole, what was there still stands in front.
+fn put_response(
+    alloc: Global,
+    bytes: &mut Vec<u8>,
+    id: &Id,
+    reply: &Reply,
+) -> Result<(), AllocError>
+    ensures text { OnOk result (bytes.new.items ≡ bytes.old.items ++ answer_text_of id.now reply.now) }
+    ensures reads_back { OnOk result (depth (answer_of id.now reply.now) ≤ max_depth
+        → read (answer_text_of id.now reply.now) ≡ Some (answer_of id.now reply.now)) }
+    ensures front { OnErr result (StartsWith bytes.new.items bytes.old.items) }
 {
     match reply {
         Reply::Done(value) => put_done(alloc, bytes, id, value.to_bytes(alloc)?.as_slice()),
@@ -52,6 +74,7 @@ pub fn put_answer(
 fn put_done(alloc: Global, bytes: &mut Vec<u8>, id: &Id, value: &[u8]) -> Result<(), AllocError>
     ensures text { OnOk result (bytes.new.items ≡ bytes.old.items ++ done_text id.now value.now) }
     ensures id_reads_back { OnOk result (read (compact_text (id_data id.now)) ≡ Some (id_data id.now)) }
+    ensures front { OnErr result (StartsWith bytes.new.items bytes.old.items) }
 {
     bytes.reserve(ROOM + value.len())?;
     bytes.extend_from_slice(b"{\"id\":")?;
@@ -65,6 +88,7 @@ fn put_done(alloc: Global, bytes: &mut Vec<u8>, id: &Id, value: &[u8]) -> Result
 fn put_error(alloc: Global, bytes: &mut Vec<u8>, id: &Id, error: &[u8]) -> Result<(), AllocError>
     ensures text { OnOk result (bytes.new.items ≡ bytes.old.items ++ error_text id.now error.now) }
     ensures id_reads_back { OnOk result (read (compact_text (id_data id.now)) ≡ Some (id_data id.now)) }
+    ensures front { OnErr result (StartsWith bytes.new.items bytes.old.items) }
 {
     bytes.reserve(ROOM + error.len())?;
     bytes.extend_from_slice(b"{\"error\":")?;
@@ -72,35 +96,6 @@ fn put_error(alloc: Global, bytes: &mut Vec<u8>, id: &Id, error: &[u8]) -> Resul
     bytes.extend_from_slice(b",\"id\":")?;
     put_id(alloc, bytes, id)?;
     bytes.extend_from_slice(b",\"jsonrpc\":\"2.0\"}")
-}
-
-fn put_id(alloc: Global, bytes: &mut Vec<u8>, id: &Id) -> Result<(), AllocError>
-    ensures text { OnOk result (bytes.new.items ≡ bytes.old.items ++ compact_text (id_data id.now)) }
-    ensures reads_back { OnOk result (read (compact_text (id_data id.now)) ≡ Some (id_data id.now)) }
-{
-    match id {
-        Id::Null => bytes.extend_from_slice(b"null"),
-        Id::Text(text) => put_quoted(alloc, bytes, text.as_str()),
-        Id::Signed(number) => {
-            let mut digits = Buffer::new();
-            bytes.extend_from_slice(digits.format(number.get()).as_bytes())
-        }
-        Id::Unsigned(number) => {
-            let mut digits = Buffer::new();
-            bytes.extend_from_slice(digits.format(*number).as_bytes())
-        }
-    }
-}
-
-/// Puts a text as a JSON string.
-fn put_quoted(alloc: Global, bytes: &mut Vec<u8>, text: &str) -> Result<(), AllocError>
-    ensures { OnOk result (bytes.new.items ≡ bytes.old.items ++ quoted text.now) }
-{
-    let before = mem::replace(bytes, Vec::new(alloc));
-    let mut writer = Writer::new(before);
-    writer.string(text)?;
-    *bytes = writer.into_inner();
-    Ok(())
 }
 
 /// The text of a batch of answers (JSON-RPC 2.0, section 6).

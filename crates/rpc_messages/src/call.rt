@@ -4,7 +4,7 @@ ghost use Rattle.std.specs.Prelude.{◌≡◌, option_copied};
 
 use crate::id::Id;
 use crate::params::Params;
-use crate::text::Text;
+use json_values::Text;
 
 /// A call of the other side (JSON-RPC 2.0, section 4): a request, or a notification, which has no id.
 #[derive(Debug, Drop)]

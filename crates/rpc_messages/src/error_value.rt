@@ -1,8 +1,6 @@
 ghost use Rattle.std.specs.Prelude.{◌≡◌};
 
-use crate::json_object::JsonObject;
-use crate::json_value::{Json, clone_of};
-use crate::text::Text;
+use json_values::{Json, JsonObject, Text};
 use std::alloc::{AllocError, Global};
 
 /// An error (JSON-RPC 2.0, section 5.1); `extra` is its member `data`.
@@ -38,7 +36,7 @@ impl Clone for ErrorValue {
         Ok(ErrorValue {
             code: self.code,
             message: self.message.clone()?,
-            extra: clone_of(&self.extra)?,
+            extra: Json::clone_optional(&self.extra)?,
         })
     }
 }

@@ -1,12 +1,11 @@
 ghost use Rattle.std.specs.Prelude.{◌≡◌};
 
-use crate::json_value::Json;
-use crate::negative::Negative;
-use crate::text::Text;
+use json_values::{Json, Negative, Text};
 use std::alloc::AllocError;
 
 /// The id of a request (JSON-RPC 2.0, section 4): null, a string or a whole number. Each id is one value: a number below
-/// 0 is `Signed`, any other `Unsigned`.
+/// 0 is `Signed`, any other `Unsigned`. An answer has its request's id as this value, and not as the request spelled it: a
+/// string comes back with the shortest escapes.
 #[derive(Debug, PartialEq, Eq, PartialOrd, Ord, Drop)]
 pub enum Id {
     Null,

@@ -1,7 +1,6 @@
 ghost use Rattle.std.specs.Prelude.{◌≡◌};
 
-use crate::json_value::{Json, clone_of};
-use crate::text::Text;
+use json_values::{Json, Text};
 use std::alloc::AllocError;
 
 /// The method and the params of a call or notification that goes to the other side.
@@ -17,7 +16,7 @@ impl Clone for Outgoing {
     fn clone(&self) -> Result<Outgoing, AllocError> {
         Ok(Outgoing {
             method: self.method.clone()?,
-            params: clone_of(&self.params)?,
+            params: Json::clone_optional(&self.params)?,
         })
     }
 }

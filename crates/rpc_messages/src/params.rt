@@ -1,4 +1,4 @@
-use crate::json_value::Json;
+use json_values::Json;
 
 /// The params of a call (JSON-RPC 2.0, section 4.2).
 #[derive(Debug, Drop)]

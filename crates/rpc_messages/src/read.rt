@@ -8,15 +8,14 @@ ghost use Rattle.rpc_messages.specs.Unit.{unit_seen, unit_of, value_unit, batch_
 use self::members::has;
 use crate::entry::Entry;
 use crate::unit::Unit;
-use lsp_frames::{Frame, Items};
+use json_values::Items;
+use lsp_frames::Frame;
 use serde_json::{Map, Value};
 use std::alloc::{AllocError, Global};
 
 mod call;
 mod members;
 mod reply;
-#[cfg(test)]
-mod tests;
 
 /// The unit of a frame's content. Every content has one, so the only error is want of memory.
 #[tactic(auto, unfolding(crate::specs::Unit::unit_of))]

@@ -1,8 +1,8 @@
 ghost use Rattle.std.specs.Prelude.{◌≡◌};
 
 use crate::error_value::ErrorValue;
-use crate::json_value::Json;
 use crate::standard::Standard;
+use json_values::Json;
 use std::alloc::AllocError;
 
 /// What a request or a call ended with: its result, an error, or one of the fixed errors.

@@ -1,5 +1,5 @@
 use crate::error_value::ErrorValue;
-use crate::text::Text;
+use json_values::Text;
 use std::alloc::{AllocError, Global};
 
 /// The fixed errors.

@@ -1,7 +1,7 @@
 //! What one content holds.
 
 use crate::entry::Entry;
-use lsp_frames::Items;
+use json_values::Items;
 
 /// What a content is, by what it is answered (JSON-RPC 2.0, section 6).
 #[derive(Debug, Drop)]

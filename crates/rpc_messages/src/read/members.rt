@@ -7,7 +7,7 @@ ghost use Rattle.serde_json.specs.View.{view, members_view};
 ghost use Rattle.rpc_messages.specs.Call.{is_version_2};
 ghost use Rattle.rpc_messages.specs.Entry.{has};
 
-use crate::text::Text;
+use json_values::Text;
 use serde_json::{Map, Value};
 
 /// Whether the member `jsonrpc` is exactly "2.0".

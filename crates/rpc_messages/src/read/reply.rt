@@ -8,10 +8,10 @@ ghost use Rattle.rpc_messages.specs.Entry.{entry_seen, reply_key, reply_or_stray
 use super::members::{find, is_version_2, take, take_text, text};
 use crate::entry::Entry;
 use crate::error_value::ErrorValue;
-use crate::json_value::Json;
 use crate::key::read_key;
 use crate::reply::Reply;
 use crate::standard::Standard;
+use json_values::Json;
 use serde_json::{Map, Value};
 
 /// An object with a member `result` or `error` and none `method`.

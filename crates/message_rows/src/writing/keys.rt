@@ -1,0 +1,51 @@
+use super::same;
+use rpc_messages::{call_key, read_key};
+use std::test::Fail;
+
+#[test]
+fn keys_are_two_decimals_with_a_dot_between(rt: HostRuntime) -> Result<(), Fail> {
+    same(&rt, call_key(rt.alloc(), 1, 1)?.as_bytes(), "1.1");
+    same(
+        &rt,
+        call_key(rt.alloc(), 1_000_000, 1_024)?.as_bytes(),
+        "1000000.1024",
+    );
+    Ok(())
+}
+
+const KEYS: &[(&str, (u32, u32))] = &[
+    ("1.1", (1, 1)),
+    ("0.1", (0, 1)),
+    ("1000000.1024", (1_000_000, 1_024)),
+];
+
+#[test]
+fn keys_are_read_in_their_ranges(rt: HostRuntime) {
+    for (text, key) in KEYS {
+        assert!(rt; read_key(text) == Some(*key), "{text}");
+    }
+}
+
+const NO_KEYS: &[&str] = &[
+    "01.1",
+    "1.01",
+    "1.0",
+    "1.1025",
+    "1000001.1",
+    "1",
+    "",
+    ".",
+    "1.",
+    ".1",
+    "1.1.1",
+    "+1.1",
+    "1.1 ",
+    "4294967297.1",
+];
+
+#[test]
+fn other_texts_are_no_keys(rt: HostRuntime) {
+    for text in NO_KEYS {
+        assert!(rt; read_key(text).is_none(), "{text}");
+    }
+}
