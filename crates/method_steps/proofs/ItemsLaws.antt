@@ -1,8 +1,9 @@
 -- Items of a document beside the values that they are the view of, and faults along them.
-use Rattle.std.proofs.Common.{◌≡◌, ℕ, ◌+◌, ◌<◌, List, [], ◌∷◌, length, get_or, take, drop, refl, ap, sym, ◌∙◌, arith, false, true≢false, Option, Some, None, is_some}
+use Rattle.std.proofs.Common.{◌≡◌, ℕ, ◌+◌, ◌<◌, List, [], ◌∷◌, length, get_or, take, drop, refl, ap, sym, ◌∙◌, arith, Some, None}
 use Rattle.std.proofs.lemmas.List.{take_more}
 use Rattle.toml.specs.Data.{item, push_item}
 use Rattle.method_steps.specs.declared.fault.TableFault.{TableFault}
+use Rattle.method_steps.specs.declared.read.version.Version.{Version}
 use Rattle.toml.specs.declared.value.Value.{Value}
 use Rattle.toml.specs.View.{view, items_view}
 use Rattle.toml.proofs.Views.{items_view-drop, items_view-push}
@@ -20,27 +21,34 @@ items_take vs i v within here = rw (take_more vs i v within, here) (items_view-p
 pub items_drop : (vs : List Value) (i : ℕ) (v : Value) → i < length vs → get_or vs i v ≡ v → items_view (drop i vs) ≡ item (view v) (items_view (drop (i + 1) vs))
 items_drop vs i v within here = items_view-drop vs i v within ∙ rw here refl
 
-pub steps_fault-step : (method : ℕ) (vs : List Value) (i : ℕ) (v : Value) → i < length vs → get_or vs i v ≡ v
-    → steps_fault method (items_view (take i vs)) (items_view (drop i vs))
-    ≡ first_of (at_step method (items_len (items_view (take i vs))) (step_fault (items_view (take i vs)) (view v))) (steps_fault method (items_view (take (i + 1) vs)) (items_view (drop (i + 1) vs)))
-steps_fault-step method vs i v within here = rw (items_drop vs i v within here, items_take vs i v within here)
+pub steps_fault-step : (version : Version) (method : ℕ) (vs : List Value) (i : ℕ) (v : Value) → i < length vs → get_or vs i v ≡ v
+    → steps_fault version method (items_view (take i vs)) (items_view (drop i vs))
+    ≡ first_of (at_step method (items_len (items_view (take i vs))) (step_fault version (items_view (take i vs)) (view v))) (steps_fault version method (items_view (take (i + 1) vs)) (items_view (drop (i + 1) vs)))
+steps_fault-step version method vs i v within here = rw (items_drop vs i v within here, items_take vs i v within here)
 
-pub methods_fault-step : (vs : List Value) (i : ℕ) (v : Value) → i < length vs → get_or vs i v ≡ v
-    → methods_fault (items_view (take i vs)) (items_view (drop i vs))
-    ≡ first_of (method_fault (items_view (take i vs)) (view v)) (methods_fault (items_view (take (i + 1) vs)) (items_view (drop (i + 1) vs)))
-methods_fault-step vs i v within here = rw (items_drop vs i v within here, items_take vs i v within here)
-
-none_unless : {A : Type 0} (o : Option A) → is_some o ≡ false → o ≡ None
-none_unless None h = refl
-none_unless (Some a) h = absurd (true≢false h)
+pub methods_fault-step : (version : Version) (vs : List Value) (i : ℕ) (v : Value) → i < length vs → get_or vs i v ≡ v
+    → methods_fault version (items_view (take i vs)) (items_view (drop i vs))
+    ≡ first_of (method_fault version (items_view (take i vs)) (view v)) (methods_fault version (items_view (take (i + 1) vs)) (items_view (drop (i + 1) vs)))
+methods_fault-step version vs i v within here = rw (items_drop vs i v within here, items_take vs i v within here)
 
 -- where the item at a place has no fault, the first one is that of those after it
-pub steps_fault-next : (method : ℕ) (vs : List Value) (i : ℕ) (v : Value) (o : Option TableFault) → i < length vs → v ≡ get_or vs i v → o ≡ at_step method (items_len (items_view (take i vs))) (step_fault (items_view (take i vs)) (view v)) → is_some o ≡ false
-    → steps_fault method (items_view (take i vs)) (items_view (drop i vs)) ≡ steps_fault method (items_view (take (i + 1) vs)) (items_view (drop (i + 1) vs))
-steps_fault-next method vs i v o within here seen none =
-    steps_fault-step method vs i v within (sym here) ∙ ap (λ x. first_of x (steps_fault method (items_view (take (i + 1) vs)) (items_view (drop (i + 1) vs)))) (sym seen ∙ none_unless o none)
+pub steps_fault-next : (version : Version) (method : ℕ) (vs : List Value) (i : ℕ) (v : Value) → i < length vs → v ≡ get_or vs i v → at_step method (items_len (items_view (take i vs))) (step_fault version (items_view (take i vs)) (view v)) ≡ None
+    → steps_fault version method (items_view (take i vs)) (items_view (drop i vs)) ≡ steps_fault version method (items_view (take (i + 1) vs)) (items_view (drop (i + 1) vs))
+steps_fault-next version method vs i v within here none =
+    steps_fault-step version method vs i v within (sym here) ∙ ap (λ x. first_of x (steps_fault version method (items_view (take (i + 1) vs)) (items_view (drop (i + 1) vs)))) none
 
-pub methods_fault-next : (vs : List Value) (i : ℕ) (v : Value) (o : Option TableFault) → i < length vs → v ≡ get_or vs i v → o ≡ method_fault (items_view (take i vs)) (view v) → is_some o ≡ false
-    → methods_fault (items_view (take i vs)) (items_view (drop i vs)) ≡ methods_fault (items_view (take (i + 1) vs)) (items_view (drop (i + 1) vs))
-methods_fault-next vs i v o within here seen none =
-    methods_fault-step vs i v within (sym here) ∙ ap (λ x. first_of x (methods_fault (items_view (take (i + 1) vs)) (items_view (drop (i + 1) vs)))) (sym seen ∙ none_unless o none)
+pub methods_fault-next : (version : Version) (vs : List Value) (i : ℕ) (v : Value) → i < length vs → v ≡ get_or vs i v → method_fault version (items_view (take i vs)) (view v) ≡ None
+    → methods_fault version (items_view (take i vs)) (items_view (drop i vs)) ≡ methods_fault version (items_view (take (i + 1) vs)) (items_view (drop (i + 1) vs))
+methods_fault-next version vs i v within here none =
+    methods_fault-step version vs i v within (sym here) ∙ ap (λ x. first_of x (methods_fault version (items_view (take (i + 1) vs)) (items_view (drop (i + 1) vs)))) none
+
+-- where it has one, that is the first
+pub steps_fault-found : (version : Version) (method : ℕ) (vs : List Value) (i : ℕ) (v : Value) (f : TableFault) → i < length vs → v ≡ get_or vs i v → at_step method (items_len (items_view (take i vs))) (step_fault version (items_view (take i vs)) (view v)) ≡ Some f
+    → steps_fault version method (items_view (take i vs)) (items_view (drop i vs)) ≡ Some f
+steps_fault-found version method vs i v f within here found =
+    steps_fault-step version method vs i v within (sym here) ∙ ap (λ x. first_of x (steps_fault version method (items_view (take (i + 1) vs)) (items_view (drop (i + 1) vs)))) found
+
+pub methods_fault-found : (version : Version) (vs : List Value) (i : ℕ) (v : Value) (f : TableFault) → i < length vs → v ≡ get_or vs i v → method_fault version (items_view (take i vs)) (view v) ≡ Some f
+    → methods_fault version (items_view (take i vs)) (items_view (drop i vs)) ≡ Some f
+methods_fault-found version vs i v f within here found =
+    methods_fault-step version vs i v within (sym here) ∙ ap (λ x. first_of x (methods_fault version (items_view (take (i + 1) vs)) (items_view (drop (i + 1) vs)))) found

@@ -1,9 +1,12 @@
+pub mod Calls
 pub mod DocumentOf
 pub mod Filled
+pub mod FirstShown
 pub mod ItemsLaws
 pub mod MadeSteps
 pub mod MadeTemplates
 pub mod MethodsOf
+pub mod Opening
 pub mod PlacesOf
 pub mod Views
 pub mod Within

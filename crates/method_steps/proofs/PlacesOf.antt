@@ -1,5 +1,5 @@
 -- The places of names as methods are added.
-use Rattle.std.proofs.Common.{◌≡◌, ℕ, ◌+◌, List, [], ◌∷◌, ◌++◌, length, Bool, true, false, cond, Option, Some, None, is_some, refl, sym, ap, ◌∙◌, arith, true≢false}
+use Rattle.std.proofs.Common.{◌≡◌, ℕ, ◌+◌, ◌<◌, List, [], ◌∷◌, ◌++◌, length, Bool, true, false, cond, Option, Some, None, is_some, IfSome, refl, sym, ap, ◌∙◌, arith, true≢false}
 use Rattle.std.proofs.lemmas.Bool.{cases_Bool}
 use Rattle.std.proofs.lemmas.Slice.Eq.{bytes_eq-Decides}
 use Rattle.std.proofs.Common.{inl, inr}
@@ -70,3 +70,16 @@ placed_after name bs ms m i old new named last before absent after = after ∙ r
 pub none_unless : (o : Option ℕ) → is_some o ≡ false → o ≡ None
 none_unless None h = refl
 none_unless (Some k) h = absurd (true≢false h)
+
+-- what a search from k finds lies before the end
+position_from-below : (test : NamedSteps → Bool) (k : ℕ) (ms : List NamedSteps) (end : ℕ) → end ≡ k + length ms → IfSome (position_from test k ms) (λ j. j < end)
+position_from-below test k [] end same = tt
+position_from-below test k (m ∷ ms) end same =
+    elim (cases_Bool (test m)) [
+      | inl same_so ↦ rw same_so (omega arith)
+      | inr other_so ↦ rw other_so (position_from-below test (k + 1) ms end (omega arith))
+    ]
+
+-- a method that is found is one of them
+pub place_of-below : (name : List ℕ) (ms : List NamedSteps) → IfSome (place_of name ms) (λ place. place < length ms)
+place_of-below name ms = position_from-below (λ m. bytes_eq m.name name) 0 ms (length ms) (omega arith)

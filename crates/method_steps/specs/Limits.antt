@@ -1,63 +1,50 @@
 -- The numbers, lengths and depths that a step may have.
-use Rattle.std.specs.Prelude.{ℕ, pos, length, Bool, true, false, ◌&&◌, nat_le, Option, Some, ◌+◌}
-use Rattle.toml.specs.Data.{Data, string, integer, array, table, Items, no_items, item, Members, no_members, member}
-use Rattle.method_steps.specs.declared.read.field.Field.{Field}
-use Rattle.method_steps.specs.declared.read.field.Field.TheVariants as field
-use Rattle.method_steps.specs.Fields.{field_named}
+use Rattle.std.specs.Prelude.{ℕ, ◌+◌, List, length, Bool, true, ◌&&◌, nat_le, Option}
+use Rattle.std.specs.List.{list_all}
+use Rattle.std.specs.Option.{option_map_or}
+use Rattle.toml.specs.Data.{Items, no_items, item}
+use Rattle.method_steps.specs.declared.step.ListedCall.{ListedCall}
+use Rattle.method_steps.specs.declared.step.Step.TheVariants as step
 use Rattle.method_steps.specs.Names.{is_name_length}
-use Rattle.method_steps.specs.Templates.{template_depth}
+use Rattle.method_steps.specs.Shape.{Shape, depth}
+use Rattle.method_steps.specs.Steps.{Step}
 
 abbrev pub items_len : Items → ℕ
 items_len no_items = 0
 items_len (item d ds) = items_len ds + 1
 
 -- a template is at most 16 deep
-abbrev pub is_shallow : Data → Bool
-is_shallow d = nat_le (template_depth d) 16
+abbrev pub is_shallow : Shape → Bool
+is_shallow t = nat_le (depth t) 16
 
 -- 1 to 64
-abbrev pub is_count : Data → Bool
-is_count (integer (pos n)) = nat_le 1 n && nat_le n 64
-is_count _ = false
+abbrev pub is_count : ℕ → Bool
+is_count n = nat_le 1 n && nat_le n 64
 
 -- the name of a method of the other side has 1 to 128 bytes
-abbrev pub is_short_text : Data → Bool
-is_short_text (string s) = is_name_length (length s)
-is_short_text _ = false
+abbrev pub is_within : List ℕ → Option Shape → Bool
+is_within method params = is_name_length (length method) && option_map_or is_shallow params true
 
--- what every field but a list keeps
-abbrev pub is_within : Option Field → Data → Bool
-is_within (Some field.Value) d = is_shallow d
-is_within (Some field.Left) d = is_shallow d
-is_within (Some field.Right) d = is_shallow d
-is_within (Some field.Params) d = is_shallow d
-is_within (Some field.Count) d = is_count d
-is_within (Some field.Method) d = is_short_text d
-is_within _ d = true
+abbrev pub is_call_within : ListedCall → Bool
+is_call_within c = is_within c.method c.params
 
-abbrev pub call_is_within : Members → Bool
-call_is_within no_members = true
-call_is_within (member k d ms) = is_within (field_named k) d && call_is_within ms
-
-abbrev pub are_calls_within : Items → Bool
-are_calls_within no_items = true
-are_calls_within (item (table ms) ds) = call_is_within ms && are_calls_within ds
-are_calls_within (item _ ds) = false
+abbrev pub are_calls_within : List ListedCall → Bool
+are_calls_within cs = list_all is_call_within cs
 
 -- 1 to 16
 abbrev pub is_list_length : ℕ → Bool
 is_list_length n = nat_le 1 n && nat_le n 16
 
--- a list has 1 to 16 calls, each within its limits
-abbrev pub is_list_within : Data → Bool
-is_list_within (array ds) = is_list_length (items_len ds) && are_calls_within ds
-is_list_within _ = false
+abbrev pub is_list_within : List ListedCall → Bool
+is_list_within cs = is_list_length (length cs) && are_calls_within cs
 
-abbrev pub field_is_within : Option Field → Data → Bool
-field_is_within (Some field.List) d = is_list_within d
-field_is_within f d = is_within f d
-
--- each field of the step is within its limits
-abbrev pub is_step_within : Members → Bool
-is_step_within no_members = true
-is_step_within (member k d ms) = field_is_within (field_named k) d && is_step_within ms
+abbrev pub is_step_within : Step → Bool
+is_step_within (step.Set to value) = is_shallow value
+is_step_within (step.Add to left right) = is_shallow left && is_shallow right
+is_step_within (step.Skip left right count) = is_shallow left && is_shallow right && is_count count
+is_step_within (step.Call to method params on_error) = is_within method params
+is_step_within (step.Calls to list on_error) = is_list_within list
+is_step_within (step.Each to over method on_error) = is_shallow over && is_name_length (length method)
+is_step_within (step.Notify method params) = is_within method params
+is_step_within (step.Answer value) = is_shallow value
+is_step_within (step.Fail code message) = true

@@ -1,9 +1,9 @@
 -- What a template is: a JSON value with places that registers fill.
-use Rattle.std.specs.Prelude.{◌≡◌, ℕ, zero, suc, ◌+◌, List, refl}
+use Rattle.std.specs.Prelude.{◌≡◌, ℕ, zero, suc, ◌+◌, max, List, refl}
 use base.Stored.{Gv, gnil, gnum, gcons, Coded}
 use mathlib.Core.Path.{ap, sym, ◌∙◌}
 use Rattle.serde_json.specs.Data.{Data, null}
-use Rattle.rpc_messages.specs.Codes.{count, first, second, text_code, text_at, text_back, data_code, data_back, read_back as data_at}
+use Rattle.json_values.specs.Codes.{count, first, second, text_code, text_at, text_back, data_code, data_back, read_back as data_at}
 
 mutual
   pub data Shape : Type 0 where
@@ -38,6 +38,22 @@ abbrev mutual
   pub parts_size : Parts → ℕ
   parts_size no_parts = 0
   parts_size (part k t ms) = size_of t + parts_size ms
+
+-- a scalar is 1 deep, an array or an object one more than its deepest member
+abbrev mutual
+  pub depth : Shape → ℕ
+  depth (plain d) = 1
+  depth (place name pointer) = 1
+  depth (list ts) = suc (shapes_depth ts)
+  depth (members ms) = suc (parts_depth ms)
+
+  pub shapes_depth : Shapes → ℕ
+  shapes_depth no_shapes = 0
+  shapes_depth (shape t ts) = max (depth t) (shapes_depth ts)
+
+  pub parts_depth : Parts → ℕ
+  parts_depth no_parts = 0
+  parts_depth (part k t ms) = max (depth t) (parts_depth ms)
 
 -- ---- a code, by which a proof tells two shapes apart
 

@@ -1,5 +1,5 @@
 -- What who runs a method may count on, and the methods of a table.
-use Rattle.std.specs.Prelude.{ℕ, ◌≤◌, List, length, sum_by, All, Option, Some, None, option_map, slice_get, Vec}
+use Rattle.std.specs.Prelude.{ℕ, ◌≤◌, List, [], ◌∷◌, length, sum_by, All, Option, Some, None, option_map, slice_get, Vec}
 use Rattle.std.specs.Arc.{arc_value}
 use Rattle.std.specs.declared.alloc.Global.{Global}
 use Rattle.std.specs.declared.sync.Arc.{Arc}
@@ -18,6 +18,7 @@ Step = StepOf Shape (List ListedCall)
 abbrev pub calls_in : Step → ℕ
 calls_in (step.Call to method params on_error) = 1
 calls_in (step.Calls to list on_error) = length list
+calls_in (step.Each to over method on_error) = 16
 calls_in _ = 0
 
 -- those of the steps of a method
@@ -44,6 +45,16 @@ shared_steps steps = (arc_value steps).items
 pub record NamedSteps : Type 0 where
   pub name : List ℕ
   pub steps : List Step
+
+-- a table: the steps of its opening, and its methods in order
+pub record MethodTable : Type 0 where
+  pub opening : List Step
+  pub methods : List NamedSteps
+
+-- the steps, where there are any
+abbrev pub unless_empty : List Step → Option (List Step)
+unless_empty [] = None
+unless_empty (s ∷ ss) = Some (s ∷ ss)
 
 -- the place of the first method with that name, from 0
 abbrev pub place_of : List ℕ → List NamedSteps → Option ℕ

@@ -1,5 +1,5 @@
 -- The template that a value of a TOML document stands for.
-use Rattle.std.specs.Prelude.{ℕ, suc, max, List, [], ◌∷◌, drop, codes, Bool, true, false, ◌&&◌, ◌==◌, slice_index, if◌then◌else◌}
+use Rattle.std.specs.Prelude.{ℕ, List, [], ◌∷◌, drop, codes, Bool, true, false, ◌&&◌, ◌==◌, slice_index, Option, Some, None, if◌then◌else◌}
 use Rattle.std.specs.List.{before_first, position_or_len}
 use Rattle.std.specs.Str.{bytes_eq}
 use Rattle.serde_json.specs.Data as json
@@ -48,25 +48,6 @@ abbrev mutual
   members_are_templates no_members = true
   members_are_templates (member k d ms) = is_template d && members_are_templates ms
 
--- a scalar is 1 deep, an array or a table one more than its deepest member
-abbrev mutual
-  pub template_depth : Data → ℕ
-  template_depth (string s) = 1
-  template_depth (integer z) = 1
-  template_depth (float x) = 1
-  template_depth (boolean b) = 1
-  template_depth (datetime dt) = 1
-  template_depth (array ds) = suc (items_depth ds)
-  template_depth (table ms) = suc (members_depth ms)
-
-  pub items_depth : Items → ℕ
-  items_depth no_items = 0
-  items_depth (item d ds) = max (template_depth d) (items_depth ds)
-
-  pub members_depth : Members → ℕ
-  members_depth no_members = 0
-  members_depth (member k d ms) = max (template_depth d) (members_depth ms)
-
 -- what the value stands for; floats and dates, which no template has, as null
 abbrev mutual
   pub shape_from : Data → Shape
@@ -85,3 +66,7 @@ abbrev mutual
   pub parts_from : Members → Parts
   parts_from no_members = no_parts
   parts_from (member k d ms) = part k (shape_from d) (parts_from ms)
+
+-- the template that the value is, if it is one
+abbrev pub template_in : Data → Option Shape
+template_in d = if is_template d then Some (shape_from d) else None

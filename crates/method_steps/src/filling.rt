@@ -7,7 +7,7 @@ ghost use Rattle.method_steps.specs.Value.{value_of, value_at};
 
 use crate::registers::Registers;
 use crate::template::{Form, Template};
-use rpc_messages::{Json, JsonArray, JsonObject, Text};
+use json_values::{Json, JsonArray, JsonObject, Text};
 use std::alloc::{AllocError, Global};
 use std::collections::BTreeMap;
 
@@ -71,8 +71,8 @@ fn fill_list(
     templates: &Vec<Template>,
     registers: &Registers,
 ) -> Result<Json, FillFault>
-    ensures ok { IfOk result (λ value. value_of registers.now (list (shapes_of templates.now.items))
-        ≡ Ok value) }
+    ensures ok { IfOk result (λ value.
+        value_of registers.now (list (shapes_of templates.now.items)) ≡ Ok value) }
     ensures refused { IfErr result (λ fault. fault ≢ FillFault.Memory
         → value_of registers.now (list (shapes_of templates.now.items)) ≡ Err fault) }
 {
@@ -89,8 +89,8 @@ fn fill_members(
     templates: &BTreeMap<String, Template>,
     registers: &Registers,
 ) -> Result<Json, FillFault>
-    ensures ok { IfOk result (λ value. value_of registers.now (members (parts_of templates.now.entries))
-        ≡ Ok value) }
+    ensures ok { IfOk result (λ value.
+        value_of registers.now (members (parts_of templates.now.entries)) ≡ Ok value) }
     ensures refused { IfErr result (λ fault. fault ≢ FillFault.Memory
         → value_of registers.now (members (parts_of templates.now.entries)) ≡ Err fault) }
 {

@@ -3,16 +3,21 @@
 
 mod fault;
 mod filling;
+mod law;
+mod limits;
 mod read;
 mod registers;
 mod step;
 mod table;
 mod template;
-#[cfg(test)]
-mod tests;
 
 pub use fault::{FaultKind, TableFault};
 pub use filling::{FillFault, fill};
+pub use law::{text_without_faults_is_a_table, told_fault_is_the_first_shown};
+pub use limits::{
+    DEEPEST_TEMPLATE, LONGEST_NAME, LONGEST_REGISTER, LONGEST_SKIP, MOST_CALLS, MOST_LISTED,
+    MOST_METHODS, MOST_STEPS,
+};
 pub use registers::Registers;
 pub use step::{ListedCall, OnError, Step};
 pub use table::Table;

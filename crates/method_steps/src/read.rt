@@ -1,14 +1,15 @@
 //! Reading a table.
 
-pub(crate) mod field;
-pub(crate) mod fields;
-pub(crate) mod judged;
+pub(crate) mod call;
+pub(crate) mod entry;
 pub(crate) mod kind;
-pub(crate) mod limits;
 pub(crate) mod lookup;
 pub(crate) mod made;
 pub(crate) mod methods;
 pub(crate) mod names;
-pub(crate) mod references;
+pub(crate) mod parts;
+pub(crate) mod source;
+pub(crate) mod steps;
 pub(crate) mod templates;
+pub(crate) mod version;
 pub(crate) mod word;

@@ -4,7 +4,7 @@ ghost use Rattle.std.specs.Prelude.{◌≡◌, codes, OnOk, OnErr, IfOk, option_
 ghost use Rattle.serde_json.specs.Data.{member, no_members, put};
 ghost use Rattle.serde_json.specs.Find.{get_member};
 
-use rpc_messages::Json;
+use json_values::Json;
 use std::alloc::{AllocError, Global};
 use std::collections::BTreeMap;
 use std::marker::Model;
@@ -18,7 +18,7 @@ pub struct Registers {
 
 impl Model for Registers {
     ghost use Rattle.serde_json.specs.Data.{Members};
-    ghost use Rattle.rpc_messages.specs.Codes.{coded_members};
+    ghost use Rattle.json_values.specs.Codes.{coded_members};
 
     ghost Value = { Members };
 

@@ -1,8 +1,8 @@
 //! What a method does.
 
+use crate::limits::MOST_LISTED;
 use crate::template::Template;
-use lsp_frames::Items;
-use rpc_messages::Text;
+use json_values::{Items, Text};
 
 /// What an error reply to a call does.
 #[derive(Clone, Copy, Debug, PartialEq, Eq)]
@@ -54,6 +54,14 @@ pub enum Step<T = Template, L = Items<ListedCall>> {
         list: L,
         on_error: OnError,
     },
+    /// Makes one batch of calls, one for each element of an array of 0 to 16, waits for all replies and puts them into the
+    /// register. The params of a call are the array of its element.
+    Each {
+        to: Text,
+        over: T,
+        method: Text,
+        on_error: OnError,
+    },
     /// Sends one notification.
     Notify {
         method: Text,
@@ -82,6 +90,7 @@ impl Step {
         match self {
             Step::Call { .. } => 1,
             Step::Calls { list, .. } => list.len() as u32,
+            Step::Each { .. } => MOST_LISTED as u32,
             _ => 0,
         }
     }

@@ -1,19 +1,21 @@
 //! The table of methods.
 
-ghost use Rattle.std.specs.Prelude.{◌≡◌, ◌≢◌, ◌≤◌, [], length, codes, Ok, Err, Some, None, IfOk, IfErr, IfSome, option_map};
+ghost use Rattle.std.specs.Prelude.{◌≡◌, ◌≢◌, ◌<◌, ◌≤◌, [], length, Ok, Err, Some, None, IfOk, IfErr, IfSome, option_map};
 ghost use Rattle.toml.specs.View.{table_view};
 ghost use Rattle.method_steps.specs.Fault.{in_document};
-ghost use Rattle.method_steps.specs.Judged.{list_at, document_fault};
-ghost use Rattle.method_steps.specs.Made.{document_of, table_of, methods_from};
-ghost use Rattle.method_steps.specs.Steps.{AreWithinLimits, place_of, shared_steps, steps_at, calls_at, calls_of};
+ghost use Rattle.method_steps.specs.Judged.{fault_of_document};
+ghost use Rattle.method_steps.specs.Made.{document_of, table_of, made_of};
+ghost use Rattle.method_steps.specs.Steps.{AreWithinLimits, place_of, shared_steps, steps_at, calls_at, calls_of, unless_empty};
 
-use crate::fault::{FaultKind, TableFault};
-use crate::read::judged::{document_fault, in_document};
-use crate::read::lookup::list_at;
-use crate::read::methods::{methods_of, places_of};
+use crate::fault::{FaultKind, TableFault, in_document};
+use crate::limits::{MOST_CALLS, MOST_METHODS, MOST_STEPS};
+use crate::read::entry::{Entry, has_only};
+use crate::read::lookup::{count_of, tables_at};
+use crate::read::methods::{methods_of, opening_of, places_of};
+use crate::read::version::{Version, version_of};
 use crate::step::Step;
-use rpc_messages::Text;
-use std::alloc::{AllocError, Global};
+use json_values::Text;
+use std::alloc::Global;
 use std::collections::BTreeMap;
 use std::marker::Model;
 use std::sync::Arc;
@@ -25,31 +27,32 @@ pub(crate) struct Method {
     pub(crate) steps: Arc<Vec<Step>>,
 }
 
-/// The methods of a server, seen by contracts as the list of their names and steps.
+/// The methods of a server and its opening, the steps that run as it starts. Seen by contracts as the opening's steps and the
+/// list of the methods' names and steps.
 #[derive(Debug, Drop)]
 pub struct Table {
+    /// Where it has steps.
+    opening: Option<Arc<Vec<Step>>>,
     methods: Vec<Method>,
     /// The place in `methods` of each name.
     places: BTreeMap<String, u32>,
 }
 
 impl Model for Table {
-    ghost use Rattle.std.specs.Prelude.{List};
     ghost use Rattle.std.specs.Coded.{codes};
-    ghost use Rattle.rpc_messages.specs.Codes.{coded_data};
+    ghost use Rattle.json_values.specs.Codes.{coded_data};
     ghost use Rattle.method_steps.specs.Shape.{coded_shape};
-    ghost use Rattle.method_steps.specs.Steps.{NamedSteps};
+    ghost use Rattle.method_steps.specs.Steps.{MethodTable};
 
-    ghost Value = { List NamedSteps };
+    ghost Value = { MethodTable };
 
     ghost coded = { Prim.hlevel (codes, coded_data, coded_shape) };
 
-    ghost use Rattle.std.specs.Prelude.{map};
-    ghost use Rattle.method_steps.specs.Methods.{named_steps, IsIndexed};
+    ghost use Rattle.method_steps.specs.Inner.Methods.{table_seen, IsIndexed, IsOpening};
 
-    ghost view = { λ t. map named_steps t.methods.items };
+    ghost view = { λ t. table_seen t.opening t.methods.items };
 
-    ghost invariant = { λ t. IsIndexed t.methods.items t.places };
+    ghost invariant = { λ t. (IsIndexed t.methods.items t.places) × (IsOpening t.opening) };
 }
 
 impl Table {
@@ -61,51 +64,90 @@ impl Table {
             → table_of bytes.now ≡ Err fault) }
     {
         let top = document_of(alloc, bytes)?;
-        match document_fault(&top) {
-            Some(fault) => Err(fault),
-            None => Ok(Table::of_document(alloc, &top)?),
+        match version_of(&top) {
+            Some(version) => Table::of_document(alloc, version, &top),
+            None => Err(in_document(FaultKind::Version)),
         }
     }
 
-    /// The methods of a document without faults.
-    fn of_document(alloc: Global, top: &toml::Table) -> Result<Table, AllocError>
-        requires { document_fault (table_view top.now) ≡ None }
-        ensures { IfOk result (λ table. table
-            ≡ methods_from (list_at (codes "method") (table_view top.now))) }
+    /// The table of a document of that version, or its first fault.
+    fn of_document(alloc: Global, version: Version, top: &toml::Table) -> Result<Table, TableFault>
+        ensures ok { IfOk result (λ table. (table ≡ made_of (table_view top.now))
+            × (fault_of_document version (table_view top.now) ≡ None)) }
+        ensures refused { IfErr result (λ fault. fault ≢ in_document FaultKind.Memory
+            → fault_of_document version (table_view top.now) ≡ Some fault) }
     {
-        let methods = methods_of(alloc, list_at(top, "method"))?;
+        if !has_only(Entry::Document(version), top) {
+            return Err(in_document(FaultKind::Field));
+        }
+        let (Some(opening), Some(methods)) = (tables_at(top, "opening"), tables_at(top, "method"))
+        else {
+            return Err(in_document(FaultKind::Field));
+        };
+        if count_of(methods) > MOST_METHODS || count_of(opening) > MOST_STEPS {
+            return Err(in_document(FaultKind::Limit));
+        }
+        let opening = opening_of(alloc, version, opening)?;
+        let methods = methods_of(alloc, version, methods)?;
         let places = places_of(alloc, &methods)?;
-        Ok(Table { methods, places })
+        Ok(Table {
+            opening,
+            methods,
+            places,
+        })
     }
 
-    /// No methods. Takes no memory.
+    /// No opening and no methods. Takes no memory.
     pub fn empty(alloc: Global) -> Table
-        ensures { result ≡ [] }
+        ensures { result ≡ record { opening = []; methods = [] } }
     {
         Table {
+            opening: None,
             methods: Vec::new(alloc),
             places: BTreeMap::new(alloc),
         }
     }
 
-    /// How many methods there are, 0 to 256.
+    /// The steps that run as the peer starts, where there are any.
+    pub fn opening_steps(&self) -> Option<&Arc<Vec<Step>>>
+        ensures steps { option_map (λ steps. shared_steps steps.now) result
+            ≡ unless_empty self.now.opening }
+        ensures limits { IfSome result (λ steps. AreWithinLimits (shared_steps steps.now)) }
+    {
+        self.opening.as_ref()
+    }
+
+    /// How many calls a run of the opening makes at most; 0 where there is none.
+    pub fn opening_most(&self) -> u32
+        ensures number { result ≡ calls_of self.now.opening }
+        ensures few { result ≤ MOST_CALLS }
+    {
+        match self.opening_steps() {
+            Some(steps) => calls_of(steps.as_slice()),
+            None => 0,
+        }
+    }
+
+    /// How many methods there are. The opening isn't counted.
     pub fn len(&self) -> u32
-        ensures number { result ≡ length self.now }
-        ensures few { result ≤ 256 }
+        ensures number { result ≡ length self.now.methods }
+        ensures few { result ≤ MOST_METHODS }
     {
         self.methods.len() as u32
     }
 
-    /// The place of the method with that name, below `len`.
+    /// The place of the method with that name.
     pub fn find(&self, name: &str) -> Option<u32>
-        ensures { result ≡ place_of name.now self.now }
+        ensures place { result ≡ place_of name.now self.now.methods }
+        ensures below_len { IfSome result (λ place. place < length self.now.methods) }
     {
         self.places.get(name).copied()
     }
 
     /// The steps of a method; none at `len` and above.
     pub fn steps(&self, method: u32) -> Option<&Arc<Vec<Step>>>
-        ensures steps { option_map (λ steps. shared_steps steps.now) result ≡ steps_at self.now method }
+        ensures steps { option_map (λ steps. shared_steps steps.now) result
+            ≡ steps_at self.now.methods method }
         ensures limits { IfSome result (λ steps. AreWithinLimits (shared_steps steps.now)) }
     {
         match self.methods.get(method as usize) {
@@ -116,8 +158,8 @@ impl Table {
 
     /// How many calls a run of the method makes at most; 0 at `len` and above.
     pub fn calls_most(&self, method: u32) -> u32
-        ensures number { result ≡ calls_at self.now method }
-        ensures few { result ≤ 1024 }
+        ensures number { result ≡ calls_at self.now.methods method }
+        ensures few { result ≤ MOST_CALLS }
     {
         match self.steps(method) {
             Some(steps) => calls_of(steps.as_slice()),

@@ -1,6 +1,6 @@
 //! Templates of values.
 
-use rpc_messages::{Json, Text};
+use json_values::{Json, Text};
 use std::collections::BTreeMap;
 use std::marker::Model;
 
@@ -37,7 +37,7 @@ impl Model for Template {
 
     ghost size = { size_of };
 
-    ghost use Rattle.method_steps.specs.FormFalls.{deep_le-size};
+    ghost use Rattle.method_steps.specs.Inner.FormFalls.{deep_le-size};
 
     ghost size_decreases = { λ a h. deep_le-size a.form };
 }

@@ -1,9 +1,12 @@
 //! The kinds of steps.
 
 ghost use Rattle.std.specs.Prelude.{◌≡◌};
-ghost use Rattle.method_steps.specs.Fields.{kind_named, field_named, allows};
+ghost use Rattle.toml.specs.View.{table_view};
+ghost use Rattle.method_steps.specs.Fields.{kind_named, is_kind_of, kind_of};
 
-use crate::read::field::Field;
+use crate::read::lookup::text_at;
+use crate::read::version::Version;
+use toml::Table;
 
 /// A kind of steps, by the word that its `kind` is.
 #[derive(Clone, Copy, Debug, PartialEq, Eq)]
@@ -13,13 +16,21 @@ pub enum Kind {
     Skip,
     Call,
     Calls,
+    Each,
     Notify,
     Answer,
     Fail,
 }
 
+/// The kind that the step's `kind` names.
+pub(crate) fn kind_of(step: &Table) -> Option<Kind>
+    ensures { result ≡ kind_of (table_view step.now) }
+{
+    kind_named(text_at(step, "kind")?)
+}
+
 /// The kind of that name.
-pub(crate) fn kind_named(name: &str) -> Option<Kind>
+fn kind_named(name: &str) -> Option<Kind>
     ensures { result ≡ kind_named name.now }
 {
     match name {
@@ -28,6 +39,7 @@ pub(crate) fn kind_named(name: &str) -> Option<Kind>
         "skip" => Some(Kind::Skip),
         "call" => Some(Kind::Call),
         "calls" => Some(Kind::Calls),
+        "each" => Some(Kind::Each),
         "notify" => Some(Kind::Notify),
         "answer" => Some(Kind::Answer),
         "fail" => Some(Kind::Fail),
@@ -35,27 +47,12 @@ pub(crate) fn kind_named(name: &str) -> Option<Kind>
     }
 }
 
-/// Whether a step of the kind may have the field.
-pub(crate) fn allows(kind: Kind, field: Field) -> bool
-    ensures { result ≡ allows kind field }
+/// Whether tables of the version have the kind.
+pub(crate) fn is_kind_of(version: Version, kind: Kind) -> bool
+    ensures { result ≡ is_kind_of version kind }
 {
     match kind {
-        Kind::Set => matches!(field, Field::Kind | Field::To | Field::Value),
-        Kind::Add => matches!(field, Field::Kind | Field::To | Field::Left | Field::Right),
-        Kind::Skip => matches!(
-            field,
-            Field::Kind | Field::Left | Field::Right | Field::Count
-        ),
-        Kind::Call => matches!(
-            field,
-            Field::Kind | Field::To | Field::Method | Field::Params | Field::OnError
-        ),
-        Kind::Calls => matches!(
-            field,
-            Field::Kind | Field::To | Field::List | Field::OnError
-        ),
-        Kind::Notify => matches!(field, Field::Kind | Field::Method | Field::Params),
-        Kind::Answer => matches!(field, Field::Kind | Field::Value),
-        Kind::Fail => matches!(field, Field::Kind | Field::Code | Field::Message),
+        Kind::Each => version == Version::Two,
+        _ => true,
     }
 }

@@ -1,185 +1,151 @@
-//! The steps that a document without faults stands for.
+//! Steps, made of their parts.
 
-ghost use Rattle.std.specs.Prelude.{◌≡◌, IfOk, codes};
-ghost use Rattle.serde_json.specs.Data.{null};
-ghost use Rattle.toml.specs.View.{view, items_view, table_view};
-ghost use Rattle.method_steps.specs.Judged.{list_at, word_at};
-ghost use Rattle.method_steps.specs.Made.{template_at, params_at, number_at, count_in, on_error_at, listed_call, listed_calls, step_of_kind, step_from, steps_from};
-ghost use Rattle.method_steps.specs.Shape.{plain};
+ghost use Rattle.std.specs.Prelude.{◌≡◌, ◌≢◌, true, None, Some, is_some, IfOk, IfErr};
+ghost use Rattle.toml.specs.View.{items_view};
+ghost use Rattle.method_steps.specs.Fields.{the_calls, listed_calls};
+ghost use Rattle.method_steps.specs.Judged.{is_free, last_fault};
+ghost use Rattle.method_steps.specs.Names.{is_register_name};
+ghost use Rattle.method_steps.specs.References.{is_place_known, are_params_known, calls_refer_back};
+ghost use Rattle.method_steps.specs.Inner.Seen.{seen, Breaks};
 
-use crate::read::judged::kind_of;
-use crate::read::kind::Kind;
-use crate::read::lookup::{list_at, member, word_at};
+use crate::fault::FaultKind;
+use crate::read::call::{Call, call_in};
+use crate::read::names::is_register_name;
+use crate::read::parts::Parts;
+use crate::read::source::Source;
 use crate::read::templates::template_of;
-use crate::step::{ListedCall, OnError, Step};
-use crate::template::{Form, Template};
-use lsp_frames::Items;
-use rpc_messages::{Json, Text};
-use std::alloc::{AllocError, Global};
-use toml::{Table, Value};
+use crate::step::{ListedCall, Step};
+use crate::template::Template;
+use json_values::{Items, Text};
+use std::alloc::Global;
+use toml::Value;
 
-/// The steps that the items stand for.
-pub(crate) fn steps_of(alloc: Global, items: &[Value]) -> Result<Vec<Step>, AllocError>
-    ensures { IfOk result (λ steps. steps.items ≡ steps_from (items_view items.now)) }
+/// The step of the parts, where it keeps the rule of registers, given the steps before it, and its code is free.
+pub(crate) fn step_of(
+    alloc: Global,
+    parts: &Parts<'_>,
+    earlier: &[Value],
+) -> Result<Step, FaultKind>
+    ensures ok { IfOk result (λ step. (step ≡ seen parts.now)
+        × (last_fault (items_view earlier.now) (seen parts.now) ≡ None)) }
+    ensures refused { IfErr result (λ fault. fault ≢ FaultKind.Memory
+        → last_fault (items_view earlier.now) (seen parts.now) ≡ Some fault) }
 {
-    let mut steps = Vec::with_capacity(alloc, items.len())?;
-    for item in items {
-        steps.push(step_of(alloc, item)?)?;
-    }
-    Ok(steps)
-}
-
-fn step_of(alloc: Global, step: &Value) -> Result<Step, AllocError>
-    ensures { IfOk result (λ made. made ≡ step_from (view step.now)) }
-{
-    match step {
-        Value::Table(step) => match kind_of(step) {
-            Some(kind) => step_of_kind(alloc, kind, step),
-            None => Ok(answer_null()),
-        },
-        _ => Ok(answer_null()),
-    }
-}
-
-fn answer_null() -> Step
-    ensures { result ≡ Step.Answer (plain null) }
-{
-    Step::Answer {
-        value: null_template(),
-    }
-}
-
-fn null_template() -> Template
-    ensures { result ≡ plain null }
-{
-    Template {
-        form: Form::Plain(Json::null()),
-    }
-}
-
-fn step_of_kind(alloc: Global, kind: Kind, step: &Table) -> Result<Step, AllocError>
-    ensures { IfOk result (λ made. made ≡ step_of_kind kind (table_view step.now)) }
-{
-    match kind {
-        Kind::Set => Ok(Step::Set {
-            to: text_of(alloc, step, "to")?,
-            value: template_at(alloc, step, "value")?,
+    match parts {
+        Parts::Set { to, value } => Ok(Step::Set {
+            to: register(alloc, to)?,
+            value: template(alloc, value, earlier)?,
         }),
-        Kind::Add => Ok(Step::Add {
-            to: text_of(alloc, step, "to")?,
-            left: template_at(alloc, step, "left")?,
-            right: template_at(alloc, step, "right")?,
+        Parts::Add { to, left, right } => Ok(Step::Add {
+            to: register(alloc, to)?,
+            left: template(alloc, left, earlier)?,
+            right: template(alloc, right, earlier)?,
         }),
-        Kind::Skip => Ok(Step::Skip {
-            left: template_at(alloc, step, "left")?,
-            right: template_at(alloc, step, "right")?,
-            count: count_in(number_at(step, "count")),
+        Parts::Skip { left, right, count } => Ok(Step::Skip {
+            left: template(alloc, left, earlier)?,
+            right: template(alloc, right, earlier)?,
+            count: *count,
         }),
-        Kind::Call => Ok(Step::Call {
-            to: text_of(alloc, step, "to")?,
-            method: text_of(alloc, step, "method")?,
-            params: params_at(alloc, step)?,
-            on_error: on_error_at(step),
+        Parts::Call { to, call, on_error } => Ok(Step::Call {
+            to: register(alloc, to)?,
+            method: Text::copy_of(alloc, call.method)?,
+            params: params(alloc, call, earlier)?,
+            on_error: *on_error,
         }),
-        Kind::Calls => Ok(Step::Calls {
-            to: text_of(alloc, step, "to")?,
-            list: listed_calls(alloc, list_at(step, "list"))?,
-            on_error: on_error_at(step),
+        Parts::Calls { to, list, on_error } => Ok(Step::Calls {
+            to: register(alloc, to)?,
+            list: listed_calls(alloc, list.calls, earlier)?,
+            on_error: *on_error,
         }),
-        Kind::Notify => Ok(Step::Notify {
-            method: text_of(alloc, step, "method")?,
-            params: params_at(alloc, step)?,
+        Parts::Each {
+            to,
+            over,
+            method,
+            on_error,
+        } => Ok(Step::Each {
+            to: register(alloc, to)?,
+            over: template(alloc, over, earlier)?,
+            method: Text::copy_of(alloc, method)?,
+            on_error: *on_error,
         }),
-        Kind::Answer => Ok(Step::Answer {
-            value: template_at(alloc, step, "value")?,
+        Parts::Notify(call) => Ok(Step::Notify {
+            method: Text::copy_of(alloc, call.method)?,
+            params: params(alloc, call, earlier)?,
         }),
-        Kind::Fail => Ok(Step::Fail {
-            code: number_at(step, "code"),
-            message: text_of(alloc, step, "message")?,
+        Parts::Answer(value) => Ok(Step::Answer {
+            value: template(alloc, value, earlier)?,
         }),
+        Parts::Fail { code, message } => {
+            if !is_free(*code) {
+                return Err(FaultKind::Code);
+            }
+            Ok(Step::Fail {
+                code: *code,
+                message: Text::copy_of(alloc, message)?,
+            })
+        }
     }
 }
 
-/// A copy of the member's text.
-pub(crate) fn text_of(alloc: Global, step: &Table, name: &str) -> Result<Text, AllocError>
-    ensures { IfOk result (λ text. text ≡ word_at name.now (table_view step.now)) }
+/// Whether the code lies outside the reserved ones, -32768 to -32100 (JSON-RPC 2.0, section 5.1).
+fn is_free(code: i64) -> bool
+    ensures { result ≡ is_free code }
 {
-    Text::copy_of(alloc, word_at(step, name))
+    code < -32768 || -32100 < code
 }
 
-/// The template that the member stands for.
-fn template_at(alloc: Global, step: &Table, name: &str) -> Result<Template, AllocError>
-    ensures { IfOk result (λ made. made ≡ template_at name.now (table_view step.now)) }
+/// The name of a register that a step may set.
+fn register(alloc: Global, name: &str) -> Result<Text, FaultKind>
+    ensures ok { IfOk result (λ text. (text ≡ name.now) × (is_register_name name.now ≡ true)) }
+    ensures refused { IfErr result (Breaks (is_register_name name.now)) }
 {
-    match member(step, name) {
-        Some(value) => template_of(alloc, value),
-        None => Ok(null_template()),
+    if !is_register_name(name) {
+        return Err(FaultKind::Register);
     }
+    Ok(Text::copy_of(alloc, name)?)
 }
 
-/// The template of the member `params`, where there is one.
-fn params_at(alloc: Global, step: &Table) -> Result<Option<Template>, AllocError>
-    ensures { IfOk result (λ made. made ≡ params_at (table_view step.now)) }
+fn template(alloc: Global, source: &Source<'_>, earlier: &[Value]) -> Result<Template, FaultKind>
+    ensures ok { IfOk result (λ template. (template ≡ source.now)
+        × (is_place_known (items_view earlier.now) source.now ≡ true)) }
+    ensures refused { IfErr result (Breaks (is_place_known (items_view earlier.now) source.now)) }
 {
-    match member(step, "params") {
-        Some(value) => Ok(Some(template_of(alloc, value)?)),
+    template_of(alloc, source.value, earlier)
+}
+
+fn params(alloc: Global, call: &Call<'_>, earlier: &[Value]) -> Result<Option<Template>, FaultKind>
+    ensures ok { IfOk result (λ params. (params ≡ call.now.params)
+        × (are_params_known (items_view earlier.now) call.now.params ≡ true)) }
+    ensures refused { IfErr result
+        (Breaks (are_params_known (items_view earlier.now) call.now.params)) }
+{
+    match &call.params {
+        Some(params) => Ok(Some(template(alloc, params, earlier)?)),
         None => Ok(None),
     }
 }
 
-/// The member's whole number.
-fn number_at(step: &Table, name: &str) -> i64
-    ensures { result ≡ number_at name.now (table_view step.now) }
-{
-    match member(step, name) {
-        Some(Value::Integer(number)) => *number,
-        _ => 0,
-    }
-}
-
-/// A number up to 64 as a count.
-fn count_in(number: i64) -> u32
-    ensures { result ≡ count_in number }
-{
-    if 0 <= number && number <= 64 {
-        number as u32
-    } else {
-        0
-    }
-}
-
-fn on_error_at(step: &Table) -> OnError
-    ensures { result ≡ on_error_at (table_view step.now) }
-{
-    if word_at(step, "on_error") == "keep" {
-        OnError::Keep
-    } else {
-        OnError::Fail
-    }
-}
-
 /// The calls of a list.
-fn listed_calls(alloc: Global, calls: &[Value]) -> Result<Items<ListedCall>, AllocError>
-    ensures { IfOk result (λ list. list ≡ listed_calls (items_view calls.now)) }
+fn listed_calls(
+    alloc: Global,
+    calls: &[Value],
+    earlier: &[Value],
+) -> Result<Items<ListedCall>, FaultKind>
+    requires { is_some (listed_calls (items_view calls.now)) ≡ true }
+    ensures ok { IfOk result (λ list. (list ≡ the_calls (items_view calls.now))
+        × (calls_refer_back (items_view earlier.now) (the_calls (items_view calls.now)) ≡ true)) }
+    ensures refused { IfErr result
+        (Breaks (calls_refer_back (items_view earlier.now) (the_calls (items_view calls.now)))) }
 {
     let mut list = Vec::with_capacity(alloc, calls.len())?;
     for call in calls {
-        list.push(listed_call(alloc, call)?)?;
+        let Some(call) = call_in(call) else {
+            unreachable!();
+        };
+        list.push(ListedCall {
+            method: Text::copy_of(alloc, call.method)?,
+            params: params(alloc, &call, earlier)?,
+        })?;
     }
     Ok(Items::from(list))
-}
-
-fn listed_call(alloc: Global, call: &Value) -> Result<ListedCall, AllocError>
-    ensures { IfOk result (λ made. made ≡ listed_call (view call.now)) }
-{
-    match call {
-        Value::Table(call) => Ok(ListedCall {
-            method: text_of(alloc, call, "method")?,
-            params: params_at(alloc, call)?,
-        }),
-        _ => Ok(ListedCall {
-            method: Text::copy_of(alloc, "")?,
-            params: None,
-        }),
-    }
 }

@@ -4,11 +4,13 @@ ghost use Rattle.std.specs.Prelude.{◌≡◌, ◌==◌, ◌||◌, slice_index};
 ghost use Rattle.std.specs.List.{list_all};
 ghost use Rattle.method_steps.specs.Names.{is_name_length, is_method_name, is_register_byte, is_register_rest, is_register_name, is_taken, is_escaped};
 
+use crate::limits::{LONGEST_NAME, LONGEST_REGISTER};
+
 /// Whether a method of the other side may have a name of that length.
 pub(crate) fn is_name_length(length: usize) -> bool
     ensures { result ≡ is_name_length length }
 {
-    1 <= length && length <= 128
+    1 <= length && length <= LONGEST_NAME
 }
 
 /// Whether a method of the table may have the name.
@@ -33,7 +35,7 @@ pub(crate) fn is_register_name(name: &str) -> bool
 fn is_register_rest(bytes: &[u8]) -> bool
     ensures { result ≡ is_register_rest bytes.now }
 {
-    bytes.len() <= 31 && are_register_bytes(bytes)
+    bytes.len() < LONGEST_REGISTER && are_register_bytes(bytes)
 }
 
 fn are_register_bytes(bytes: &[u8]) -> bool

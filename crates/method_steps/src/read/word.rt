@@ -2,7 +2,7 @@
 
 ghost use Rattle.std.specs.Prelude.{◌≡◌};
 ghost use Rattle.method_steps.specs.Templates.{name_in, pointer_in, shape_of_text, shape_after_dollar};
-ghost use Rattle.method_steps.specs.Words.{word_shape};
+ghost use Rattle.method_steps.specs.Inner.Words.{word_shape};
 
 /// A string of a template.
 pub(crate) enum Word<'a> {

@@ -1,8 +1,13 @@
-use Rattle.std.proofs.Common.{◌≡◌, take, map}
-use Rattle.toml.specs.View.{view}
+use Rattle.std.proofs.Common.{◌≡◌, take, drop, map}
+use Rattle.toml.specs.Data.{no_items}
+use Rattle.toml.specs.View.{view, items_view}
+use Rattle.method_steps.specs.Inner.Methods.{named_steps}
+use Rattle.method_steps.specs.Judged.{methods_fault}
 use Rattle.method_steps.specs.Made.{method_from}
-use Rattle.method_steps.specs.Methods.{named_steps}
 use Rattle.method_steps.proofs.read.methods.methods_of.Given as goal
 
-abbrev pub invariant-loop-item : goal.invariant-loop-item
-invariant-loop-item l = map named_steps l.methods.items ≡ map (λ v. method_from (view v)) (take l.item-index l.items)
+abbrev pub invariant-loop-place : goal.invariant-loop-place
+invariant-loop-place l = record {
+  made : map named_steps l.methods.items ≡ map (λ v. method_from (view v)) (take l.place l.items);
+  judged : methods_fault l.version (items_view (take l.place l.items)) (items_view (drop l.place l.items)) ≡ methods_fault l.version no_items (items_view l.items);
+}

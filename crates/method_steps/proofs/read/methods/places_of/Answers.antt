@@ -3,7 +3,7 @@ use Rattle.std.proofs.lemmas.Grind.{common_steps}
 use Rattle.std.proofs.lemmas.List.{take_more, length-map, map-append}
 use Rattle.std.proofs.lemmas.Map.Text.{btree_map_updates_text}
 use Rattle.std.specs.BTreeMap.{get_by_text}
-use Rattle.method_steps.specs.Methods.{named_steps}
+use Rattle.method_steps.specs.Inner.Methods.{named_steps}
 use Rattle.method_steps.specs.Steps.{place_of}
 use Rattle.method_steps.proofs.PlacesOf.{placed_after, placed_before, none_unless}
 use Rattle.method_steps.proofs.read.methods.places_of.Goals as goal

@@ -1,6 +1,6 @@
 use Rattle.std.proofs.Common.{◌≡◌, ℕ, List, take, map}
 use Rattle.std.specs.BTreeMap.{get_by_text}
-use Rattle.method_steps.specs.Methods.{named_steps}
+use Rattle.method_steps.specs.Inner.Methods.{named_steps}
 use Rattle.method_steps.specs.Steps.{place_of}
 use Rattle.method_steps.proofs.read.methods.places_of.Given as goal
 

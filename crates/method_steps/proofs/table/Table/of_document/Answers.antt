@@ -1,27 +1,37 @@
-use Rattle.std.proofs.Common.{◌≡◌, ◌≤◌, length, map, codes, ap, ◌∙◌, arith}
+use Rattle.std.proofs.Common.{◌≡◌, ◌≤◌, length, map, ap, arith}
 use Rattle.std.proofs.lemmas.List.{length-map}
-use Rattle.toml.specs.View.{table_view}
-use Rattle.method_steps.specs.Judged.{list_at}
-use Rattle.method_steps.specs.Made.{methods_from}
-use Rattle.method_steps.specs.Methods.{named_steps}
-use Rattle.method_steps.proofs.Within.{document_within}
+use Rattle.toml.specs.Data.{no_items}
+use Rattle.toml.specs.View.{items_view}
+use Rattle.method_steps.specs.Inner.Methods.{named_steps}
+use Rattle.method_steps.specs.Limits.{items_len}
+use Rattle.method_steps.specs.Made.{steps_from, methods_from}
+use Rattle.method_steps.proofs.Opening.{opening_of_steps}
+use Rattle.method_steps.proofs.Within.{list_within, methods_within, length-methods_from}
 use Rattle.method_steps.proofs.table.Table.of_document.Goals as goal
 
 pub places_of-requires : goal.places_of-requires
 places_of-requires c =
     let ms = c.in_ok-methods.methods.items in
-    let same : map named_steps ms ≡ methods_from (list_at (codes "method") (table_view c.args.top.now)) = c.in_ok-methods.ensures ∙ ap methods_from c.list_at.ensures in
-    let bounds = document_within (table_view c.args.top.now) c.requires in
-    let few : length ms ≤ 256 = omega (arith, bounds.0, ap length same, length-map ms named_steps) in
-    rw c.deref.ensures.value few
+    let ds = items_view c.in-Some-Some.methods.now in
+    let number = c.count_of.ensures.number in
+    let few : items_len ds ≤ 256 = omega (arith, number) in
+    let kept : length ms ≤ 256 = omega (arith, few, ap length c.in_ok-methods.ensures.ok.0, length-map ms named_steps, length-methods_from ds) in
+    rw c.deref.ensures.value kept
 
 pub invariant_of-result : goal.invariant_of-result
 invariant_of-result c =
     let ms = c.in_ok-methods.methods.items in
-    let same : map named_steps ms ≡ methods_from (list_at (codes "method") (table_view c.args.top.now)) = c.in_ok-methods.ensures ∙ ap methods_from c.list_at.ensures in
-    let bounds = document_within (table_view c.args.top.now) c.requires in
-    record {
-      few = omega (arith, bounds.0, ap length same, length-map ms named_steps);
-      within = rw same bounds.1;
-      found = rw c.deref.ensures.value at c.in_ok-places.ensures;
-    }
+    let ds = items_view c.in-Some-Some.methods.now in
+    let os = items_view c.in-Some-Some.opening.now in
+    let number = c.count_of.ensures.number in
+    let steps = c.count_of-else-count_of-gt-MOST_METHODS.ensures.number in
+    let few : items_len ds ≤ 256 = omega (arith, number) in
+    let short : items_len os ≤ 64 = omega (arith, steps) in
+    let made : map named_steps ms ≡ methods_from ds = c.in_ok-methods.ensures.ok.0 in (
+      record {
+        few = omega (arith, few, ap length made, length-map ms named_steps, length-methods_from ds);
+        within = rw made (methods_within c.args.version no_items ds c.in_ok-methods.ensures.ok.1);
+        found = rw c.deref.ensures.value at c.in_ok-places.ensures;
+      },
+      opening_of_steps c.in_ok-opening.opening (steps_from os) c.in_ok-opening.ensures.ok.0 (list_within c.args.version 0 os short c.in_ok-opening.ensures.ok.1),
+    )

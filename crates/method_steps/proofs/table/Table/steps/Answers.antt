@@ -1,7 +1,7 @@
 use Rattle.std.proofs.Common.{◌≡◌, Some, None, option_map, ap, ◌∙◌, map}
 use Rattle.std.specs.List.{slice_get}
 use Rattle.std.proofs.lemmas.Option.{slice_get-map}
-use Rattle.method_steps.specs.Methods.{named_steps}
+use Rattle.method_steps.specs.Inner.Methods.{named_steps}
 use Rattle.method_steps.specs.Steps.{AreWithinLimits}
 use Rattle.method_steps.proofs.MethodsOf.{All-slice_get, slice_get-within, slice_get-past}
 use Rattle.method_steps.proofs.table.Table.steps.Goals as goal
@@ -13,7 +13,7 @@ returns-in-Some-clause-limits c =
     let found = rw c.deref.ensures.value at c.in-Some.ensures.lookup in
     let here : slice_get ms c.args.method ≡ Some m = slice_get-within ms c.args.method m found.3.0 found.1 in
     let seen : slice_get (map named_steps ms) c.args.method ≡ Some (named_steps m) = slice_get-map named_steps ms c.args.method ∙ ap (option_map named_steps) here in
-    All-slice_get (λ m. AreWithinLimits m.steps) _ c.args.method (named_steps m) c.self.invariant.within seen
+    All-slice_get (λ m. AreWithinLimits m.steps) _ c.args.method (named_steps m) c.self.invariant.0.within seen
 
 pub returns-in-None-clause-steps : goal.returns-in-None-clause-steps
 returns-in-None-clause-steps c =

@@ -1,8 +1,0 @@
-use Rattle.std.proofs.Common.{◌≡◌, drop}
-use Rattle.toml.specs.View.{items_view}
-use Rattle.method_steps.specs.Fields.{are_calls}
-use Rattle.method_steps.proofs.read.fields.are_calls.Given as goal
-
--- what is left to look at decides
-abbrev pub invariant-loop-call : goal.invariant-loop-call
-invariant-loop-call l = are_calls (items_view (drop l.call-index l.call-items)) ≡ are_calls (items_view l.call-items)
