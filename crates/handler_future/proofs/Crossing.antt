@@ -7,11 +7,11 @@ use Rattle.std.proofs.option.Option.TheSendSync as option
 use Rattle.std.proofs.alloc.Global.TheSendSync as global
 use Rattle.std.proofs.string.String.TheSendSync as string
 use Rattle.serde_json.proofs.value.Value.TheLaws.TheKnot as value
-use Rattle.rpc_messages.proofs.text.Text.TheSendSync as text
+use Rattle.json_values.proofs.text.Text.TheSendSync as text
 use Rattle.rpc_messages.proofs.id.Id.TheSendSync as id
-use Rattle.rpc_messages.proofs.negative.Negative.TheSendSync as negative
+use Rattle.json_values.proofs.negative.Negative.TheSendSync as negative
 use Rattle.rpc_messages.proofs.standard.Standard.TheSendSync as standard
-use Rattle.rpc_messages.specs.contracts.json_value.Json as Json
+use Rattle.json_values.specs.contracts.json_value.Json as Json
 use Rattle.rpc_messages.specs.contracts.call.Call as Call
 use Rattle.rpc_messages.specs.contracts.reply.Reply as Reply
 use Rattle.rpc_messages.specs.contracts.outgoing.Outgoing as Outgoing
@@ -21,7 +21,7 @@ use Rattle.method_steps.proofs.step.OnError.TheSendSync as on_error
 use Rattle.method_steps.specs.contracts.step.ListedCall as ListedCall
 use Rattle.method_steps.specs.contracts.template.Template as Template
 use Rattle.method_steps.specs.contracts.registers.Registers as Registers
-use Rattle.lsp_frames.proofs.items.Items.TheSendSync as items
+use Rattle.json_values.proofs.items.Items.TheSendSync as items
 use Rattle.handler_future.proofs.course.CourseOf.TheSendSync as course
 use Rattle.handler_future.specs.contracts.message.Message as Message
 use Rattle.handler_future.specs.contracts.handler.Handler.{the_row}

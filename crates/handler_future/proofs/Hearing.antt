@@ -5,10 +5,12 @@ use Rattle.std.proofs.lemmas.List.{take-append-le}
 use Rattle.std.specs.List.{filter, list_all, list_any, range_with_len}
 use Rattle.rpc_messages.specs.declared.reply.Reply.{Reply}
 use Rattle.handler_future.specs.declared.message.Message.{Message}
-use Rattle.handler_future.specs.Course.{Seen}
+use Rattle.handler_future.specs.declared.phase.Phase.{Phase}
+use Rattle.handler_future.specs.declared.phase.Phase.TheVariants.{UnderWay, Answered, Failed}
+use Rattle.handler_future.specs.Inner.Course.{Seen}
 use Rattle.handler_future.specs.Evaluation.{Program}
 use Rattle.handler_future.specs.Front.{Heard, is_heard, turns_of, unheard, are_heard}
-use Rattle.handler_future.specs.Standing.{IsParked, Stands}
+use Rattle.handler_future.specs.Inner.Standing.{IsParked, Stands}
 use Rattle.handler_future.proofs.Heards.{find-append, find-stays, agrees-before, and-true, and-left, and-right}
 
 -- the course with that reply
@@ -118,7 +120,7 @@ parked-hears p c t r h waits =
       law = λ R agrees. h.law R (agrees-before c.heard ((t, r) ∷ []) R agrees);
       heard = are_heard-with c.heard ((t, r) ∷ []) h.done h.heard;
       none_ahead = λ u l. (let l0 = inside.0 in let l1 = inside.1 in let e : (t == u) ≡ false = grind (arith, nat_tests) in heard-with c.heard t u r ∙ rw (h.none_ahead u l, e) refl);
-      none_before = λ u l. ap (λ x. is_heard x u) (take-append-le c.settled c.heard ((t, r) ∷ []) h.few) ∙ h.none_before u l;
+      none_before = λ u l. ap (λ x. is_heard x u) (take-append-le c.heard_before c.heard ((t, r) ∷ []) h.few) ∙ h.none_before u l;
       few = (let f = h.few in omega (arith, length-append c.heard ((t, r) ∷ [])));
       waits = ap (filter (λ u. not (u == t))) h.waits ∙ unheard-with c.heard t r (range_with_len c.turn c.asked);
       some = h.some;
@@ -126,9 +128,10 @@ parked-hears p c t r h waits =
       turns = h.turns;
     }
 
-pub stands-hears : (p : Program) (over : Bool) (c : Seen) (t : ℕ) (r : Reply) → Stands p over c → list_any (λ u. u == t) c.waits ≡ true → Stands p over (hearing t r c)
-stands-hears p true c t r h waits = absurd (none-wait c.waits t waits h.no_waits)
-stands-hears p false c t r h waits = record {
+pub stands-hears : (p : Program) (phase : Phase) (c : Seen) (t : ℕ) (r : Reply) → Stands p phase c → list_any (λ u. u == t) c.waits ≡ true → Stands p phase (hearing t r c)
+stands-hears p UnderWay c t r h waits = record {
   before = λ e. absurd (none-wait c.waits t waits ((h.before e).no_waits));
   parked = λ some. parked-hears p c t r (h.parked some) waits;
 }
+stands-hears p Answered c t r h waits = absurd (none-wait c.waits t waits h.no_waits)
+stands-hears p Failed c t r h waits = absurd (none-wait c.waits t waits h.no_waits)

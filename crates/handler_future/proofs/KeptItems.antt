@@ -5,7 +5,7 @@ use Rattle.serde_json.specs.View.{items_of}
 use Rattle.rpc_messages.specs.declared.reply.Reply.{Reply}
 use Rattle.method_steps.specs.declared.step.OnError.{OnError}
 use Rattle.handler_future.specs.Evaluation.{Replies, replies_from}
-use Rattle.handler_future.specs.Kept.{kept_reply, kept_items, kept_array, kept_first}
+use Rattle.handler_future.specs.ReplyValues.{kept_reply, kept_items, kept_array, kept_first}
 use Rattle.handler_future.specs.Results.{and_then}
 
 -- these values, and then those items

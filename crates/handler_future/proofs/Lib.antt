@@ -1,6 +1,7 @@
+pub mod Adds
 pub mod Asks
 pub mod Crossing
-pub mod Evaluating
+pub mod Elements
 pub mod Follows
 pub mod Fronts
 pub mod Heard
@@ -12,3 +13,4 @@ pub mod Polls
 pub mod Rehearsing
 pub mod Runs
 pub mod Turns
+pub mod Within

@@ -15,7 +15,7 @@ use Rattle.handler_future.specs.declared.outcome.Outcome.{Outcome}
 use Rattle.handler_future.specs.Evaluation.{Replies}
 use Rattle.handler_future.specs.Front.{Heard, AgreesWith, find_heard, is_heard, heard_replies, unheard, last_turns}
 use Rattle.handler_future.specs.State.{HandlerState, IsPoll, IsWaiting}
-use Rattle.handler_future.specs.Rehearsed.{Follows, HearsOne, listed_reply}
+use Rattle.handler_future.specs.Inner.Rehearsing.{Follows, HearsOne, listed_reply}
 use Rattle.handler_future.proofs.Heard.{push_same, push_other, find_heard-append_some, find_heard-append_none}
 
 never : (b : Bool) → b ≡ true → b ≡ false → ⊥

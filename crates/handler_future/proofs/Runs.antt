@@ -11,10 +11,10 @@ use Rattle.handler_future.specs.declared.course.Progress.{Progress}
 use Rattle.handler_future.specs.declared.course.Progress.TheVariants.{Going}
 use Rattle.handler_future.specs.declared.message.Message.TheVariants as message
 use Rattle.handler_future.specs.Act.{act_of}
-use Rattle.handler_future.specs.Course.{Seen, Course, moved, settled, settled_by, late_replies}
+use Rattle.handler_future.specs.Inner.Course.{Seen, Course, after_act, after_replies, after_value, late_replies}
 use Rattle.handler_future.specs.Evaluation.{Program, replies_from}
-use Rattle.handler_future.specs.Kept.{answered}
-use Rattle.handler_future.specs.Running.{Stays, HasRoomToWait, IsRunnable, IsSettling}
+use Rattle.handler_future.specs.ReplyValues.{value_of_replies}
+use Rattle.handler_future.specs.Inner.Running.{Stays, HasRoomToWait, IsRunnable, IsSettling}
 
 -- ---- results
 
@@ -53,16 +53,16 @@ here_in p steps place s same within here = let P : List Step → Type 0 = λ xs.
 pub fewer : (steps : List Step) (p k t limit : ℕ) → t + calls_of (drop p steps) ≤ limit → t + calls_of (drop (p + k) steps) ≤ limit
 fewer steps p k t limit h = let e : drop (p + k) steps ≡ drop k (drop p steps) = sym (drop-drop k p steps) in let l : calls_of (drop (p + k) steps) ≤ calls_of (drop p steps) = rw e (calls_of-drop k (drop p steps)) in omega arith
 
-moved-runnable : (steps : List Step) (c : Seen) (s : Step) (a : Act) → IsRunnable steps c → Going ≡ (moved s c a).1 → IsRunnable steps (moved s c a).0
-moved-runnable steps c s (act.Put v) r h = record { no_waits = r.no_waits; not_asked = r.not_asked; turns = fewer steps c.place 1 c.turn 1025 r.turns }
-moved-runnable steps c s (act.Skip n) r h = record { no_waits = r.no_waits; not_asked = r.not_asked; turns = fewer steps c.place (1 + n) c.turn 1025 r.turns }
-moved-runnable steps c s (act.Notify o) r h = record { no_waits = r.no_waits; not_asked = r.not_asked; turns = fewer steps c.place 1 c.turn 1025 r.turns }
-moved-runnable steps c s (act.Call o) r h = cc
-moved-runnable steps c s (act.Calls os) r h = cc
-moved-runnable steps c s (act.End e) r h = cc
+after_act-runnable : (steps : List Step) (c : Seen) (s : Step) (a : Act) → IsRunnable steps c → Going ≡ (after_act s c a).1 → IsRunnable steps (after_act s c a).0
+after_act-runnable steps c s (act.Put v) r h = record { no_waits = r.no_waits; not_asked = r.not_asked; turns = fewer steps c.place 1 c.turn 1025 r.turns }
+after_act-runnable steps c s (act.Skip n) r h = record { no_waits = r.no_waits; not_asked = r.not_asked; turns = fewer steps c.place (1 + n) c.turn 1025 r.turns }
+after_act-runnable steps c s (act.Notify o) r h = record { no_waits = r.no_waits; not_asked = r.not_asked; turns = fewer steps c.place 1 c.turn 1025 r.turns }
+after_act-runnable steps c s (act.Call o) r h = cc
+after_act-runnable steps c s (act.Calls os) r h = cc
+after_act-runnable steps c s (act.End e) r h = cc
 
-pub runnable_goes : (steps : List Step) (c d : Seen) (s : Step) → IsRunnable steps c → d ≡ (moved s c (act_of c.registers s)).0 → Going ≡ (moved s c (act_of c.registers s)).1 → IsRunnable steps d
-runnable_goes steps c d s r is going = let P : Seen → Type 0 = λ x. IsRunnable steps x in subst P (sym is) (moved-runnable steps c s (act_of c.registers s) r going)
+pub runnable_goes : (steps : List Step) (c d : Seen) (s : Step) → IsRunnable steps c → d ≡ (after_act s c (act_of c.registers s)).0 → Going ≡ (after_act s c (act_of c.registers s)).1 → IsRunnable steps d
+runnable_goes steps c d s r is going = let P : Seen → Type 0 = λ x. IsRunnable steps x in subst P (sym is) (after_act-runnable steps c s (act_of c.registers s) r going)
 
 -- the turns of the step at a place
 pub turns_here : (steps : List Step) (c : Seen) (s : Step) → IsRunnable steps c → c.place < length steps → get_or steps c.place s ≡ s → c.turn + calls_in s ≤ 1025
@@ -82,39 +82,39 @@ stays_more b c d h k = let x = h.messages in let y = k.messages in record {
   messages = (x.0 ++ y.0, y.1 ∙ ap (λ ms. ms ++ y.0) x.1 ∙ append_assoc b.messages x.0 y.0);
 }
 
-moved-stays : (s : Step) (c : Seen) (a : Act) → Stays c (moved s c a).0
-moved-stays s c (act.Put v) = record { heard = refl; messages = ([], sym (append-nil c.messages)) }
-moved-stays s c (act.Skip n) = record { heard = refl; messages = ([], sym (append-nil c.messages)) }
-moved-stays s c (act.Notify o) = record { heard = refl; messages = (message.Notice o ∷ [], refl) }
-moved-stays s c (act.Call o) = record { heard = refl; messages = (message.Call c.turn o ∷ [], refl) }
-moved-stays s c (act.Calls os) = record { heard = refl; messages = (message.Calls c.turn os ∷ [], refl) }
-moved-stays s c (act.End r) = record { heard = refl; messages = ([], sym (append-nil c.messages)) }
+after_act-stays : (s : Step) (c : Seen) (a : Act) → Stays c (after_act s c a).0
+after_act-stays s c (act.Put v) = record { heard = refl; messages = ([], sym (append-nil c.messages)) }
+after_act-stays s c (act.Skip n) = record { heard = refl; messages = ([], sym (append-nil c.messages)) }
+after_act-stays s c (act.Notify o) = record { heard = refl; messages = (message.Notice o ∷ [], refl) }
+after_act-stays s c (act.Call o) = record { heard = refl; messages = (message.Call c.turn o ∷ [], refl) }
+after_act-stays s c (act.Calls os) = record { heard = refl; messages = (message.Calls c.turn os ∷ [], refl) }
+after_act-stays s c (act.End r) = record { heard = refl; messages = ([], sym (append-nil c.messages)) }
 
-pub stays_moved : (c d : Seen) (s : Step) → d ≡ (moved s c (act_of c.registers s)).0 → Stays c d
-stays_moved c d s is = let P : Seen → Type 0 = λ x. Stays c x in subst P (sym is) (moved-stays s c (act_of c.registers s))
+pub stays_moved : (c d : Seen) (s : Step) → d ≡ (after_act s c (act_of c.registers s)).0 → Stays c d
+stays_moved c d s is = let P : Seen → Type 0 = λ x. Stays c x in subst P (sym is) (after_act-stays s c (act_of c.registers s))
 
 -- ---- after the replies
 
-settled_by-runnable : (steps : List Step) (c : Seen) (s : Step) (r : Result Data Reply) → IsSettling steps c → Going ≡ (settled_by s c r).1 → IsRunnable steps (settled_by s c r).0
-settled_by-runnable steps c s (Ok v) h going = record { no_waits = h.no_waits; not_asked = refl; turns = h.turns }
-settled_by-runnable steps c s (Err r) h going = cc
+after_value-runnable : (steps : List Step) (c : Seen) (s : Step) (r : Result Data Reply) → IsSettling steps c → Going ≡ (after_value s c r).1 → IsRunnable steps (after_value s c r).0
+after_value-runnable steps c s (Ok v) h going = record { no_waits = h.no_waits; not_asked = refl; turns = h.turns }
+after_value-runnable steps c s (Err r) h going = cc
 
-pub settled_runnable : (steps : List Step) (c d : Seen) (s : Step) → IsSettling steps c → d ≡ (settled s c).0 → Going ≡ (settled s c).1 → IsRunnable steps d
-settled_runnable steps c d s h is going =
-    let P : Seen → Type 0 = λ x. IsRunnable steps x in subst P (sym is) (settled_by-runnable steps c s (answered s (replies_from (late_replies c) c.turn c.asked)) h going)
+pub after_replies_runnable : (steps : List Step) (c d : Seen) (s : Step) → IsSettling steps c → d ≡ (after_replies s c).0 → Going ≡ (after_replies s c).1 → IsRunnable steps d
+after_replies_runnable steps c d s h is going =
+    let P : Seen → Type 0 = λ x. IsRunnable steps x in subst P (sym is) (after_value-runnable steps c s (value_of_replies s (replies_from (late_replies c) c.turn c.asked)) h going)
 
-settled_by-stays : (c : Seen) (s : Step) (r : Result Data Reply) → Stays c (settled_by s c r).0
-settled_by-stays c s (Ok v) = record { heard = refl; messages = ([], sym (append-nil c.messages)) }
-settled_by-stays c s (Err r) = record { heard = refl; messages = ([], sym (append-nil c.messages)) }
+after_value-stays : (c : Seen) (s : Step) (r : Result Data Reply) → Stays c (after_value s c r).0
+after_value-stays c s (Ok v) = record { heard = refl; messages = ([], sym (append-nil c.messages)) }
+after_value-stays c s (Err r) = record { heard = refl; messages = ([], sym (append-nil c.messages)) }
 
-pub stays_settled : (c d : Seen) (s : Step) → d ≡ (settled s c).0 → Stays c d
-stays_settled c d s is = let P : Seen → Type 0 = λ x. Stays c x in subst P (sym is) (settled_by-stays c s (answered s (replies_from (late_replies c) c.turn c.asked)))
+pub stays_after_replies : (c d : Seen) (s : Step) → d ≡ (after_replies s c).0 → Stays c d
+stays_after_replies c d s is = let P : Seen → Type 0 = λ x. Stays c x in subst P (sym is) (after_value-stays c s (value_of_replies s (replies_from (late_replies c) c.turn c.asked)))
 
 -- no one waits once replies were put in
-settled_by-room : (c : Seen) (s : Step) (r : Result Data Reply) (course : Course) → HasRoomToWait (settled_by s c r).1 course
-settled_by-room c s (Ok v) course = tt
-settled_by-room c s (Err r) course = tt
+after_value-room : (c : Seen) (s : Step) (r : Result Data Reply) (course : Course) → HasRoomToWait (after_value s c r).1 course
+after_value-room c s (Ok v) course = tt
+after_value-room c s (Err r) course = tt
 
-pub settled_room : (c : Seen) (s : Step) (p : Progress) (course : Course) → p ≡ (settled s c).1 → HasRoomToWait p course
-settled_room c s p course halt =
-    let P : Progress → Type 0 = λ x. HasRoomToWait x course in subst P (sym halt) (settled_by-room c s (answered s (replies_from (late_replies c) c.turn c.asked)) course)
+pub after_replies_room : (c : Seen) (s : Step) (p : Progress) (course : Course) → p ≡ (after_replies s c).1 → HasRoomToWait p course
+after_replies_room c s p course halt =
+    let P : Progress → Type 0 = λ x. HasRoomToWait x course in subst P (sym halt) (after_value-room c s (value_of_replies s (replies_from (late_replies c) c.turn c.asked)) course)

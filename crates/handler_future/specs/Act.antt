@@ -1,8 +1,8 @@
 -- What a step does with the registers as they stand, by its kind. The replies to its calls are left aside here.
-use Rattle.std.specs.Prelude.{ℕ, ◌^◌, ◌+ℤ◌, ℤ, pos, negsuc, nat_lt, List, [], ◌∷◌, Option, Some, None, option_and_then, Result, Ok, Err, ok_or, Bool, if◌then◌else◌}
+use Rattle.std.specs.Prelude.{ℕ, ◌^◌, ◌+ℤ◌, ℤ, pos, negsuc, nat_lt, nat_le, length, List, [], ◌∷◌, Option, Some, None, option_and_then, Result, Ok, Err, ok_or, Bool, if◌then◌else◌}
 use Rattle.std.specs.Str.{bytes_eq}
-use Rattle.serde_json.specs.Data.{Data, null, boolean, number, string, array, object, Members}
-use Rattle.serde_json.specs.Find.{as_number, as_i64, of_integer}
+use Rattle.serde_json.specs.Data.{Data, null, boolean, number, string, array, object, Items, no_items, item, Members}
+use Rattle.serde_json.specs.Find.{as_number, as_i64, as_array, of_integer}
 use Rattle.serde_json.specs.Written.{compact_text}
 use Rattle.rpc_messages.specs.declared.outgoing.Outgoing.{Outgoing}
 use Rattle.rpc_messages.specs.declared.reply.Reply.TheVariants.{Done, Error, Standard as Fixed}
@@ -31,8 +31,8 @@ abbrev pub or_error : {A : Type 0} → Result A FillFault → Result A Standard
 or_error (Ok a) = Ok a
 or_error (Err e) = Err (error_at e)
 
-abbrev pub filled : Members → Shape → Result Data Standard
-filled registers t = or_error (value_of registers t)
+abbrev pub template_value : Members → Shape → Result Data Standard
+template_value registers t = or_error (value_of registers t)
 
 -- ---- sums
 
@@ -50,7 +50,7 @@ number_of z = if is_i64 z then Ok (number (of_integer z)) else Err InternalError
 -- both operands are filled, and then both are judged
 abbrev pub sum_of : Members → Shape → Shape → Result Data Standard
 sum_of registers left right =
-    and_then (filled registers left) (λ a. and_then (filled registers right) (λ b.
+    and_then (template_value registers left) (λ a. and_then (template_value registers right) (λ b.
     and_then (integer_in a) (λ x. and_then (integer_in b) (λ y. number_of (x +ℤ y)))))
 
 -- ---- skips
@@ -58,22 +58,22 @@ sum_of registers left right =
 -- whether both values have the same text with no space
 abbrev pub are_alike : Members → Shape → Shape → Result Bool Standard
 are_alike registers left right =
-    and_then (filled registers left) (λ a. and_then (filled registers right) (λ b. Ok (bytes_eq (compact_text a) (compact_text b))))
+    and_then (template_value registers left) (λ a. and_then (template_value registers right) (λ b. Ok (bytes_eq (compact_text a) (compact_text b))))
 
 -- ---- what goes out
 
 -- params are an array or an object (JSON-RPC 2.0, section 4.2)
-abbrev pub structured : Data → Result Data Standard
-structured null = Err InternalError
-structured (boolean b) = Err InternalError
-structured (number n) = Err InternalError
-structured (string s) = Err InternalError
-structured (array ds) = Ok (array ds)
-structured (object ms) = Ok (object ms)
+abbrev pub array_or_object : Data → Result Data Standard
+array_or_object null = Err InternalError
+array_or_object (boolean b) = Err InternalError
+array_or_object (number n) = Err InternalError
+array_or_object (string s) = Err InternalError
+array_or_object (array ds) = Ok (array ds)
+array_or_object (object ms) = Ok (object ms)
 
 abbrev pub params_from : Members → Option Shape → Result (Option Data) Standard
 params_from registers None = Ok None
-params_from registers (Some t) = and_then (filled registers t) (λ d. and_then (structured d) (λ e. Ok (Some e)))
+params_from registers (Some t) = and_then (template_value registers t) (λ d. and_then (array_or_object d) (λ e. Ok (Some e)))
 
 abbrev pub outgoing_of : Members → List ℕ → Option Shape → Result Outgoing Standard
 outgoing_of registers method params = and_then (params_from registers params) (λ p. Ok (record { method = method; params = p }))
@@ -84,18 +84,43 @@ outgoings_of registers [] = Ok []
 outgoings_of registers (c ∷ cs) =
     and_then (outgoing_of registers c.method c.params) (λ o. and_then (outgoings_of registers cs) (λ os. Ok (o ∷ os)))
 
+-- ---- one call for each element
+
+-- its params are the array of the element
+abbrev pub call_for : List ℕ → Data → Outgoing
+call_for method d = record { method = method; params = Some (array (item d no_items)) }
+
+abbrev pub calls_for : List ℕ → Items → List Outgoing
+calls_for method no_items = []
+calls_for method (item d ds) = call_for method d ∷ calls_for method ds
+
+-- an array has at most 16 elements; any other value is the caller's fault
+abbrev pub calls_for_array : List ℕ → Option Items → Result (List Outgoing) Standard
+calls_for_array method None = Err InvalidParams
+calls_for_array method (Some ds) = if nat_le (length (calls_for method ds)) 16 then Ok (calls_for method ds) else Err InvalidParams
+
+abbrev pub calls_for_each : List ℕ → Data → Result (List Outgoing) Standard
+calls_for_each method over = calls_for_array method (as_array over)
+
+-- no message for no call: the register gets the empty array at once
+abbrev pub act_of_calls : List Outgoing → Act
+act_of_calls [] = Put (array no_items)
+act_of_calls (o ∷ os) = Calls (o ∷ os)
+
 -- ---- steps
 
 -- each kind
-abbrev pub tried : Members → Step → Result Act Standard
-tried registers (step.Set to value) = and_then (filled registers value) (λ d. Ok (Put d))
-tried registers (step.Add to left right) = and_then (sum_of registers left right) (λ d. Ok (Put d))
-tried registers (step.Skip left right count) = and_then (are_alike registers left right) (λ alike. Ok (Skip (if alike then count else 0)))
-tried registers (step.Call to method params on_error) = and_then (outgoing_of registers method params) (λ o. Ok (Call o))
-tried registers (step.Calls to list on_error) = and_then (outgoings_of registers list) (λ os. Ok (Calls os))
-tried registers (step.Notify method params) = and_then (outgoing_of registers method params) (λ o. Ok (Notify o))
-tried registers (step.Answer value) = and_then (filled registers value) (λ d. Ok (End (Done d)))
-tried registers (step.Fail code message) = Ok (End (Error (record { code = code; message = message; extra = None })))
+abbrev pub act_or_error : Members → Step → Result Act Standard
+act_or_error registers (step.Set to value) = and_then (template_value registers value) (λ d. Ok (Put d))
+act_or_error registers (step.Add to left right) = and_then (sum_of registers left right) (λ d. Ok (Put d))
+act_or_error registers (step.Skip left right count) = and_then (are_alike registers left right) (λ alike. Ok (Skip (if alike then count else 0)))
+act_or_error registers (step.Call to method params on_error) = and_then (outgoing_of registers method params) (λ o. Ok (Call o))
+act_or_error registers (step.Calls to list on_error) = and_then (outgoings_of registers list) (λ os. Ok (Calls os))
+act_or_error registers (step.Each to over method on_error) =
+    and_then (template_value registers over) (λ d. and_then (calls_for_each method d) (λ os. Ok (act_of_calls os)))
+act_or_error registers (step.Notify method params) = and_then (outgoing_of registers method params) (λ o. Ok (Notify o))
+act_or_error registers (step.Answer value) = and_then (template_value registers value) (λ d. Ok (End (Done d)))
+act_or_error registers (step.Fail code message) = Ok (End (Error (record { code = code; message = message; extra = None })))
 
 abbrev pub or_end : Result Act Standard → Act
 or_end (Ok a) = a
@@ -103,4 +128,4 @@ or_end (Err s) = End (Fixed s)
 
 -- what the step does; its fault ends the method
 abbrev pub act_of : Members → Step → Act
-act_of registers s = or_end (tried registers s)
+act_of registers s = or_end (act_or_error registers s)

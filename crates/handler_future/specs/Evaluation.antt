@@ -10,7 +10,7 @@ use Rattle.handler_future.specs.declared.act.Act.TheVariants as act
 use Rattle.handler_future.specs.declared.message.Message.{Message}
 use Rattle.handler_future.specs.declared.message.Message.TheVariants as message
 use Rattle.handler_future.specs.Act.{act_of}
-use Rattle.handler_future.specs.Kept.{register_of, answered}
+use Rattle.handler_future.specs.ReplyValues.{register_of, value_of_replies}
 
 -- the reply to the call of each turn
 abbrev pub Replies : Type 0
@@ -37,9 +37,9 @@ replies_from R t zero = []
 replies_from R t (suc k) = R t ∷ replies_from R (t + 1) k
 
 -- the value goes into the step's register, or the reply ends the method
-abbrev pub settled : Step → Members → ℕ → Onward → Result Data Reply → Evaluation
-settled s registers t onward (Ok d) = onward 0 (put (register_of s) d registers) t
-settled s registers t onward (Err r) = ended r
+abbrev pub after_replies : Step → Members → ℕ → Onward → Result Data Reply → Evaluation
+after_replies s registers t onward (Ok d) = onward 0 (put (register_of s) d registers) t
+after_replies s registers t onward (Err r) = ended r
 
 -- what the step has done is told, and what follows it
 abbrev pub carried : Replies → Step → Members → ℕ → Onward → Act → Evaluation
@@ -47,9 +47,9 @@ carried R s registers t onward (act.Put d) = onward 0 (put (register_of s) d reg
 carried R s registers t onward (act.Skip n) = onward n registers t
 carried R s registers t onward (act.Notify o) = preceded (message.Notice o ∷ []) (onward 0 registers t)
 carried R s registers t onward (act.Call o) =
-    preceded (message.Call t o ∷ []) (settled s registers (t + 1) onward (answered s (replies_from R t 1)))
+    preceded (message.Call t o ∷ []) (after_replies s registers (t + 1) onward (value_of_replies s (replies_from R t 1)))
 carried R s registers t onward (act.Calls os) =
-    preceded (message.Calls t os ∷ []) (settled s registers (t + length os) onward (answered s (replies_from R t (length os))))
+    preceded (message.Calls t os ∷ []) (after_replies s registers (t + length os) onward (value_of_replies s (replies_from R t (length os))))
 carried R s registers t onward (act.End r) = ended r
 
 -- With these replies, so many steps to pass over, these steps left, these registers and this next turn.

@@ -1,5 +1,5 @@
 -- How far a method comes with the replies that were heard.
-use Rattle.std.specs.Prelude.{◌≡◌, ℕ, ◌==◌, Option, Some, None, is_some, unwrap_or, List, [], ◌∷◌, length, Bool, true, not, if◌then◌else◌}
+use Rattle.std.specs.Prelude.{◌≡◌, ℕ, ◌+◌, ◌<◌, ◌≤◌, ◌==◌, Option, Some, None, is_some, unwrap_or, List, [], ◌∷◌, length, Bool, true, not, if◌then◌else◌}
 use Rattle.std.specs.List.{filter, list_all, range_with_len}
 use Rattle.rpc_messages.specs.declared.reply.Reply.{Reply}
 use Rattle.rpc_messages.specs.declared.reply.Reply.TheVariants.{Standard}
@@ -42,6 +42,12 @@ until_waiting is_known (m ∷ ms) = m ∷ (if list_all is_known (turns_of m) the
 -- The messages that can be made with what was heard.
 abbrev pub front : Program → Heard → List Message
 front p heard = until_waiting (is_heard heard) (evaluation (heard_replies heard) p).messages
+
+-- it is no empty batch, and its turns lie in 1 to `most`
+abbrev pub HasTurnsUpTo : ℕ → Message → Type 0
+HasTurnsUpTo most (message.Call t o) = (1 ≤ t) × (t ≤ most)
+HasTurnsUpTo most (message.Calls t os) = (1 ≤ t) × (0 < length os) × (t + length os ≤ most + 1)
+HasTurnsUpTo most (message.Notice o) = Unit {0}
 
 -- those of the turns that weren't heard
 abbrev pub unheard : Heard → List ℕ → List ℕ

@@ -1,14 +1,9 @@
 pub mod Act
-pub mod Course
 pub mod Evaluation
-pub mod Fault
 pub mod Front
-pub mod Handler
-pub mod Kept
-pub mod Performed
+pub mod Inner
 pub mod Ready
 pub mod Rehearsed
+pub mod ReplyValues
 pub mod Results
-pub mod Running
-pub mod Standing
 pub mod State

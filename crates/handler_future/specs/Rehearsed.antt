@@ -1,15 +1,10 @@
 -- What a rehearsal answers: replies are known beforehand, some heard already and the others listed.
-use Rattle.std.specs.Prelude.{◌≡◌, ◌≢◌, ℕ, ◌++◌, false, Contains, unwrap_or, ⊤}
-use Rattle.std.specs.BTreeMap.{BTreeMap, get}
-use Rattle.std.specs.Ordering.{nat_cmp}
-use Rattle.rpc_messages.specs.declared.reply.Reply.{Reply}
-use Rattle.rpc_messages.specs.declared.reply.Reply.TheVariants.{Standard}
-use Rattle.rpc_messages.specs.declared.standard.Standard.TheVariants.{NoReply}
+use Rattle.std.specs.Prelude.{◌≡◌, ◌++◌, ⊤}
 use Rattle.handler_future.specs.declared.outcome.Outcome.{Outcome}
 use Rattle.handler_future.specs.declared.outcome.Outcome.TheVariants.{Answer, Failed}
 use Rattle.handler_future.specs.Evaluation.{Replies, evaluation}
-use Rattle.handler_future.specs.Front.{Heard, AgreesWith, is_heard, heard_replies}
-use Rattle.handler_future.specs.State.{HandlerState, with_heard}
+use Rattle.handler_future.specs.Front.{Heard, heard_replies}
+use Rattle.handler_future.specs.State.{HandlerState}
 
 -- the answer is that of the evaluation with these replies
 abbrev pub AnswersBy : Replies → HandlerState → Outcome → Type 0
@@ -19,20 +14,3 @@ AnswersBy R s Failed = ⊤
 -- The reply to each call is the one that was heard, else the first listed for its turn, else `No reply`.
 abbrev pub IsRehearsed : HandlerState → Heard → Outcome → Type 0
 IsRehearsed s listed outcome = AnswersBy (heard_replies (s.heard ++ listed)) s outcome
-
--- ---- on the way
-
-abbrev pub listed_reply : BTreeMap ℕ Reply → ℕ → Reply
-listed_reply listed t = unwrap_or (get nat_cmp listed t) (Standard NoReply)
-
--- the map gives each turn that was heard its reply, and each other one the listed reply
-pub record Follows (R : Replies) (s : HandlerState) (listed : BTreeMap ℕ Reply) : Type 0 where
-  pub agrees : AgreesWith s.heard R
-  pub rest : (t : ℕ) → is_heard s.heard t ≡ false → listed_reply listed t ≡ R t
-
--- an awaited turn hears its listed reply, which is taken off the list
-pub record HearsOne (before after : HandlerState) (listed left : BTreeMap ℕ Reply) : Type 0 where
-  pub turn : ℕ
-  pub awaited : Contains before.waits turn
-  pub state : after ≡ with_heard before turn (listed_reply listed turn)
-  pub others : (t : ℕ) → turn ≢ t → get nat_cmp left t ≡ get nat_cmp listed t

@@ -1,13 +1,14 @@
 //! What a step does with the registers as they stand, its replies left aside.
 
 ghost use Rattle.std.specs.Prelude.{◌≡◌, ◌+ℤ◌, IfOk};
-ghost use Rattle.handler_future.specs.Act.{act_of, tried, filled, sum_of, number_of, integer_in, are_alike, outgoing_of, structured, outgoings_of};
-ghost use Rattle.handler_future.specs.Fault.{Gives, GivesItems};
+ghost use Rattle.handler_future.specs.Act.{act_of, act_or_error, template_value, sum_of, number_of, integer_in, are_alike, outgoing_of, array_or_object, outgoings_of, act_of_calls};
+ghost use Rattle.handler_future.specs.Inner.Fault.{Gives, GivesItems};
 
+use crate::each::calls_for_each;
 use crate::fault::StepFault;
-use lsp_frames::Items;
+use json_values::{Items, Json, JsonArray, Text};
 use method_steps::{FillFault, ListedCall, Registers, Step, Template, fill};
-use rpc_messages::{ErrorValue, Json, Outgoing, Reply, Standard, Text};
+use rpc_messages::{ErrorValue, Outgoing, Reply, Standard};
 use std::alloc::{AllocError, Global};
 
 /// What one step does.
@@ -39,10 +40,10 @@ pub(crate) fn decide(alloc: Global, step: &Step, registers: &Registers) -> Resul
 }
 
 fn try_decide(alloc: Global, step: &Step, registers: &Registers) -> Result<Act, StepFault>
-    ensures { Gives (tried registers.now step.now) result }
+    ensures { Gives (act_or_error registers.now step.now) result }
 {
     match step {
-        Step::Set { value, .. } => Ok(Act::Put(filled(alloc, value, registers)?)),
+        Step::Set { value, .. } => Ok(Act::Put(template_value(alloc, value, registers)?)),
         Step::Add { left, right, .. } => Ok(Act::Put(sum(alloc, left, right, registers)?)),
         Step::Skip { left, right, count } => if are_alike(alloc, left, right, registers)? {
             Ok(Act::Skip(*count))
@@ -56,10 +57,16 @@ fn try_decide(alloc: Global, step: &Step, registers: &Registers) -> Result<Act, 
             let calls = all_outgoing(alloc, list.as_slice(), registers)?;
             Ok(Act::Calls(Items::from(calls)))
         }
+        Step::Each { over, method, .. } => {
+            let over = template_value(alloc, over, registers)?;
+            Ok(act_of_calls(alloc, calls_for_each(alloc, method, &over)?))
+        }
         Step::Notify { method, params } => {
             Ok(Act::Notify(outgoing(alloc, method, params, registers)?))
         }
-        Step::Answer { value } => Ok(Act::End(Reply::Done(filled(alloc, value, registers)?))),
+        Step::Answer { value } => Ok(Act::End(Reply::Done(template_value(
+            alloc, value, registers,
+        )?))),
         Step::Fail { code, message } => Ok(Act::End(Reply::Error(ErrorValue {
             code: *code,
             message: message.clone()?,
@@ -68,8 +75,12 @@ fn try_decide(alloc: Global, step: &Step, registers: &Registers) -> Result<Act, 
     }
 }
 
-fn filled(alloc: Global, template: &Template, registers: &Registers) -> Result<Json, StepFault>
-    ensures { Gives (filled registers.now template.now) result }
+fn template_value(
+    alloc: Global,
+    template: &Template,
+    registers: &Registers,
+) -> Result<Json, StepFault>
+    ensures { Gives (template_value registers.now template.now) result }
 {
     match fill(alloc, template, registers) {
         Ok(value) => Ok(value),
@@ -88,14 +99,14 @@ fn sum(
 ) -> Result<Json, StepFault>
     ensures { Gives (sum_of registers.now left.now right.now) result }
 {
-    let left = filled(alloc, left, registers)?;
-    let right = filled(alloc, right, registers)?;
+    let left = template_value(alloc, left, registers)?;
+    let right = template_value(alloc, right, registers)?;
     let left = integer(&left)?;
     let right = integer(&right)?;
-    added(left, right)
+    sum_in_range(left, right)
 }
 
-fn added(left: i64, right: i64) -> Result<Json, StepFault>
+fn sum_in_range(left: i64, right: i64) -> Result<Json, StepFault>
     ensures { Gives (number_of (left +ℤ right)) result }
 {
     match left.checked_add(right) {
@@ -122,8 +133,8 @@ fn are_alike(
 ) -> Result<bool, StepFault>
     ensures { Gives (are_alike registers.now left.now right.now) result }
 {
-    let left = filled(alloc, left, registers)?;
-    let right = filled(alloc, right, registers)?;
+    let left = template_value(alloc, left, registers)?;
+    let right = template_value(alloc, right, registers)?;
     Ok(left.has_text_of(alloc, &right)?)
 }
 
@@ -137,7 +148,7 @@ fn outgoing(
     ensures { Gives (outgoing_of registers.now method.now params.now) result }
 {
     let params = match params {
-        Some(params) => Some(structured(filled(alloc, params, registers)?)?),
+        Some(params) => Some(array_or_object(template_value(alloc, params, registers)?)?),
         None => None,
     };
     Ok(Outgoing {
@@ -146,8 +157,8 @@ fn outgoing(
     })
 }
 
-fn structured(value: Json) -> Result<Json, StepFault>
-    ensures { Gives (structured value) result }
+fn array_or_object(value: Json) -> Result<Json, StepFault>
+    ensures { Gives (array_or_object value) result }
 {
     let is_structured = value.as_value().is_array() || value.as_value().is_object();
     if is_structured {
@@ -170,4 +181,15 @@ fn all_outgoing(
         calls.push_reserved(call);
     }
     Ok(calls)
+}
+
+/// Makes the calls. For none there is no message, and the register gets an empty array at once.
+fn act_of_calls(alloc: Global, calls: Vec<Outgoing>) -> Act
+    ensures { result ≡ act_of_calls calls.items }
+{
+    if calls.is_empty() {
+        Act::Put(JsonArray::new(alloc).finish())
+    } else {
+        Act::Calls(Items::from(calls))
+    }
 }

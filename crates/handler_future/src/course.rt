@@ -4,17 +4,18 @@ ghost use Rattle.std.specs.Prelude.{◌≡◌, ◌≢◌, ◌+◌, ◌≤◌, �
 ghost use Rattle.std.specs.List.{range_with_len};
 ghost use Rattle.method_steps.specs.Steps.{AreWithinLimits, KeepsLimits, calls_in};
 ghost use Rattle.handler_future.specs.Act.{act_of};
-ghost use Rattle.handler_future.specs.Course.{seen, with_value, with_notice, asking, moved, settled, HasRoom};
-ghost use Rattle.handler_future.specs.Kept.{register_of};
+ghost use Rattle.handler_future.specs.Inner.Course.{seen, with_value, with_notice, asking, after_act, after_replies, HasRoom};
+ghost use Rattle.handler_future.specs.ReplyValues.{register_of};
 ghost use Rattle.handler_future.specs.Evaluation.{Program};
-ghost use Rattle.handler_future.specs.Running.{Stays, IsReady, IsRunnable, HasRoomToWait};
-ghost use Rattle.handler_future.specs.Standing.{StandsBefore, IsUnderWay, Leads, Begins};
+ghost use Rattle.handler_future.specs.Inner.Running.{Stays, Extends, IsReady, IsRunnable, HasRoomToWait};
+ghost use Rattle.handler_future.specs.Inner.Standing.{StandsBefore, IsUnderWay, Leads, Begins};
 
 use crate::act::{Act, decide};
-use crate::kept::kept;
 use crate::message::Message;
+use crate::reply_values::value_of_replies;
+use json_values::Json;
 use method_steps::{Registers, Step};
-use rpc_messages::{Json, Outgoing, Reply};
+use rpc_messages::{Outgoing, Reply};
 use std::alloc::{AllocError, Global};
 
 /// Where a method stands. Its deep parts are parameters, so that whether it may go to another thread is asked of each part
@@ -29,7 +30,7 @@ pub(crate) struct CourseOf<R, M, H> {
     /// How many calls were made at this place.
     pub(crate) asked: u32,
     /// How many replies were heard before those calls.
-    pub(crate) settled: usize,
+    pub(crate) heard_before: usize,
     pub(crate) messages: M,
     pub(crate) waits: Vec<u32>,
     pub(crate) heard: H,
@@ -59,12 +60,13 @@ pub(crate) fn proceed(
     ensures err { OnErr result ((program : Program) → program.steps ≡ steps.now
         → IsUnderWay program (seen course.old) → Begins program (seen course.new)) }
     ensures stays { Stays (seen course.old) (seen course.new) }
+    ensures adds { Extends result (seen course.old) (seen course.new) }
     ensures room { IfOk result (λ progress. HasRoomToWait progress course.new) }
 {
     if course.asked == 0 {
         return run(alloc, steps, course);
     }
-    match settle(alloc, &steps[course.place], course)? {
+    match take_replies(alloc, &steps[course.place], course)? {
         Progress::Going => run(alloc, steps, course),
         halt => Ok(halt),
     }
@@ -79,6 +81,7 @@ fn run(alloc: Global, steps: &[Step], course: &mut Course) -> Result<Progress, A
     ensures err { OnErr result ((program : Program) → program.steps ≡ steps.now
         → StandsBefore program (seen course.old) → Begins program (seen course.new)) }
     ensures stays { Stays (seen course.old) (seen course.new) }
+    ensures adds { Extends result (seen course.old) (seen course.new) }
     ensures room { IfOk result (λ progress. HasRoomToWait progress course.new) }
 {
     'steps: while course.place < steps.len() {
@@ -97,9 +100,9 @@ fn follow(alloc: Global, step: &Step, course: &mut Course) -> Result<Progress, A
     requires turns { course.old.turn + calls_in step.now ≤ 1025 }
     requires no_waits { course.old.waits.items ≡ [] }
     ensures course { OnOk result (seen course.new
-        ≡ (moved step.now (seen course.old) (act_of course.old.registers step.now)).0) }
+        ≡ (after_act step.now (seen course.old) (act_of course.old.registers step.now)).0) }
     ensures progress { IfOk result (λ progress. progress
-        ≡ (moved step.now (seen course.old) (act_of course.old.registers step.now)).1) }
+        ≡ (after_act step.now (seen course.old) (act_of course.old.registers step.now)).1) }
     ensures err { OnErr result (seen course.new ≡ seen course.old) }
     ensures room { IfOk result (λ progress. HasRoomToWait progress course.new) }
 {
@@ -155,7 +158,7 @@ fn ask(course: &mut Course, message: Message, calls: u32) -> Result<Progress, Al
     course.messages.push(message)?;
     push_turns(&mut course.waits, course.turn, calls);
     course.asked = calls;
-    course.settled = course.heard.len();
+    course.heard_before = course.heard.len();
     Ok(Progress::Waiting)
 }
 
@@ -171,17 +174,17 @@ fn push_turns(waits: &mut Vec<u32>, turn: u32, calls: u32)
 }
 
 /// Puts the replies to the step's calls into its register, or ends with an error among them.
-fn settle(alloc: Global, step: &Step, course: &mut Course) -> Result<Progress, AllocError>
+fn take_replies(alloc: Global, step: &Step, course: &mut Course) -> Result<Progress, AllocError>
     requires place { course.old.place < 64 }
     requires turns { course.old.turn + course.old.asked ≤ 1025 }
     requires asked { 0 < course.old.asked }
-    requires heard { course.old.settled ≤ length course.old.heard.items }
-    ensures course { OnOk result (seen course.new ≡ (settled step.now (seen course.old)).0) }
-    ensures progress { IfOk result (λ progress. progress ≡ (settled step.now (seen course.old)).1) }
+    requires heard { course.old.heard_before ≤ length course.old.heard.items }
+    ensures course { OnOk result (seen course.new ≡ (after_replies step.now (seen course.old)).0) }
+    ensures progress { IfOk result (λ progress. progress ≡ (after_replies step.now (seen course.old)).1) }
     ensures err { OnErr result (seen course.new ≡ seen course.old) }
 {
-    let heard = &course.heard.as_slice()[course.settled..];
-    match kept(alloc, step, heard, course.turn, course.asked)? {
+    let heard = &course.heard.as_slice()[course.heard_before..];
+    match value_of_replies(alloc, step, heard, course.turn, course.asked)? {
         Ok(value) => {
             course.registers.set(register_of(step), value)?;
             course.place += 1;
@@ -201,7 +204,8 @@ pub(crate) fn register_of(step: &Step) -> &str
         Step::Set { to, .. }
         | Step::Add { to, .. }
         | Step::Call { to, .. }
-        | Step::Calls { to, .. } => to.as_str(),
+        | Step::Calls { to, .. }
+        | Step::Each { to, .. } => to.as_str(),
         _ => "",
     }
 }

@@ -4,22 +4,23 @@
 mod act;
 mod awaiting;
 mod course;
-mod evaluation;
+mod each;
 mod fault;
 mod handler;
-mod kept;
 mod law;
 mod listed;
 mod message;
 mod outcome;
+mod phase;
 mod rehearsal;
-#[cfg(test)]
-mod tests;
+mod reply_values;
 
 pub use awaiting::Awaiting;
-pub use evaluation::{Evaluation, evaluate};
 pub use handler::Handler;
-pub use law::{earlier_replies_decide, front_is_the_same_under_every_map};
+pub use law::{
+    earlier_replies_decide, front_begins_the_messages, front_is_the_same_under_every_map,
+    turns_lie_within_the_calls,
+};
 pub use message::Message;
 pub use outcome::{NotWaiting, Outcome};
 pub use rehearsal::Rehearsal;

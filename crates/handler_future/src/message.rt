@@ -1,4 +1,4 @@
-use lsp_frames::Items;
+use json_values::Items;
 use rpc_messages::Outgoing;
 
 /// What a handler sends to the other side.

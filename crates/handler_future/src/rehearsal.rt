@@ -1,8 +1,11 @@
 //! A handler run to its end with replies that are known beforehand.
 
+ghost use Rattle.futures.specs.Task.{Keeps};
 ghost use Rattle.std.specs.Prelude.{◌≡◌};
+ghost use Rattle.handler_future.specs.Ready.{IsReadyWith};
 ghost use Rattle.handler_future.specs.Evaluation.{Replies};
-ghost use Rattle.handler_future.specs.Rehearsed.{AnswersBy, IsRehearsed, Follows, HearsOne, listed_reply};
+ghost use Rattle.handler_future.specs.Rehearsed.{AnswersBy, IsRehearsed};
+ghost use Rattle.handler_future.specs.Inner.Rehearsing.{Follows, HearsOne, listed_reply};
 ghost use Rattle.handler_future.specs.State.{IsWaiting};
 ghost use Rattle.std.specs.BTreeMap.{get};
 ghost use Rattle.std.specs.Ordering.{nat_cmp};
@@ -46,7 +49,11 @@ impl Future for Rehearsal {
 
     ghost gives = { λ rehearsal outcome. IsRehearsed rehearsal.handler rehearsal.replies.items outcome };
 
-    fn poll(&mut self, _cx: &mut Context<'_>) -> Poll<Outcome> {
+    fn poll(&mut self, _cx: &mut Context<'_>) -> Poll<Outcome>
+        ensures ready { IsReadyWith result
+            (λ outcome. IsRehearsed self.old.handler self.old.replies.items outcome) }
+        ensures kept { Keeps _cx.old _cx.new }
+    {
         let replies = mem::replace(&mut self.replies, Vec::new(self.alloc));
         match first_replies(self.alloc, replies) {
             Ok(listed) => Poll::Ready(rehearse(&mut self.handler, listed)),

@@ -1,14 +1,16 @@
-use Rattle.std.proofs.Common.{◌≡◌, ◌-◌, length}
-use Rattle.handler_future.specs.Course.{seen}
+use Rattle.std.proofs.Common.{◌≡◌, ◌-◌, [], length}
+use Rattle.handler_future.specs.Inner.Course.{seen}
 use Rattle.handler_future.specs.Evaluation.{Program}
-use Rattle.handler_future.specs.Running.{Stays, IsRunnable}
-use Rattle.handler_future.specs.Standing.{StandsBefore}
+use Rattle.handler_future.specs.Inner.Running.{Stays, IsRunnable}
+use Rattle.handler_future.specs.Inner.Standing.{StandsBefore}
+use Rattle.handler_future.specs.State.{AddsNotices}
 use Rattle.handler_future.proofs.course.run.Given as goal
 
 abbrev pub invariant-steps : goal.invariant-steps
 invariant-steps l = record {
   stands : (program : Program) → program.steps ≡ l.steps → StandsBefore program (seen l.initial.course) → StandsBefore program (seen l.course);
   stays : Stays (seen l.initial.course) (seen l.course);
+  adds : AddsNotices l.initial.course.messages.items l.course.messages.items [];
   runnable : IsRunnable l.steps (seen l.course);
 }
 

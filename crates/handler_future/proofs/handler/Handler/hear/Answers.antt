@@ -1,11 +1,13 @@
 use Rattle.std.proofs.Common.{◌≡◌, ℕ, ◌<◌, ◌==◌, List, length, not, true, sym, ap, ◌∙◌, subst, arith}
 use Rattle.std.specs.List.{filter, list_any}
-use Rattle.handler_future.specs.Course.{Seen, seen}
+use Rattle.handler_future.specs.Inner.Course.{Seen, seen}
 use Rattle.handler_future.specs.Evaluation.{Program}
-use Rattle.handler_future.specs.Front.{Heard}
-use Rattle.handler_future.specs.Handler.{program_of}
-use Rattle.handler_future.specs.Standing.{Stands}
+use Rattle.handler_future.specs.Inner.Handler.{program_of}
+use Rattle.handler_future.specs.Inner.Standing.{Stands}
+use Rattle.handler_future.specs.Front.{Heard, unheard, last_turns}
+use Rattle.handler_future.specs.State.{HandlerState}
 use Rattle.handler_future.proofs.Hearing.{hearing, stands-hears, fewer-wait}
+use Rattle.handler_future.proofs.Polls.{stands-waits}
 use Rattle.handler_future.proofs.handler.Handler.hear.Goals as goal
 
 pub invariant_of-self : goal.invariant_of-self
@@ -18,7 +20,7 @@ invariant_of-self c =
     let any : list_any (λ u. u == t) now.waits ≡ true = ap (list_any (λ u. u == t)) (sym slice) ∙ sym c.contains.ensures.value ∙ c.if-not-contains.false in
     let waits : c.drop_turn.new.waits.items ≡ filter (λ u. not (u == t)) now.waits = c.drop_turn.ensures in
     let heard : c.push_reserved.new.self.items ≡ (hearing t c.args.reply now).heard = c.push_reserved.ensures.items in
-    let S : List ℕ → Heard → Type 0 = λ ws hs. Stands p h.is_over (record now { waits = ws; heard = hs }) in
+    let S : List ℕ → Heard → Type 0 = λ ws hs. Stands p h.phase (record now { waits = ws; heard = hs }) in
     let P : List ℕ → Type 0 = λ ws. S ws (hearing t c.args.reply now).heard in
     let Q : Heard → Type 0 = λ hs. S c.drop_turn.new.waits.items hs in
     let few = fewer-wait now.waits t any in
@@ -30,5 +32,26 @@ invariant_of-self c =
     record {
       limits = c.self.invariant.limits;
       room = λ _. omega arith;
-      stands = subst Q (sym heard) (subst P (sym waits) (stands-hears p h.is_over now t c.args.reply c.self.invariant.stands any));
+      stands = subst Q (sym heard) (subst P (sym waits) (stands-hears p h.phase now t c.args.reply c.self.invariant.stands any));
     }
+
+-- one that isn't awaited changes nothing
+pub returns-then-not-contains-clause-waits : goal.returns-then-not-contains-clause-waits
+returns-then-not-contains-clause-waits c =
+    let h = c.self.inside in
+    let P : HandlerState → Type 0 = λ s. s.waits ≡ unheard s.heard (last_turns s.messages) in
+    subst P c.self.view_is (stands-waits (program_of h) h.phase (seen h.course) c.self.invariant.stands)
+
+pub returns-clause-waits : goal.returns-clause-waits
+returns-clause-waits c =
+    let h = c.self.inside in
+    let p : Program = program_of h in
+    let now : Seen = seen h.course in
+    let t = c.args.turn in
+    let slice : c.as_slice.result.now ≡ now.waits = c.as_slice.ensures.value in
+    let any : list_any (λ u. u == t) now.waits ≡ true = ap (list_any (λ u. u == t)) (sym slice) ∙ sym c.contains.ensures.value ∙ c.if-not-contains.false in
+    let waits : c.drop_turn.new.waits.items ≡ filter (λ u. not (u == t)) now.waits = c.drop_turn.ensures in
+    let heard : c.push_reserved.new.self.items ≡ (hearing t c.args.reply now).heard = c.push_reserved.ensures.items in
+    let P : List ℕ → Type 0 = λ ws. ws ≡ unheard (hearing t c.args.reply now).heard (last_turns now.messages) in
+    let Q : Heard → Type 0 = λ hs. c.drop_turn.new.waits.items ≡ unheard hs (last_turns now.messages) in
+    subst Q (sym heard) (subst P (sym waits) (stands-waits p h.phase (hearing t c.args.reply now) (stands-hears p h.phase now t c.args.reply c.self.invariant.stands any)))

@@ -1,0 +1,10 @@
+/// Where a handler stands.
+#[derive(Clone, Copy, Debug)]
+pub(crate) enum Phase {
+    /// It waits for replies, or for its next poll.
+    UnderWay,
+    /// A poll has answered.
+    Answered,
+    /// A poll has found no memory.
+    Failed,
+}

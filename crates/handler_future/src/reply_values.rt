@@ -1,0 +1,122 @@
+//! What a register holds of the replies to a step's calls.
+
+ghost use Rattle.std.specs.Prelude.{◌≡◌, ◌+◌, ◌≤◌, ◌<◌, IfOk, option_copied};
+ghost use Rattle.handler_future.specs.Evaluation.{replies_from};
+ghost use Rattle.handler_future.specs.Front.{heard_replies, find_heard};
+ghost use Rattle.handler_future.specs.ReplyValues.{kept_reply, kept_result, kept_error, kept_array, value_of_replies};
+
+use json_values::{Json, JsonArray, JsonObject};
+use method_steps::{OnError, Step};
+use rpc_messages::{ErrorValue, Reply, Standard};
+use std::alloc::{AllocError, Global};
+
+/// What the replies to a step's calls leave, those of this many turns from this one on: a value for the step's register, or
+/// the error reply that ends the method.
+pub(crate) fn value_of_replies(
+    alloc: Global,
+    step: &Step,
+    heard: &[(u32, Reply)],
+    turn: u32,
+    calls: u32,
+) -> Result<Result<Json, Reply>, AllocError>
+    requires turns { turn + calls ≤ 1025 }
+    requires some { 0 < calls }
+    ensures { IfOk result (λ value. value ≡ value_of_replies step.now (replies_from (heard_replies heard.now) turn calls)) }
+{
+    match step {
+        Step::Call { on_error, .. } => kept_turn(alloc, *on_error, heard, turn),
+        Step::Calls { on_error, .. } | Step::Each { on_error, .. } => {
+            kept_values(alloc, *on_error, heard, turn, calls)
+        }
+        _ => kept_values(alloc, OnError::Fail, heard, turn, calls),
+    }
+}
+
+/// The value of a call's register, or the error reply that ends the method.
+fn kept_value(
+    alloc: Global,
+    on_error: OnError,
+    reply: &Reply,
+) -> Result<Result<Json, Reply>, AllocError>
+    ensures { IfOk result (λ value. value ≡ kept_reply on_error reply.now) }
+{
+    match (on_error, reply) {
+        (OnError::Fail, Reply::Done(value)) => Ok(Ok(value.clone()?)),
+        (OnError::Fail, error) => Ok(Err(error.clone()?)),
+        (OnError::Keep, Reply::Done(value)) => Ok(Ok(kept_result(alloc, value)?)),
+        (OnError::Keep, Reply::Error(error)) => Ok(Ok(kept_error(alloc, error)?)),
+        (OnError::Keep, Reply::Standard(standard)) => {
+            Ok(Ok(kept_error(alloc, &standard.to_error(alloc)?)?))
+        }
+    }
+}
+
+fn kept_result(alloc: Global, value: &Json) -> Result<Json, AllocError>
+    ensures { IfOk result (λ object. object ≡ kept_result value.now) }
+{
+    Ok(
+        JsonObject::new(alloc)
+            .with(alloc, "ok", Json::boolean(true))?
+            .with(alloc, "result", value.clone()?)?
+            .finish(),
+    )
+}
+
+fn kept_error(alloc: Global, error: &ErrorValue) -> Result<Json, AllocError>
+    ensures { IfOk result (λ object. object ≡ kept_error error.now) }
+{
+    Ok(
+        JsonObject::new(alloc)
+            .with(alloc, "error", error.to_json(alloc)?)?
+            .with(alloc, "ok", Json::boolean(false))?
+            .finish(),
+    )
+}
+
+/// What a batch of calls leaves: the values of its replies in the order of their turns, or the first error reply.
+fn kept_values(
+    alloc: Global,
+    on_error: OnError,
+    heard: &[(u32, Reply)],
+    turn: u32,
+    calls: u32,
+) -> Result<Result<Json, Reply>, AllocError>
+    requires { turn + calls ≤ 1025 }
+    ensures { IfOk result (λ values. values ≡ kept_array on_error (replies_from (heard_replies heard.now) turn calls)) }
+{
+    let mut values = JsonArray::new(alloc);
+    for called in turn..turn + calls {
+        match kept_turn(alloc, on_error, heard, called)? {
+            Ok(value) => values.push(value)?,
+            Err(error) => return Ok(Err(error)),
+        }
+    }
+    Ok(Ok(values.finish()))
+}
+
+/// What the reply to the call of this turn leaves.
+fn kept_turn(
+    alloc: Global,
+    on_error: OnError,
+    heard: &[(u32, Reply)],
+    turn: u32,
+) -> Result<Result<Json, Reply>, AllocError>
+    ensures { IfOk result (λ value. value ≡ kept_reply on_error (heard_replies heard.now turn)) }
+{
+    match heard_reply(heard, turn) {
+        Some(reply) => kept_value(alloc, on_error, reply),
+        None => kept_value(alloc, on_error, &Reply::Standard(Standard::NoReply)),
+    }
+}
+
+/// The reply to the call of this turn.
+fn heard_reply(heard: &[(u32, Reply)], turn: u32) -> Option<&Reply>
+    ensures { option_copied result ≡ find_heard heard.now turn }
+{
+    for entry in heard {
+        if entry.0 == turn {
+            return Some(&entry.1);
+        }
+    }
+    None
+}

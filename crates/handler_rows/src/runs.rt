@@ -1,0 +1,321 @@
+//! What no clause says: that the definitions are those of the reference, and that calls succeed.
+
+mod courses;
+mod each;
+mod large;
+mod opening;
+mod orders;
+mod polls;
+mod threads;
+
+use futures::executor::block_on;
+use handler_future::{Handler, Message, Outcome, Rehearsal};
+use json_values::Items;
+use lsp_frames::Frame;
+use method_steps::Table;
+use rpc_messages::{
+    Call, Entry, Id, Outgoing, Params, Reply, Standard, Unit, answer_text, call_text, calls_text,
+    notice_text, read_unit,
+};
+use std::alloc::{AllocError, AllocGlobal, Global};
+use std::process::Abort;
+use std::random::RandomSource;
+use std::sync::{Arc, Wait};
+use std::test::Fail;
+
+/// The methods of most tests.
+const TABLE: &str = r#"version = 1
+
+[[method]]
+name = "add"
+[[method.step]]
+kind = "add"
+to = "s"
+left = "$params/0"
+right = "$params/1"
+[[method.step]]
+kind = "answer"
+value = "$s"
+
+[[method]]
+name = "ask"
+[[method.step]]
+kind = "call"
+to = "r"
+method = "confirm"
+params = ["$params/0"]
+[[method.step]]
+kind = "answer"
+value = "$r"
+
+[[method]]
+name = "two"
+[[method.step]]
+kind = "calls"
+to = "r"
+list = [{ method = "a" }, { method = "b" }]
+[[method.step]]
+kind = "answer"
+value = "$r"
+
+[[method]]
+name = "gate"
+[[method.step]]
+kind = "call"
+to = "r"
+method = "confirm"
+[[method.step]]
+kind = "skip"
+left = "$r"
+right = true
+count = 1
+[[method.step]]
+kind = "fail"
+code = 7
+message = "no"
+[[method.step]]
+kind = "answer"
+value = "yes"
+
+[[method]]
+name = "keep"
+[[method.step]]
+kind = "call"
+to = "r"
+method = "confirm"
+on_error = "keep"
+[[method.step]]
+kind = "answer"
+value = "$r"
+
+[[method]]
+name = "note"
+[[method.step]]
+kind = "notify"
+method = "log"
+params = ["$params/0"]
+"#;
+
+fn table(alloc: Global, text: &str) -> Result<Table, Fail> {
+    Ok(Table::read(alloc, text.as_bytes()).ok().ok_or("no table")?)
+}
+
+fn entry(alloc: Global, content: &str) -> Result<Entry, Fail> {
+    let frame = Frame {
+        content: Items::from(content.as_bytes().to_vec(alloc)?),
+        foreign: false,
+    };
+    match read_unit(alloc, &frame)? {
+        Unit::Single(entry) => Ok(entry),
+        _ => Err("no single entry")?,
+    }
+}
+
+/// The call that a content is.
+fn call(alloc: Global, content: &str) -> Result<Arc<Call>, Fail> {
+    match entry(alloc, content)? {
+        Entry::Call(call) => Ok(call),
+        _ => Err("no call")?,
+    }
+}
+
+/// The turn and the reply that a content is.
+fn reply(alloc: Global, content: &str) -> Result<(u32, Reply), Fail> {
+    match entry(alloc, content)? {
+        Entry::Reply { turn, reply, .. } => Ok((turn, reply)),
+        _ => Err("no reply")?,
+    }
+}
+
+/// The replies of a text, one on each line.
+fn replies(alloc: Global, lines: &str) -> Result<Vec<(u32, Reply)>, Fail> {
+    let mut all = Vec::new(alloc);
+    for line in lines.lines() {
+        all.push(reply(alloc, line)?)?;
+    }
+    Ok(all)
+}
+
+/// Handler 1 of the call's method.
+fn handler(alloc: Global, table: &Table, content: &str) -> Result<Handler, Fail> {
+    let call = call(alloc, content)?;
+    let method = table.find(call.method.as_str()).ok_or("no such method")?;
+    if method >= table.len() || matches!(&call.params, Params::Fractional) {
+        return Err("no such call")?;
+    }
+    Ok(Handler::new(alloc, table, method, 1, call)?)
+}
+
+/// The handler's messages and its answer as they are sent, one on each line; a notification has no answer.
+fn told(
+    alloc: Global,
+    handler: &Handler,
+    id: &Option<Id>,
+    answer: &Reply,
+) -> Result<Vec<u8>, Fail> {
+    let mut lines = Vec::new(alloc);
+    let number = handler.number();
+    for message in handler.messages() {
+        let text = match message {
+            Message::Call(turn, outgoing) => call_text(alloc, number, *turn, outgoing)?,
+            Message::Calls(first, list) => batch(alloc, number, *first, list.as_slice())?,
+            Message::Notice(outgoing) => notice_text(alloc, outgoing)?,
+        };
+        lines.extend_from_slice(text.as_slice())?;
+        lines.push(b'\n')?;
+    }
+    if let Some(id) = id {
+        lines.extend_from_slice(answer_text(alloc, id, answer)?.as_slice())?;
+        lines.push(b'\n')?;
+    }
+    Ok(lines)
+}
+
+fn batch(alloc: Global, number: u32, first: u32, list: &[Outgoing]) -> Result<Vec<u8>, Fail> {
+    if list.is_empty() || list.len() > 16 || first > 1_009 {
+        return Err("a batch of calls out of range")?;
+    }
+    Ok(calls_text(alloc, number, first, list)?)
+}
+
+/// In which order a handler hears the replies to the calls that it awaits.
+struct Order {
+    from_the_last: bool,
+    polled_between: bool,
+}
+
+const ORDERS: &[Order] = &[
+    Order {
+        from_the_last: false,
+        polled_between: false,
+    },
+    Order {
+        from_the_last: true,
+        polled_between: false,
+    },
+    Order {
+        from_the_last: false,
+        polled_between: true,
+    },
+    Order {
+        from_the_last: true,
+        polled_between: true,
+    },
+];
+
+/// The first of the replies that stands with the turn.
+fn reply_of(replies: &[(u32, Reply)], turn: u32) -> Result<Reply, AllocError> {
+    for (listed, reply) in replies {
+        if *listed == turn {
+            return reply.clone();
+        }
+    }
+    Ok(Reply::Standard(Standard::NoReply))
+}
+
+/// Has the handler hear one reply. Whether one is awaited still.
+fn hear_next(
+    handler: &mut Handler,
+    replies: &[(u32, Reply)],
+    from_the_last: bool,
+) -> Result<bool, Fail> {
+    let awaited = if from_the_last {
+        handler.waits().last().copied()
+    } else {
+        handler.waits().first().copied()
+    };
+    let turn = awaited.ok_or("a handler that waits for nothing")?;
+    match handler.hear(turn, reply_of(replies, turn)?) {
+        Ok(()) => Ok(handler.waits().is_empty()),
+        Err(_) => Err("an awaited reply was refused")?,
+    }
+}
+
+/// Polls the handler to its end.
+fn run(handler: &mut Handler, replies: &[(u32, Reply)], order: &Order) -> Result<Reply, Fail> {
+    for _ in 0..4_096 {
+        let outcome = handler.advance();
+        match outcome {
+            Some(Outcome::Answer(answer)) => return Ok(answer),
+            Some(Outcome::Failed) => Err("a poll found no memory")?,
+            None => {}
+        }
+        for _ in 0..16 {
+            if hear_next(handler, replies, order.from_the_last)? || order.polled_between {
+                break;
+            }
+        }
+    }
+    Err("a handler without an end")?
+}
+
+/// A call, the replies to its own calls, and what it sends and answers.
+struct Row {
+    content: &'static str,
+    replies: &'static str,
+    sent: &'static str,
+}
+
+/// What the handler sends and answers where it hears the replies in that order.
+fn told_in(
+    alloc: Global,
+    mut handler: Handler,
+    replies: &[(u32, Reply)],
+    order: &Order,
+    id: &Option<Id>,
+) -> Result<Vec<u8>, Fail> {
+    let answer = run(&mut handler, replies, order)?;
+    told(alloc, &handler, id, &answer)
+}
+
+/// Compares what the row's call sends and answers, by handlers that hear in different orders.
+fn compare(rt: &impl Abort, alloc: Global, table: &Table, row: &Row) -> Result<(), Fail> {
+    let call = call(alloc, row.content)?;
+    let replies = replies(alloc, row.replies)?;
+    for order in ORDERS {
+        let handler = handler(alloc, table, row.content)?;
+        let found = told_in(alloc, handler, replies.as_slice(), order, &call.id)?;
+        assert!(rt; found.as_slice() == row.sent.as_bytes(), "{}", row.content);
+    }
+    Ok(())
+}
+
+/// Compares each row, by the methods of this table.
+fn compare_all(rt: &impl Abort, alloc: Global, text: &str, rows: &[Row]) -> Result<(), Fail> {
+    let table = table(alloc, text)?;
+    for row in rows {
+        compare(rt, alloc, &table, row)?;
+    }
+    Ok(())
+}
+
+/// Has the handler hear the reply that a content is. Whether it awaited that.
+fn hears(alloc: Global, handler: &mut Handler, content: &str) -> Result<bool, Fail> {
+    let (turn, said) = reply(alloc, content)?;
+    Ok(handler.hear(turn, said).is_ok())
+}
+
+/// What the handler comes to as a future that hears the first of these replies with the turn of each call.
+fn rehearsed<R: Wait + RandomSource + AllocGlobal>(
+    rt: &R,
+    handler: Handler,
+    replies: Vec<(u32, Reply)>,
+) -> Result<Reply, Fail> {
+    match block_on(rt, Rehearsal::new(rt.alloc(), handler, replies))? {
+        Outcome::Answer(answer) => Ok(answer),
+        Outcome::Failed => Err("a poll found no memory")?,
+    }
+}
+
+/// Compares an answer as it is sent to the request of that id.
+fn answers(
+    rt: &impl Abort,
+    alloc: Global,
+    id: u64,
+    answer: &Reply,
+    want: &str,
+) -> Result<(), AllocError> {
+    let found = answer_text(alloc, &Id::Unsigned(id), answer)?;
+    assert!(rt; found.as_slice() == want.as_bytes(), "{want}");
+    Ok(())
+}
