@@ -1,12 +1,12 @@
 -- Numbers that ascend, and the units that have them.
-use Rattle.std.proofs.Common.{◌≡◌, ℕ, ◌+◌, ◌<◌, ◌≤◌, List, [], ◌∷◌, ◌++◌, map, refl, ap, arith, true, rules, nat_le}
+use Rattle.std.proofs.Common.{◌≡◌, ℕ, ◌+◌, ◌<◌, ◌≤◌, List, [], ◌∷◌, ◌++◌, map, refl, ap, arith, true, rules, nat_le, Option}
 use Rattle.std.specs.Cmp.Derive.{both_true}
-use Rattle.answer_desk.specs.declared.entry.Entry.{Entry}
-use Rattle.answer_desk.specs.declared.stub.Stub.{Stub}
-use Rattle.answer_desk.specs.declared.stub.Stub.TheVariants.{Unreadable, Invalid, Silent, Request}
+use Rattle.answer_desk.specs.declared.kept.Kept.{Kept}
+use Rattle.answer_desk.specs.declared.due.Due.{Due}
+use Rattle.answer_desk.specs.declared.due.Due.TheVariants.{ParseError, InvalidRequest, Nothing, Answer}
 use Rattle.answer_desk.specs.declared.waiting_unit.WaitingUnit.{WaitingUnit}
-use Rattle.answer_desk.specs.Entry.{entry_at, part_of, request_part, waiting_of}
-use Rattle.answer_desk.specs.Units.{ascends, requests_in, requests_of}
+use Rattle.answer_desk.specs.Seen.{kept_at, part_of, request_part, waiting_of}
+use Rattle.answer_desk.specs.Inner.Units.{ascends, requests_in, requests_of}
 use Rattle.answer_desk.proofs.Finished.{and_parts}
 
 pub le_from : (a b : ℕ) → nat_le a b ≡ true → a ≤ b
@@ -51,31 +51,31 @@ ascends-split low high (x ∷ xs) ys up =
     record { mid = rest.mid; before = both_true parts.0 rest.before; behind = rest.behind }
 
 -- two lists of entries show the requests from `low` to `high` alike
-pub record SameRequests (low high : ℕ) (now was : List Entry) : Type 0 where
-  pub same : (k : ℕ) → low ≤ k → k < high → request_part k (entry_at now k) ≡ request_part k (entry_at was k)
+pub record SameRequests (low high : ℕ) (now was : List (Option Kept)) : Type 0 where
+  pub same : (k : ℕ) → low ≤ k → k < high → request_part k (kept_at now k) ≡ request_part k (kept_at was k)
 
-pub parts-same : (low high : ℕ) (now was : List Entry) (stubs : List Stub) → SameRequests low high now was → ascends low high (requests_in stubs) ≡ true
-    → map (part_of now) stubs ≡ map (part_of was) stubs
+pub parts-same : (low high : ℕ) (now was : List (Option Kept)) (dues : List Due) → SameRequests low high now was → ascends low high (requests_in dues) ≡ true
+    → map (part_of now) dues ≡ map (part_of was) dues
 parts-same low high now was [] alike up = refl
-parts-same low high now was (Unreadable ∷ stubs) alike up = ap (λ ps. part_of was Unreadable ∷ ps) (parts-same low high now was stubs alike up)
-parts-same low high now was (Invalid ∷ stubs) alike up = ap (λ ps. part_of was Invalid ∷ ps) (parts-same low high now was stubs alike up)
-parts-same low high now was (Silent ∷ stubs) alike up = ap (λ ps. part_of was Silent ∷ ps) (parts-same low high now was stubs alike up)
-parts-same low high now was (Request n ∷ stubs) alike up =
-    let parts = and_parts (nat_le low n) (ascends (n + 1) high (requests_in stubs)) up in
+parts-same low high now was (ParseError ∷ dues) alike up = ap (λ ps. part_of was ParseError ∷ ps) (parts-same low high now was dues alike up)
+parts-same low high now was (InvalidRequest ∷ dues) alike up = ap (λ ps. part_of was InvalidRequest ∷ ps) (parts-same low high now was dues alike up)
+parts-same low high now was (Nothing ∷ dues) alike up = ap (λ ps. part_of was Nothing ∷ ps) (parts-same low high now was dues alike up)
+parts-same low high now was (Answer n ∷ dues) alike up =
+    let parts = and_parts (nat_le low n) (ascends (n + 1) high (requests_in dues)) up in
     let first : low ≤ n = le_from low n parts.0 in
-    let last : n + 1 ≤ high = ascends-le (n + 1) high (requests_in stubs) parts.1 in
-    let here : request_part n (entry_at now n) ≡ request_part n (entry_at was n) = alike.same n first (omega arith) in
+    let last : n + 1 ≤ high = ascends-le (n + 1) high (requests_in dues) parts.1 in
+    let here : request_part n (kept_at now n) ≡ request_part n (kept_at was n) = alike.same n first (omega arith) in
     let more : SameRequests (n + 1) high now was = record { same = λ k from below. alike.same k (omega arith) below } in
-    rw (here, parts-same (n + 1) high now was stubs more parts.1) refl
+    rw (here, parts-same (n + 1) high now was dues more parts.1) refl
 
-pub units-same : (low high : ℕ) (now was : List Entry) (units : List WaitingUnit) → SameRequests low high now was → ascends low high (requests_of units) ≡ true
+pub units-same : (low high : ℕ) (now was : List (Option Kept)) (units : List WaitingUnit) → SameRequests low high now was → ascends low high (requests_of units) ≡ true
     → map (waiting_of now) units ≡ map (waiting_of was) units
 units-same low high now was [] alike up = refl
 units-same low high now was (unit ∷ units) alike up =
-    let split = ascends-split low high (requests_in unit.stubs) (requests_of units) up in
-    let from_low : low ≤ split.mid = ascends-le low split.mid (requests_in unit.stubs) split.before in
+    let split = ascends-split low high (requests_in unit.dues) (requests_of units) up in
+    let from_low : low ≤ split.mid = ascends-le low split.mid (requests_in unit.dues) split.before in
     let to_high : split.mid ≤ high = ascends-le split.mid high (requests_of units) split.behind in
     let front : SameRequests low split.mid now was = record { same = λ k from below. alike.same k from (omega arith) } in
     let back : SameRequests split.mid high now was = record { same = λ k from below. alike.same k (omega arith) below } in
-    let here : map (part_of now) unit.stubs ≡ map (part_of was) unit.stubs = parts-same low split.mid now was unit.stubs front split.before in
+    let here : map (part_of now) unit.dues ≡ map (part_of was) unit.dues = parts-same low split.mid now was unit.dues front split.before in
     rw (here, units-same split.mid high now was units back split.behind) refl

@@ -1,9 +1,9 @@
 -- Finished parts and whole units, one after another.
-use Rattle.std.proofs.Common.{◌≡◌, ◌==◌, ℕ, suc, zero, ◌<◌, List, [], ◌∷◌, ◌++◌, length, get_or, map, take, drop, refl, ap, sym, ◌∙◌, arith, Bool, true, false, ◌&&◌, Option, Some, None, option_to_list, rules}
+use Rattle.std.proofs.Common.{◌≡◌, ◌==◌, ℕ, suc, zero, ◌<◌, List, [], ◌∷◌, ◌++◌, length, get_or, map, take, drop, refl, ap, sym, ◌∙◌, arith, Bool, true, false, ◌&&◌, rules, IsTrue, true≢false}
 use Rattle.std.proofs.lemmas.List.{append_assoc, append-nil}
-use Rattle.std.specs.List.{list_all, filter_map, cons_option}
-use Rattle.answer_desk.specs.Units.{front_finished}
-use Rattle.answer_desk.specs.Waiting.{Waiting, unit_text, is_whole, is_finished, whole_front, behind_front}
+use Rattle.std.specs.List.{list_all}
+use Rattle.answer_desk.specs.Waiting.{Waiting, is_whole, is_finished, whole_front, behind_front}
+use Rattle.answer_desk.specs.Inner.Units.{front_finished}
 
 pub and_parts : (a b : Bool) → (a && b) ≡ true → (a ≡ true) × (b ≡ true)
 and_parts true b both = (refl, both)
@@ -41,15 +41,10 @@ front_ends left unit units is open_still = rw (is, open_still) refl
 pub behind_ends : (left : List Waiting) (unit : Waiting) (units : List Waiting) → left ≡ unit ∷ units → is_whole unit ≡ false → behind_front left ≡ left
 behind_ends left unit units is open_still = rw (is, open_still) refl
 
-text_more : {X : Type 0} (texts : List X) (text : Option X) (more : List X) → texts ++ cons_option text more ≡ (texts ++ option_to_list text) ++ more
-text_more texts None more = rw (append-nil texts) refl
-text_more texts (Some text) more = sym (append_assoc texts (text ∷ []) more)
-
 -- and goes on behind one that is
-pub texts_more : (texts : List (List ℕ)) (left : List Waiting) (unit : Waiting) (units : List Waiting) → left ≡ unit ∷ units → is_whole unit ≡ true
-    → texts ++ filter_map unit_text (whole_front left) ≡ (texts ++ option_to_list (unit_text unit)) ++ filter_map unit_text (whole_front units)
-texts_more texts left unit units is whole =
-    rw (is, whole) (text_more texts (unit_text unit) (filter_map unit_text (whole_front units)))
+pub front_more : (front left : List Waiting) (unit : Waiting) (units : List Waiting) → left ≡ unit ∷ units → is_whole unit ≡ true
+    → front ++ whole_front left ≡ (front ++ unit ∷ []) ++ whole_front units
+front_more front left unit units is whole = rw (is, whole) (sym (append_assoc front (unit ∷ []) (whole_front units)))
 
 pub behind_more : (left : List Waiting) (unit : Waiting) (units : List Waiting) → left ≡ unit ∷ units → is_whole unit ≡ true → behind_front left ≡ behind_front units
 behind_more left unit units is whole = rw (is, whole) refl
@@ -61,8 +56,8 @@ none_known (unit ∷ units) = refl
 pub other_place : (i n : ℕ) → i < n → (i == n) ≡ false
 other_place i n below = search rules
 
-pub texts_end : (texts all : List (List ℕ)) (left : List Waiting) → texts ++ filter_map unit_text (whole_front left) ≡ all → whole_front left ≡ [] → texts ≡ all
-texts_end texts all left so_far none = sym (append-nil texts) ∙ rw none at so_far
+pub front_end : (front all : List Waiting) (left : List Waiting) → front ++ whole_front left ≡ all → whole_front left ≡ [] → front ≡ all
+front_end front all left so_far none = sym (append-nil front) ∙ rw none at so_far
 
 -- the count of the finished parts tells whether a unit is whole
 pub broken_by_count : (count n : ℕ) (whole : Bool) → (count == n) ≡ whole → (count ≡ n → ⊥) → whole ≡ false
@@ -78,3 +73,15 @@ front_known known left unit units is front = rw is at front
 pub known_front : (known : ℕ) (left : List Waiting) (unit : Waiting) (units : List Waiting) → left ≡ unit ∷ units
     → list_all is_finished (take known unit.parts) ≡ true → front_finished known left ≡ true
 known_front known left unit units is front = rw is front
+
+-- whether units wait
+
+suc_not_zero : (n : ℕ) → (suc n == 0) ≡ false
+suc_not_zero n = search rules
+
+pub none_wait : {X Y : Type 0} (f : X → Y) (xs : List X) (len : ℕ) (is_empty : Bool) → length xs ≡ len → is_empty ≡ (len == 0)
+    → (IsTrue is_empty → map f xs ≡ []) × (map f xs ≡ [] → IsTrue is_empty)
+none_wait f [] len is_empty long is = (λ empty. refl, λ none. is ∙ rw (← long) refl)
+none_wait f (x ∷ xs) len is_empty long is =
+    let some : is_empty ≡ false = is ∙ rw (← long) (suc_not_zero (length xs)) in
+    (λ empty. absurd (true≢false (sym empty ∙ some)), λ none. cc)

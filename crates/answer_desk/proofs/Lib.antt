@@ -3,10 +3,14 @@ pub mod Ascending
 pub mod Finished
 pub mod Forgotten
 pub mod Indexed
+pub mod InWindow
+pub mod Laws
 pub mod Listed
 pub mod Marks
 pub mod Opening
+pub mod OutOfReach
 pub mod Popped
 pub mod Reached
+pub mod Texts
 pub mod Views
 pub mod Windows

@@ -1,52 +1,15 @@
 -- Which numbers stand under an id, after each change.
 use Rattle.std.proofs.Common.{◌≡◌, ℕ, [], Bool, true, false, refl, ap, sym, ◌∙◌, ◌&&◌, ◌==◌, if◌then◌else◌, Option, Some, None}
 use Rattle.std.specs.Ordering.{is_eq, nat_cmp}
-use Rattle.std.specs.Cmp.{unsigned_ties, unsigned_Decides, signed_Decides}
-use Rattle.std.specs.Cmp.Lexicographic.{texts_ties, bytes_decides}
+use Rattle.std.specs.Cmp.{unsigned_ties}
 use Rattle.std.specs.List.{list_any}
 use Rattle.std.specs.BTreeMap.{is_at}
 use Rattle.std.specs.BTreeMap as tree
 use Rattle.std.specs.BTreeSet as sorted
 use Rattle.rpc_messages.specs.declared.id.Id.{Id}
-use Rattle.rpc_messages.specs.declared.id.Id.TheVariants.{Null, Text, Signed, Unsigned}
-use Rattle.answer_desk.specs.Ids.{same_id}
-use Rattle.answer_desk.specs.Requests.{id_cmp, is_in}
-
-pub same-by_cmp : (a b : Id) → is_eq (id_cmp a b) ≡ same_id a b
-same-by_cmp Null Null = refl
-same-by_cmp Null (Text b) = refl
-same-by_cmp Null (Signed b) = refl
-same-by_cmp Null (Unsigned b) = refl
-same-by_cmp (Text a) Null = refl
-same-by_cmp (Text a) (Text b) = sym (texts_ties a b)
-same-by_cmp (Text a) (Signed b) = refl
-same-by_cmp (Text a) (Unsigned b) = refl
-same-by_cmp (Signed a) Null = refl
-same-by_cmp (Signed a) (Text b) = refl
-same-by_cmp (Signed a) (Signed b) = refl
-same-by_cmp (Signed a) (Unsigned b) = refl
-same-by_cmp (Unsigned a) Null = refl
-same-by_cmp (Unsigned a) (Text b) = refl
-same-by_cmp (Unsigned a) (Signed b) = refl
-same-by_cmp (Unsigned a) (Unsigned b) = sym (unsigned_ties a b)
-
-pub same-is : (a b : Id) → same_id a b ≡ true → a ≡ b
-same-is Null Null same = refl
-same-is Null (Text b) same = cc
-same-is Null (Signed b) same = cc
-same-is Null (Unsigned b) same = cc
-same-is (Text a) Null same = cc
-same-is (Text a) (Text b) same = ap Text ((bytes_decides a b).0 same)
-same-is (Text a) (Signed b) same = cc
-same-is (Text a) (Unsigned b) same = cc
-same-is (Signed a) Null same = cc
-same-is (Signed a) (Text b) same = cc
-same-is (Signed a) (Signed b) same = ap Signed ((signed_Decides a b).0 same)
-same-is (Signed a) (Unsigned b) same = cc
-same-is (Unsigned a) Null same = cc
-same-is (Unsigned a) (Text b) same = cc
-same-is (Unsigned a) (Signed b) same = cc
-same-is (Unsigned a) (Unsigned b) same = ap Unsigned ((unsigned_Decides a b).0 same)
+use Rattle.rpc_messages.specs.Ids.{same_id, id_cmp}
+use Rattle.rpc_messages.proofs.Ids.{same-by_cmp, same-is}
+use Rattle.answer_desk.specs.Inner.Requests.{is_in}
 
 pick : (b : Bool) (k : ℕ) (x y : Option (sorted.BTreeSet ℕ)) → is_in k (if b then x else y) ≡ (if b then is_in k x else is_in k y)
 pick true k x y = refl

@@ -1,108 +1,109 @@
 -- What a desk shows after each change of its entries.
-use Rattle.std.proofs.Common.{◌≡◌, ℕ, suc, zero, ◌-◌, List, [], ◌∷◌, ◌++◌, length, get_or, set, map, take, drop, refl, ap, sym, ◌∙◌, Bool, true, false, ◌&&◌, if◌then◌else◌, is_some, Option, Some, None, IfNone, IfSome}
+use Rattle.std.proofs.Common.{◌≡◌, ℕ, suc, zero, ◌-◌, List, [], ◌∷◌, ◌++◌, length, get_or, set, map, take, drop, refl, ap, sym, ◌∙◌, Bool, true, false, ◌&&◌, if◌then◌else◌, is_some, Option, Some, None, IfNone, IfSome, MatchOption}
 use Rattle.std.proofs.lemmas.List.{set-get_or, length-set}
 use Rattle.std.specs.Option.{option_map, option_and_then}
 use Rattle.rpc_messages.specs.declared.id.Id.{Id}
 use Rattle.rpc_messages.specs.declared.reply.Reply.{Reply}
-use Rattle.answer_desk.specs.declared.entry.Entry.{Entry}
-use Rattle.answer_desk.specs.declared.entry.Entry.TheVariants.{Open, Answered, Over}
+use Rattle.answer_desk.specs.declared.kept.Kept.{Kept}
+use Rattle.answer_desk.specs.declared.kept.Kept.TheVariants.{Open, Answered}
 use Rattle.answer_desk.specs.declared.mark.Mark.TheVariants.{New, Told}
 use Rattle.answer_desk.specs.declared.number.Number.{Number}
 use Rattle.answer_desk.specs.declared.slot.Slot.{Slot}
 use Rattle.answer_desk.specs.declared.slot.Slot.TheVariants.{Held, Given}
 use Rattle.answer_desk.specs.declared.waiting_unit.WaitingUnit.{WaitingUnit}
-use Rattle.answer_desk.specs.Ids.{has_id}
-use Rattle.answer_desk.specs.Entry.{entry_at, entry_slot, open_number, request_part, waiting_of, changed_entry, with_put, with_taken, with_told as entry_told, is_new_entry, is_marked_entry}
-use Rattle.answer_desk.specs.Numbers.{with_marks_below, IsLowestNew}
+use Rattle.rpc_messages.specs.Ids.{has_id}
 use Rattle.answer_desk.specs.Places.{call_part}
-use Rattle.answer_desk.specs.Replies.{slot_at, put_into, is_kept, slots_with, slots_without, given_by}
-use Rattle.answer_desk.specs.State.{State, numbers_with, slot_of, with_reply, without_reply, number_marked, with_marks, is_newly_marked, is_marked_number, is_unmarked, IsLowestNewlyMarked, with_told}
-use Rattle.answer_desk.specs.Units.{ascends, requests_of, front_finished}
+use Rattle.answer_desk.specs.State.{State, numbers_with, slot_of, with_reply, without_reply, number_marked, with_marks, is_newly_marked, is_unmarked, IsLowestNewlyMarked, with_told}
 use Rattle.answer_desk.specs.Waiting.{Waiting}
+use Rattle.answer_desk.specs.Seen.{kept_at, open_number, request_part, waiting_of}
+use Rattle.answer_desk.specs.Replies.{slot_at, put_into, is_kept, given_by}
+use Rattle.answer_desk.specs.Inner.Kept.{slot_in, with_change, with_put, with_taken, is_new_at, slots_with, slots_without, marked_as}
+use Rattle.answer_desk.specs.Inner.Numbers.{with_marks_below, IsLowestNew}
+use Rattle.answer_desk.specs.Inner.Units.{ascends, requests_of, front_finished}
 use Rattle.answer_desk.proofs.Ascending.{SameRequests, units-same}
 
-abbrev pub seen : List Entry → Bool → List WaitingUnit → State
+abbrev pub seen : List (Option Kept) → Bool → List WaitingUnit → State
 seen entries closed units = record { numbers = map open_number entries; is_closed = closed; units = map (waiting_of entries) units }
 
 -- what is seen of one number
 
-pub number-open : (entries : List Entry) (n : ℕ) → get_or (map open_number entries) n None ≡ open_number (entry_at entries n)
+pub number-open : (entries : List (Option Kept)) (n : ℕ) → get_or (map open_number entries) n None ≡ open_number (kept_at entries n)
 number-open [] n = refl
 number-open (e ∷ es) zero = refl
 number-open (e ∷ es) (suc n) = number-open es n
 
-slot-open : (entry : Entry) (turn : ℕ) → entry_slot entry turn ≡ option_and_then (λ (n : Number). slot_at n.replies turn) (open_number entry)
-slot-open (Open n) turn = refl
-slot-open (Answered id reply) turn = refl
-slot-open Over turn = refl
+pub found-some : {X : Type 0} (seen_of : X → Number) (result : Option X) (here : Option Number) → MatchOption result (here ≡ None) (λ x. here ≡ Some (seen_of x))
+    → is_some result ≡ is_some here
+found-some seen_of None here is = ap is_some (sym is)
+found-some seen_of (Some x) here is = ap is_some (sym is)
 
-pub slot-seen : (entries : List Entry) (closed : Bool) (units : List WaitingUnit) (n turn : ℕ) → entry_slot (entry_at entries n) turn ≡ slot_of (seen entries closed units) n turn
+pub slot-seen : (entries : List (Option Kept)) (closed : Bool) (units : List WaitingUnit) (n turn : ℕ) → slot_in (kept_at entries n) turn ≡ slot_of (seen entries closed units) n turn
 slot-seen entries closed units n turn =
-    slot-open (entry_at entries n) turn ∙ ap (option_and_then (λ (m : Number). slot_at m.replies turn)) (sym (number-open entries n))
+    ap (option_and_then (λ (m : Number). slot_at m.replies turn)) (sym (number-open entries n))
 
-open-changed : (change : Number → Number) (entry : Entry) → open_number (changed_entry change entry) ≡ option_map change (open_number entry)
-open-changed change (Open n) = refl
-open-changed change (Answered id reply) = refl
-open-changed change Over = refl
+open-changed : (change : Number → Number) (entry : Option Kept) → open_number (with_change change entry) ≡ option_map change (open_number entry)
+open-changed change (Some (Open n)) = refl
+open-changed change (Some (Answered id reply)) = refl
+open-changed change None = refl
 
-pub numbers-changed : (change : Number → Number) (entries : List Entry) (n : ℕ)
-    → map open_number (set entries n (changed_entry change (entry_at entries n))) ≡ numbers_with (map open_number entries) n change
+pub numbers-changed : (change : Number → Number) (entries : List (Option Kept)) (n : ℕ)
+    → map open_number (set entries n (with_change change (kept_at entries n))) ≡ numbers_with (map open_number entries) n change
 numbers-changed change [] n = refl
 numbers-changed change (e ∷ es) zero = ap (λ o. o ∷ map open_number es) (open-changed change e)
 numbers-changed change (e ∷ es) (suc n) = ap (λ os. open_number e ∷ os) (numbers-changed change es n)
 
 -- changes that no waiting unit shows
 
-pub record IsQuiet (now was : List Entry) : Type 0 where
+pub record IsQuiet (now was : List (Option Kept)) : Type 0 where
   pub long : length now ≡ length was
-  pub same : (k j : ℕ) → request_part j (entry_at now k) ≡ request_part j (entry_at was k)
+  pub same : (k j : ℕ) → request_part j (kept_at now k) ≡ request_part j (kept_at was k)
 
-request-changed : (change : Number → Number) → ((n : Number) → (change n).id ≡ n.id) → (entry : Entry) (j : ℕ)
-    → request_part j (changed_entry change entry) ≡ request_part j entry
-request-changed change keeps (Open n) j = ap (call_part j) (keeps n)
-request-changed change keeps (Answered id reply) j = refl
-request-changed change keeps Over j = refl
+request-changed : (change : Number → Number) → ((n : Number) → (change n).id ≡ n.id) → (entry : Option Kept) (j : ℕ)
+    → request_part j (with_change change entry) ≡ request_part j entry
+request-changed change keeps (Some (Open n)) j = ap (call_part j) (keeps n)
+request-changed change keeps (Some (Answered id reply)) j = refl
+request-changed change keeps None j = refl
 
-requests-changed : (change : Number → Number) → ((n : Number) → (change n).id ≡ n.id) → (entries : List Entry) (n k j : ℕ)
-    → request_part j (entry_at (set entries n (changed_entry change (entry_at entries n))) k) ≡ request_part j (entry_at entries k)
+requests-changed : (change : Number → Number) → ((n : Number) → (change n).id ≡ n.id) → (entries : List (Option Kept)) (n k j : ℕ)
+    → request_part j (kept_at (set entries n (with_change change (kept_at entries n))) k) ≡ request_part j (kept_at entries k)
 requests-changed change keeps [] n k j = refl
 requests-changed change keeps (e ∷ es) zero zero j = request-changed change keeps e j
 requests-changed change keeps (e ∷ es) zero (suc k) j = refl
 requests-changed change keeps (e ∷ es) (suc n) zero j = refl
 requests-changed change keeps (e ∷ es) (suc n) (suc k) j = requests-changed change keeps es n k j
 
-pub IsQuiet-changed : (change : Number → Number) → ((n : Number) → (change n).id ≡ n.id) → (entries : List Entry) (n : ℕ)
-    → IsQuiet (set entries n (changed_entry change (entry_at entries n))) entries
+pub IsQuiet-changed : (change : Number → Number) → ((n : Number) → (change n).id ≡ n.id) → (entries : List (Option Kept)) (n : ℕ)
+    → IsQuiet (set entries n (with_change change (kept_at entries n))) entries
 IsQuiet-changed change keeps entries n = record {
-  long = length-set entries n (changed_entry change (entry_at entries n));
+  long = length-set entries n (with_change change (kept_at entries n));
   same = λ k j. requests-changed change keeps entries n k j;
 }
 
-pub IsQuiet-refl : (now was : List Entry) → now ≡ was → IsQuiet now was
-IsQuiet-refl now was is = record { long = ap length is; same = λ k j. ap (λ es. request_part j (entry_at es k)) is }
+pub IsQuiet-refl : (now was : List (Option Kept)) → now ≡ was → IsQuiet now was
+IsQuiet-refl now was is = record { long = ap length is; same = λ k j. ap (λ es. request_part j (kept_at es k)) is }
 
-pub units-quiet : (now was : List Entry) (units : List WaitingUnit) → IsQuiet now was → ascends 0 (length was) (requests_of units) ≡ true
+pub units-quiet : (now was : List (Option Kept)) (units : List WaitingUnit) → IsQuiet now was → ascends 0 (length was) (requests_of units) ≡ true
     → map (waiting_of now) units ≡ map (waiting_of was) units
 units-quiet now was units quiet up =
     let alike : SameRequests 0 (length was) now was = record { same = λ k from below. quiet.same k k } in
     units-same 0 (length was) now was units alike up
 
-pub ascending-quiet : (now was : List Entry) (units : List WaitingUnit) → IsQuiet now was → ascends 0 (length was) (requests_of units) ≡ true
+pub ascending-quiet : (now was : List (Option Kept)) (units : List WaitingUnit) → IsQuiet now was → ascends 0 (length was) (requests_of units) ≡ true
     → ascends 0 (length now) (requests_of units) ≡ true
 ascending-quiet now was units quiet up = rw (quiet.long) up
 
-pub settled-quiet : (now was : List Entry) (units : List WaitingUnit) (settled : ℕ) → IsQuiet now was → ascends 0 (length was) (requests_of units) ≡ true
-    → front_finished settled (map (waiting_of was) units) ≡ true → front_finished settled (map (waiting_of now) units) ≡ true
-settled-quiet now was units settled quiet up front = rw (units-quiet now was units quiet up) front
+pub finished-quiet : (now was : List (Option Kept)) (units : List WaitingUnit) (count : ℕ) → IsQuiet now was → ascends 0 (length was) (requests_of units) ≡ true
+    → front_finished count (map (waiting_of was) units) ≡ true → front_finished count (map (waiting_of now) units) ≡ true
+finished-quiet now was units count quiet up front = rw (units-quiet now was units quiet up) front
 
-pub seen-changed : (change : Number → Number) → ((n : Number) → (change n).id ≡ n.id) → (entries : List Entry) (closed : Bool) (units : List WaitingUnit) (n : ℕ)
+pub seen-changed : (change : Number → Number) → ((n : Number) → (change n).id ≡ n.id) → (entries : List (Option Kept)) (closed : Bool) (units : List WaitingUnit) (n : ℕ)
     → ascends 0 (length entries) (requests_of units) ≡ true
-    → seen (set entries n (changed_entry change (entry_at entries n))) closed units
+    → seen (set entries n (with_change change (kept_at entries n))) closed units
     ≡ record { numbers = numbers_with (map open_number entries) n change; is_closed = closed; units = map (waiting_of entries) units }
 seen-changed change keeps entries closed units n up =
     rw (
       numbers-changed change entries n,
-      units-quiet (set entries n (changed_entry change (entry_at entries n))) entries units (IsQuiet-changed change keeps entries n) up,
+      units-quiet (set entries n (with_change change (kept_at entries n))) entries units (IsQuiet-changed change keeps entries n) up,
     ) refl
 
 -- a slot that changes under a test
@@ -126,8 +127,8 @@ state-if : (hit : Bool) (numbers changed : List (Option Number)) (closed : Bool)
 state-if true numbers changed closed units = refl
 state-if false numbers changed closed units = refl
 
-pub seen-put : (entries : List Entry) (units : List WaitingUnit) (n turn : ℕ) (reply : Reply) → ascends 0 (length entries) (requests_of units) ≡ true
-    → seen (set entries n (with_put turn reply (entry_at entries n))) false units ≡ with_reply (seen entries false units) n turn reply
+pub seen-put : (entries : List (Option Kept)) (units : List WaitingUnit) (n turn : ℕ) (reply : Reply) → ascends 0 (length entries) (requests_of units) ≡ true
+    → seen (set entries n (with_put turn reply (kept_at entries n))) false units ≡ with_reply (seen entries false units) n turn reply
 seen-put entries units n turn reply up =
     let test : Option Slot → Bool = λ o. is_kept (put_into o) in
     let numbers : List (Option Number) = map open_number entries in
@@ -135,8 +136,8 @@ seen-put entries units n turn reply up =
     ∙ rw (step-at test refl (get_or numbers n None) numbers n turn (Held reply) refl)
     (state-if (test (slot_of (seen entries false units) n turn)) numbers (numbers_with numbers n (λ (m : Number). record m { replies = set m.replies (turn - 1) (Held reply) })) false (map (waiting_of entries) units))
 
-pub seen-taken : (entries : List Entry) (closed : Bool) (units : List WaitingUnit) (n turn : ℕ) → ascends 0 (length entries) (requests_of units) ≡ true
-    → seen (set entries n (with_taken turn closed (entry_at entries n))) closed units ≡ without_reply (seen entries closed units) n turn
+pub seen-taken : (entries : List (Option Kept)) (closed : Bool) (units : List WaitingUnit) (n turn : ℕ) → ascends 0 (length entries) (requests_of units) ≡ true
+    → seen (set entries n (with_taken turn closed (kept_at entries n))) closed units ≡ without_reply (seen entries closed units) n turn
 seen-taken entries closed units n turn up =
     let test : Option Slot → Bool = λ o. is_some (given_by closed o) in
     let numbers : List (Option Number) = map open_number entries in
@@ -153,66 +154,53 @@ id-marked_if false n = refl
 id-marked : (id : Id) (n : Number) → (number_marked id n).id ≡ n.id
 id-marked id n = id-marked_if (has_id id n.id && is_unmarked n.mark) n
 
-numbers-marked : (id : Id) (before : ℕ) (entries : List Entry)
+numbers-marked : (id : Id) (before : ℕ) (entries : List (Option Kept))
     → map open_number (with_marks_below id before entries) ≡ map (option_map (number_marked id)) (take before (map open_number entries)) ++ drop before (map open_number entries)
 numbers-marked id zero entries = refl
 numbers-marked id (suc before) [] = refl
 numbers-marked id (suc before) (e ∷ es) = rw (open-changed (number_marked id) e, numbers-marked id before es) refl
 
-long-marked : (id : Id) (before : ℕ) (entries : List Entry) → length (with_marks_below id before entries) ≡ length entries
+long-marked : (id : Id) (before : ℕ) (entries : List (Option Kept)) → length (with_marks_below id before entries) ≡ length entries
 long-marked id zero entries = refl
 long-marked id (suc before) [] = refl
 long-marked id (suc before) (e ∷ es) = ap suc (long-marked id before es)
 
-requests-marked : (id : Id) (before : ℕ) (entries : List Entry) (k j : ℕ)
-    → request_part j (entry_at (with_marks_below id before entries) k) ≡ request_part j (entry_at entries k)
+requests-marked : (id : Id) (before : ℕ) (entries : List (Option Kept)) (k j : ℕ)
+    → request_part j (kept_at (with_marks_below id before entries) k) ≡ request_part j (kept_at entries k)
 requests-marked id zero entries k j = refl
 requests-marked id (suc before) [] k j = refl
 requests-marked id (suc before) (e ∷ es) zero j = request-changed (number_marked id) (id-marked id) e j
 requests-marked id (suc before) (e ∷ es) (suc k) j = requests-marked id before es k j
 
-pub IsQuiet-marked : (id : Id) (before : ℕ) (entries : List Entry) → IsQuiet (with_marks_below id before entries) entries
+pub IsQuiet-marked : (id : Id) (before : ℕ) (entries : List (Option Kept)) → IsQuiet (with_marks_below id before entries) entries
 IsQuiet-marked id before entries = record { long = long-marked id before entries; same = λ k j. requests-marked id before entries k j }
 
-pub seen-marked : (id : Id) (before : ℕ) (entries : List Entry) (closed : Bool) (units : List WaitingUnit) → ascends 0 (length entries) (requests_of units) ≡ true
+pub seen-marked : (id : Id) (before : ℕ) (entries : List (Option Kept)) (closed : Bool) (units : List WaitingUnit) → ascends 0 (length entries) (requests_of units) ≡ true
     → seen (with_marks_below id before entries) closed units ≡ with_marks (seen entries closed units) id before
 seen-marked id before entries closed units up =
     rw (numbers-marked id before entries, units-quiet (with_marks_below id before entries) entries units (IsQuiet-marked id before entries) up) refl
 
-new-open : (entry : Entry) → is_newly_marked (open_number entry) ≡ is_new_entry entry
-new-open (Open n) = refl
-new-open (Answered id reply) = refl
-new-open Over = refl
+new-seen : (entries : List (Option Kept)) (k : ℕ) → is_newly_marked (get_or (map open_number entries) k None) ≡ is_new_at (kept_at entries k)
+new-seen entries k = ap is_newly_marked (number-open entries k)
 
-new-seen : (entries : List Entry) (k : ℕ) → is_newly_marked (get_or (map open_number entries) k None) ≡ is_new_entry (entry_at entries k)
-new-seen entries k = ap is_newly_marked (number-open entries k) ∙ new-open (entry_at entries k)
-
-pub lowest-seen : (entries : List Entry) (closed : Bool) (units : List WaitingUnit) (result : Option ℕ) → IsLowestNew entries result
+pub lowest-seen : (entries : List (Option Kept)) (closed : Bool) (units : List WaitingUnit) (result : Option ℕ) → IsLowestNew entries result
     → IsLowestNewlyMarked (seen entries closed units) result
 lowest-seen entries closed units None none = λ k. new-seen entries k ∙ none k
 lowest-seen entries closed units (Some n) lowest = (new-seen entries n ∙ lowest.0, λ k below. new-seen entries k ∙ lowest.1 k below)
 
-pub seen-told : (entries : List Entry) (closed : Bool) (units : List WaitingUnit) (n : ℕ) → ascends 0 (length entries) (requests_of units) ≡ true
-    → seen (set entries n (entry_told (entry_at entries n))) closed units ≡ with_told (seen entries closed units) (Some n)
+pub seen-told : (entries : List (Option Kept)) (closed : Bool) (units : List WaitingUnit) (n : ℕ) → ascends 0 (length entries) (requests_of units) ≡ true
+    → seen (set entries n (marked_as Told (kept_at entries n))) closed units ≡ with_told (seen entries closed units) (Some n)
 seen-told entries closed units n up = seen-changed (λ (m : Number). record m { mark = Told }) (λ m. refl) entries closed units n up
 
-pub IsQuiet-told : (entries : List Entry) (n : ℕ) → IsQuiet (set entries n (entry_told (entry_at entries n))) entries
+pub IsQuiet-told : (entries : List (Option Kept)) (n : ℕ) → IsQuiet (set entries n (marked_as Told (kept_at entries n))) entries
 IsQuiet-told entries n = IsQuiet-changed (λ (m : Number). record m { mark = Told }) (λ m. refl) entries n
 
-pub IsQuiet-taken_mark : (was now : List Entry) (result : Option ℕ) → IfNone result (now ≡ was) → IfSome result (λ n. now ≡ set was n (entry_told (entry_at was n))) → IsQuiet now was
+pub IsQuiet-taken_mark : (was now : List (Option Kept)) (result : Option ℕ) → IfNone result (now ≡ was) → IfSome result (λ n. now ≡ set was n (marked_as Told (kept_at was n))) → IsQuiet now was
 IsQuiet-taken_mark was now None none some = IsQuiet-refl now was none
 IsQuiet-taken_mark was now (Some n) none some = rw some (IsQuiet-told was n)
 
-pub seen-taken_mark : (was now : List Entry) (closed : Bool) (units : List WaitingUnit) (result : Option ℕ)
-    → IfNone result (now ≡ was) → IfSome result (λ n. now ≡ set was n (entry_told (entry_at was n))) → ascends 0 (length was) (requests_of units) ≡ true
+pub seen-taken_mark : (was now : List (Option Kept)) (closed : Bool) (units : List WaitingUnit) (result : Option ℕ)
+    → IfNone result (now ≡ was) → IfSome result (λ n. now ≡ set was n (marked_as Told (kept_at was n))) → ascends 0 (length was) (requests_of units) ≡ true
     → seen now closed units ≡ with_told (seen was closed units) result
 seen-taken_mark was now closed units None none some up = ap (λ es. seen es closed units) none
 seen-taken_mark was now closed units (Some n) none some up = ap (λ es. seen es closed units) some ∙ seen-told was closed units n up
-
-marked-open : (entry : Entry) → is_marked_number (open_number entry) ≡ is_marked_entry entry
-marked-open (Open n) = refl
-marked-open (Answered id reply) = refl
-marked-open Over = refl
-
-pub marked-seen : (entries : List Entry) (k : ℕ) → is_marked_number (get_or (map open_number entries) k None) ≡ is_marked_entry (entry_at entries k)
-marked-seen entries k = ap is_marked_number (number-open entries k) ∙ marked-open (entry_at entries k)

@@ -1,11 +1,7 @@
 pub mod Desk
-pub mod Entry
-pub mod Ids
-pub mod Numbers
+pub mod Inner
 pub mod Places
 pub mod Replies
-pub mod Requests
-pub mod Shell
+pub mod Seen
 pub mod State
-pub mod Units
 pub mod Waiting

@@ -1,5 +1,5 @@
 -- The replies to the calls of one number: a slot for each of its turns, from turn 1.
-use Rattle.std.specs.Prelude.{ℕ, ◌-◌, ◌==◌, List, Option, Some, None, Bool, true, false, if◌then◌else◌, is_some, slice_get, slice_set}
+use Rattle.std.specs.Prelude.{ℕ, ◌-◌, ◌==◌, List, Option, Some, None, Bool, true, false, if◌then◌else◌, slice_get}
 use Rattle.rpc_messages.specs.declared.reply.Reply.{Reply}
 use Rattle.rpc_messages.specs.declared.reply.Reply.TheVariants.{Standard}
 use Rattle.rpc_messages.specs.declared.standard.Standard.TheVariants.{NoReply}
@@ -24,10 +24,6 @@ is_kept Kept = true
 is_kept Unknown = false
 is_kept Second = false
 
--- the slots once a reply of this turn was put: the first is kept, any other changes nothing
-abbrev pub slots_with : List Slot → ℕ → Reply → List Slot
-slots_with slots turn reply = if is_kept (put_into (slot_at slots turn)) then slice_set slots (turn - 1) (Held reply) else slots
-
 -- what a slot gives: the reply that it holds, or `No reply` where none came before the board was closed; once
 abbrev pub given_by : Bool → Option Slot → Option Reply
 given_by closed None = None
@@ -35,7 +31,3 @@ given_by closed (Some (Held reply)) = Some reply
 given_by true (Some Empty) = Some (Standard NoReply)
 given_by false (Some Empty) = None
 given_by closed (Some Given) = None
-
--- the slots once this turn's reply was taken
-abbrev pub slots_without : Bool → List Slot → ℕ → List Slot
-slots_without closed slots turn = if is_some (given_by closed (slot_at slots turn)) then slice_set slots (turn - 1) Given else slots

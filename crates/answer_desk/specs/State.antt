@@ -12,8 +12,8 @@ use Rattle.answer_desk.specs.declared.put.Put.TheVariants.{Unknown}
 use Rattle.answer_desk.specs.declared.shape.Shape.{Shape}
 use Rattle.answer_desk.specs.declared.slot.Slot.{Slot}
 use Rattle.answer_desk.specs.declared.slot.Slot.TheVariants.{Held, Given}
-use Rattle.answer_desk.specs.Ids.{has_id}
-use Rattle.answer_desk.specs.Places.{new_numbers, new_parts}
+use Rattle.rpc_messages.specs.Ids.{has_id}
+use Rattle.answer_desk.specs.Places.{new_number, new_numbers, new_parts}
 use Rattle.answer_desk.specs.Replies.{slot_at, put_into, is_kept, given_by}
 use Rattle.answer_desk.specs.Waiting.{Waiting, unit_text, whole_front, behind_front, unit_answered}
 
@@ -27,6 +27,10 @@ pub record State : Type 0 where
 -- a new desk: the number 0 isn't open
 abbrev pub new_state : State
 new_state = record { numbers = None ∷ []; is_closed = false; units = [] }
+
+-- a desk whose number 0 is open, as a call without an id: it has room for its replies, and belongs to no unit
+abbrev pub opening_state : ℕ → State
+opening_state most = record { numbers = Some (new_number None most) ∷ []; is_closed = false; units = [] }
 
 abbrev pub next_number : State → ℕ
 next_number s = length s.numbers
@@ -117,16 +121,16 @@ abbrev pub with_board_closed : State → State
 with_board_closed s = record s { is_closed = true }
 
 -- once an open number was finished with this answer
-abbrev pub finished : State → ℕ → Reply → State
-finished s number reply = record {
+abbrev pub with_end : State → ℕ → Reply → State
+with_end s number reply = record {
   numbers = slice_set s.numbers number None;
   is_closed = s.is_closed;
   units = map (unit_answered number reply) s.units;
 }
 
 -- what `release` gives: the texts of the longest front of whole units; and what it leaves
-abbrev pub released_texts : State → List (List ℕ)
-released_texts s = filter_map unit_text (whole_front s.units)
+abbrev pub front_texts : State → List (List ℕ)
+front_texts s = filter_map unit_text (whole_front s.units)
 
-abbrev pub released : State → State
-released s = record s { units = behind_front s.units }
+abbrev pub without_front : State → State
+without_front s = record s { units = behind_front s.units }

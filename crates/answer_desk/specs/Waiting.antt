@@ -6,9 +6,8 @@ use Rattle.rpc_messages.specs.declared.id.Id.TheVariants.{Null}
 use Rattle.rpc_messages.specs.declared.reply.Reply.{Reply}
 use Rattle.rpc_messages.specs.declared.reply.Reply.TheVariants.{Standard}
 use Rattle.rpc_messages.specs.declared.standard.Standard.TheVariants.{ParseError, InvalidRequest}
-use Rattle.rpc_messages.specs.Texts.{answer_text_of, batch_text_of}
-use Rattle.answer_desk.specs.declared.kind.Kind.{Kind}
-use Rattle.answer_desk.specs.declared.kind.Kind.TheVariants.{Single, Batch}
+use Rattle.rpc_messages.specs.Dues.{SeenAnswer, unit_text as text_of_answers}
+use Rattle.rpc_messages.specs.declared.kind.Kind.{Kind}
 
 -- one entry of a unit: no JSON; no call and no reply; a reply or a notification; a request with its number, its id and,
 -- once it is finished, its answer
@@ -22,23 +21,17 @@ pub record Waiting : Type 0 where
   pub kind : Kind
   pub parts : List Part
 
--- the text that an entry is answered with
-abbrev pub part_text : Part → Option (List ℕ)
-part_text unreadable = Some (answer_text_of Null (Standard ParseError))
-part_text invalid = Some (answer_text_of Null (Standard InvalidRequest))
-part_text silent = None
-part_text (request number id None) = None
-part_text (request number id (Some reply)) = Some (answer_text_of id reply)
-
--- the one answer of a single entry, or the array of a batch's; nothing where no entry has one
-abbrev pub joined_texts : Kind → List (List ℕ) → Option (List ℕ)
-joined_texts kind [] = None
-joined_texts Single (text ∷ texts) = Some text
-joined_texts Batch (text ∷ texts) = Some (batch_text_of (text ∷ texts))
+-- what an entry is answered with
+abbrev pub part_answer : Part → Option SeenAnswer
+part_answer unreadable = Some (record { id = Null; reply = Standard ParseError })
+part_answer invalid = Some (record { id = Null; reply = Standard InvalidRequest })
+part_answer silent = None
+part_answer (request number id None) = None
+part_answer (request number id (Some reply)) = Some (record { id = id; reply = reply })
 
 -- the text that a unit is answered with
 abbrev pub unit_text : Waiting → Option (List ℕ)
-unit_text unit = joined_texts unit.kind (filter_map part_text unit.parts)
+unit_text unit = text_of_answers unit.kind (filter_map part_answer unit.parts)
 
 abbrev pub is_finished : Part → Bool
 is_finished unreadable = true

@@ -1,95 +1,98 @@
-ghost use Rattle.std.specs.Prelude.{◌≡◌, ◌≤◌, ◌==◌, ◌↔◌, IfOk, OnOk, length, map, take, option_map, Bool, true};
+ghost use Rattle.std.specs.Prelude.{◌≡◌, ◌≤◌, ◌==◌, ◌↔◌, [], IfOk, length, map, take, option_map, Bool, true, Some, None, if◌then◌else◌};
 ghost use Rattle.std.specs.List.{filter_map, list_all};
-ghost use Rattle.answer_desk.specs.Entry.{part_of, waiting_of};
-ghost use Rattle.answer_desk.specs.Waiting.{part_text, joined_texts, unit_text, is_finished};
+ghost use Rattle.rpc_messages.specs.Dues.{answer_seen};
+ghost use Rattle.answer_desk.specs.Seen.{part_of, waiting_of};
+ghost use Rattle.answer_desk.specs.Waiting.{part_answer, unit_text, is_finished};
 
-use crate::entry::Entry;
-use crate::kind::Kind;
+use crate::due::Due;
+use crate::kept::Kept;
 use crate::numbers::Numbers;
-use crate::stub::Stub;
 use crate::waiting_unit::WaitingUnit;
-use rpc_messages::{Id, Reply, Standard, answer_text, batch_text};
+use rpc_messages::{Answer, Standard, put_unit_answer};
 use std::alloc::{AllocError, Global};
 
-/// The text that a unit is answered with, if any.
-pub(crate) fn unit_answer(
+/// The room that is made at once for each answer of a unit, in bytes. A long id, result or error takes more.
+const ROOM: usize = 64;
+
+/// Puts the text that a unit is answered with into an empty text, and tells whether there is one.
+pub(crate) fn put_text(
     alloc: Global,
+    text: &mut Vec<u8>,
     numbers: &Numbers,
     unit: &WaitingUnit,
-) -> Result<Option<Vec<u8>>, AllocError>
-    ensures { IfOk result (λ text. option_map (λ (bytes : _). bytes.items) text ≡ unit_text (waiting_of numbers.now unit.now)) }
+) -> Result<bool, AllocError>
+    requires { text.old.items ≡ [] }
+    ensures { IfOk result (λ some. unit_text (waiting_of numbers.now unit.now) ≡ (if some then Some text.new.items else None)) }
 {
-    let mut texts = part_answers(alloc, numbers, unit.stubs.as_slice())?;
-    if texts.is_empty() {
-        return Ok(None);
+    let answers = answers_of(alloc, numbers, unit.dues.as_slice())?;
+    if answers.is_empty() {
+        return Ok(false);
     }
-    match unit.kind {
-        Kind::Single => Ok(Some(texts.swap_remove(0))),
-        Kind::Batch => Ok(Some(batch_text(alloc, texts.as_slice())?)),
-    }
+    text.reserve(answers.len().saturating_add(1).saturating_mul(ROOM))?;
+    put_unit_answer(alloc, text, unit.kind, answers.as_slice())
 }
 
-fn part_answers(
+/// The answers of a unit's entries, in their order.
+fn answers_of<'a>(
     alloc: Global,
-    numbers: &Numbers,
-    stubs: &[Stub],
-) -> Result<Vec<Vec<u8>>, AllocError>
-    ensures { IfOk result (λ texts. map (λ (bytes : _). bytes.items) texts.items ≡ filter_map part_text (map (part_of numbers.now) stubs.now)) }
+    numbers: &'a Numbers,
+    dues: &[Due],
+) -> Result<Vec<Answer<'a>>, AllocError>
+    ensures { IfOk result (λ answers. map answer_seen answers.items ≡ filter_map part_answer (map (part_of numbers.now) dues.now)) }
 {
-    let mut texts = Vec::new(alloc);
-    for stub in stubs {
-        if let Some(text) = part_answer(alloc, numbers, *stub)? {
-            texts.push(text)?;
+    let mut answers = Vec::with_capacity(alloc, count_answered(dues))?;
+    for due in dues {
+        if let Some(answer) = answer_of(numbers, *due) {
+            answers.push(answer)?;
         }
     }
-    Ok(texts)
+    Ok(answers)
 }
 
-fn part_answer(alloc: Global, numbers: &Numbers, stub: Stub) -> Result<Option<Vec<u8>>, AllocError>
-    ensures { IfOk result (λ text. option_map (λ (bytes : _). bytes.items) text ≡ part_text (part_of numbers.now stub)) }
+/// How many of the entries may have an answer. A contract doesn't speak of room, so it says nothing here.
+fn count_answered(dues: &[Due]) -> usize {
+    dues.iter()
+        .filter(|due| !matches!(**due, Due::Nothing))
+        .count()
+}
+
+fn answer_of<'a>(numbers: &'a Numbers, due: Due) -> Option<Answer<'a>>
+    ensures { option_map answer_seen result ≡ part_answer (part_of numbers.now due) }
 {
-    match stub {
-        Stub::Unreadable => Ok(Some(answer_text(
-            alloc,
-            &Id::Null,
-            &Reply::Standard(Standard::ParseError),
-        )?)),
-        Stub::Invalid => Ok(Some(answer_text(
-            alloc,
-            &Id::Null,
-            &Reply::Standard(Standard::InvalidRequest),
-        )?)),
-        Stub::Silent => Ok(None),
-        Stub::Request(number) => match numbers.entry(number) {
-            Some(Entry::Answered { id, reply }) => Ok(Some(answer_text(alloc, id, reply)?)),
-            Some(Entry::Open(_) | Entry::Over) | None => Ok(None),
+    match due {
+        Due::ParseError => Some(Answer::Error(Standard::ParseError)),
+        Due::InvalidRequest => Some(Answer::Error(Standard::InvalidRequest)),
+        Due::Nothing => None,
+        Due::Answer(number) => match numbers.kept(number) {
+            Some(Kept::Answered { id, reply }) => Some(Answer::Reply(id, reply)),
+            Some(Kept::Open(_)) | None => None,
         },
     }
 }
 
-/// How many of the first stubs stand for finished entries. All before `from` are known to.
-pub(crate) fn count_finished(numbers: &Numbers, stubs: &[Stub], from: usize) -> usize
-    requires { list_all is_finished (take from (map (part_of numbers.now) stubs.now)) ≡ true }
-    ensures within { result ≤ length stubs.now }
-    ensures front { list_all is_finished (take result (map (part_of numbers.now) stubs.now)) ≡ true }
-    ensures whole { (result == length stubs.now) ≡ list_all is_finished (map (part_of numbers.now) stubs.now) }
+/// How many of the first entries are finished. All before `from` are known to be.
+pub(crate) fn count_finished(numbers: &Numbers, dues: &[Due], from: usize) -> usize
+    requires { list_all is_finished (take from (map (part_of numbers.now) dues.now)) ≡ true }
+    ensures within { result ≤ length dues.now }
+    ensures front { list_all is_finished (take result (map (part_of numbers.now) dues.now)) ≡ true }
+    ensures whole { (result == length dues.now) ≡ list_all is_finished (map (part_of numbers.now) dues.now) }
 {
-    for index in from..stubs.len() {
-        if !is_part_finished(numbers, stubs[index]) {
+    for index in from..dues.len() {
+        if !is_part_finished(numbers, dues[index]) {
             return index;
         }
     }
-    stubs.len()
+    dues.len()
 }
 
-fn is_part_finished(numbers: &Numbers, stub: Stub) -> bool
-    ensures { result ≡ is_finished (part_of numbers.now stub) }
+fn is_part_finished(numbers: &Numbers, due: Due) -> bool
+    ensures { result ≡ is_finished (part_of numbers.now due) }
 {
-    match stub {
-        Stub::Unreadable | Stub::Invalid | Stub::Silent => true,
-        Stub::Request(number) => match numbers.entry(number) {
-            Some(Entry::Open(open)) => open.id.is_none(),
-            Some(Entry::Answered { .. } | Entry::Over) | None => true,
+    match due {
+        Due::ParseError | Due::InvalidRequest | Due::Nothing => true,
+        Due::Answer(number) => match numbers.kept(number) {
+            Some(Kept::Open(call)) => call.id.is_none(),
+            Some(Kept::Answered { .. }) | None => true,
         },
     }
 }

@@ -1,15 +1,18 @@
-ghost use Rattle.std.specs.Prelude.{◌≡◌, ◌+◌, ◌≤◌, IsTrue, IfOk, OnOk, OnErr, length, map, is_some, true};
-ghost use Rattle.answer_desk.specs.Entry.{waiting_of};
-ghost use Rattle.answer_desk.specs.Units.{ascends, requests_of, front_finished};
+ghost use Rattle.std.specs.Prelude.{◌≡◌, ◌+◌, ◌<◌, ◌++◌, ◌≤◌, ◌↔◌, [], IsTrue, IfOk, IfSome, OnOk, OnErr, flat_map, length, map, drop, is_some, true, false};
+ghost use Rattle.lsp_frames.specs.Frames.{written};
+ghost use Rattle.answer_desk.specs.Seen.{kept_at, open_number, waiting_of};
+ghost use Rattle.answer_desk.specs.Waiting.{behind_front};
+ghost use Rattle.answer_desk.specs.Inner.Requests.{IsOutOfReach};
+ghost use Rattle.answer_desk.specs.Inner.Units.{ascends, requests_of, front_finished};
 
-use crate::front::{Front, drop_front};
+use crate::arrival::Arrival;
+use crate::front::{Front, drop_front, put_frames, texts_of};
 use crate::numbers::Numbers;
-use crate::opened::Opened;
 use crate::put::Put;
 use crate::queue::shrink_queue;
 use crate::shape::Shape;
 use crate::waiting_unit::WaitingUnit;
-use lsp_frames::Items;
+use json_values::Items;
 use rpc_messages::{Id, Reply};
 use std::alloc::{AllocError, Global};
 use std::collections::VecDeque;
@@ -25,28 +28,61 @@ pub struct Desk {
     numbers: Numbers,
     units: VecDeque<WaitingUnit>,
     /// How many parts of the first unit are known to be finished.
-    settled: usize,
+    finished_parts: usize,
     is_closed: bool,
-    ghost ascending: { ascends 0 (length numbers) (requests_of units.items) ≡ true },
-    ghost front_settled: { front_finished settled (map (waiting_of numbers) units.items) ≡ true },
+    ghost numbers_ascend: { ascends 0 (length numbers) (requests_of units.items) ≡ true },
+    ghost parts_are_finished: { front_finished finished_parts (map (waiting_of numbers) units.items) ≡ true },
+    ghost opening: { IsOutOfReach (kept_at numbers 0) },
 }
 
 impl Desk {
     ghost use Rattle.answer_desk.specs.Desk.{view};
     ghost use Rattle.answer_desk.specs.Places.{new_numbers};
-    ghost use Rattle.answer_desk.specs.State.{new_state, next_number, is_open, number_at, is_marked_number, with_unit, put_of, with_reply, reply_of, without_reply, with_marks, IsLowestNewlyMarked, with_told, with_board_closed, finished, released, released_texts};
+    ghost use Rattle.answer_desk.specs.State.{new_state, opening_state, next_number, is_open, number_at, is_marked_number, with_unit, put_of, with_reply, reply_of, without_reply, with_marks, IsLowestNewlyMarked, with_told, with_board_closed, with_end, front_texts, without_front};
 
     /// No number is open, and the first call takes the number 1. Takes no memory.
     pub fn new(alloc: Global) -> Desk
         ensures { view result ≡ new_state }
     {
+        Desk::with_numbers(alloc, Numbers::new(alloc))
+    }
+
+    /// A desk whose number 0 is open too, for calls that the peer begins by itself: it belongs to no unit, no cancel
+    /// reaches it, and it has room for the replies to its calls 1 to `most`. The first call that arrives takes the
+    /// number 1.
+    pub fn with_opening(alloc: Global, most: u32) -> Result<Desk, AllocError>
+        ensures { IfOk result (λ desk. view desk ≡ opening_state most) }
+    {
+        let numbers = Numbers::with_opening(alloc, most)?;
+        Ok(Desk::with_numbers(alloc, numbers))
+    }
+
+    /// No unit waits, and the board is open.
+    fn with_numbers(alloc: Global, numbers: Numbers) -> Desk
+        requires { IsOutOfReach (kept_at numbers 0) }
+        ensures { view result ≡ record { numbers = map open_number numbers; is_closed = false; units = [] } }
+    {
         Desk {
             alloc,
-            numbers: Numbers::new(alloc),
+            numbers,
             units: VecDeque::new(alloc),
-            settled: 0,
+            finished_parts: 0,
             is_closed: false,
         }
+    }
+
+    /// Whether no unit waits for its answer.
+    pub fn is_empty(&self) -> bool
+        ensures { IsTrue result ↔ ((view self.now).units ≡ []) }
+    {
+        self.units.is_empty()
+    }
+
+    /// The number that the next call takes; 1,000,001 once there is none left.
+    pub fn next_number(&self) -> u32
+        ensures { result ≡ next_number (view self.now) }
+    {
+        self.numbers.next()
     }
 
     /// Gives the next numbers to the calls of a unit that arrives, in their order; the answer is the first of these
@@ -61,12 +97,12 @@ impl Desk {
     {
         let number = self.numbers.next();
         let Shape { kind, places } = shape;
-        let Opened { entries, stubs } = Opened::make(self.alloc, number, places.into_vec())?;
+        let Arrival { calls, dues } = Arrival::make(self.alloc, number, places.into_vec())?;
         self.units.reserve(1)?;
-        self.numbers.append(entries)?;
+        self.numbers.append(calls)?;
         self.units.push_back_reserved(WaitingUnit {
             kind,
-            stubs: Items::from(stubs),
+            dues: Items::from(dues),
         });
         Ok(number)
     }
@@ -86,17 +122,19 @@ impl Desk {
     /// A cancel of this id marks the open requests of that id whose numbers are below `before` (LSP 3.17, cancellation
     /// support). Takes no memory.
     pub fn mark(&mut self, id: &Id, before: u32)
-        ensures { view self.new ≡ with_marks (view self.old) id.now before }
+        ensures after { view self.new ≡ with_marks (view self.old) id.now before }
+        ensures opening { number_at (view self.new) 0 ≡ number_at (view self.old) 0 }
     {
         self.numbers.mark(id, before);
     }
 
     /// Whether a cancel has reached this open number.
     pub fn is_marked(&self, number: u32) -> bool
-        ensures { result ≡ is_marked_number (number_at (view self.now) number) }
+        ensures marked { result ≡ is_marked_number (number_at (view self.now) number) }
+        ensures opening { number ≡ 0 → result ≡ false }
     {
-        match self.numbers.entry(number) {
-            Some(entry) => entry.is_marked(),
+        match self.numbers.open_number(number) {
+            Some(call) => call.is_marked(),
             None => false,
         }
     }
@@ -105,6 +143,7 @@ impl Desk {
     pub fn take_marked(&mut self) -> Option<u32>
         ensures lowest { IsLowestNewlyMarked (view self.old) result }
         ensures after { view self.new ≡ with_told (view self.old) result }
+        ensures opening { IfSome result (λ number. 0 < number) }
     {
         self.numbers.take_marked()
     }
@@ -129,8 +168,8 @@ impl Desk {
     pub fn has_reply(&self, number: u32, turn: u32) -> bool
         ensures { result ≡ is_some (reply_of (view self.now) number turn) }
     {
-        match self.numbers.entry(number) {
-            Some(entry) => entry.has_reply(turn, self.is_closed),
+        match self.numbers.open_number(number) {
+            Some(call) => call.replies.has(turn, self.is_closed),
             None => false,
         }
     }
@@ -139,16 +178,13 @@ impl Desk {
     pub fn is_open(&self, number: u32) -> bool
         ensures { result ≡ is_open (view self.now) number }
     {
-        match self.numbers.entry(number) {
-            Some(entry) => entry.is_open(),
-            None => false,
-        }
+        self.numbers.open_number(number).is_some()
     }
 
     /// The end of an open number: a request has its answer, and nothing more is kept of a notification. Takes no memory.
     pub fn finish(&mut self, number: u32, reply: Reply)
         requires { IsTrue (is_open (view self.old) number) }
-        ensures { view self.new ≡ finished (view self.old) number reply }
+        ensures { view self.new ≡ with_end (view self.old) number reply }
     {
         self.numbers.finish(number, reply);
     }
@@ -156,23 +192,40 @@ impl Desk {
     /// The answers of the longest front of units all of whose requests are finished, in order of arrival (JSON-RPC 2.0,
     /// section 6: a batch is answered with one array, and with nothing where no entry has an answer).
     pub fn release(&mut self) -> Result<Items<Items<u8>>, AllocError>
-        ensures texts { IfOk result (λ texts. texts ≡ released_texts (view self.old)) }
-        ensures ok { OnOk result (view self.new ≡ released (view self.old)) }
+        ensures texts { IfOk result (λ texts. texts ≡ front_texts (view self.old)) }
+        ensures ok { OnOk result (view self.new ≡ without_front (view self.old)) }
         ensures err { OnErr result (view self.new ≡ view self.old) }
     {
-        let front = Front::find(self.alloc, &self.numbers, &self.units, self.settled)?;
-        let Front {
-            texts,
-            count,
-            settled,
-        } = front;
-        drop_front(&mut self.numbers, &mut self.units, count);
-        self.settled = settled;
-        self.numbers.shrink();
-        shrink_queue(&mut self.units);
+        let front = Front::find(&self.numbers, &self.units, self.finished_parts);
+        let texts = texts_of(self.alloc, &self.numbers, &self.units, front.count)?;
+        self.drop_front(front);
         Ok(Items::from(texts))
     }
-}
 
-#[cfg(test)]
-mod tests;
+    /// Puts what `release` would give behind the bytes, each text in a frame (LSP 3.17, base protocol), and tells how many they
+    /// are.
+    pub fn release_to(&mut self, bytes: &mut Vec<u8>) -> Result<usize, AllocError>
+        ensures count { IfOk result (λ count. count ≡ length (front_texts (view self.old))) }
+        ensures bytes { OnOk result (bytes.new.items ≡ bytes.old.items ++ flat_map written (front_texts (view self.old))) }
+        ensures ok { OnOk result (view self.new ≡ without_front (view self.old)) }
+        ensures err { OnErr result (view self.new ≡ view self.old) }
+        ensures bytes_err { OnErr result (bytes.new.items ≡ bytes.old.items) }
+    {
+        let front = Front::find(&self.numbers, &self.units, self.finished_parts);
+        let count = put_frames(self.alloc, bytes, &self.numbers, &self.units, front.count)?;
+        self.drop_front(front);
+        Ok(count)
+    }
+
+    /// Lets go of the units of the front, and of their answers.
+    fn drop_front(&mut self, front: Front)
+        requires behind { drop front.count (view self.old).units ≡ behind_front (view self.old).units }
+        requires finished { front_finished front.finished_parts (drop front.count (view self.old).units) ≡ true }
+        ensures { view self.new ≡ without_front (view self.old) }
+    {
+        drop_front(&mut self.numbers, &mut self.units, front.count);
+        self.finished_parts = front.finished_parts;
+        self.numbers.shrink();
+        shrink_queue(&mut self.units);
+    }
+}

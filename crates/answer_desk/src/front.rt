@@ -1,63 +1,74 @@
-ghost use Rattle.std.specs.Prelude.{◌≡◌, ◌≤◌, ◌++◌, option_to_list, IfOk, OnOk, length, map, drop, true};
+ghost use Rattle.std.specs.Prelude.{◌≡◌, ◌≤◌, ◌++◌, [], option_to_list, IfOk, OnOk, OnErr, flat_map, length, map, take, drop, true};
 ghost use Rattle.std.specs.List.{filter_map};
 ghost use Rattle.std.specs.VecDeque.{deque_len};
-ghost use Rattle.answer_desk.specs.Entry.{open_number, waiting_of};
-ghost use Rattle.answer_desk.specs.Units.{ascends, front_finished, requests_in, requests_of, with_forgotten};
+ghost use Rattle.lsp_frames.specs.Frames.{written};
+ghost use Rattle.answer_desk.specs.Seen.{kept_at, open_number, waiting_of};
 ghost use Rattle.answer_desk.specs.Waiting.{unit_text, whole_front, behind_front};
+ghost use Rattle.answer_desk.specs.Inner.Requests.{IsOutOfReach};
+ghost use Rattle.answer_desk.specs.Inner.Units.{ascends, front_finished, requests_in, requests_of, without_answers};
 
-use crate::answers::{count_finished, unit_answer};
+use crate::answers::{count_finished, put_text};
+use crate::due::Due;
 use crate::numbers::Numbers;
-use crate::stub::Stub;
 use crate::waiting_unit::WaitingUnit;
-use lsp_frames::Items;
+use json_values::Items;
+use lsp_frames::put_frame;
 use std::alloc::{AllocError, Global};
 use std::collections::VecDeque;
 
-/// The longest front of whole units: their texts and their count; and how many parts of the unit behind them are finished.
-#[derive(Debug, Drop)]
+/// The longest front of whole units: how many they are, and how many parts of the unit behind them are finished.
+#[derive(Clone, Copy, Debug)]
 pub struct Front {
-    pub texts: Vec<Items<u8>>,
     pub count: usize,
-    pub settled: usize,
+    pub finished_parts: usize,
 }
 
 impl Front {
-    /// The first `settled` parts of the first unit are known to be finished.
-    pub fn find(
-        alloc: Global,
-        numbers: &Numbers,
-        units: &VecDeque<WaitingUnit>,
-        settled: usize,
-    ) -> Result<Front, AllocError>
-        requires { front_finished settled (map (waiting_of numbers.now) units.now.items) ≡ true }
-        ensures texts { IfOk result (λ front. front.texts.items ≡ filter_map unit_text (whole_front (map (waiting_of numbers.now) units.now.items))) }
-        ensures count { IfOk result (λ front. drop front.count (map (waiting_of numbers.now) units.now.items) ≡ behind_front (map (waiting_of numbers.now) units.now.items)) }
-        ensures settled { IfOk result (λ front. front_finished front.settled (drop front.count (map (waiting_of numbers.now) units.now.items)) ≡ true) }
+    /// The first `finished_parts` parts of the first unit are known to be finished.
+    pub fn find(numbers: &Numbers, units: &VecDeque<WaitingUnit>, finished_parts: usize) -> Front
+        requires { front_finished finished_parts (map (waiting_of numbers.now) units.now.items) ≡ true }
+        ensures inside { result.count ≤ deque_len units.now }
+        ensures whole { map (waiting_of numbers.now) (take result.count units.now.items) ≡ whole_front (map (waiting_of numbers.now) units.now.items) }
+        ensures behind { drop result.count (map (waiting_of numbers.now) units.now.items) ≡ behind_front (map (waiting_of numbers.now) units.now.items) }
+        ensures finished { front_finished result.finished_parts (drop result.count (map (waiting_of numbers.now) units.now.items)) ≡ true }
     {
-        let mut texts = Vec::new(alloc);
-        let mut known = settled;
+        let mut known = finished_parts;
         for count in 0..units.len() {
             let unit = &units[count];
-            let settled = count_finished(numbers, unit.stubs.as_slice(), known);
-            if settled != unit.stubs.len() {
-                return Ok(Front {
-                    texts,
+            let finished_parts = count_finished(numbers, unit.dues.as_slice(), known);
+            if finished_parts != unit.dues.len() {
+                return Front {
                     count,
-                    settled,
-                });
+                    finished_parts,
+                };
             }
-            push_answer(alloc, &mut texts, numbers, unit)?;
             known = 0;
         }
-        Ok(Front {
-            texts,
+        Front {
             count: units.len(),
-            settled: 0,
-        })
+            finished_parts: 0,
+        }
     }
 }
 
-fn push_answer(
+/// The texts that the first `count` units are answered with.
+pub(crate) fn texts_of(
+    alloc: Global,
+    numbers: &Numbers,
+    units: &VecDeque<WaitingUnit>,
+    count: usize,
+) -> Result<Vec<Items<u8>>, AllocError>
+    requires { count ≤ deque_len units.now }
+    ensures { IfOk result (λ texts. texts.items ≡ filter_map unit_text (map (waiting_of numbers.now) (take count units.now.items))) }
+{
+    let mut texts = Vec::new(alloc);
+    for index in 0..count {
+        push_text(alloc, &mut texts, numbers, &units[index])?;
+    }
+    Ok(texts)
+}
+
+fn push_text(
     alloc: Global,
     texts: &mut Vec<Items<u8>>,
     numbers: &Numbers,
@@ -65,10 +76,62 @@ fn push_answer(
 ) -> Result<(), AllocError>
     ensures { OnOk result (texts.new.items ≡ texts.old.items ++ option_to_list (unit_text (waiting_of numbers.now unit.now))) }
 {
-    if let Some(text) = unit_answer(alloc, numbers, unit)? {
+    let mut text = Vec::new(alloc);
+    if put_text(alloc, &mut text, numbers, unit)? {
         texts.push(Items::from(text))?;
     }
     Ok(())
+}
+
+/// Puts these texts behind the bytes, each in a frame, and tells how many they are.
+pub(crate) fn put_frames(
+    alloc: Global,
+    bytes: &mut Vec<u8>,
+    numbers: &Numbers,
+    units: &VecDeque<WaitingUnit>,
+    count: usize,
+) -> Result<usize, AllocError>
+    requires { count ≤ deque_len units.now }
+    ensures bytes { OnOk result (bytes.new.items ≡ bytes.old.items ++ flat_map written (filter_map unit_text (map (waiting_of numbers.now) (take count units.now.items)))) }
+    ensures count { IfOk result (λ answers. answers ≡ length (filter_map unit_text (map (waiting_of numbers.now) (take count units.now.items)))) }
+    ensures err { OnErr result (bytes.new.items ≡ bytes.old.items) }
+{
+    let before = bytes.len();
+    let mut text = Vec::new(alloc);
+    let mut answers = 0;
+    for index in 0..count {
+        text.clear();
+        match put_unit_frame(alloc, bytes, &mut text, numbers, &units[index]) {
+            Ok(more) => answers += more,
+            Err(refused) => {
+                bytes.truncate(before);
+                return Err(refused);
+            }
+        }
+    }
+    Ok(answers)
+}
+
+/// Puts the frame of the text that a unit is answered with behind the bytes, and tells how many it is. The text is made in
+/// an empty one, which serves for all units.
+fn put_unit_frame(
+    alloc: Global,
+    bytes: &mut Vec<u8>,
+    text: &mut Vec<u8>,
+    numbers: &Numbers,
+    unit: &WaitingUnit,
+) -> Result<usize, AllocError>
+    requires { text.old.items ≡ [] }
+    ensures bytes { OnOk result (bytes.new.items ≡ bytes.old.items ++ flat_map written (option_to_list (unit_text (waiting_of numbers.now unit.now)))) }
+    ensures count { IfOk result (λ count. count ≡ length (option_to_list (unit_text (waiting_of numbers.now unit.now)))) }
+    ensures few { IfOk result (λ count. count ≤ 1) }
+    ensures err { OnErr result (bytes.new.items ≡ bytes.old.items) }
+{
+    if !put_text(alloc, text, numbers, unit)? {
+        return Ok(0);
+    }
+    put_frame(bytes, text.as_slice())?;
+    Ok(1)
 }
 
 /// Lets go of the first units, and of their answers.
@@ -78,19 +141,20 @@ pub(crate) fn drop_front(numbers: &mut Numbers, units: &mut VecDeque<WaitingUnit
     ensures numbers { map open_number numbers.new ≡ map open_number numbers.old }
     ensures left { map (waiting_of numbers.new) units.new.items ≡ drop count (map (waiting_of numbers.old) units.old.items) }
     ensures ascends { ascends 0 (length numbers.new) (requests_of units.new.items) ≡ true }
+    ensures opening { IsOutOfReach (kept_at numbers.old 0) → IsOutOfReach (kept_at numbers.new 0) }
 {
     for _unit in 0..count {
         if let Some(unit) = units.pop_front() {
-            forget_answers(numbers, unit.stubs.as_slice());
+            forget_answers(numbers, unit.dues.as_slice());
         }
     }
 }
 
-fn forget_answers(numbers: &mut Numbers, stubs: &[Stub])
-    ensures { numbers.new ≡ with_forgotten (requests_in stubs.now) numbers.old }
+fn forget_answers(numbers: &mut Numbers, dues: &[Due])
+    ensures { numbers.new ≡ without_answers (requests_in dues.now) numbers.old }
 {
-    for stub in stubs {
-        if let Stub::Request(number) = stub {
+    for due in dues {
+        if let Due::Answer(number) = due {
             numbers.forget(*number);
         }
     }

@@ -3,27 +3,30 @@
 #![tactic(auto)]
 
 mod answers;
+mod arrival;
 mod desk;
-mod entry;
+mod due;
 mod front;
-mod kind;
+mod kept;
+mod law;
 mod mark;
 mod number;
 mod numbers;
-mod opened;
 mod place;
 mod put;
 mod queue;
 mod replies;
 mod requests_by_id;
 mod shape;
-mod shell;
 mod slot;
-mod stub;
 mod waiting_unit;
 
 pub use desk::Desk;
-pub use kind::Kind;
+pub use law::{
+    cancel_reaches_numbers_below_it, end_closes_its_own_number, reply_changes_its_own_number,
+    reply_fills_its_own_slot, taken_reply_leaves_its_slot_given, telling_changes_one_mark,
+};
 pub use place::Place;
 pub use put::Put;
+pub use rpc_messages::Kind;
 pub use shape::Shape;

@@ -1,9 +1,9 @@
-ghost use Rattle.std.specs.Prelude.{◌≡◌, option_copied};
+ghost use Rattle.std.specs.Prelude.{◌≡◌, IfOk, Some, option_copied};
 
-use crate::entry::Entry;
 use crate::mark::Mark;
 use crate::replies::Replies;
-use rpc_messages::{Id, Reply};
+use rpc_messages::Id;
+use std::alloc::{AllocError, Global};
 
 /// What the desk keeps of a number while it is open: the id of a request, and none for a notification; what cancels
 /// have done to it; the replies to its own calls.
@@ -15,18 +15,27 @@ pub struct Number {
 }
 
 impl Number {
-    ghost use Rattle.answer_desk.specs.Ids.{has_id};
-    ghost use Rattle.answer_desk.specs.Requests.{id_if};
-    ghost use Rattle.answer_desk.specs.State.{number_marked, is_unmarked};
-    ghost use Rattle.answer_desk.specs.Entry.{answered_number};
+    ghost use Rattle.answer_desk.specs.Places.{new_number};
+    ghost use Rattle.answer_desk.specs.State.{is_unmarked, is_marked_number};
+    ghost use Rattle.answer_desk.specs.Inner.Requests.{id_if};
 
-    pub fn has_id(&self, id: &Id) -> bool
-        ensures { result ≡ has_id id.now self.now.id }
+    /// A call as it arrives, with room for the replies to its turns 1 to `most`.
+    pub fn new(alloc: Global, id: Option<Id>, most: u32) -> Result<Number, AllocError>
+        ensures { IfOk result (λ number. number ≡ new_number id most) }
     {
-        match &self.id {
-            Some(other) => other == id,
-            None => false,
-        }
+        let replies = Replies::with_room(alloc, most)?;
+        Ok(Number {
+            id,
+            mark: Mark::Unmarked,
+            replies,
+        })
+    }
+
+    /// Whether a cancel has reached it.
+    pub fn is_marked(&self) -> bool
+        ensures { result ≡ is_marked_number (Some self.now) }
+    {
+        self.mark != Mark::Unmarked
     }
 
     /// The id, where this is a request that no cancel has reached.
@@ -37,33 +46,6 @@ impl Number {
             self.id.as_ref()
         } else {
             None
-        }
-    }
-
-    pub fn mark(&mut self, id: &Id)
-        ensures { self.new ≡ number_marked id.now self.old }
-    {
-        if self.mark == Mark::Unmarked && self.has_id(id) {
-            self.mark = Mark::New;
-        }
-    }
-
-    /// What is left of the number once it is finished: its answer where it was a request.
-    pub fn answered(self, reply: Reply) -> Entry
-        ensures { result ≡ answered_number reply self }
-    {
-        let Number {
-            id,
-            mark: _,
-            replies,
-        } = self;
-        drop(replies);
-        match id {
-            Some(id) => Entry::Answered { id, reply },
-            None => {
-                drop(reply);
-                Entry::Over
-            }
         }
     }
 }

@@ -1,6 +1,7 @@
-ghost use Rattle.std.specs.Prelude.{◌≡◌, ◌-◌, IfOk, IsSome, Some, replicate, is_some, slice_set};
+ghost use Rattle.std.specs.Prelude.{◌≡◌, IfOk, replicate, is_some};
 ghost use Rattle.answer_desk.specs.declared.slot.Slot.TheVariants.{Empty};
-ghost use Rattle.answer_desk.specs.Replies.{slot_at, put_into, slots_with, given_by, slots_without};
+ghost use Rattle.answer_desk.specs.Replies.{slot_at, put_into, given_by};
+ghost use Rattle.answer_desk.specs.Inner.Kept.{slots_with, slots_without};
 
 use crate::put::Put;
 use crate::slot::Slot;
@@ -18,7 +19,7 @@ pub struct Replies {
 impl Model for Replies {
     ghost use Rattle.std.specs.Prelude.{List};
     ghost use Rattle.std.specs.Coded.{codes};
-    ghost use Rattle.rpc_messages.specs.Codes.{coded_data};
+    ghost use Rattle.json_values.specs.Codes.{coded_data};
     ghost use Rattle.answer_desk.specs.declared.slot.Slot.{Slot};
 
     ghost Value = { List Slot };
@@ -33,9 +34,11 @@ impl Replies {
     pub fn with_room(alloc: Global, most: u32) -> Result<Replies, AllocError>
         ensures { IfOk result (λ replies. replies ≡ replicate most Empty) }
     {
-        Ok(Replies {
-            slots: empty_slots(alloc, most)?,
-        })
+        let mut slots = Vec::with_capacity(alloc, most as usize)?;
+        for _turn in 0..most {
+            slots.push(Slot::Empty)?;
+        }
+        Ok(Replies { slots })
     }
 
     /// Keeps the first reply of a turn.
@@ -43,7 +46,12 @@ impl Replies {
         ensures put { result ≡ put_into (slot_at self.old turn) }
         ensures after { self.new ≡ slots_with self.old turn reply }
     {
-        put_reply(self.slots.as_mut_slice(), turn, reply)
+        let put = put_of(self.slots.as_slice(), turn);
+        match put {
+            Put::Kept => drop(mem::replace(&mut self.slots[turn as usize - 1], Slot::Held(reply))),
+            Put::Second | Put::Unknown => drop(reply),
+        }
+        put
     }
 
     /// Takes the reply of a turn out of its slot.
@@ -51,50 +59,28 @@ impl Replies {
         ensures reply { result ≡ given_by is_closed (slot_at self.old turn) }
         ensures after { self.new ≡ slots_without is_closed self.old turn }
     {
-        take_reply(self.slots.as_mut_slice(), turn, is_closed)
+        if !self.has(turn, is_closed) {
+            return None;
+        }
+        match mem::replace(&mut self.slots[turn as usize - 1], Slot::Given) {
+            Slot::Held(reply) => Some(reply),
+            Slot::Empty => Some(Reply::Standard(Standard::NoReply)),
+            Slot::Given => None,
+        }
     }
 
     /// Whether `take` would give one.
     pub fn has(&self, turn: u32, is_closed: bool) -> bool
         ensures { result ≡ is_some (given_by is_closed (slot_at self.now turn)) }
     {
-        has_reply(self.slots.as_slice(), turn, is_closed)
-    }
-}
-
-fn empty_slots(alloc: Global, most: u32) -> Result<Vec<Slot>, AllocError>
-    ensures { IfOk result (λ slots. slots.items ≡ replicate most Empty) }
-{
-    let mut slots = Vec::with_capacity(alloc, most as usize)?;
-    for _turn in 0..most {
-        slots.push(Slot::Empty)?;
-    }
-    Ok(slots)
-}
-
-fn put_reply(slots: &mut [Slot], turn: u32, reply: Reply) -> Put
-    ensures put { result ≡ put_into (slot_at slots.old turn) }
-    ensures after { slots.new ≡ slots_with slots.old turn reply }
-{
-    let put = put_of(slots, turn);
-    match put {
-        Put::Kept => drop(exchange(slots, turn, Slot::Held(reply))),
-        Put::Second | Put::Unknown => drop(reply),
-    }
-    put
-}
-
-fn take_reply(slots: &mut [Slot], turn: u32, is_closed: bool) -> Option<Reply>
-    ensures reply { result ≡ given_by is_closed (slot_at slots.old turn) }
-    ensures after { slots.new ≡ slots_without is_closed slots.old turn }
-{
-    if !has_reply(slots, turn, is_closed) {
-        return None;
-    }
-    match exchange(slots, turn, Slot::Given) {
-        Slot::Held(reply) => Some(reply),
-        Slot::Empty => Some(Reply::Standard(Standard::NoReply)),
-        Slot::Given => None,
+        if turn == 0 {
+            return false;
+        }
+        match self.slots.get(turn as usize - 1) {
+            Some(Slot::Held(_)) => true,
+            Some(Slot::Empty) => is_closed,
+            Some(Slot::Given) | None => false,
+        }
     }
 }
 
@@ -109,25 +95,4 @@ fn put_of(slots: &[Slot], turn: u32) -> Put
         Some(Slot::Held(_) | Slot::Given) => Put::Second,
         None => Put::Unknown,
     }
-}
-
-fn has_reply(slots: &[Slot], turn: u32, is_closed: bool) -> bool
-    ensures { result ≡ is_some (given_by is_closed (slot_at slots.now turn)) }
-{
-    if turn == 0 {
-        return false;
-    }
-    match slots.get(turn as usize - 1) {
-        Some(Slot::Held(_)) => true,
-        Some(Slot::Empty) => is_closed,
-        Some(Slot::Given) | None => false,
-    }
-}
-
-fn exchange(slots: &mut [Slot], turn: u32, slot: Slot) -> Slot
-    requires { IsSome (slot_at slots.old turn) }
-    ensures before { slot_at slots.old turn ≡ Some result }
-    ensures after { slots.new ≡ slice_set slots.old (turn - 1) slot }
-{
-    mem::replace(&mut slots[turn as usize - 1], slot)
 }

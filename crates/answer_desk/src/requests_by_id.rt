@@ -1,8 +1,10 @@
-ghost use Rattle.std.specs.Prelude.{◌≡◌, ◌+◌, ◌-◌, ◌<◌, ◌≤◌, ◌==◌, ◌&&◌, true, false, if◌then◌else◌, length, take, OnOk, OnErr};
+ghost use Rattle.std.specs.Prelude.{◌≡◌, ◌+◌, ◌-◌, ◌<◌, ◌≤◌, ◌==◌, ◌&&◌, true, false, if◌then◌else◌, length, map, take, OnOk, OnErr, option_copied};
+ghost use Rattle.answer_desk.specs.Inner.Kept.{kept_in};
+ghost use Rattle.answer_desk.specs.Inner.Requests.{id_in_reach_of};
 ghost use Rattle.rpc_messages.specs.declared.id.Id.{Id};
-ghost use Rattle.answer_desk.specs.Ids.{same_id};
+ghost use Rattle.rpc_messages.specs.Ids.{same_id};
 
-use crate::shell::Shell;
+use crate::kept::Kept;
 use rpc_messages::Id;
 use std::alloc::{AllocError, Global};
 use std::collections::{BTreeMap, BTreeSet};
@@ -18,7 +20,7 @@ pub struct RequestsById {
 
 impl RequestsById {
     ghost use Rattle.std.specs.Prelude.{ℕ};
-    ghost use Rattle.answer_desk.specs.Requests.{is_reached_by, in_reach, is_listed, IsLowestListed, IsUnchanged, IsWithAdded, IsWithout};
+    ghost use Rattle.answer_desk.specs.Inner.Requests.{is_reached_by, in_reach, is_listed, IsLowestListed, IsUnchanged, IsWithAdded, IsWithout};
 
     pub fn new(alloc: Global) -> RequestsById
         ensures none { (id : Id) (k : ℕ) → is_listed result id k ≡ false }
@@ -62,29 +64,29 @@ impl RequestsById {
         drop(self.numbers.remove(id));
     }
 
-    /// Takes the number of this entry out, where it is one that a cancel can reach.
-    pub fn remove_entry(&mut self, number: u32, entry: &Shell)
-        ensures { ((id : Id) → is_listed self.old id number ≡ is_reached_by id entry.now) → IsWithout self.new self.old number entry.now }
+    /// Takes this number out, where it is one that a cancel can reach.
+    pub fn remove_kept(&mut self, number: u32, place: &Option<Box<Kept>>)
+        ensures { ((id : Id) → is_listed self.old id number ≡ is_reached_by id (kept_in place.now)) → IsWithout self.new self.old number (kept_in place.now) }
     {
-        match entry.id_in_reach() {
+        match id_in_reach(place) {
             Some(id) => self.remove(id, number),
             None => {}
         }
     }
 
-    /// Adds the requests among these entries that a cancel can reach. The entries have the numbers from `number` on.
-    pub fn add_all(&mut self, number: u32, entries: &[Shell]) -> Result<(), AllocError>
-        requires room { number + length entries.now ≤ 1000001 }
-        requires few { self.old.len + length entries.now ≤ 1000001 }
+    /// Adds the requests among these calls that a cancel can reach. The calls have the numbers from `number` on.
+    pub fn add_all(&mut self, number: u32, calls: &[Option<Box<Kept>>]) -> Result<(), AllocError>
+        requires room { number + length calls.now ≤ 1000001 }
+        requires few { self.old.len + length calls.now ≤ 1000001 }
         requires fresh { (id : Id) (k : ℕ) → number ≤ k → is_listed self.old id k ≡ false }
-        ensures ok { OnOk result (IsWithAdded self.new self.old number entries.now) }
+        ensures ok { OnOk result (IsWithAdded self.new self.old number (map kept_in calls.now)) }
         ensures err { OnErr result (IsUnchanged self.new self.old) }
     {
-        for index in 0..entries.len() {
-            match self.add_entry(number + index as u32, &entries[index]) {
+        for index in 0..calls.len() {
+            match self.add_kept(number + index as u32, &calls[index]) {
                 Ok(()) => {}
                 Err(refused) => {
-                    self.remove_first(number, entries, index);
+                    self.remove_first(number, calls, index);
                     return Err(refused);
                 }
             }
@@ -92,14 +94,14 @@ impl RequestsById {
         Ok(())
     }
 
-    fn add_entry(&mut self, number: u32, entry: &Shell) -> Result<(), AllocError>
+    fn add_kept(&mut self, number: u32, place: &Option<Box<Kept>>) -> Result<(), AllocError>
         requires few { self.old.len ≤ 1000000 }
         requires fresh { (id : Id) → is_listed self.old id number ≡ false }
-        ensures listed { OnOk result ((id : Id) (k : ℕ) → is_listed self.new id k ≡ (if number == k then is_reached_by id entry.now else is_listed self.old id k)) }
-        ensures len { OnOk result (self.new.len ≡ self.old.len + in_reach entry.now) }
+        ensures listed { OnOk result ((id : Id) (k : ℕ) → is_listed self.new id k ≡ (if number == k then is_reached_by id (kept_in place.now) else is_listed self.old id k)) }
+        ensures len { OnOk result (self.new.len ≡ self.old.len + in_reach (kept_in place.now)) }
         ensures err { OnErr result (IsUnchanged self.new self.old) }
     {
-        match entry.id_in_reach() {
+        match id_in_reach(place) {
             Some(id) => self.add(id, number),
             None => Ok(()),
         }
@@ -136,16 +138,29 @@ impl RequestsById {
         Ok(())
     }
 
-    /// Takes the first `count` of these entries out again.
-    fn remove_first(&mut self, number: u32, entries: &[Shell], count: usize)
-        requires count { count ≤ length entries.now }
-        requires room { number + length entries.now ≤ 1000001 }
-        ensures { (was : RequestsById) → ((id : Id) (k : ℕ) → number ≤ k → is_listed was id k ≡ false) → IsWithAdded self.old was number (take count entries.now) → IsUnchanged self.new was }
+    /// Takes the first `count` of these calls out again.
+    fn remove_first(&mut self, number: u32, calls: &[Option<Box<Kept>>], count: usize)
+        requires count { count ≤ length calls.now }
+        requires room { number + length calls.now ≤ 1000001 }
+        ensures { (was : RequestsById) → ((id : Id) (k : ℕ) → number ≤ k → is_listed was id k ≡ false) → IsWithAdded self.old was number (take count (map kept_in calls.now)) → IsUnchanged self.new was }
     {
         let mut left = count;
         while left > 0 {
             left -= 1;
-            self.remove_entry(number + left as u32, &entries[left]);
+            self.remove_kept(number + left as u32, &calls[left]);
         }
+    }
+}
+
+/// The id, where this is an open request that no cancel has reached.
+fn id_in_reach(place: &Option<Box<Kept>>) -> Option<&Id>
+    ensures { option_copied result ≡ id_in_reach_of (kept_in place.now) }
+{
+    match place {
+        Some(kept) => match &**kept {
+            Kept::Open(call) => call.id_in_reach(),
+            Kept::Answered { .. } => None,
+        },
+        None => None,
     }
 }

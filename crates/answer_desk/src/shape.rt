@@ -1,6 +1,6 @@
-use crate::kind::Kind;
 use crate::place::Place;
-use lsp_frames::Items;
+use json_values::Items;
+use rpc_messages::Kind;
 
 /// A unit as the desk sees it: its kind and its entries in their order.
 #[derive(Debug, Drop)]

@@ -1,10 +1,10 @@
-use crate::kind::Kind;
-use crate::stub::Stub;
-use lsp_frames::Items;
+use crate::due::Due;
+use json_values::Items;
+use rpc_messages::Kind;
 
 /// A unit whose answer isn't released yet.
 #[derive(Debug, Drop)]
 pub struct WaitingUnit {
     pub kind: Kind,
-    pub stubs: Items<Stub>,
+    pub dues: Items<Due>,
 }

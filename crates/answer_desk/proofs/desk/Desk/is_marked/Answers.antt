@@ -1,17 +1,20 @@
 use Rattle.std.proofs.Common.{ap, ◌∙◌, sym}
 use Rattle.answer_desk.specs.Desk.{view}
-use Rattle.answer_desk.specs.Entry.{is_marked_entry}
-use Rattle.answer_desk.proofs.Views.{marked-seen}
+use Rattle.answer_desk.specs.Seen.{kept_at, open_number}
+use Rattle.answer_desk.specs.State.{is_marked_number}
+use Rattle.answer_desk.proofs.Views.{number-open}
 use Rattle.answer_desk.proofs.desk.Desk.is_marked.Goals as goal
 
-pub returns-in-Some : goal.returns-in-Some
+pub returns-in-Some-clause-marked : goal.returns-in-Some-clause-marked
 unfolding view
-returns-in-Some c =
-    let self = c.args.self.now in
-    c.is_marked.ensures ∙ ap is_marked_entry c.in-Some.ensures ∙ sym (marked-seen self.numbers c.args.number)
+returns-in-Some-clause-marked c =
+    c.is_marked.ensures ∙ ap is_marked_number (sym (number-open c.args.self.now.numbers c.args.number ∙ c.in-Some.ensures))
 
-pub returns-in-None : goal.returns-in-None
+pub returns-in-None-clause-marked : goal.returns-in-None-clause-marked
 unfolding view
-returns-in-None c =
+returns-in-None-clause-marked c = sym (ap is_marked_number (number-open c.args.self.now.numbers c.args.number ∙ c.in-None.ensures))
+
+pub returns-in-Some-clause-opening : goal.returns-in-Some-clause-opening
+returns-in-Some-clause-opening c first =
     let self = c.args.self.now in
-    sym (marked-seen self.numbers c.args.number ∙ ap is_marked_entry c.in-None.ensures)
+    c.is_marked.ensures ∙ ap is_marked_number (sym c.in-Some.ensures) ∙ ap (λ n. is_marked_number (open_number (kept_at self.numbers n))) first ∙ self.opening.unmarked

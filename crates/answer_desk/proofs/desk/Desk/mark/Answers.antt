@@ -1,6 +1,8 @@
-use Rattle.std.proofs.Common.{ap, ◌∙◌}
+use Rattle.std.proofs.Common.{ap, sym, ◌∙◌}
 use Rattle.answer_desk.specs.Desk.{view}
-use Rattle.answer_desk.proofs.Views.{seen, IsQuiet-marked, ascending-quiet, settled-quiet, seen-marked}
+use Rattle.answer_desk.specs.Seen.{kept_at, open_number}
+use Rattle.answer_desk.proofs.Views.{seen, number-open, IsQuiet-marked, ascending-quiet, finished-quiet, seen-marked}
+use Rattle.answer_desk.proofs.OutOfReach.{opening-left}
 use Rattle.answer_desk.proofs.desk.Desk.mark.Goals as goal
 
 pub invariant_of-self : goal.invariant_of-self
@@ -8,13 +10,22 @@ invariant_of-self c =
     let self = c.args.self.now in
     let quiet = IsQuiet-marked c.args.id.now c.args.before self.numbers in
     rw c.mark.ensures (record {
-      ascending = ascending-quiet _ self.numbers self.units.items quiet self.ascending;
-      front_settled = settled-quiet _ self.numbers self.units.items self.settled quiet self.ascending self.front_settled;
+      numbers_ascend = ascending-quiet _ self.numbers self.units.items quiet self.numbers_ascend;
+      parts_are_finished = finished-quiet _ self.numbers self.units.items self.finished_parts quiet self.numbers_ascend self.parts_are_finished;
+      opening = rw (opening-left c.args.id.now c.args.before self.numbers self.opening) self.opening;
     })
 
-pub returns : goal.returns
+pub returns-clause-after : goal.returns-clause-after
 unfolding view
-returns c =
+returns-clause-after c =
     let self = c.args.self.now in
     ap (λ es. seen es self.is_closed self.units.items) c.mark.ensures
-    ∙ seen-marked c.args.id.now c.args.before self.numbers self.is_closed self.units.items self.ascending
+    ∙ seen-marked c.args.id.now c.args.before self.numbers self.is_closed self.units.items self.numbers_ascend
+
+pub returns-clause-opening : goal.returns-clause-opening
+unfolding view
+returns-clause-opening c =
+    let self = c.args.self.now in
+    number-open c.mark.new.self 0
+    ∙ ap (λ es. open_number (kept_at es 0)) c.mark.ensures ∙ ap open_number (opening-left c.args.id.now c.args.before self.numbers self.opening)
+    ∙ sym (number-open self.numbers 0)

@@ -1,7 +1,7 @@
-use Rattle.std.proofs.Common.{refl}
+use Rattle.std.proofs.Common.{refl, ◌∙◌}
 use Rattle.answer_desk.specs.Desk.{view}
 use Rattle.answer_desk.proofs.desk.Desk.new.Goals as goal
 
 pub returns : goal.returns
 unfolding view
-returns c = rw (c.new.ensures, c.new-2.ensures.items) refl
+returns c = c.with_numbers.ensures ∙ rw c.new.ensures refl

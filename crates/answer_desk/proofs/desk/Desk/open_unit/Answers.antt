@@ -1,11 +1,14 @@
-use Rattle.std.proofs.Common.{◌≡◌, ◌++◌, ◌∷◌, [], length, refl, ap, ◌∙◌, sym}
+use Rattle.std.proofs.Common.{◌≡◌, ◌++◌, ◌∷◌, [], length, refl, ap, ◌∙◌, sym, arith}
 use Rattle.std.proofs.lemmas.List.{length-map}
 use Rattle.answer_desk.specs.Desk.{view}
-use Rattle.answer_desk.specs.Entry.{open_number}
-use Rattle.answer_desk.specs.Units.{new_entries, new_stubs}
 use Rattle.answer_desk.specs.declared.waiting_unit.WaitingUnit.{WaitingUnit}
+use Rattle.answer_desk.specs.Seen.{open_number}
+use Rattle.answer_desk.specs.Places.{new_numbers}
+use Rattle.answer_desk.specs.Inner.Kept.{kept_in}
+use Rattle.answer_desk.specs.Inner.Arrivals.{calls_of, dues_of}
 use Rattle.answer_desk.proofs.Views.{seen}
 use Rattle.answer_desk.proofs.Opening.{length-new, kept-new, unmarked-new, ascends-opened, front-opened, seen-opened, on_err_of}
+use Rattle.answer_desk.proofs.OutOfReach.{opening-append}
 use Rattle.answer_desk.proofs.desk.Desk.open_unit.Goals as goal
 
 pub make-requires : goal.make-requires
@@ -26,13 +29,15 @@ pub append-requires-clause-room : goal.append-requires-clause-room
 unfolding view
 append-requires-clause-room c =
     let self = c.args.self.now in
-    rw (c.in_ok-entries.ensures.entries, c.into_vec.ensures, length-new c.args.shape.places) (rw (length-map self.numbers open_number) at c.requires)
+    let long : length c.in_ok-calls.field-0.calls.items ≡ length (new_numbers c.args.shape.places) =
+    sym (length-map c.in_ok-calls.field-0.calls.items kept_in) ∙ ap length (c.in_ok-calls.ensures.calls ∙ ap calls_of c.into_vec.ensures) ∙ length-new c.args.shape.places in
+    rw long (rw (length-map self.numbers open_number) at c.requires)
 
 pub append-requires-clause-kept : goal.append-requires-clause-kept
-append-requires-clause-kept c = rw (c.in_ok-entries.ensures.entries) (kept-new c.into_vec.result.items)
+append-requires-clause-kept c = rw (c.in_ok-calls.ensures.calls) (kept-new c.into_vec.result.items)
 
 pub append-requires-clause-unmarked : goal.append-requires-clause-unmarked
-append-requires-clause-unmarked c = λ k below. rw (c.in_ok-entries.ensures.entries) (unmarked-new c.into_vec.result.items k)
+append-requires-clause-unmarked c = λ k below. rw (c.in_ok-calls.ensures.calls) (unmarked-new c.into_vec.result.items k)
 
 pub returns-in_err-append-clause-err : goal.returns-in_err-append-clause-err
 unfolding view
@@ -40,7 +45,7 @@ returns-in_err-append-clause-err c =
     let self = c.args.self.now in
     on_err_of c.from_residual-in_err-append.result
     (seen c.append.new.self self.is_closed c.reserve.new.self.items ≡ seen self.numbers self.is_closed self.units.items)
-    (ap (λ es. seen es self.is_closed c.reserve.new.self.items) c.in_err-append.ensures.err ∙ ap (seen self.numbers self.is_closed) c.reserve.ensures.items)
+    (ap (λ ns. seen ns self.is_closed c.reserve.new.self.items) c.in_err-append.ensures.err ∙ ap (seen self.numbers self.is_closed) c.reserve.ensures.items)
 
 pub returns-clause-number : goal.returns-clause-number
 unfolding view
@@ -50,27 +55,28 @@ pub invariant_of-self-2 : goal.invariant_of-self-2
 invariant_of-self-2 c =
     let self = c.args.self.now in
     let places = c.args.shape.places in
-    let unit : WaitingUnit = record { kind = c.args.shape.kind; stubs = c.from.result } in
-    let stubs : unit.stubs ≡ new_stubs (length self.numbers) places =
-    c.from.ensures ∙ c.in_ok-entries.ensures.stubs ∙ ap (λ n. new_stubs n c.into_vec.result.items) c.next-number.ensures.next
-    ∙ ap (new_stubs (length self.numbers)) c.into_vec.ensures in
-    rw (c.in_ok-append.ensures.ok, c.in_ok-entries.ensures.entries, c.into_vec.ensures, c.push_back_reserved.ensures.items, c.reserve.ensures.items) (record {
-      ascending = ascends-opened self.numbers self.units.items unit places stubs self.ascending;
-      front_settled = front-opened self.numbers self.units.items unit places self.settled stubs self.ascending self.front_settled;
+    let unit : WaitingUnit = record { kind = c.args.shape.kind; dues = c.from.result } in
+    let dues : unit.dues ≡ dues_of (length self.numbers) places =
+    c.from.ensures ∙ c.in_ok-calls.ensures.dues ∙ ap (λ n. dues_of n c.into_vec.result.items) c.next-number.ensures.next
+    ∙ ap (dues_of (length self.numbers)) c.into_vec.ensures in
+    rw (c.in_ok-append.ensures.ok, c.in_ok-calls.ensures.calls, c.into_vec.ensures, c.push_back_reserved.ensures.items, c.reserve.ensures.items) (record {
+      numbers_ascend = ascends-opened self.numbers self.units.items unit places dues self.numbers_ascend;
+      parts_are_finished = front-opened self.numbers self.units.items unit places self.finished_parts dues self.numbers_ascend self.parts_are_finished;
+      opening = opening-append self.numbers (calls_of places) (omega (arith, c.next-number.ensures.some)) self.opening;
     })
 
 pub returns-clause-ok : goal.returns-clause-ok
 unfolding view
 returns-clause-ok c =
     let self = c.args.self.now in
-    let unit : WaitingUnit = record { kind = c.args.shape.kind; stubs = c.from.result } in
-    let stubs : unit.stubs ≡ new_stubs (length self.numbers) c.args.shape.places =
-    c.from.ensures ∙ c.in_ok-entries.ensures.stubs ∙ ap (λ n. new_stubs n c.into_vec.result.items) c.next-number.ensures.next
-    ∙ ap (new_stubs (length self.numbers)) c.into_vec.ensures in
-    let entries : c.append.new.self ≡ self.numbers ++ new_entries c.args.shape.places =
-    c.in_ok-append.ensures.ok ∙ ap (λ es. self.numbers ++ es) (c.in_ok-entries.ensures.entries ∙ ap new_entries c.into_vec.ensures) in
+    let unit : WaitingUnit = record { kind = c.args.shape.kind; dues = c.from.result } in
+    let dues : unit.dues ≡ dues_of (length self.numbers) c.args.shape.places =
+    c.from.ensures ∙ c.in_ok-calls.ensures.dues ∙ ap (λ n. dues_of n c.into_vec.result.items) c.next-number.ensures.next
+    ∙ ap (dues_of (length self.numbers)) c.into_vec.ensures in
+    let numbers : c.append.new.self ≡ self.numbers ++ calls_of c.args.shape.places =
+    c.in_ok-append.ensures.ok ∙ ap (λ ns. self.numbers ++ ns) (c.in_ok-calls.ensures.calls ∙ ap calls_of c.into_vec.ensures) in
     let units : c.push_back_reserved.new.self.items ≡ self.units.items ++ unit ∷ [] =
     c.push_back_reserved.ensures.items ∙ ap (λ us. us ++ unit ∷ []) c.reserve.ensures.items in
-    ap (λ es. seen es self.is_closed c.push_back_reserved.new.self.items) entries
-    ∙ ap (seen (self.numbers ++ new_entries c.args.shape.places) self.is_closed) units
-    ∙ seen-opened self.numbers self.is_closed self.units.items unit c.args.shape stubs refl self.ascending
+    ap (λ ns. seen ns self.is_closed c.push_back_reserved.new.self.items) numbers
+    ∙ ap (seen (self.numbers ++ calls_of c.args.shape.places) self.is_closed) units
+    ∙ seen-opened self.numbers self.is_closed self.units.items unit c.args.shape dues refl self.numbers_ascend

@@ -1,8 +1,11 @@
 use Rattle.std.proofs.Common.{refl, ap, ◌∙◌}
 use Rattle.answer_desk.specs.declared.number.Number.{Number}
 use Rattle.answer_desk.specs.Desk.{view}
-use Rattle.answer_desk.specs.Replies.{slots_with, put_into}
-use Rattle.answer_desk.proofs.Views.{seen, slot-seen, IsQuiet-changed, ascending-quiet, settled-quiet, seen-put}
+use Rattle.answer_desk.specs.Seen.{kept_at}
+use Rattle.answer_desk.specs.Replies.{put_into}
+use Rattle.answer_desk.specs.Inner.Kept.{slots_with, with_put}
+use Rattle.answer_desk.proofs.Views.{seen, slot-seen, IsQuiet-changed, ascending-quiet, finished-quiet, seen-put}
+use Rattle.answer_desk.proofs.OutOfReach.{opening-set, IsOutOfReach-changed}
 use Rattle.answer_desk.proofs.desk.Desk.put_reply.Goals as goal
 
 pub returns-then-self-clause-put : goal.returns-then-self-clause-put
@@ -18,8 +21,10 @@ invariant_of-self c =
     let self = c.args.self.now in
     let quiet = IsQuiet-changed (λ (m : Number). record m { replies = slots_with m.replies c.args.turn c.args.reply }) (λ m. refl) self.numbers c.args.number in
     rw c.put_reply.ensures.after (record {
-      ascending = ascending-quiet _ self.numbers self.units.items quiet self.ascending;
-      front_settled = settled-quiet _ self.numbers self.units.items self.settled quiet self.ascending self.front_settled;
+      numbers_ascend = ascending-quiet _ self.numbers self.units.items quiet self.numbers_ascend;
+      parts_are_finished = finished-quiet _ self.numbers self.units.items self.finished_parts quiet self.numbers_ascend self.parts_are_finished;
+      opening = opening-set self.numbers c.args.number (with_put c.args.turn c.args.reply (kept_at self.numbers c.args.number))
+          (IsOutOfReach-changed (λ (m : Number). record m { replies = slots_with m.replies c.args.turn c.args.reply }) (λ m. refl) (λ m. refl) (kept_at self.numbers c.args.number)) self.opening;
     })
 
 pub returns-clause-put : goal.returns-clause-put
@@ -33,4 +38,4 @@ unfolding view
 returns-clause-after c =
     let self = c.args.self.now in
     ap (λ es. seen es self.is_closed self.units.items) c.put_reply.ensures.after
-    ∙ rw c.if-self.false (seen-put self.numbers self.units.items c.args.number c.args.turn c.args.reply self.ascending)
+    ∙ rw c.if-self.false (seen-put self.numbers self.units.items c.args.number c.args.turn c.args.reply self.numbers_ascend)

@@ -1,8 +1,11 @@
 use Rattle.std.proofs.Common.{refl, ap, ◌∙◌}
 use Rattle.answer_desk.specs.declared.number.Number.{Number}
 use Rattle.answer_desk.specs.Desk.{view}
-use Rattle.answer_desk.specs.Replies.{slots_without, given_by}
-use Rattle.answer_desk.proofs.Views.{seen, slot-seen, IsQuiet-changed, ascending-quiet, settled-quiet, seen-taken}
+use Rattle.answer_desk.specs.Seen.{kept_at}
+use Rattle.answer_desk.specs.Replies.{given_by}
+use Rattle.answer_desk.specs.Inner.Kept.{slots_without, with_taken}
+use Rattle.answer_desk.proofs.Views.{seen, slot-seen, IsQuiet-changed, ascending-quiet, finished-quiet, seen-taken}
+use Rattle.answer_desk.proofs.OutOfReach.{opening-set, IsOutOfReach-changed}
 use Rattle.answer_desk.proofs.desk.Desk.take_reply.Goals as goal
 
 pub invariant_of-self : goal.invariant_of-self
@@ -10,8 +13,10 @@ invariant_of-self c =
     let self = c.args.self.now in
     let quiet = IsQuiet-changed (λ (m : Number). record m { replies = slots_without self.is_closed m.replies c.args.turn }) (λ m. refl) self.numbers c.args.number in
     rw c.take_reply.ensures.after (record {
-      ascending = ascending-quiet _ self.numbers self.units.items quiet self.ascending;
-      front_settled = settled-quiet _ self.numbers self.units.items self.settled quiet self.ascending self.front_settled;
+      numbers_ascend = ascending-quiet _ self.numbers self.units.items quiet self.numbers_ascend;
+      parts_are_finished = finished-quiet _ self.numbers self.units.items self.finished_parts quiet self.numbers_ascend self.parts_are_finished;
+      opening = opening-set self.numbers c.args.number (with_taken c.args.turn self.is_closed (kept_at self.numbers c.args.number))
+          (IsOutOfReach-changed (λ (m : Number). record m { replies = slots_without self.is_closed m.replies c.args.turn }) (λ m. refl) (λ m. refl) (kept_at self.numbers c.args.number)) self.opening;
     })
 
 pub returns-clause-reply : goal.returns-clause-reply
@@ -25,4 +30,4 @@ unfolding view
 returns-clause-after c =
     let self = c.args.self.now in
     ap (λ es. seen es self.is_closed self.units.items) c.take_reply.ensures.after
-    ∙ seen-taken self.numbers self.is_closed self.units.items c.args.number c.args.turn self.ascending
+    ∙ seen-taken self.numbers self.is_closed self.units.items c.args.number c.args.turn self.numbers_ascend

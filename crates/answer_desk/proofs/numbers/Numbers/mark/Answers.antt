@@ -1,5 +1,5 @@
 use Rattle.std.proofs.Common.{sym, ◌∙◌}
-use Rattle.answer_desk.specs.Numbers.{with_marks_below}
+use Rattle.answer_desk.specs.Inner.Numbers.{with_marks_below}
 use Rattle.answer_desk.proofs.Marks.{marks-step, marks-fewer, marks-done}
 use Rattle.answer_desk.proofs.numbers.Numbers.mark.Goals as goal
 

@@ -1,6 +1,6 @@
 use Rattle.std.proofs.Common.{◌≡◌}
-use Rattle.answer_desk.specs.Numbers.{with_marks_below}
-use Rattle.answer_desk.specs.Requests.{count_in_reach}
+use Rattle.answer_desk.specs.Inner.Numbers.{with_marks_below}
+use Rattle.answer_desk.specs.Inner.Requests.{count_in_reach}
 use Rattle.answer_desk.proofs.numbers.Numbers.mark.Given as goal
 
 -- what is left to mark leads to the same entries as all of it

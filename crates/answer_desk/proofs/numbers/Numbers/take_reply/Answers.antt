@@ -1,24 +1,63 @@
-use Rattle.std.proofs.Common.{◌<◌, length, refl, arith}
+use Rattle.std.proofs.Common.{◌≡◌, ◌-◌, ◌≤◌, ◌<◌, length, refl, arith, ap}
+use Rattle.answer_desk.specs.declared.kept.Kept.TheVariants.{Open}
 use Rattle.answer_desk.specs.declared.number.Number.{Number}
-use Rattle.answer_desk.specs.Entry.{with_taken}
-use Rattle.answer_desk.specs.Replies.{slots_without}
-use Rattle.answer_desk.proofs.Windows.{all-changed, IsWindow-changed}
-use Rattle.answer_desk.proofs.Indexed.{IsIndexed-unseen_at, IsUnseen-changed}
+use Rattle.answer_desk.specs.Inner.Kept.{slots_without, with_taken}
+use Rattle.answer_desk.proofs.InWindow.{place-changed, place-unseen, held-changed, answer-unchanged, none-unchanged}
 use Rattle.answer_desk.proofs.numbers.Numbers.take_reply.Goals as goal
+use Rattle.answer_desk.proofs.numbers.Numbers.take_reply.Goals.{in-Some+in-Open, in-Some+in-Answered, in-None}
 
 pub invariant_of-self : goal.invariant_of-self
 invariant_of-self c =
     let inside = c.self.inside in
-    let below : c.in_ok-index.index < length inside.window.items = omega (arith, c.in_ok-index.ensures, c.len.ensures, inside.window.ok) in
+    let i = c.in_ok-index.index in
+    let items = inside.window.items in
+    let was = c.index_mut.result.now in
+    let read = c.index_mut.ensures.value in
+    let below : i < length items = omega (arith, c.in_ok-index.ensures, c.len.ensures, inside.window.ok) in
     let change : Number → Number = λ (n : Number). record n { replies = slots_without c.args.is_closed n.replies c.args.turn } in
-    rw c.take_reply.ensures.after (
-      IsWindow-changed change inside.first c.in_ok-index.index inside.window.items c.index_mut.result.now below c.index_mut.ensures.value c.self.invariant.0,
-      IsIndexed-unseen_at inside.first c.in_ok-index.index inside.window.items c.index_mut.result.now _ inside.in_reach inside.reached below c.index_mut.ensures.value
-          (IsUnseen-changed change (λ n. refl) (λ n. refl) c.index_mut.result.now) c.self.invariant.1,
-    )
+    elim c.match-index_mut.branch [
+      | in-Some+in-Open w ↦
+          rw w.self-inside-is
+          (place-unseen change (λ n. refl) (λ n. refl) inside.first i items was _ inside.in_reach inside.new_marks below read
+          (held-changed change was w.in-Some.kept w.deref_mut.result.now _ w.in-Open.call w.in-Some.is w.deref_mut.ensures.value w.in-Open.is
+          (ap (λ rs. Open (record w.in-Open.call { replies = rs })) w.take.ensures.after))
+          c.self.invariant)
+      | in-Some+in-Answered w ↦
+          rw w.self-inside-is
+          (place-unseen change (λ n. refl) (λ n. refl) inside.first i items was _ inside.in_reach inside.new_marks below read
+          (answer-unchanged change was w.in-Some.kept w.deref_mut.result.now w.in-Answered.id w.in-Answered.reply w.in-Some.is w.deref_mut.ensures.value w.in-Answered.is)
+          c.self.invariant)
+      | in-None w ↦
+          rw w.self-inside-is
+          (place-unseen change (λ n. refl) (λ n. refl) inside.first i items was _ inside.in_reach inside.new_marks below read (none-unchanged change was w.in-None.is) c.self.invariant)
+    ]
 
 pub returns-clause-after : goal.returns-clause-after
 returns-clause-after c =
-    rw c.take_reply.ensures.after
-    (all-changed (with_taken c.args.turn c.args.is_closed) c.self.inside.first c.args.number c.in_ok-index.index c.self.inside.window.items c.args.self.now c.index_mut.result.now
-    c.in_ok-index.ensures.0.0 c.in_ok-index.ensures.1 (omega (arith, c.in_ok-index.ensures, c.len.ensures, c.self.inside.window.ok)) c.index_mut.ensures.value c.self.view_is)
+    let inside = c.self.inside in
+    let i = c.in_ok-index.index in
+    let number = c.args.number in
+    let items = inside.window.items in
+    let numbers = c.args.self.now in
+    let was = c.index_mut.result.now in
+    let read = c.index_mut.ensures.value in
+    let reached : inside.first ≤ number = c.in_ok-index.ensures.0.0 in
+    let place : i ≡ number - inside.first = c.in_ok-index.ensures.1 in
+    let below : i < length items = omega (arith, c.in_ok-index.ensures, c.len.ensures, inside.window.ok) in
+    let change : Number → Number = λ (n : Number). record n { replies = slots_without c.args.is_closed n.replies c.args.turn } in
+    elim c.match-index_mut.branch [
+      | in-Some+in-Open w ↦
+          rw w.self-inside-is
+          (place-changed (with_taken c.args.turn c.args.is_closed) inside.first number i items numbers was _ reached place below read
+          (held-changed change was w.in-Some.kept w.deref_mut.result.now _ w.in-Open.call w.in-Some.is w.deref_mut.ensures.value w.in-Open.is
+          (ap (λ rs. Open (record w.in-Open.call { replies = rs })) w.take.ensures.after))
+          c.self.view_is)
+      | in-Some+in-Answered w ↦
+          rw w.self-inside-is
+          (place-changed (with_taken c.args.turn c.args.is_closed) inside.first number i items numbers was _ reached place below read
+          (answer-unchanged change was w.in-Some.kept w.deref_mut.result.now w.in-Answered.id w.in-Answered.reply w.in-Some.is w.deref_mut.ensures.value w.in-Answered.is)
+          c.self.view_is)
+      | in-None w ↦
+          rw w.self-inside-is
+          (place-changed (with_taken c.args.turn c.args.is_closed) inside.first number i items numbers was _ reached place below read (none-unchanged change was w.in-None.is) c.self.view_is)
+    ]

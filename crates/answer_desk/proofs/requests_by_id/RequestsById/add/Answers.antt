@@ -1,5 +1,5 @@
 use Rattle.std.proofs.Common.{Some, true, refl, ap, sym, rules}
-use Rattle.answer_desk.specs.Requests.{is_in}
+use Rattle.answer_desk.specs.Inner.Requests.{is_in}
 use Rattle.answer_desk.proofs.Listed.{listed-put, listed-changed, listed-same}
 use Rattle.answer_desk.proofs.Opening.{on_err_of}
 use Rattle.answer_desk.proofs.requests_by_id.RequestsById.add.Goals as goal

@@ -1,6 +1,6 @@
 use Rattle.std.proofs.Common.{◌≡◌, [], Some, false, ap, sym, rules}
 use Rattle.std.proofs.lemmas.List.{nil_from_length}
-use Rattle.answer_desk.specs.Requests.{is_in}
+use Rattle.answer_desk.specs.Inner.Requests.{is_in}
 use Rattle.answer_desk.proofs.Listed.{listed-put, listed-changed, listed-gone}
 use Rattle.answer_desk.proofs.requests_by_id.RequestsById.remove.Goals as goal
 

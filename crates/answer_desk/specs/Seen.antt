@@ -1,0 +1,35 @@
+-- How a desk's view shows what it keeps of numbers, and the units that wait.
+use Rattle.std.specs.Prelude.{ℕ, List, Option, Some, None, map, slice_index_or}
+use Rattle.answer_desk.specs.declared.due.Due.{Due}
+use Rattle.answer_desk.specs.declared.due.Due.TheVariants.{ParseError, InvalidRequest, Nothing, Answer}
+use Rattle.answer_desk.specs.declared.kept.Kept.{Kept}
+use Rattle.answer_desk.specs.declared.kept.Kept.TheVariants.{Open, Answered}
+use Rattle.answer_desk.specs.declared.number.Number.{Number}
+use Rattle.answer_desk.specs.declared.waiting_unit.WaitingUnit.{WaitingUnit}
+use Rattle.answer_desk.specs.Places.{call_part}
+use Rattle.answer_desk.specs.Waiting.{Part, unreadable, invalid, silent, request, Waiting}
+
+-- what is kept of a number that is open
+abbrev pub open_number : Option Kept → Option Number
+open_number (Some (Open number)) = Some number
+open_number (Some (Answered id reply)) = None
+open_number None = None
+
+-- what stands for a number; nothing where it is over
+abbrev pub kept_at : List (Option Kept) → ℕ → Option Kept
+kept_at numbers number = slice_index_or numbers number None
+
+-- a request by what stands for its number
+abbrev pub request_part : ℕ → Option Kept → Part
+request_part number (Some (Open n)) = call_part number n.id
+request_part number (Some (Answered id reply)) = request number id (Some reply)
+request_part number None = silent
+
+abbrev pub part_of : List (Option Kept) → Due → Part
+part_of numbers ParseError = unreadable
+part_of numbers InvalidRequest = invalid
+part_of numbers Nothing = silent
+part_of numbers (Answer number) = request_part number (kept_at numbers number)
+
+abbrev pub waiting_of : List (Option Kept) → WaitingUnit → Waiting
+waiting_of numbers unit = record { kind = unit.kind; parts = map (part_of numbers) unit.dues }

@@ -1,0 +1,62 @@
+ghost use Rattle.std.specs.Prelude.{◌≡◌, ◌+◌, ◌≤◌, ◌++◌, [], ◌∷◌, IfOk, OnOk, length, map};
+ghost use Rattle.answer_desk.specs.Inner.Kept.{kept_in};
+ghost use Rattle.answer_desk.specs.Inner.Arrivals.{calls_of_place, calls_of, due_of_place, dues_of};
+
+use crate::due::Due;
+use crate::kept::Kept;
+use crate::place::Place;
+use std::alloc::{AllocError, Global};
+use std::collections::VecDeque;
+
+/// What a unit that arrives brings: what is kept for each of its calls, and what is due to each of its entries.
+#[derive(Debug, Drop)]
+pub struct Arrival {
+    pub calls: Vec<Option<Box<Kept>>>,
+    pub dues: Vec<Due>,
+}
+
+impl Arrival {
+    /// The calls take the numbers from `number` on.
+    pub fn make(alloc: Global, number: u32, places: Vec<Place>) -> Result<Arrival, AllocError>
+        requires { number + length (calls_of places.items) ≤ 1000001 }
+        ensures calls { IfOk result (λ arrival. map kept_in arrival.calls.items ≡ calls_of places.items) }
+        ensures dues { IfOk result (λ arrival. arrival.dues.items ≡ dues_of number places.items) }
+    {
+        let mut calls = Vec::new(alloc);
+        let mut dues = Vec::with_capacity(alloc, places.len())?;
+        let mut rest = VecDeque::from_vec(places);
+        while let Some(place) = rest.pop_front() {
+            dues.push(due_of(number + calls.len() as u32, &place))?;
+            push_call(alloc, &mut calls, place)?;
+        }
+        Ok(Arrival { calls, dues })
+    }
+}
+
+fn due_of(number: u32, place: &Place) -> Due
+    ensures { result ≡ due_of_place number place.now }
+{
+    match place {
+        Place::Unreadable => Due::ParseError,
+        Place::Invalid => Due::InvalidRequest,
+        Place::Silent => Due::Nothing,
+        Place::Numbered {
+            id: Some(_),
+            most: _,
+        } => Due::Answer(number),
+        Place::Numbered { id: None, most: _ } => Due::Nothing,
+    }
+}
+
+fn push_call(
+    alloc: Global,
+    calls: &mut Vec<Option<Box<Kept>>>,
+    place: Place,
+) -> Result<(), AllocError>
+    ensures { OnOk result (map kept_in calls.new.items ≡ map kept_in calls.old.items ++ calls_of_place place) }
+{
+    if let Place::Numbered { id, most } = place {
+        calls.push(Some(Kept::open(alloc, id, most)?))?;
+    }
+    Ok(())
+}

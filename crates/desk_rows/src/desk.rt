@@ -1,0 +1,335 @@
+//! Units at the desk: their numbers, their replies, their cancels and their answers.
+mod acts;
+mod large;
+
+use acts::Act::{
+    self, Close, Empty, Finish, Has, Mark, Marked, NoneMarked, Open, OpenNumber, Put, Release,
+    Requests, Take, TakeMarked,
+};
+use acts::Entry::{Invalid, Notification, Request, Silent, Unreadable};
+use acts::Name::{Null, Number, Text};
+use acts::Said;
+use answer_desk::{Desk, Kind, Place, Put as Stored, Shape};
+use json_values::{Items, Json};
+use rpc_messages::{Id, Reply};
+use std::alloc::Global;
+use std::process::Abort;
+use std::test::Fail;
+
+fn open(rt: &impl Abort, desk: &mut Desk, kind: Kind, places: Vec<Place>) -> Result<u32, Fail> {
+    assert!(rt; desk.next_number() as usize + places.len() <= 1_000_001);
+    let places = Items::from(places);
+    Ok(desk.open_unit(Shape { kind, places })?)
+}
+
+fn finish(rt: &impl Abort, desk: &mut Desk, number: u32, value: Json) {
+    assert!(rt; desk.is_open(number));
+    desk.finish(number, Reply::Done(value));
+}
+
+fn request(id: u64, most: u32) -> Place {
+    Place::Numbered {
+        id: Some(Id::Unsigned(id)),
+        most,
+    }
+}
+
+fn are_texts(texts: &Items<Items<u8>>, want: &[&str]) -> bool {
+    if texts.len() != want.len() {
+        return false;
+    }
+    for (text, want) in texts.as_slice().iter().zip(want) {
+        if text.as_slice() != want.as_bytes() {
+            return false;
+        }
+    }
+    true
+}
+
+/// The acts at a new desk.
+fn played(rt: &impl Abort, alloc: Global, acts: &[Act]) -> Result<(), Fail> {
+    acts::play(rt, alloc, &mut Desk::new(alloc), acts)
+}
+
+const FIRST_REPLY: &[Act] = &[
+    Open(Kind::Single, &[Request(Number(1), 1)], 1),
+    Open(Kind::Single, &[Request(Number(2), 0)], 2),
+    Finish(2, Said::Number(5)),
+    Release(&[]),
+    Put(1, 1, Stored::Kept),
+    Put(1, 1, Stored::Second),
+    Put(1, 2, Stored::Unknown),
+    Put(3, 1, Stored::Unknown),
+    Has(1, 1, true),
+    Take(1, 1, Said::True),
+    Take(1, 1, Said::Nothing),
+    Put(1, 1, Stored::Second),
+    Finish(1, Said::True),
+    Release(&[
+        r#"{"id":1,"jsonrpc":"2.0","result":true}"#,
+        r#"{"id":2,"jsonrpc":"2.0","result":5}"#,
+    ]),
+    Release(&[]),
+];
+
+#[test]
+fn first_reply_is_kept_and_answers_wait_for_earlier_units(rt: HostRuntime) -> Result<(), Fail> {
+    played(&rt, rt.alloc(), FIRST_REPLY)
+}
+
+const NOTIFICATION: &[Act] = &[
+    Open(Kind::Batch, &[Notification(1), Request(Number(1), 0)], 1),
+    Finish(2, Said::Number(5)),
+    Release(&[r#"[{"id":1,"jsonrpc":"2.0","result":5}]"#]),
+    Put(1, 1, Stored::Kept),
+    Finish(1, Said::Null),
+    Put(1, 1, Stored::Unknown),
+    Release(&[]),
+    Open(Kind::Single, &[Silent], 3),
+];
+
+#[test]
+fn notification_runs_on_after_its_batch_was_answered(rt: HostRuntime) -> Result<(), Fail> {
+    played(&rt, rt.alloc(), NOTIFICATION)
+}
+
+const BATCH: &[Act] = &[
+    Open(Kind::Single, &[Unreadable], 1),
+    Open(Kind::Batch, &[Silent], 1),
+    Open(
+        Kind::Batch,
+        &[
+            Request(Number(1), 0),
+            Silent,
+            Invalid,
+            Request(Number(2), 0),
+        ],
+        1,
+    ),
+    Finish(2, Said::Number(5)),
+    Release(&[r#"{"error":{"code":-32700,"message":"Parse error"},"id":null,"jsonrpc":"2.0"}"#]),
+    Finish(1, Said::True),
+    Release(&[concat!(
+        r#"[{"id":1,"jsonrpc":"2.0","result":true},"#,
+        r#"{"error":{"code":-32600,"message":"Invalid Request"},"id":null,"jsonrpc":"2.0"},"#,
+        r#"{"id":2,"jsonrpc":"2.0","result":5}]"#,
+    )]),
+];
+
+#[test]
+fn batch_is_one_array_in_the_order_of_its_entries(rt: HostRuntime) -> Result<(), Fail> {
+    played(&rt, rt.alloc(), BATCH)
+}
+
+const CANCELS: &[Act] = &[
+    Open(
+        Kind::Batch,
+        &[
+            Request(Number(7), 0),
+            Request(Number(7), 0),
+            Request(Text("7"), 0),
+            Request(Number(7), 0),
+        ],
+        1,
+    ),
+    NoneMarked,
+    Mark(Number(7), 2),
+    Marked(1, true),
+    Marked(2, false),
+    TakeMarked(&[1]),
+    NoneMarked,
+    Mark(Number(7), 5),
+    Marked(2, true),
+    Marked(3, false),
+    Marked(4, true),
+    TakeMarked(&[2, 4]),
+    NoneMarked,
+    Finish(1, Said::Null),
+    Marked(1, false),
+];
+
+#[test]
+fn cancel_reaches_open_requests_of_its_id_before_it(rt: HostRuntime) -> Result<(), Fail> {
+    played(&rt, rt.alloc(), CANCELS)
+}
+
+const CLOSED: &[Act] = &[
+    Open(Kind::Single, &[Request(Number(1), 2)], 1),
+    Put(1, 1, Stored::Kept),
+    Has(1, 2, false),
+    Close,
+    Put(1, 2, Stored::Unknown),
+    Has(1, 2, true),
+    Take(1, 1, Said::True),
+    Take(1, 2, Said::NoReply),
+    Take(1, 1, Said::Nothing),
+    Take(1, 2, Said::Nothing),
+    Take(1, 3, Said::Nothing),
+    Take(1, 0, Said::Nothing),
+];
+
+#[test]
+fn closed_board_gives_no_reply_once(rt: HostRuntime) -> Result<(), Fail> {
+    played(&rt, rt.alloc(), CLOSED)
+}
+
+const SHARED: &[Act] = &[
+    Requests(7, 20),
+    Requests(8, 20),
+    Requests(7, 20),
+    Finish(3, Said::Null),
+    Finish(41, Said::Null),
+    Mark(Number(7), 6),
+    TakeMarked(&[1, 2, 4, 5]),
+    NoneMarked,
+    Mark(Number(7), 44),
+    Mark(Number(8), 23),
+    Finish(7, Said::Null),
+    TakeMarked(&[6, 8, 9, 10, 11, 12, 13, 14, 15, 16, 17, 18, 19, 20]),
+    TakeMarked(&[21, 22, 42, 43]),
+    NoneMarked,
+    Marked(43, true),
+    Marked(44, false),
+    Marked(23, false),
+    Marked(3, false),
+    Marked(41, false),
+];
+
+#[test]
+fn cancels_reach_each_request_of_a_shared_id_once(rt: HostRuntime) -> Result<(), Fail> {
+    played(&rt, rt.alloc(), SHARED)
+}
+
+/// Cancels the request of that number, whose id is 7, before it and then twice behind it.
+fn is_marked_again(desk: &mut Desk, number: u32) -> bool {
+    desk.mark(&Id::Unsigned(7), number);
+    let before = desk.take_marked();
+    desk.mark(&Id::Unsigned(7), number.saturating_add(1));
+    desk.mark(&Id::Unsigned(7), number.saturating_add(1));
+    before.is_none() && (number % 2 != 0 || desk.take_marked() == Some(number))
+}
+
+#[test]
+fn id_that_is_used_again_is_marked_again(rt: HostRuntime) -> Result<(), Fail> {
+    let mut desk = Desk::new(rt.alloc());
+    for number in 1..100 {
+        acts::requests(&rt, rt.alloc(), &mut desk, 7, 1)?;
+        assert!(rt; is_marked_again(&mut desk, number), "{number}");
+        finish(&rt, &mut desk, number, Json::null());
+        assert!(rt;
+            desk.take_marked().is_none() && desk.release()?.len() == 1,
+            "{number}"
+        );
+    }
+    Ok(())
+}
+
+const TEXTS: &[Act] = &[
+    Open(Kind::Single, &[Request(Text("7"), 0)], 1),
+    Open(Kind::Single, &[Request(Text(""), 0)], 2),
+    Open(Kind::Single, &[Request(Text("8"), 0)], 3),
+    Open(Kind::Single, &[Request(Text("7"), 0)], 4),
+    Requests(7, 1),
+    Open(Kind::Single, &[Request(Null, 0)], 6),
+    Mark(Number(7), 9),
+    TakeMarked(&[5]),
+    Mark(Text("7"), 9),
+    TakeMarked(&[1, 4]),
+    Mark(Text(""), 9),
+    TakeMarked(&[2]),
+    NoneMarked,
+    Marked(3, false),
+    Marked(6, false),
+];
+
+#[test]
+fn text_ids_and_number_ids_are_apart(rt: HostRuntime) -> Result<(), Fail> {
+    played(&rt, rt.alloc(), TEXTS)
+}
+
+const NO_OPENING: &[Act] = &[OpenNumber(0, false)];
+
+const OPENING: &[Act] = &[
+    OpenNumber(0, true),
+    Empty(true),
+    Put(0, 1, Stored::Kept),
+    Put(0, 1, Stored::Second),
+    Put(0, 3, Stored::Unknown),
+    Open(Kind::Single, &[Request(Number(7), 0)], 1),
+    Empty(false),
+    Mark(Null, 2),
+    Mark(Number(7), 2),
+    TakeMarked(&[1]),
+    NoneMarked,
+    Marked(0, false),
+    Finish(1, Said::True),
+    Release(&[r#"{"id":7,"jsonrpc":"2.0","result":true}"#]),
+    Empty(true),
+    OpenNumber(0, true),
+    Take(0, 1, Said::True),
+    Close,
+    Take(0, 2, Said::NoReply),
+    Finish(0, Said::Null),
+    OpenNumber(0, false),
+    Release(&[]),
+];
+
+#[test]
+fn opening_is_open_before_any_call_and_no_unit_waits_for_it(rt: HostRuntime) -> Result<(), Fail> {
+    played(&rt, rt.alloc(), NO_OPENING)?;
+    let mut desk = Desk::with_opening(rt.alloc(), 2)?;
+    acts::play(&rt, rt.alloc(), &mut desk, OPENING)
+}
+
+const TWO_ANSWERS: &[Act] = &[
+    Open(Kind::Single, &[Notification(0)], 1),
+    Requests(7, 2),
+    Finish(2, Said::True),
+    Finish(3, Said::True),
+];
+
+const FRAMES: &str = concat!(
+    "before",
+    "Content-Length: 38\r\n\r\n{\"id\":7,\"jsonrpc\":\"2.0\",\"result\":true}",
+    "Content-Length: 38\r\n\r\n{\"id\":7,\"jsonrpc\":\"2.0\",\"result\":true}",
+);
+
+#[test]
+fn frames_stand_behind_the_bytes_and_notifications_have_none(rt: HostRuntime) -> Result<(), Fail> {
+    let mut desk = Desk::new(rt.alloc());
+    let mut bytes = Vec::from_slice(rt.alloc(), b"before")?;
+    assert!(rt; desk.release_to(&mut bytes)? == 0);
+    acts::play(&rt, rt.alloc(), &mut desk, TWO_ANSWERS)?;
+    assert!(rt; desk.release_to(&mut bytes)? == 2);
+    assert!(rt; desk.is_empty() && bytes.as_slice() == FRAMES.as_bytes());
+    assert!(rt; desk.release_to(&mut bytes)? == 0 && bytes.len() == FRAMES.len());
+    Ok(())
+}
+
+/// So many requests without calls of their own, whose ids count up from this one.
+fn numbered(alloc: Global, first: u32, count: u32) -> Result<Vec<Place>, Fail> {
+    let mut places = Vec::new(alloc);
+    for index in 0..count {
+        places.push(request(first.saturating_add(index) as u64, 0))?;
+    }
+    Ok(places)
+}
+
+/// Whether the desk gives one text of so many bytes.
+fn gives_bytes(desk: &mut Desk, length: usize) -> Result<bool, Fail> {
+    match desk.release()?.as_slice() {
+        [text] => Ok(text.len() == length),
+        _ => Ok(false),
+    }
+}
+
+#[test]
+fn batch_of_a_hundred_answers_is_one_text(rt: HostRuntime) -> Result<(), Fail> {
+    let mut desk = Desk::new(rt.alloc());
+    open(&rt, &mut desk, Kind::Batch, numbered(rt.alloc(), 0, 100)?)?;
+    for number in 1..101 {
+        finish(&rt, &mut desk, number, Json::null());
+    }
+    assert!(rt; gives_bytes(&mut desk, 10 * 38 + 90 * 39 + 101)?);
+    Ok(())
+}
