@@ -13,9 +13,10 @@ use Rattle.job_slots.specs.Phases.{Phase, empty, filling, ready, running, done, 
 use Rattle.job_slots.specs.Looks.{is_clerk, is_worker, is_settled, view_looks, view_live}
 use Rattle.job_slots.specs.Lawful.{LawfulTable}
 use Rattle.job_slots.specs.Closing.{ComesBack, EndsLawful, jobs_at_home}
-use Rattle.job_slots.specs.Kept.{is_kept, kept}
+use Rattle.job_slots.specs.Inner.Kept.{is_kept, kept}
 use Rattle.job_slots.proofs.Lists.{count_set}
 use Rattle.job_slots.proofs.Views.{clerk_is}
+use Rattle.job_slots.proofs.Clerks.{knows}
 
 module _ {J : Type 0} where
   -- how many slots a worker has
@@ -83,7 +84,7 @@ module _ {J : Type 0} where
     -- what a closed table holds is what was at home in its last lawful state
     pub ends : (id : ℕ) (v : View J) (words : List ℕ) (xs : List (Option J)) → is_clerk v ≡ true → list_all is_settled (view_looks v) ≡ true
         → Final (Seen (LawfulTable turned) id v) words xs → EndsLawful turned v (kept words xs)
-    ends id v words xs clerk settled last = let r = last.1.0 in let mine = r.clerk id (view_looks v) (view_live v) (last.1.1 ∙ ap some (clerk_is v clerk)) in
+    ends id v words xs clerk settled last = let r = last.1.0 in let mine = knows turned last.0 r id (view_looks v) (view_live v) (last.1.1 ∙ ap some (clerk_is v clerk)) in
         let long : length r.phases ≡ length xs = sym (length-map r.phases home_of) ∙ ap length (sym r.homes) ∙ last.3 in (
           last.0,
           r,
@@ -94,7 +95,7 @@ module _ {J : Type 0} where
 
     -- so each job comes back, but for those of workers that were not joined
     pub returns : (v : View J) (jobs : List J) → is_clerk v ≡ true → list_all is_settled (view_looks v) ≡ true → EndsLawful turned v jobs → ComesBack turned (view_live v) (view_looks v) jobs
-    returns v jobs clerk settled last = let r = last.1 in let mine = r.clerk 0 (view_looks v) (view_live v) (last.2 ∙ ap some (clerk_is v clerk)) in
+    returns v jobs clerk settled last = let r = last.1 in let mine = knows turned last.0 r 0 (view_looks v) (view_live v) (last.2 ∙ ap some (clerk_is v clerk)) in
         let few : running_count r.phases ≤ count_by is_worker last.0.views = runners r.phases 0 last.0.views (λ k n w job e at.
         let b = r.claimed w k job at in (b.0, b.1 ∙ ap (λ (y : ℕ). some (Busy b.0 y job)) (let same : k ≡ n = omega arith in same))) in
         let back = comes r.phases (view_live v) r.turns (subst (λ ls. list_all is_settled ls ≡ true) mine.1 settled) (let le = mine.2 in omega (arith, few, le)) in

@@ -7,7 +7,8 @@ use Rattle.std.proofs.lemmas.Bool.{lt-ltb, le-ltb, ltb-true, ltb-false}
 use native.Mathlib.Decide.{ℕ_discrete}
 use Rattle.job_slots.specs.declared.view.Look.{Look}
 use Rattle.job_slots.specs.declared.view.Look.TheVariants.{Free, Filling, In, Seen}
-use Rattle.job_slots.specs.Looks.{is_free, is_settled, free_bit}
+use Rattle.job_slots.specs.Looks.{is_free, is_settled}
+use Rattle.job_slots.specs.Inner.FreeSlots.{free_bit}
 
 module _ {J : Type 0} where
   pub free_there : (looks : List (Look J)) (i : ℕ) → free_bit looks i ≡ 1 → slice_get looks i ≡ Some Free

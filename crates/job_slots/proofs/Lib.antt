@@ -1,4 +1,5 @@
 pub mod Bits
+pub mod Clerks
 pub mod Closes
 pub mod Frees
 pub mod Lists

@@ -1,5 +1,5 @@
 -- Each kind of atomic step keeps the slot table lawful, and tells its seat what it is to tell.
-use Rattle.std.proofs.Common.{◌≡◌, ◌≢◌, ℕ, zero, suc, ◌+◌, ◌-◌, ◌≤◌, inl, inr, ⊎_elim, true, cond, eqb, List, [], ◌∷◌, ◌++◌, map, get_or, set, sym, refl, ap, ◌∙◌, subst, arith}
+use Rattle.std.proofs.Common.{◌≡◌, ◌≢◌, ℕ, zero, suc, ◌+◌, ◌-◌, ◌≤◌, inl, inr, ⊎_elim, true, cond, eqb, List, [], ◌∷◌, ◌++◌, get_or, set, sym, refl, ap, ◌∙◌, subst, arith}
 use Rattle.std.specs.Prelude.{Option, Some, None, count_by, slice_get, replicate, unwrap_or}
 use mathlib.Core.Option.{some, none, some-injective, some-ne-none}
 use mathlib.Core.Logic.{dite}
@@ -7,7 +7,7 @@ use native.Mathlib.Decide.{ℕ_discrete}
 use lib.ListN.{get_elem?}
 use prog.Atomic.{either}
 use Rattle.atomic_table.specs.Table.{State, Me, step, takes, gives, keeps, stepped, Valid, Allows, Splits, Joins, opening, carried_after}
-use Rattle.atomic_table.proofs.Lists.{at_set, at_map, set_else, set_again, at_longer, at_snoc, exchanged}
+use Rattle.atomic_table.proofs.Lists.{at_set, at_map, set_here, set_else, set_again, at_longer, at_snoc, exchanged}
 use Rattle.job_slots.specs.declared.word.TheConstants.{EMPTY, FILLING, READY, RUNNING, DONE}
 use Rattle.job_slots.specs.declared.view.Look.{Look}
 use Rattle.job_slots.specs.declared.view.Look.TheVariants.{Free, Filling, In, Seen}
@@ -17,8 +17,9 @@ use Rattle.job_slots.specs.Phases.{Phase, empty, filling, ready, running, done, 
 use Rattle.job_slots.specs.Looks.{is_clerk, is_idle, is_worker, view_looks, view_live, view_shut, with_look, one_hired, one_joined}
 use Rattle.job_slots.specs.Lawful.{LawfulTable}
 use Rattle.job_slots.specs.Steps.{reserved, opened, claimed, shut, looked, cleared}
-use Rattle.job_slots.proofs.Lists.{at_of_get, at_mapped, map-replicate, set_read, count_set, count_snoc}
+use Rattle.job_slots.proofs.Lists.{at_of_get, at_mapped, at_within, map-replicate, set_read, count_set, count_snoc}
 use Rattle.job_slots.proofs.Views.{word_there, clerk_is, idle_is, clerk_no_worker, IsStill, free_phase, filling_phase, seen_phase, ready_phase, done_phase}
+use Rattle.job_slots.proofs.Clerks.{KnowsAll, IsLed, knows, leads}
 use Rattle.job_slots.proofs.Moves.{Moves, moved}
 
 module _ {J : Type 0} (turned : J → J → Type 0) where
@@ -28,6 +29,7 @@ module _ {J : Type 0} (turned : J → J → Type 0) where
     once = once;
     kind = sym (clerk_no_worker v clerk);
     sees = λ looks live e. (view_looks v, (let n : view_live v ≡ live = cc in is ∙ ap (λ (k : ℕ). Clerk (view_looks v) k) n), (let l : set (view_looks v) i (look_of q) ≡ looks = cc in sym l));
+    stays = λ looks live e. (set (view_looks v) i (look_of q), (let n : view_live v ≡ live = cc in ap (λ (k : ℕ). Clerk (set (view_looks v) i (look_of q)) k) n));
     hides = inr (view_looks v, view_live v, is);
     was = λ k job shuts e. cc;
     is = λ k job shuts e. cc;
@@ -38,7 +40,7 @@ module _ {J : Type 0} (turned : J → J → Type 0) where
   -- the phase of a slot, from the clerk's look at it
   looked_phase : (s : State (Option J) (View J)) (r : LawfulTable turned s) (id i : ℕ) (v : View J) (look : Look J) → is_clerk v ≡ true → get_elem? s.views id ≡ some v → slice_get (view_looks v) i ≡ Some look
       → (p : Phase J) × (get_elem? r.phases i ≡ some p) × (look_of p ≡ look)
-  looked_phase s r id i v look clerk at there = let old = r.clerk id (view_looks v) (view_live v) (at ∙ ap some (clerk_is v clerk)) in
+  looked_phase s r id i v look clerk at there = let old = knows turned s r id (view_looks v) (view_live v) (at ∙ ap some (clerk_is v clerk)) in
       at_mapped look_of r.phases i look (subst (λ (l : List (Look J)). get_elem? l i ≡ some look) old.1 (at_of_get (view_looks v) i look there))
 
   -- what is at home in a slot, from its phase
@@ -90,6 +92,7 @@ module _ {J : Type 0} (turned : J → J → Type 0) where
           once = tt;
           kind = ap is_worker (sym is);
           sees = λ looks live e. cc;
+          stays = λ looks live e. cc;
           hides = inl refl;
           was = λ k j shuts e. cc;
           is = λ k j shuts e. ((let same : i ≡ k = cc in sym same), (let same : job ≡ j = cc in ap (λ (a : J). running id a) same));
@@ -110,6 +113,7 @@ module _ {J : Type 0} (turned : J → J → Type 0) where
       once = once;
       kind = refl;
       sees = λ looks live e. cc;
+      stays = λ looks live e. cc;
       hides = inl refl;
       was = λ k j shuts e. let same : i ≡ k = cc in sym same;
       is = λ k j shuts e. cc;
@@ -144,31 +148,33 @@ module _ {J : Type 0} (turned : J → J → Type 0) where
 
   -- a step that changes views alone: no claim comes or goes
   recast : (s : State (Option J) (View J)) (r : LawfulTable turned s) (views : List (View J))
-      → ((id : ℕ) (looks : List (Look J)) (live : ℕ) → get_elem? views id ≡ some (Clerk looks live) → (id ≡ 0) × (looks ≡ map look_of r.phases) × (count_by is_worker views ≤ live))
+      → KnowsAll r.phases views → IsLed views
       → ((id i : ℕ) (job : J) (shut : List ℕ) → get_elem? views id ≡ some (Busy shut i job) → get_elem? s.views id ≡ some (Busy shut i job))
       → ((id i : ℕ) (job : J) (shut : List ℕ) → get_elem? s.views id ≡ some (Busy shut i job) → get_elem? views id ≡ some (Busy shut i job))
       → LawfulTable turned record { words = s.words; homes = s.homes; views = views }
-  recast s r views clerk back forth = record {
+  recast s r views known led back forth = record {
     phases = r.phases;
     words = r.words;
     homes = r.homes;
     turns = r.turns;
-    clerk = clerk;
+    clerk = leads r.phases views known led;
+    alone = λ id looks live e. (known id looks live e).0;
     claims = λ id i job shut e. r.claims id i job shut (back id i job shut e);
     claimed = λ id i job e. let old = r.claimed id i job e in (old.0, forth id i job old.0 old.1);
   }
 
   pub splits : (id : ℕ) (v : View J) → is_clerk v ≡ true → Splits (LawfulTable turned) id v (one_hired v) (Idle [])
-  splits id v clerk s r at = let is = clerk_is v clerk in let vs : List (View J) = set s.views id (one_hired v) in let mine = r.clerk id (view_looks v) (view_live v) (at ∙ ap some is) in
+  splits id v clerk s r at = let is = clerk_is v clerk in let vs : List (View J) = set s.views id (one_hired v) in let mine = knows turned s r id (view_looks v) (view_live v) (at ∙ ap some is) in
       let more : count_by is_worker (vs ++ Idle [] ∷ []) ≤ view_live v + 1 =
       (let a : count_by is_worker vs + cond {A = ℕ} (is_worker v) 1 0 ≡ count_by is_worker s.views + 0 = count_set is_worker s.views id v (one_hired v) at in
       let b : count_by is_worker (vs ++ Idle [] ∷ []) ≡ count_by is_worker vs + 1 = count_snoc is_worker vs (Idle []) in let le = mine.2 in omega (arith, a, b, le)) in
       recast s r (vs ++ Idle [] ∷ [])
       (λ k looks live e. ⊎_elim
       (λ old. ⊎_elim (λ (t : (k ≡ id) × (one_hired v ≡ Clerk looks live)). (t.0 ∙ mine.0, (let l : view_looks v ≡ looks = cc in sym l) ∙ mine.1, (let n : view_live v + 1 ≡ live = cc in subst (λ (y : ℕ). count_by is_worker (vs ++ Idle [] ∷ []) ≤ y) n more)))
-      (λ (t : (k ≢ id) × (get_elem? s.views k ≡ some (Clerk looks live))). absurd (t.0 ((r.clerk k looks live t.1).0 ∙ sym mine.0))) (at_set s.views id k (one_hired v) (Clerk looks live) old))
+      (λ (t : (k ≢ id) × (get_elem? s.views k ≡ some (Clerk looks live))). absurd (t.0 ((knows turned s r k looks live t.1).0 ∙ sym mine.0))) (at_set s.views id k (one_hired v) (Clerk looks live) old))
       (λ (t : Idle [] ≡ Clerk looks live). cc)
       (at_snoc vs (Idle []) (Clerk looks live) k e))
+      (view_looks v, view_live v + 1, at_longer vs (Idle [] ∷ []) 0 (one_hired v) (subst (λ (y : ℕ). get_elem? vs y ≡ some (one_hired v)) mine.0 (set_here s.views id (one_hired v) (at_within s.views id v at))))
       (λ k i job shuts e. ⊎_elim
       (λ old. ⊎_elim (λ (t : (k ≡ id) × (one_hired v ≡ Busy shuts i job)). let p = t.1 in cc) (λ (t : (k ≢ id) × (get_elem? s.views k ≡ some (Busy shuts i job))). t.1) (at_set s.views id k (one_hired v) (Busy shuts i job) old))
       (λ (t : Idle [] ≡ Busy shuts i job). cc)
@@ -177,7 +183,7 @@ module _ {J : Type 0} (turned : J → J → Type 0) where
       (set_else s.views id k (one_hired v) (λ same. let p : v ≡ Busy shuts i job = some-injective v (Busy shuts i job) (sym at ∙ subst (λ (y : ℕ). get_elem? s.views y ≡ some (Busy shuts i job)) same e) in cc) ∙ e))
 
   pub joins : (id other : ℕ) (v w : View J) → is_clerk v ≡ true → is_idle w ≡ true → Joins (LawfulTable turned) id v other w (one_joined v) Spent
-  joins id other v w clerk idle s r at apart at_other = let is = clerk_is v clerk in let idles = idle_is w idle in let vs : List (View J) = set s.views id (one_joined v) in let mine = r.clerk id (view_looks v) (view_live v) (at ∙ ap some is) in
+  joins id other v w clerk idle s r at apart at_other = let is = clerk_is v clerk in let idles = idle_is w idle in let vs : List (View J) = set s.views id (one_joined v) in let mine = knows turned s r id (view_looks v) (view_live v) (at ∙ ap some is) in
       let there : get_elem? s.views other ≡ some w = sym (set_else s.views id other (one_joined v) apart) ∙ at_other in
       let fewer : count_by is_worker (set vs other Spent) ≤ view_live v - 1 =
       (let a : count_by is_worker vs + cond {A = ℕ} (is_worker v) 1 0 ≡ count_by is_worker s.views + 0 = count_set is_worker s.views id v (one_joined v) at in
@@ -187,8 +193,9 @@ module _ {J : Type 0} (turned : J → J → Type 0) where
       (λ k looks live e. ⊎_elim (λ (t : (k ≡ other) × (Spent ≡ Clerk looks live)). let p = t.1 in cc)
       (λ (o : (k ≢ other) × (get_elem? vs k ≡ some (Clerk looks live))). ⊎_elim
       (λ (t : (k ≡ id) × (one_joined v ≡ Clerk looks live)). let p = t.1 in (t.0 ∙ mine.0, (let l : view_looks v ≡ looks = cc in sym l) ∙ mine.1, (let n : view_live v - 1 ≡ live = cc in subst (λ (y : ℕ). count_by is_worker (set vs other Spent) ≤ y) n fewer)))
-      (λ (t : (k ≢ id) × (get_elem? s.views k ≡ some (Clerk looks live))). absurd (t.0 ((r.clerk k looks live t.1).0 ∙ sym mine.0))) (at_set s.views id k (one_joined v) (Clerk looks live) o.1))
+      (λ (t : (k ≢ id) × (get_elem? s.views k ≡ some (Clerk looks live))). absurd (t.0 ((knows turned s r k looks live t.1).0 ∙ sym mine.0))) (at_set s.views id k (one_joined v) (Clerk looks live) o.1))
       (at_set vs other k Spent (Clerk looks live) e))
+      (view_looks v, view_live v - 1, set_else vs other 0 Spent (λ same. apart (sym same ∙ sym mine.0)) ∙ subst (λ (y : ℕ). get_elem? vs y ≡ some (one_joined v)) mine.0 (set_here s.views id (one_joined v) (at_within s.views id v at)))
       (λ k i job shuts e. ⊎_elim (λ (t : (k ≡ other) × (Spent ≡ Busy shuts i job)). let p = t.1 in cc)
       (λ (o : (k ≢ other) × (get_elem? vs k ≡ some (Busy shuts i job))). ⊎_elim
       (λ (t : (k ≡ id) × (one_joined v ≡ Busy shuts i job)). let p = t.1 in cc) (λ (t : (k ≢ id) × (get_elem? s.views k ≡ some (Busy shuts i job))). t.1) (at_set s.views id k (one_joined v) (Busy shuts i job) o.1))
@@ -212,12 +219,12 @@ module _ {J : Type 0} (turned : J → J → Type 0) where
     words = sym (map-replicate word_of n empty);
     homes = map-replicate some n None ∙ sym (map-replicate home_of n empty);
     turns = λ i p e. subst (IsTurnedOnce turned) (all_empty n i p e) tt;
-    clerk = first;
+    clerk = leads (replicate n empty) (alone n) first (replicate n Free, 0, refl);
+    alone = λ id looks live e. (first id looks live e).0;
     claims = λ id i job shuts e. absurd (no_busy id i job shuts e);
     claimed = λ id i job e. let no = all_empty n i (running id job) e in cc;
   } where
-    first : (id : ℕ) (looks : List (Look J)) (live : ℕ) → get_elem? (alone n) id ≡ some (Clerk looks live)
-        → (id ≡ 0) × (looks ≡ map look_of (replicate n empty)) × (count_by is_worker (alone n) ≤ live)
+    first : KnowsAll (replicate n empty) (alone n)
     first zero looks live e = let p = some-injective _ _ e in (refl, (let l : replicate n Free ≡ looks = cc in sym l) ∙ sym (map-replicate look_of n empty), omega arith)
     first (suc id) looks live e = absurd (some-ne-none (Clerk looks live) (sym e))
 

@@ -17,9 +17,10 @@ pub record LawfulTable {J : Type 0} (turned : J → J → Type 0) (s : State (Op
   pub homes : s.homes ≡ map home_of phases
   -- what was turned was turned once
   pub turns : (i : ℕ) (p : Phase J) → get_elem? phases i ≡ some p → IsTurnedOnce turned p
-  -- there is one clerk, the first seat. Its looks are at these phases, and it counts no fewer workers than there are
-  pub clerk : (id : ℕ) (looks : List (Look J)) (live : ℕ) → get_elem? s.views id ≡ some (Clerk looks live)
-      → (id ≡ 0) × (looks ≡ map look_of phases) × (count_by is_worker s.views ≤ live)
+  -- the first seat is the clerk's. Its looks are at these phases, and it counts no fewer workers than there are
+  pub clerk : (live : ℕ) × (get_elem? s.views 0 ≡ some (Clerk (map look_of phases) live)) × (count_by is_worker s.views ≤ live)
+  -- no other seat is a clerk's
+  pub alone : (id : ℕ) (looks : List (Look J)) (live : ℕ) → get_elem? s.views id ≡ some (Clerk looks live) → id ≡ 0
   -- a worker's seat has claimed a slot exactly where that slot is running, with that seat and that job
   pub claims : (id i : ℕ) (job : J) (shut : List ℕ) → get_elem? s.views id ≡ some (Busy shut i job) → get_elem? phases i ≡ some (running id job)
   pub claimed : (id i : ℕ) (job : J) → get_elem? phases i ≡ some (running id job) → (shut : List ℕ) × (get_elem? s.views id ≡ some (Busy shut i job))

@@ -4,4 +4,4 @@ pub mod Lawful
 pub mod Steps
 pub mod Seats
 pub mod Closing
-pub mod Kept
+pub mod Inner

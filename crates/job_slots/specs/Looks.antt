@@ -1,5 +1,5 @@
 -- What a seat's view shows, and how it changes.
-use Rattle.std.specs.Prelude.{◌≡◌, ℕ, zero, suc, ◌+◌, ◌-◌, Bool, true, false, List, [], ◌∷◌, slice_get, slice_set, length, Option, Some, if◌then◌else◌}
+use Rattle.std.specs.Prelude.{◌≡◌, ℕ, ◌+◌, ◌-◌, Bool, true, false, List, [], ◌∷◌, slice_get, slice_set, length, Option, Some}
 use Rattle.std.specs.List.{list_all}
 use Rattle.atomic_table.specs.Table.{Me}
 use Rattle.job_slots.specs.declared.view.Look.{Look}
@@ -77,12 +77,6 @@ module _ {J : Type 0} where
   -- the clerk has a job in the slot i, of which `after` is one turn
   abbrev pub HasTurned : (J → J → Type 0) → List (Look J) → ℕ → J → Type 0
   HasTurned turned looks i after = (job : J) × (slice_get looks i ≡ Some (In job)) × turned job after
-
-  -- the bit of the slot i in a map of the free slots
-  abbrev pub free_bit : List (Look J) → ℕ → ℕ
-  free_bit [] i = 0
-  free_bit (l ∷ ls) zero = if is_free l then 1 else 0
-  free_bit (l ∷ ls) (suc i) = free_bit ls i
 
   -- between two calls the clerk holds no slot, and no job is on its way in or home
   abbrev pub IsClerkAtRest : Me (Option J) (View J) → Type 0

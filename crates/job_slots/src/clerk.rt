@@ -1,6 +1,7 @@
 ghost use Rattle.std.specs.Prelude.{◌≡◌, ◌≤◌, ◌<◌, ℕ, length, vec_len, vec_capacity};
 ghost use Rattle.std.specs.Int.{bit_at};
-ghost use Rattle.job_slots.specs.Looks.{IsClerkAtRest, view_looks, free_bit};
+ghost use Rattle.job_slots.specs.Looks.{IsClerkAtRest, view_looks};
+ghost use Rattle.job_slots.specs.Inner.FreeSlots.{free_bit};
 
 use crate::free_slots::FreeSlots;
 use crate::rule::Place;

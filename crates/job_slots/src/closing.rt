@@ -2,13 +2,8 @@
 ghost use Rattle.std.specs.Prelude.{◌≡◌, ◌+◌, ◌<◌, ◌≤◌, [], ◌++◌, if◌then◌else◌, vec_len, vec_capacity};
 ghost use Rattle.std.specs.Option.{option_to_list};
 ghost use Rattle.std.specs.Mem.Slots.{slots_items, slots_len, IsFull};
-ghost use Rattle.job_slots.specs.Seats.{IsClerkOf, view_of, looks_of, live_of};
-ghost use Rattle.job_slots.specs.Closing.{EndsLawful, ComesBack};
-ghost use Rattle.job_slots.specs.Kept.{is_kept, kept};
+ghost use Rattle.job_slots.specs.Inner.Kept.{is_kept, kept};
 
-use crate::clerk::ClerkSeat;
-use crate::slots::JobSlots;
-use crate::turns::Turns;
 use crate::word::{DONE, READY};
 use atomic_table::Closed;
 use std::alloc::Global;
@@ -27,7 +22,7 @@ fn keep<J: Drop>(jobs: &mut Vec<J>, word: u64, held: Option<J>)
 }
 
 // The jobs at home, by slot.
-fn gather<J: Drop>(mut closed: Closed<Option<J>, Global>, mut room: Vec<J>) -> Vec<J>
+pub(crate) fn gather<J: Drop>(mut closed: Closed<Option<J>, Global>, mut room: Vec<J>) -> Vec<J>
     requires full { IsFull closed.words × IsFull closed.slots × (slots_len closed.words ≡ slots_len closed.slots) }
     requires room { (vec_len room ≡ 0) × (slots_len closed.slots ≤ vec_capacity room) }
     ensures { result.items ≡ kept (slots_items closed.words) (slots_items closed.slots) }
@@ -38,22 +33,4 @@ fn gather<J: Drop>(mut closed: Closed<Option<J>, Global>, mut room: Vec<J>) -> V
     }
     closed.free();
     room
-}
-
-impl<J: Turns + Drop> JobSlots<J> {
-    /// The jobs still inside, by slot, each as it was offered or turned once. A job that a worker's seat holds, which was
-    /// not joined, is not among them: it is dropped.
-    pub fn close(self, clerk: ClerkSeat<J>) -> Vec<J>
-        requires { IsClerkOf self clerk }
-        ensures lawful { EndsLawful J.turned (view_of clerk) result.items }
-        ensures back { ComesBack J.turned (live_of clerk) (looks_of clerk) result.items }
-    {
-        let ClerkSeat {
-            seat,
-            free: _,
-            room,
-        } = clerk;
-        let JobSlots { table, count: _ } = self;
-        gather(table.close_with(seat), room)
-    }
 }

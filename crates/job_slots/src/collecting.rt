@@ -1,19 +1,20 @@
-//! The clerk's call that takes a turned job home.
-ghost use Rattle.std.specs.Prelude.{◌≡◌, ◌<◌, [], true, IfSome, OnSome, IfNone, slice_set};
+//! How the clerk takes a turned job home.
+ghost use Rattle.std.specs.Prelude.{◌≡◌, ◌<◌, [], true, IfSome, OnSome, IfNone};
 ghost use Rattle.job_slots.specs.declared.view.Look.TheVariants.{Free};
 ghost use Rattle.job_slots.specs.Looks.{is_clerk, view_looks, with_look, HasJob, HasTurned};
-ghost use Rattle.job_slots.specs.Seats.{IsClerkOf, looks_of, live_of};
 
-use crate::clerk::ClerkSeat;
 use crate::exchange::exchange;
 use crate::plays::{Clear, LookAt};
 use crate::rule::{Place, SharedSlots};
-use crate::slots::JobSlots;
 use crate::turns::Turns;
 use crate::word::{DONE, EMPTY};
 
 // Takes the turned job out of a slot in use and empties the slot, or changes nothing where the job is not done.
-fn take_home<J: Turns>(shared: &SharedSlots<J>, seat: &mut Place<J>, slot: usize) -> Option<J>
+pub(crate) fn take_home<J: Turns>(
+    shared: &SharedSlots<J>,
+    seat: &mut Place<J>,
+    slot: usize,
+) -> Option<J>
     requires table { seat.old.table_id ≡ shared.now.table_id }
     requires slot { slot < shared.now.table_id.words }
     requires clerk { (is_clerk seat.old.me.0 ≡ true) × (seat.old.me.1 ≡ []) }
@@ -29,26 +30,4 @@ fn take_home<J: Turns>(shared: &SharedSlots<J>, seat: &mut Place<J>, slot: usize
     let job = exchange(shared, seat, slot, None);
     shared.store::<Clear>(seat, slot, EMPTY);
     job
-}
-
-impl<J: Turns> JobSlots<J> {
-    /// The job of the slot, turned once. `None` where it is not done, where the slot is free in the clerk's view, and
-    /// where there is no such slot.
-    pub fn collect(&self, clerk: &mut ClerkSeat<J>, slot: u32) -> Option<J>
-        requires { IsClerkOf self.now clerk.old }
-        ensures table { IsClerkOf self.now clerk.new }
-        ensures workers { live_of clerk.new ≡ live_of clerk.old }
-
-        ensures turned { IfSome result (HasTurned J.turned (looks_of clerk.old) slot) }
-        ensures emptied { OnSome result (looks_of clerk.new ≡ slice_set (looks_of clerk.old) slot Free) }
-
-        ensures not_yet { IfNone result (looks_of clerk.new ≡ looks_of clerk.old) }
-    {
-        if slot >= self.count || clerk.free.has(slot) {
-            return None;
-        }
-        let job = take_home(&self.table.shared, &mut clerk.seat, slot as usize)?;
-        clerk.free.insert(slot);
-        Some(job)
-    }
 }

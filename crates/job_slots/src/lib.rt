@@ -14,10 +14,7 @@ mod offering;
 mod plays;
 mod rule;
 mod running;
-mod seating;
 mod slots;
-#[cfg(test)]
-mod tests;
 mod turns;
 mod view;
 mod word;

@@ -1,7 +1,7 @@
 use Rattle.std.proofs.Common.{◌≡◌, ◌≤◌, ◌<◌, ℕ, false, ◌++◌, drop, get_or, vec_len, vec_capacity}
 use Rattle.std.specs.Mem.Slots.{slots_items, slots_len, slots_filled}
 use Rattle.std.specs.Mem.Slots.Ownership.{Filled}
-use Rattle.job_slots.specs.Kept.{kept}
+use Rattle.job_slots.specs.Inner.Kept.{kept}
 use Rattle.job_slots.proofs.closing.gather.Given as goal
 
 -- the values from this slot on are still there, and the jobs of the slots before it are in the room

@@ -3,7 +3,8 @@ use Rattle.std.specs.List.{list_all}
 use Rattle.std.specs.Vec.{vec_capacity}
 use Rattle.std.proofs.Math.ListN.{length-set}
 use Rattle.job_slots.specs.declared.view.Look.TheVariants.{Free}
-use Rattle.job_slots.specs.Looks.{is_clerk, is_settled, view_looks, free_bit}
+use Rattle.job_slots.specs.Looks.{is_clerk, is_settled, view_looks}
+use Rattle.job_slots.specs.Inner.FreeSlots.{free_bit}
 use Rattle.job_slots.proofs.Frees.{in_use_there, settled_set, mapped_set}
 use Rattle.job_slots.proofs.slots.JobSlots.collect.Goals as goal
 

@@ -6,7 +6,8 @@ use lib.ListN.{length-replicate}
 use Rattle.atomic_table.specs.Table.{opening}
 use Rattle.job_slots.specs.declared.view.Look.TheVariants.{Free}
 use Rattle.job_slots.specs.declared.view.View.TheVariants.{Clerk}
-use Rattle.job_slots.specs.Looks.{is_clerk, is_settled, view_looks, free_bit}
+use Rattle.job_slots.specs.Looks.{is_clerk, is_settled, view_looks}
+use Rattle.job_slots.specs.Inner.FreeSlots.{free_bit}
 use Rattle.job_slots.specs.Lawful.{LawfulTable}
 use Rattle.std.proofs.lemmas.List.{take-replicate}
 use Rattle.job_slots.proofs.Frees.{settled_all, bit_all}

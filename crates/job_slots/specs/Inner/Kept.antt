@@ -1,4 +1,4 @@
--- What the words and the slots' values of a closed table hold. Only private functions speak of it.
+-- What the words and the slots' values of a closed table hold.
 use Rattle.std.specs.Prelude.{ℕ, ◌==◌, ◌||◌, Bool, if◌then◌else◌, List, [], ◌∷◌, ◌++◌, Option}
 use Rattle.std.specs.Option.{option_to_list}
 use Rattle.job_slots.specs.declared.word.TheConstants.{READY, DONE}

@@ -1,6 +1,8 @@
+//! Jobs that go through slots to workers and come home.
+ghost use Rattle.std.specs.Prelude.{◌<◌, ◌≤◌};
 ghost use Rattle.job_slots.specs.Seats.{IsClerkOf, IsWorkerOf};
 
-use crate::{ClerkSeat, JobSlots, Ran, Turns, WorkerSeat};
+use job_slots::{ClerkSeat, JobSlots, Ran, Turns, WorkerSeat};
 use std::alloc::{AllocError, Global};
 use std::process::Abort;
 use std::snapshot::Snapshot;
@@ -12,7 +14,7 @@ use std::thread;
 use std::thread::{Promise, Threads};
 
 // A job that counts its turns.
-#[derive(Debug, PartialEq, Eq, Drop)]
+#[derive(PartialEq, Eq, Drop)]
 struct Counted {
     number: u32,
     turns: u32,
@@ -36,21 +38,60 @@ fn turned(number: u32) -> Counted {
     Counted { number, turns: 1 }
 }
 
+// Offers the job of that number, which goes into that slot.
+fn offer_to(
+    rt: &impl Abort,
+    slots: &JobSlots<Counted>,
+    clerk: &mut ClerkSeat<Counted>,
+    number: u32,
+    slot: u32,
+)
+    requires { IsClerkOf slots.now clerk.old }
+    ensures { IsClerkOf slots.now clerk.new }
+{
+    assert!(rt; slots.offer(clerk, fresh(number)) == Ok(slot));
+}
+
+// Offers the job of that number, which comes back since no slot is free.
+fn offer_to_none(
+    rt: &impl Abort,
+    slots: &JobSlots<Counted>,
+    clerk: &mut ClerkSeat<Counted>,
+    number: u32,
+)
+    requires { IsClerkOf slots.now clerk.old }
+    ensures { IsClerkOf slots.now clerk.new }
+{
+    assert!(rt; slots.offer(clerk, fresh(number)) == Err(fresh(number)));
+}
+
+// Fills two slots with the jobs 10 and 11, and runs the first.
+fn fill_two_and_run_one(
+    rt: &impl Abort,
+    slots: &JobSlots<Counted>,
+    clerk: &mut ClerkSeat<Counted>,
+    worker: &mut WorkerSeat<Counted>,
+)
+    requires { IsClerkOf slots.now clerk.old × IsWorkerOf slots.now worker.old }
+    ensures { IsClerkOf slots.now clerk.new × IsWorkerOf slots.now worker.new }
+{
+    assert!(rt; slots.run_one(worker) == Ran::Nothing);
+    offer_to(rt, slots, clerk, 10, 0);
+    offer_to(rt, slots, clerk, 11, 1);
+    offer_to_none(rt, slots, clerk, 12);
+    assert!(rt; slots.run_one(worker) == Ran::One(0));
+}
+
 #[test]
 fn a_job_comes_home_turned_once_and_its_slot_is_filled_again(rt: HostRuntime) -> Result<(), Fail> {
     let (slots, mut clerk) = JobSlots::make(rt.alloc(), 2)?;
     let mut worker = slots.split(&mut clerk)?;
-    assert_eq!(rt; slots.run_one(&mut worker), Ran::Nothing);
-    assert_eq!(rt; slots.offer(&mut clerk, fresh(10)), Ok(0));
-    assert_eq!(rt; slots.offer(&mut clerk, fresh(11)), Ok(1));
-    assert_eq!(rt; slots.offer(&mut clerk, fresh(12)), Err(fresh(12)));
-    assert_eq!(rt; slots.run_one(&mut worker), Ran::One(0));
-    assert_eq!(rt; slots.collect(&mut clerk, 1), None);
-    assert_eq!(rt; slots.collect(&mut clerk, 0), Some(turned(10)));
-    assert_eq!(rt; slots.offer(&mut clerk, fresh(12)), Ok(0));
+    fill_two_and_run_one(&rt, &slots, &mut clerk, &mut worker);
+    assert!(rt; slots.collect(&mut clerk, 1).is_none());
+    assert!(rt; slots.collect(&mut clerk, 0) == Some(turned(10)));
+    offer_to(&rt, &slots, &mut clerk, 12, 0);
     slots.join(&mut clerk, worker);
-    let left = slots.close(clerk);
-    assert_eq!(rt; left.as_slice(), [fresh(12), fresh(11)].as_slice());
+    assert!(rt; slots.close(clerk).as_slice() == [fresh(12), fresh(11)].as_slice());
     Ok(())
 }
 
@@ -58,13 +99,59 @@ fn a_job_comes_home_turned_once_and_its_slot_is_filled_again(rt: HostRuntime) ->
 fn close_gives_the_turned_job_and_the_one_that_waits(rt: HostRuntime) -> Result<(), Fail> {
     let (slots, mut clerk) = JobSlots::make(rt.alloc(), 2)?;
     let mut worker = slots.split(&mut clerk)?;
-    assert_eq!(rt; slots.run_one(&mut worker), Ran::Nothing);
-    assert_eq!(rt; slots.offer(&mut clerk, fresh(10)), Ok(0));
-    assert_eq!(rt; slots.offer(&mut clerk, fresh(11)), Ok(1));
-    assert_eq!(rt; slots.offer(&mut clerk, fresh(12)), Err(fresh(12)));
-    assert_eq!(rt; slots.run_one(&mut worker), Ran::One(0));
-    let left = slots.close(clerk);
-    assert_eq!(rt; left.as_slice(), [turned(10), fresh(11)].as_slice());
+    fill_two_and_run_one(&rt, &slots, &mut clerk, &mut worker);
+    assert!(rt; slots.close(clerk).as_slice() == [turned(10), fresh(11)].as_slice());
+    Ok(())
+}
+
+// Offers so many jobs, each of which goes into the next slot.
+fn offer_each(rt: &impl Abort, slots: &JobSlots<Counted>, clerk: &mut ClerkSeat<Counted>, jobs: u32)
+    requires { IsClerkOf slots.now clerk.old }
+    ensures { IsClerkOf slots.now clerk.new }
+{
+    for number in 0..jobs {
+        offer_to(rt, slots, clerk, number, number);
+    }
+}
+
+// Runs so many jobs, each of the next slot.
+fn run_each(rt: &impl Abort, slots: &JobSlots<Counted>, worker: &mut WorkerSeat<Counted>, jobs: u32)
+    requires { IsWorkerOf slots.now worker.old }
+    ensures { IsWorkerOf slots.now worker.new }
+{
+    for number in 0..jobs {
+        assert!(rt; slots.run_one(worker) == Ran::One(number));
+    }
+}
+
+// Takes so many turned jobs home, each from the next slot.
+fn collect_each(
+    rt: &impl Abort,
+    slots: &JobSlots<Counted>,
+    clerk: &mut ClerkSeat<Counted>,
+    jobs: u32,
+)
+    requires { IsClerkOf slots.now clerk.old }
+    ensures { IsClerkOf slots.now clerk.new }
+{
+    for number in 0..jobs {
+        assert!(rt; slots.collect(clerk, number) == Some(turned(number)));
+    }
+}
+
+#[test]
+fn each_of_128_slots_is_filled_run_and_collected(rt: HostRuntime) -> Result<(), Fail> {
+    let (slots, mut clerk) = JobSlots::make(rt.alloc(), 128)?;
+    let mut worker = slots.split(&mut clerk)?;
+    offer_each(&rt, &slots, &mut clerk, 128);
+    offer_to_none(&rt, &slots, &mut clerk, 128);
+    run_each(&rt, &slots, &mut worker, 128);
+    assert!(rt; slots.run_one(&mut worker) == Ran::Nothing);
+    collect_each(&rt, &slots, &mut clerk, 128);
+    assert!(rt; slots.collect(&mut clerk, 127).is_none());
+    assert!(rt; slots.collect(&mut clerk, 128).is_none());
+    slots.join(&mut clerk, worker);
+    assert!(rt; slots.close(clerk).is_empty());
     Ok(())
 }
 
@@ -146,35 +233,41 @@ fn eight_jobs_by_two<R: Threads + Wait + Abort + Sync>(
     let (slots, mut clerk) = JobSlots::make(alloc, 8)?;
     let (first, second) = (slots.split(&mut clerk)?, slots.split(&mut clerk)?);
     for number in 0..8 {
-        slots.offer(&mut clerk, fresh(number))?;
+        slots
+            .offer(&mut clerk, fresh(number))
+            .ok()
+            .ok_or("no free slot")?;
     }
     let (a, b) = run_by_two(rt, &slots, first, second, enough);
     Ok((a.saturating_add(b), slots.close(clerk)))
 }
 
+// How many of the jobs were turned, where they stand in their order and each was turned at most once.
+fn turned_once(jobs: &[Counted]) -> Option<u32> {
+    let mut number = 0u32;
+    let mut ones = 0u32;
+    for job in jobs {
+        if job.number != number || job.turns > 1 {
+            return None;
+        }
+        number = number.saturating_add(1);
+        ones = ones.saturating_add(job.turns);
+    }
+    Some(ones)
+}
+
 #[test]
 fn two_workers_turn_each_job_at_most_once(rt: HostRuntime) -> Result<(), Fail> {
     let (ones, left) = eight_jobs_by_two(&rt, rt.alloc(), 0)?;
-    assert_eq!(rt; left.len(), 8);
-    for (number, job) in left.iter().enumerate() {
-        assert_eq!(rt; job.number as usize, number);
-        assert!(rt;
-            job.turns <= 1,
-            "job {number} was turned {} times",
-            job.turns
-        );
-    }
-    let turned = left.iter().filter(|job| job.turns == 1).count();
-    assert_eq!(rt; turned, ones as usize);
+    assert!(rt; left.len() == 8 && turned_once(left.as_slice()) == Some(ones));
     Ok(())
 }
 
 #[test]
 fn all_jobs_are_turned_before_the_stop(rt: HostRuntime) -> Result<(), Fail> {
     let (ones, left) = eight_jobs_by_two(&rt, rt.alloc(), 8)?;
-    assert_eq!(rt; left.len(), 8);
-    assert!(rt; left.iter().all(|job| job.turns == 1));
-    assert_eq!(rt; ones, 8);
+    assert!(rt; left.len() == 8 && turned_once(left.as_slice()) == Some(8));
+    assert!(rt; ones == 8);
     Ok(())
 }
 
@@ -205,12 +298,17 @@ fn offer_next(slots: &JobSlots<Counted>, clerk: &mut ClerkSeat<Counted>, next: u
 }
 
 // Takes home what is done, and counts for each job how often it came home turned once. It gives how many came home.
-fn collect_all(slots: &JobSlots<Counted>, clerk: &mut ClerkSeat<Counted>, seen: &mut [u8]) -> u32
+fn collect_all(
+    slots: &JobSlots<Counted>,
+    clerk: &mut ClerkSeat<Counted>,
+    count: u32,
+    seen: &mut [u8],
+) -> u32
     requires { IsClerkOf slots.now clerk.old }
     ensures { IsClerkOf slots.now clerk.new }
 {
     let mut home = 0u32;
-    for slot in 0..8 {
+    for slot in 0..count {
         if let Some(job) = slots.collect(clerk, slot) {
             home = home.saturating_add(1);
             count_once(seen, &job);
@@ -232,6 +330,7 @@ fn hand_out<R: Wait>(
     alloc: Global,
     slots: &JobSlots<Counted>,
     clerk: &mut ClerkSeat<Counted>,
+    count: u32,
 ) -> Result<Vec<u8>, AllocError>
     requires { IsClerkOf slots.now clerk.old }
     ensures { IsClerkOf slots.now clerk.new }
@@ -243,7 +342,7 @@ fn hand_out<R: Wait>(
             break;
         }
         next = offer_next(slots, clerk, next);
-        home = home.saturating_add(collect_all(slots, clerk, seen.as_mut_slice()));
+        home = home.saturating_add(collect_all(slots, clerk, count, seen.as_mut_slice()));
         thread::yield_now();
     }
     Ok(seen)
@@ -269,6 +368,7 @@ fn hand_to_four<R: Threads + Wait + Abort + Sync>(
     alloc: Global,
     slots: &JobSlots<Counted>,
     clerk: ClerkSeat<Counted>,
+    count: u32,
     first: WorkerSeat<Counted>,
     second: WorkerSeat<Counted>,
     third: WorkerSeat<Counted>,
@@ -311,7 +411,7 @@ fn hand_to_four<R: Threads + Wait + Abort + Sync>(
                 .ok()
                 .expect(rt, "a thread");
             let mut clerk = clerk;
-            let home = hand_out(rt, alloc, slots, &mut clerk);
+            let home = hand_out(rt, alloc, slots, &mut clerk, count);
             stop.store(true, SeqCst);
             let a = take_in(slots, &mut clerk, first.join(rt));
             let b = take_in(slots, &mut clerk, second.join(rt));
@@ -326,25 +426,42 @@ fn hand_to_four<R: Threads + Wait + Abort + Sync>(
     )
 }
 
-#[test]
-fn ten_thousand_jobs_come_home_turned_once(rt: HostRuntime) -> Result<(), Fail> {
-    let (slots, mut clerk) = JobSlots::make(rt.alloc(), 8)?;
+fn is_each_1(counts: &[u8]) -> bool {
+    for count in counts {
+        if *count != 1 {
+            return false;
+        }
+    }
+    true
+}
+
+// Has four workers turn the jobs, by way of so many slots.
+fn all_by_four<R: Threads + Wait + Abort + Sync>(
+    rt: &R,
+    alloc: Global,
+    count: u32,
+) -> Result<(), Fail>
+    requires { (0 < count) × (count ≤ 128) }
+{
+    let (slots, mut clerk) = JobSlots::make(alloc, count)?;
     let (first, second) = (slots.split(&mut clerk)?, slots.split(&mut clerk)?);
     let (third, fourth) = (slots.split(&mut clerk)?, slots.split(&mut clerk)?);
     let (clerk, home, ones) = hand_to_four(
-        &rt,
-        rt.alloc(),
-        &slots,
-        clerk,
-        first,
-        second,
-        third,
-        fourth,
+        rt, alloc, &slots, clerk, count, first, second, third, fourth,
     );
     let home = home?;
-    assert_eq!(rt; home.len(), MANY as usize);
-    assert!(rt; home.iter().all(|times| *times == 1));
-    assert_eq!(rt; ones, MANY);
-    assert_eq!(rt; slots.close(clerk).len(), 0);
+    assert!(rt; home.len() == MANY as usize && is_each_1(home.as_slice()));
+    assert!(rt; ones == MANY);
+    assert!(rt; slots.close(clerk).is_empty());
     Ok(())
+}
+
+#[test]
+fn ten_thousand_jobs_come_home_turned_once(rt: HostRuntime) -> Result<(), Fail> {
+    all_by_four(&rt, rt.alloc(), 8)
+}
+
+#[test]
+fn ten_thousand_jobs_come_home_by_128_slots(rt: HostRuntime) -> Result<(), Fail> {
+    all_by_four(&rt, rt.alloc(), 128)
 }
