@@ -1,0 +1,11 @@
+pub mod Dues
+pub mod Fronts
+pub mod Laws
+pub mod Lefts
+pub mod Numbers
+pub mod Parts
+pub mod Pasts
+pub mod Plain
+pub mod Rows
+pub mod Splits
+pub mod Streams

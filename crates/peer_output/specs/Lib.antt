@@ -1,0 +1,10 @@
+pub mod Cancelled
+pub mod Course
+pub mod Events
+pub mod Items
+pub mod Later
+pub mod Left
+pub mod Output
+pub mod Past
+pub mod Stream
+pub mod Work
