@@ -10,19 +10,38 @@ ran.built()
 with open(os.path.join(ran.TOP, "docs", "methods.md"), encoding="utf-8") as page:
     text = page.read()
 
-pairs = re.findall(r"^```toml\n(.*?)^```\n+```text\n(.*?)^```$", text, re.M | re.S)
-blocks = len(re.findall(r"^```toml$", text, re.M))
-count.check("each table of the page has what it prints", blocks == len(pairs), f"{blocks} tables, {len(pairs)} outputs")
+blocks = re.findall(r"^```([^\n]*)\n(.*?)^```$\n?", text, re.M | re.S)
+kinds = [it[0] for it in blocks]
+fences = len(re.findall(r"^\s*```", text, re.M))
+is_read = fences == 2 * len(blocks) and kinds == ["toml", "text"] * (len(blocks) // 2)
+count.check("each block of the page is a table, or what the one before it prints", is_read, f"{fences} fences round {kinds}")
+pairs = [(table, printed) for (_, table), (_, printed) in zip(blocks[::2], blocks[1::2])]
 count.check("there are at least six tables", len(pairs) >= 6, f"{len(pairs)}")
+
+
+
+def full_table(last):
+    """A table of 256 methods of 64 steps, of which the very last is given."""
+    step = '[[method.step]]\nkind = "set"\nto = "r"\nvalue = 1\n'
+    methods = [f'[[method]]\nname = "m{it}"\n' + step * 64 for it in range(256)]
+    return ("version = 1\n" + "".join(methods))[: -len(step)] + "[[method.step]]\n" + last
+
+
+# name, table, what is printed: the largest table, and one with a fault at its very last step
+LARGE = [
+    ("256 methods of 64 steps", full_table('kind = "set"\nto = "r"\nvalue = 1\n'), "ok: 256 methods\n"),
+    ("a fault at the last step of 16,384", full_table('kind = "nosuch"\n'), "table: Step, method 256, step 64\n"),
+]
 
 with tempfile.TemporaryDirectory() as room:
     file = os.path.join(room, "table.toml")
-    for number, (table, printed) in enumerate(pairs, 1):
+    of_page = [(f"table {number} of the page", *pair) for number, pair in enumerate(pairs, 1)]
+    for name, table, printed in of_page + LARGE:
         with open(file, "w", encoding="utf-8") as it:
             it.write(table)
         status, output, errors = ran.run(["check", "--table", file])
         wanted = (0, printed.encode(), b"") if printed.startswith("ok: ") else (2, b"", printed.encode())
-        count.check(f"table {number} of the page", (status, output, errors) == wanted, f"{output!r} {errors!r}, and not {printed!r}")
+        count.check(name, (status, output, errors) == wanted, f"{output!r} {errors!r}, and not {printed!r}")
 
     # What the file itself may do.
     missing = ran.run(["check", "--table", os.path.join(room, "none.toml")])

@@ -1,11 +1,24 @@
 """Runs the built program, and counts what passed."""
+import glob
 import os
+import resource
+import shutil
+import signal
+import socket
 import subprocess
 import sys
+import tempfile
 
 TOP = os.path.dirname(os.path.dirname(os.path.dirname(os.path.abspath(__file__))))
 PROGRAM = os.path.join(TOP, "bin", "rpc_tool")
-BUILT = os.path.join(TOP, "out", "rpc_tool")
+sys.path.insert(0, os.path.join(TOP, "bin"))
+
+from tools import program as programs  # noqa: E402 (it stands in bin/)
+from tools import sources  # noqa: E402
+from tools.repository import Fault  # noqa: E402
+
+# The program of the sources that lie here, once built() has been called: the released one, or the one that was built here.
+BUILT = programs.BUILT
 
 
 class Count:
@@ -26,30 +39,80 @@ class Count:
         sys.exit(1 if self.failed else 0)
 
 
-def run(words, given=b"", program=BUILT, env=None, **more):
+def run(words, given=b"", program=None, env=None, **more):
     """Runs the program, and gives its status and what it wrote to its two outputs."""
-    ended = subprocess.run([program, *words], input=given, capture_output=True, timeout=120, env=env, **more)
+    ended = subprocess.run([program or BUILT, *words], input=given, capture_output=True, timeout=120, env=env, **more)
+    return ended.returncode, ended.stdout, ended.stderr
+
+
+def run_into(room, words, given=b"", program=None):
+    """Runs the program with an output that takes `room` bytes and then fails, and gives its status and what it wrote to its two outputs."""
+
+    def narrow():
+        # (a write over the limit gives an error, as on a full device, in place of the signal)
+        signal.signal(signal.SIGXFSZ, signal.SIG_IGN)
+        resource.setrlimit(resource.RLIMIT_FSIZE, (room, room))
+
+    with tempfile.TemporaryFile() as output:
+        how = {"input": given, "stdout": output, "stderr": subprocess.PIPE, "timeout": 120, "preexec_fn": narrow}
+        ended = subprocess.run([program or BUILT, *words], check=False, **how)
+        output.seek(0)
+        return ended.returncode, output.read(), ended.stderr
+
+
+def run_on_broken(words, given, program=None):
+    """Runs the program on an input that gives these bytes and then fails, and gives its status and what it wrote to its two outputs."""
+    ours, its = socket.socketpair()
+    with its:
+        # (a peer that closes with bytes unread resets the connection, so the read behind the bytes given fails)
+        its.sendall(b"unread")
+        ours.sendall(given)
+        ours.close()
+        ended = subprocess.run([program or BUILT, *words], stdin=its, capture_output=True, timeout=120, check=False)
     return ended.returncode, ended.stdout, ended.stderr
 
 
 def built():
     """Builds the program where it isn't built yet."""
-    status, _, said = run(["--version"], program=PROGRAM)
-    if status:
-        print(said.decode(errors="replace")[-2000:])
+    global BUILT
+    ended = subprocess.run([PROGRAM, "--version"], stdin=subprocess.DEVNULL, capture_output=True, check=False)
+    try:
+        BUILT = programs.current(sources.stamp())
+    except Fault as fault:
+        print(fault)
+        BUILT = None
+    if ended.returncode or BUILT is None:
+        print(ended.stderr.decode(errors="replace")[-2000:])
         print("0 passed, 1 failed")
         sys.exit(1)
 
 
-def tests_of(crate):
-    """A crate's tests as the gate built them: a program that runs the one test that is named."""
-    return os.path.join(TOP, "crates", crate, "out", f"{crate}_tests")
+def lacks(tool, why):
+    """Whether a tool isn't there; what is skipped for want of it is told."""
+    is_missing = shutil.which(tool) is None
+    if is_missing:
+        print(f"SKIPPED: what {os.path.relpath(sys.argv[0], TOP)} does with {tool}, which isn't there: {why}", flush=True)
+    return is_missing
+
+
+def gates_program(name):
+    """A program of the repository as the gate built it, or None."""
+    file = os.path.join(TOP, "crates", name, "out", name)
+    return file if os.access(file, os.X_OK) else None
 
 
 def names_of(tests):
-    """The names of such a program's tests."""
-    if not os.path.isfile(tests):
-        return []
-    ended = subprocess.run([tests, "--list"], capture_output=True, timeout=60)
-    lines = ended.stdout.decode().splitlines()
-    return [it[: -len(": test")] for it in lines if it.endswith(": test")]
+    """The names of the tests in a program of a crate's tests."""
+    ended = subprocess.run([tests, "--list"], capture_output=True, timeout=60, check=True)
+    *lines, last = ended.stdout.decode().splitlines()
+    names = [it[: -len(": test")] for it in lines if it.endswith(": test")]
+    if last != f"tests: {len(lines)}" or len(names) != len(lines):
+        raise ValueError(f"{tests} --list has a line that isn't understood, or lacks one: {lines} {last}")
+    return names
+
+
+def test_named(ending):
+    """The one test whose name ends so, of whatever crate, as the gate built it: its program and its whole name; or None."""
+    programs_of_tests = sorted(glob.glob(f"{TOP}/crates/*/out/*_tests"))
+    found = [(tests, it) for tests in programs_of_tests for it in names_of(tests) if it.split("::")[-1] == ending]
+    return found[0] if len(found) == 1 else None

@@ -1,0 +1,36 @@
+"""Which crates a change touches."""
+import subprocess
+
+from tools.repository import TOP, Fault, Listing, listing
+
+
+def git(*words):
+    ended = subprocess.run(["git", *words], cwd=TOP, capture_output=True, text=True, check=False)
+    if ended.returncode:
+        raise Fault(f"git {' '.join(words)}: {ended.stderr.strip()}")
+    return ended.stdout
+
+
+def last_landing():
+    """The branch that changes land on, as the remote has it where there is one."""
+    for name in ("origin/main", "main"):
+        if subprocess.run(["git", "rev-parse", "-q", "--verify", name], cwd=TOP, capture_output=True, check=False).returncode == 0:
+            return name
+    raise Fault("there is no branch main: name the commit to compare with, as in bin/test --changed HEAD~1")
+
+
+def files_since(base):
+    """The files that differ from a commit, those that aren't committed too."""
+    changed = git("diff", "--name-only", "--no-renames", base).splitlines()
+    return changed + git("ls-files", "--others", "--exclude-standard").splitlines()
+
+
+def crates_since(reference):
+    """The crates of today that have changed since a commit: a file of theirs, or their line of crates.txt; and the commit."""
+    base = git("merge-base", reference, "HEAD").strip()
+    files, now = files_since(base), listing()
+    if "HANDLES" in files:
+        return list(now.lines), base
+    before = Listing(git("show", f"{base}:crates.txt")).lines
+    touched = {it.split("/")[1] for it in files if it.startswith("crates/")}
+    return [it for it in now.lines if it in touched or before.get(it) != now.lines[it]], base

@@ -1,0 +1,43 @@
+"""What the machine has: processors, free memory, and the tools that the checks use."""
+import os
+import re
+import shutil
+import subprocess
+
+from tools.repository import read_text
+
+# The most that one check is likely to take, in bytes.
+MEMORY = 2_500_000_000
+# What has to be there, and Debian's packages that bring it.
+TOOLS = {"cc": ["gcc", "libc6-dev"], "valgrind": ["valgrind"], "/usr/bin/time": ["time"]}
+
+
+def processors():
+    return len(os.sched_getaffinity(0))
+
+
+def free_memory():
+    """The memory that is free, in bytes."""
+    found = re.search(r"MemAvailable:\s+(\d+) kB", read_text("/proc/meminfo"))
+    return int(found[1]) * 1024
+
+
+def lacking():
+    return [it for it in TOOLS if shutil.which(it) is None]
+
+
+def set_up(say):
+    """Installs the tools that are missing, where that can be done, and gives those that still are."""
+    missing = lacking()
+    if not missing:
+        return []
+    packages = [package for it in missing for package in TOOLS[it]]
+    if os.geteuid() or shutil.which("apt-get") is None:
+        say(f"{', '.join(missing)} missing; as root on Debian they would be installed: apt-get install -y {' '.join(packages)}")
+        return missing
+    say(f"installing {' '.join(packages)}")
+    quiet = {"stdin": subprocess.DEVNULL, "stdout": subprocess.DEVNULL, "stderr": subprocess.STDOUT, "check": False}
+    quiet["env"] = {**os.environ, "DEBIAN_FRONTEND": "noninteractive"}
+    subprocess.run(["apt-get", "update"], **quiet)
+    subprocess.run(["apt-get", "install", "-y", *packages], **quiet)
+    return lacking()

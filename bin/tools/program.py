@@ -1,0 +1,87 @@
+"""The program, as released in release/ or as built here in out/, and which of them is of the sources that lie here."""
+import hashlib
+import os
+import shutil
+import sys
+
+from tools import sources
+from tools.repository import TOP, Fault, read_bytes, read_text
+
+RELEASED = f"{TOP}/release/{sources.PROGRAM}"
+RELEASED_STAMP = f"{TOP}/release/stamp"
+# (as sha256sum writes it, so that `sha256sum -c` reads it)
+CHECKSUM = f"{TOP}/release/{sources.PROGRAM}.sha256"
+BUILT = f"{TOP}/out/{sources.PROGRAM}"
+BUILT_STAMP = f"{BUILT}.stamp"
+LOG = f"{TOP}/out/build.log"
+
+
+def say(text):
+    print(f"bin/{sources.PROGRAM}: {text}", file=sys.stderr, flush=True)
+
+
+def checksum_line(file):
+    return f"{hashlib.sha256(read_bytes(file)).hexdigest()}  {sources.PROGRAM}\n"
+
+
+def is_released(stamp):
+    """Whether release/ holds the program with this stamp, whole."""
+    if not os.path.isfile(RELEASED) or not sources.is_stamped(RELEASED_STAMP, stamp):
+        return False
+    is_whole = os.path.isfile(CHECKSUM) and read_text(CHECKSUM) == checksum_line(RELEASED)
+    if not is_whole:
+        say("release/ isn't used: the program there isn't the one of its checksum")
+    return is_whole
+
+
+def is_built(stamp):
+    return os.access(BUILT, os.X_OK) and sources.is_stamped(BUILT_STAMP, stamp)
+
+
+def current(stamp):
+    """The program of the sources that lie here, or None."""
+    return RELEASED if is_released(stamp) else BUILT if is_built(stamp) else None
+
+
+def write(file, data, mode=0o644):
+    """Writes a file in one step, so that a run beside this one reads the old file or the new one."""
+    os.makedirs(os.path.dirname(file), exist_ok=True)
+    with open(f"{file}.new", "wb") as it:
+        it.write(data)
+    os.chmod(f"{file}.new", mode)
+    os.replace(f"{file}.new", file)
+
+
+def keep(made, stamp):
+    """Keeps a program that was proved and built from the sources with this stamp, as out/ has it."""
+    if os.path.exists(BUILT_STAMP):
+        os.remove(BUILT_STAMP)
+    write(BUILT, read_bytes(made), 0o755)
+    write(BUILT_STAMP, stamp_text(stamp))
+
+
+def stamp_text(stamp):
+    return "".join(f"{it}\n" for it in stamp).encode()
+
+
+def release(stamp):
+    """Writes release/ from the program in out/."""
+    if not is_built(stamp):
+        raise Fault(f"{BUILT} isn't of the sources that lie here")
+    shutil.rmtree(os.path.dirname(RELEASED), ignore_errors=True)
+    write(RELEASED, read_bytes(BUILT), 0o755)
+    write(CHECKSUM, checksum_line(BUILT).encode())
+    write(RELEASED_STAMP, stamp_text(stamp))
+
+
+def compared():
+    """Compares the program in out/ with the released one: whether they are the same, or None where nothing can be compared, and what to say."""
+    if not os.path.isfile(RELEASED) or not os.path.isfile(RELEASED_STAMP):
+        return None, "there is no released program to compare with: bin/release writes it"
+    if read_bytes(RELEASED_STAMP) != read_bytes(BUILT_STAMP):
+        return None, "release/ is of other sources or of another kit, and isn't compared: bin/release writes it anew"
+    if read_bytes(RELEASED) != read_bytes(BUILT):
+        return False, "release/rpc_tool has the stamp of these sources, and DIFFERS from the program that they give"
+    if read_text(CHECKSUM) != checksum_line(BUILT):
+        return False, "release/ has another checksum than that of its program"
+    return True, "the released program is the one that these sources give, byte for byte"

@@ -1,0 +1,58 @@
+"""The repository's folders, and its crates as crates.txt lists them: a line 'NAME: LIBRARY ..' for each."""
+import os
+import re
+
+TOP = os.path.dirname(os.path.dirname(os.path.dirname(os.path.realpath(__file__))))
+
+
+class Fault(Exception):
+    """What a command says before it ends with status 1."""
+
+
+class Listing:
+    """The lines of a crates.txt: which crate stands on which."""
+
+    def __init__(self, text):
+        self.lines, self.libraries = {}, {}
+        for line in text.split("\n"):
+            line = " ".join(line.partition("#")[0].split())
+            if not line:
+                continue
+            name = re.match(r"\w+", line)
+            if not name or name[0] in self.lines:
+                raise Fault(f"crates.txt: a line names no crate, or one for the second time: {line}")
+            self.lines[name[0]] = line
+            self.libraries[name[0]] = line.partition(":")[2].split()
+
+    def below(self, name):
+        """The crates that a crate stands on, and itself, each behind those that it uses."""
+        if name not in self.lines:
+            raise Fault(f"crates.txt has no line for {name}")
+        found = []
+        for library in self.libraries[name]:
+            if library in self.lines:
+                found += [it for it in self.below(library) if it not in found]
+        return [*found, name]
+
+    def above(self, names):
+        """The crates that stand on one of these, and these, lowest first."""
+        return sorted((it for it in self.lines if {*self.below(it)} & {*names}), key=lambda it: len(self.below(it)))
+
+
+def read_bytes(file):
+    try:
+        with open(file, "rb") as it:
+            return it.read()
+    except OSError as error:
+        raise Fault(f"{file} can't be read: {error.strerror}") from error
+
+
+def read_text(file):
+    try:
+        return read_bytes(file).decode()
+    except UnicodeDecodeError as error:
+        raise Fault(f"{file} isn't UTF-8") from error
+
+
+def listing(top=TOP):
+    return Listing(read_text(f"{top}/crates.txt"))

@@ -1,0 +1,104 @@
+"""What the program is built from, and its stamp: the files of the crates that it stands on without those of their tests, these crates'
+lines of crates.txt, and HANDLES."""
+import hashlib
+import os
+import re
+import shutil
+import subprocess
+
+from tools.repository import TOP, Fault, listing, read_bytes, read_text
+
+PROGRAM = "rpc_tool"
+# A line `mod NAME;` with the attributes and comments right above it.
+MODULE = re.compile(r"^((?:[ \t]*(?:#\[|//)[^\n]*\n)*)[ \t]*(?:pub(?:\([^)\n]*\))? )?mod (\w+);", re.M)
+
+
+def modules_of(file):
+    """The files that a file's modules name, each with whether only tests read it from there."""
+    folder, name = os.path.split(file)
+    folder = folder if name in ("lib.rt", "main.rt", "mod.rt") else file[: -len(".rt")]
+    for attributes, module in MODULE.findall(read_text(file)):
+        places = [f"{folder}/{module}.rt", f"{folder}/{module}/mod.rt"]
+        found = [it for it in places if os.path.isfile(it)]
+        is_of_tests = "#[cfg(test)]" in attributes
+        if not found and not is_of_tests:
+            raise Fault(f"{file} names a module {module}, which has no file")
+        for it in found:
+            yield it, is_of_tests
+
+
+def files_of_tests(crate):
+    """The files of a crate's src/ that only modules under #[cfg(test)] read."""
+    roots = [it for it in (f"{crate}/src/lib.rt", f"{crate}/src/main.rt") if os.path.isfile(it)]
+    if not roots:
+        raise Fault(f"{crate} has neither src/lib.rt nor src/main.rt")
+    seen, left = set(), [(it, False) for it in roots]
+    while left:
+        file, is_of_tests = left.pop()
+        if (file, is_of_tests) not in seen:
+            seen.add((file, is_of_tests))
+            left += [(it, is_of_tests or found) for it, found in modules_of(file)]
+    return {it for it, is_of_tests in seen if is_of_tests and (it, False) not in seen}
+
+
+def files_below(folder):
+    """The sources and proofs at or below a folder."""
+
+    def refuse(error):
+        raise Fault(f"{error.filename} can't be read: {error.strerror}")
+
+    found = []
+    for at, folders, names in os.walk(folder, onerror=refuse):
+        folders.sort()
+        found += [f"{at}/{name}" for name in sorted(names) if name.endswith((".rt", ".antt"))]
+    return found
+
+
+def files_of(crate):
+    """The files that a crate is built from: src/ without its tests, specs/, and proofs/ without those of the tests."""
+    tests = files_of_tests(crate)
+    proofs = tuple(f"{crate}/proofs/{os.path.relpath(it, f'{crate}/src')[: -len('.rt')]}/" for it in tests)
+    parts = [f"{crate}/{it}" for it in ("src", "specs", "proofs") if os.path.isdir(f"{crate}/{it}")]
+    found = [it for part in parts for it in files_below(part)]
+    return [it for it in found if it not in tests and not it.startswith(proofs)]
+
+
+def crates(top=TOP):
+    """The crates that the program stands on, and its own, lowest first."""
+    return listing(top).below(PROGRAM)
+
+
+def sum_of(top=TOP):
+    """One number for all that the program is built from."""
+    lines = listing(top).lines
+    told = hashlib.sha256(read_bytes(f"{top}/HANDLES"))
+    for name in crates(top):
+        told.update(f"\n{lines[name]}\n".encode())
+        for file in files_of(f"{top}/crates/{name}"):
+            told.update(f"{os.path.relpath(file, top)} {hashlib.sha256(read_bytes(file)).hexdigest()}\n".encode())
+    return told.hexdigest()
+
+
+def kit():
+    """The kit's version, or None where the command rt isn't there."""
+    if shutil.which("rt") is None:
+        return None
+    asked = subprocess.run(["rt", "version"], stdin=subprocess.DEVNULL, stdout=subprocess.PIPE, check=False)
+    told = asked.stdout.decode(errors="replace").strip()
+    if asked.returncode or not told or "\n" in told:
+        raise Fault(f"the kit's version can't be read: rt version ended with status {asked.returncode} and said {told!r}")
+    return told
+
+
+def stamp(top=TOP):
+    """The lines of the stamp: the sum of the sources and, where the command rt is there, the kit's version."""
+    version = kit()
+    return [sum_of(top), *([version] if version else [])]
+
+
+def is_stamped(file, wanted):
+    """Whether a file holds this stamp; the kit's version is compared only where the stamp has it."""
+    if not os.path.isfile(file):
+        return False
+    held = read_text(file).split("\n")
+    return all(held[at : at + 1] == [it] for at, it in enumerate(wanted))

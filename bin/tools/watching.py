@@ -1,0 +1,72 @@
+"""How long the gate is at each crate: rt ci tells no times, so the checks that it starts are looked at once a second."""
+import os
+import threading
+import time
+
+LOOK = 1.0
+
+
+def words_of(process):
+    try:
+        with open(f"/proc/{process}/cmdline", "rb") as it:
+            return it.read().decode(errors="replace").split("\0")[:-1]
+    except OSError:
+        return []
+
+
+def parent_of(process):
+    try:
+        with open(f"/proc/{process}/stat", encoding="utf-8", errors="replace") as it:
+            return it.read().rpartition(")")[2].split()[1]
+    except (OSError, IndexError):
+        return ""
+
+
+def is_below(process, top, parents):
+    """Whether a process was started by another, or by one that it started."""
+    while process and process not in ("0", "1"):
+        if process == top:
+            return True
+        process = parents.get(process, "")
+    return False
+
+
+def part_of(process):
+    """Which part of the gate a process is: a crate's proof, its tests or its must-fail edits; or None."""
+    words = words_of(process)
+    if not words or os.path.basename(words[0]) != "rattle" or "--crate-name" not in words[:-1]:
+        return None
+    crate = words[words.index("--crate-name") + 1]
+    try:
+        folder = os.path.basename(os.readlink(f"/proc/{process}/cwd"))
+    except OSError:
+        return None
+    kind = "must-fail edits" if folder.startswith("rt-edit-") else "tests" if "--test" in words else "proof"
+    return f"the gate: {crate}, {kind}"
+
+
+class Watch(threading.Thread):
+    """Looks at what a process has started until it is told to end, and counts the seconds in which each part of the gate was at work."""
+
+    def __init__(self, process):
+        super().__init__(daemon=True)
+        self.top, self.seconds, self.is_over = str(process), {}, threading.Event()
+        self.start()
+
+    def run(self):
+        last = time.monotonic()
+        while not self.is_over.wait(LOOK):
+            now = time.monotonic()
+            for part in self.at_work():
+                self.seconds[part] = self.seconds.get(part, 0.0) + now - last
+            last = now
+
+    def at_work(self):
+        parents = {it: parent_of(it) for it in os.listdir("/proc") if it.isdigit()}
+        found = {part_of(it) for it in parents if is_below(it, self.top, parents)}
+        return found - {None}
+
+    def end(self):
+        self.is_over.set()
+        self.join()
+        return self.seconds

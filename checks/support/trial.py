@@ -1,0 +1,206 @@
+"""One run over crates: the proof of each with its right bodies, and the rounds of its wrong bodies over it, several checks side by side."""
+import os
+from concurrent.futures import FIRST_COMPLETED, Future, ThreadPoolExecutor, wait
+from dataclasses import dataclass, field
+from functools import partial
+from typing import Callable, Optional
+
+from support.bodies import Body, Sources
+from support.functions import Function
+from support.rounds import Judged, blamed, commented, hurt_beside, judge_right, judge_wrong, lines_of, no_verdict, rounds_of
+from support.trees import Ran, Trees
+from support.verdicts import Output, read_output
+
+
+def say(text: str) -> None:
+    print(text, flush=True)
+
+
+def no_line(crate: "Crate", output: Output) -> Optional[str]:
+    """Which functions that have bodies the check says nothing of, if so."""
+    lost = [it.name for it in crate.functions if not lines_of(output, it)]
+    return f"the check has no line on {', '.join(lost[:3])}" if lost else None
+
+
+@dataclass
+class Crate:
+    """A crate, its bodies, and what was found."""
+
+    name: str
+    sources: Sources
+    bodies: list[Body]
+    known: set[str] = field(default_factory=set)  # the functions that the unchanged crate has
+    judged: list[Judged] = field(default_factory=list)
+    failures: list[str] = field(default_factory=list)
+    comments_are_proved: bool = False
+    checks: int = 0
+    seconds: float = 0.0
+
+    @property
+    def wrong(self) -> list[Body]:
+        return [it for it in self.bodies if not it.is_right]
+
+    @property
+    def functions(self) -> list[Function]:
+        """Those that a body of the crate changes."""
+        return [*dict.fromkeys(fn for it in self.bodies for fn in it.functions)]
+
+    @property
+    def right(self) -> list[Body]:
+        return [it for it in self.bodies if it.is_right]
+
+    def with_bodies(self, bodies: list[Body]) -> dict[str, str]:
+        """The texts with these bodies, of the files that they change."""
+        return self.sources.with_changes([change for it in bodies for change in it.changes])
+
+    def control(self, right: list[Body]) -> dict[str, str]:
+        """The texts with these right bodies, and a comment more in each other function that has bodies."""
+        rewritten = {fn for it in right for fn in it.functions}
+        comments = commented(it for it in self.functions if it not in rewritten)
+        return self.sources.with_changes([*(change for it in right for change in it.changes), *comments])
+
+
+@dataclass(frozen=True)
+class Turn:
+    """One check of a crate over what its proof kept: a round of wrong bodies, or a part of a control that fell."""
+
+    crate: Crate
+    bodies: list[Body]
+    label: str
+
+    @property
+    def is_control(self) -> bool:
+        return self.label.startswith("control")
+
+
+class Trial:
+    """One run over the crates: the proof of each, which is its control too, and then its rounds, up to `jobs` side by side.
+
+    Threads only run checks; what these say is judged as they end, in one place."""
+
+    def __init__(self, crates: list[Crate], trees: Trees, jobs: int, logs: str) -> None:
+        self.crates = {it.name: it for it in crates}
+        self.trees, self.jobs, self.logs = trees, jobs, logs
+        self.proved: set[str] = set()
+        self.lost: set[str] = set()
+        self.unproved = list(trees.needed)
+        self.waiting: list[Turn] = []
+        self.running: dict["Future[Ran]", tuple[int, Callable[[Ran], None]]] = {}
+        self.seconds = 0.0
+
+    def run(self) -> None:
+        with ThreadPoolExecutor(self.jobs) as pool:
+            while self.start(pool):
+                for it in wait(self.running, return_when=FIRST_COMPLETED).done:
+                    ran = it.result()
+                    self.seconds += ran.seconds
+                    self.running.pop(it)[1](ran)
+
+    def idle(self) -> int:
+        return self.jobs - sum(jobs for jobs, _ in self.running.values())
+
+    def start(self, pool: ThreadPoolExecutor) -> bool:
+        """Starts what can be started, proofs first; says whether anything runs."""
+        for name in self.unproved[:]:
+            if any(it in self.lost for it in self.trees.below[name]):
+                self.unproved.remove(name)
+                self.lose(name, "a crate below it is not proved")
+        ready = [it for it in self.unproved if all(below in self.proved for below in self.trees.below[it])]
+        for at, name in enumerate(ready):
+            if self.idle() > 0:
+                jobs = max(1, self.idle() // (len(ready) - at))
+                self.unproved.remove(name)
+                future = pool.submit(self.trees.prove, name, jobs)
+                self.running[future] = jobs, partial(self.after_proof, name)
+        while self.waiting and self.idle() > 0:
+            turn = self.waiting.pop(0)
+            future = pool.submit(self.trees.check, turn.crate.name, self.texts(turn))
+            self.running[future] = 1, partial(self.after_turn, turn)
+        return bool(self.running)
+
+    def lose(self, name: str, why: str) -> None:
+        self.lost.add(name)
+        if name in self.crates:
+            self.crates[name].failures.append(f"{name}: nothing was tried: {why}")
+
+    def log(self, label: str, ran: Ran, what: str) -> None:
+        say(f"== {label.replace('-', ' ', 1)}: {what}, {ran.seconds:.0f} processor seconds, {ran.wall:.0f} s")
+        if self.logs:
+            os.makedirs(self.logs, exist_ok=True)
+            with open(f"{self.logs}/{label}.log", "w", encoding="utf-8") as it:
+                it.write(ran.output)
+
+    def after_proof(self, name: str, ran: Ran) -> None:
+        """Once a crate is proved, with its right bodies and comments, its rounds come."""
+        crate = self.crates.get(name)
+        what = f", with {len(crate.right)} right bodies and comments" if crate else ""
+        self.log(f"{name}-proof", ran, f"{'NOT proved' if ran.status else 'proved'}{what}")
+        if crate:
+            crate.checks, crate.seconds = crate.checks + 1, crate.seconds + ran.seconds
+            self.judge_proof(crate, ran)
+        if ran.status:
+            errors = [it for it in ran.output.split("\n") if it.startswith(("error", "rt:")) or "not proved" in it]
+            self.lose(name, f"the crate itself{what} is not proved: {' | '.join(errors[:3])[:400]}")
+        else:
+            self.proved.add(name)
+
+    def judge_proof(self, crate: Crate, ran: Ran) -> None:
+        output = read_output(ran.output)
+        why = no_verdict(ran, output) or no_line(crate, output)
+        if why or not output.is_proved:
+            # one by one, to tell which are refused
+            self.waiting += [Turn(crate, [], "control-comments"), *(Turn(crate, [it], f"control-{it.name}") for it in crate.right)]
+            return
+        crate.known = {it.name for it in output.verdicts.values() if not it.is_by_compiler}
+        crate.judged += [judge_right(it, output) for it in crate.right]
+        crate.comments_are_proved = True
+        self.waiting += [Turn(crate, it, f"round-{at}") for at, it in enumerate(rounds_of(crate.wrong), 1)]
+
+    def texts(self, turn: Turn) -> dict[str, str]:
+        return turn.crate.control(turn.bodies) if turn.is_control else turn.crate.with_bodies(turn.bodies)
+
+    def after_turn(self, turn: Turn, ran: Ran) -> None:
+        crate, count = turn.crate, len(turn.bodies)
+        crate.checks, crate.seconds = crate.checks + 1, crate.seconds + ran.seconds
+        self.log(f"{crate.name}-{turn.label}", ran, f"{count} right bodies, and comments" if turn.is_control else f"{count} wrong bodies")
+        output = read_output(ran.output)
+        why = no_verdict(ran, output)
+        if turn.is_control:
+            self.judge_control(turn, output, why)
+        else:
+            self.judge_round(turn, output, why, ran.is_late)
+
+    def judge_control(self, turn: Turn, output: Output, why: Optional[str]) -> None:
+        """What a part of a control that fell says: of one right body, or of the comments alone."""
+        crate, bodies = turn.crate, turn.bodies
+        why = why or no_line(crate, output)
+        if bodies:
+            crate.judged += [Judged(it, False, "unfit", why) if why else judge_right(it, output) for it in bodies]
+        elif why or not output.is_proved:
+            crate.failures.append(f"{crate.name}: comments in its functions are refused: {why or ', '.join(it.name for it in output.fallen())}")
+
+    def part(self, turn: Turn, suspects: list[Body]) -> None:
+        """Tries a round again in parts: those that are to blame singly, if that is known, and else one half and the other."""
+        crate, bodies, half = turn.crate, turn.bodies, len(turn.bodies) // 2
+        if suspects and len(suspects) < len(bodies):
+            self.waiting += [Turn(crate, [it], f"alone-{it.name}") for it in suspects]
+            self.waiting.append(Turn(crate, [it for it in bodies if it not in suspects], f"{turn.label}b"))
+        else:
+            self.waiting += [Turn(crate, bodies[:half], f"{turn.label}a"), Turn(crate, bodies[half:], f"{turn.label}b")]
+
+    def judge_round(self, turn: Turn, output: Output, why: Optional[str], is_late: bool) -> None:
+        crate, bodies = turn.crate, turn.bodies
+        beside = [] if why else hurt_beside(output, bodies, crate.known)
+        if why and (is_late or len(bodies) == 1):
+            crate.judged += [Judged(it, False, "unfit", why) for it in bodies]
+        elif len(bodies) == 1:
+            crate.judged.append(judge_wrong(bodies[0], output, True))
+        elif why or beside:
+            say(f"== {crate.name} {turn.label} hurts more than it should, so it is parted: {(why or ', '.join(beside))[:300]}")
+            self.part(turn, blamed(output, bodies, self.texts(turn)))
+        else:
+            for body in bodies:
+                if judged := judge_wrong(body, output, False):
+                    crate.judged.append(judged)
+                else:
+                    self.waiting.append(Turn(crate, [body], f"alone-{body.name}"))

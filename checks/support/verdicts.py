@@ -1,0 +1,158 @@
+"""What a check's output says of each function, and why those that fall do."""
+import re
+from dataclasses import dataclass, field
+
+LINE = re.compile(r"(fn|struct|enum|union|impl|trait|law) (\S+): (proved|not proved|no proof|could not tell|assumed|not assumed)\b(.*)")
+GOAL = re.compile(r"note: (?P<place>\S+:\d+:\d+): it is not proved that (?P<what>.*?) \(`(?P<goal>[^`]+)`\)(?P<rest>.*)")
+ERROR = re.compile(r"(?:\./)?(?P<file>(?:src|specs|proofs)/\S+?):(?P<line>\d+):\d+: error: (?P<what>.*)")
+GONE = re.compile(r"has no field|is not in scope|has no `|was not admitted")
+UNREAD = re.compile(r"is not in scope|has no field|is no name|operand is missing|expected the end|cannot continue")
+
+
+@dataclass
+class Verdict:
+    """What the check says of one function, type or impl."""
+
+    kind: str
+    name: str
+    word: str
+    rest: str
+    goals: list[str] = field(default_factory=list)  # its goals that stay open, each with how sure it is that they are false
+    answers: list[str] = field(default_factory=list)  # its answers by hand that no longer fit
+
+    @property
+    def is_proved(self) -> bool:
+        return self.word == "proved"
+
+    @property
+    def is_by_compiler(self) -> bool:
+        """Whether the compiler made it: a drop, a closure's call. Which of these there are may change with a body."""
+        return "+" in self.name
+
+    @property
+    def falls_by_itself(self) -> bool:
+        """Whether it falls for a reason of its own, and not only because it calls what isn't proved."""
+        if self.is_proved:
+            return False
+        if self.goals or self.answers:
+            return True
+        rest = self.rest.lstrip(":; ")
+        if re.match(r"in `[^`]+`, of this cycle of calls: ", rest):
+            return False
+        reasons = [it.strip() for it in rest.split("; ") if it.strip()]
+        of_others = ["it calls ", "it waits for the proof of "]
+        if self.cycle:
+            # (its line then tells of the whole cycle)
+            of_others += ["`search` did not prove ", "expected answers in "]
+        is_owed = bool(reasons) and all(it.startswith(tuple(of_others)) for it in reasons)
+        return not is_owed or self.kind == "fn" and self.word != "no proof"
+
+    @property
+    def cycle(self) -> str:
+        """The folder with the answers of its cycle of calls, where its line names one."""
+        named = re.search(r"proofs/\S*/\+\w+/", self.rest)
+        return named[0] if named else ""
+
+
+@dataclass
+class Output:
+    """A check's output, read."""
+
+    verdicts: dict[str, Verdict]
+    is_proved: bool
+    has_verdict: bool
+    unread: list[str]  # texts of src/ that the prover could not read
+    first_error: str
+    places: list[tuple[str, int]]  # the files and lines of src/ that errors name
+
+    def fallen(self) -> list[Verdict]:
+        return [it for it in self.verdicts.values() if it.falls_by_itself]
+
+
+def strength(rest: str) -> str:
+    """How much an open goal says, by what the check adds to it."""
+    if "is false" in rest:
+        return " is false for some values"
+    if "gave up at one of its limits" in rest:
+        return " (the search met a limit)"
+    return ""
+
+
+def with_unproved(goals: list[str], rest: str) -> list[str]:
+    """The goals that notes told of, and those that the function's own line names beside them."""
+    named = re.search(r"`search` did not prove ((?:`[^`]+`(?:, )?)+)", rest)
+    told = {it.split("`")[1] for it in goals}
+    return goals + [f"`{it}`" for it in re.findall(r"`([^`]+)`", named[1] if named else "") if it not in told]
+
+
+def folder_of(name: str) -> str:
+    """The folder of proofs/ that holds what is written of a function's proof."""
+    return "proofs/" + "/".join(name.split("::")[1:]) + "/"
+
+
+def is_unread(error: "re.Match[str]") -> bool:
+    """Whether a text of src/ can't be read, where one that only makes a statement false reads well."""
+    said = re.sub(r"`[^`]*`", "", error["what"])
+    return not error["file"].startswith("proofs/") and bool(UNREAD.search(said))
+
+
+def goal_of_answer(what: str) -> str:
+    """The goal that an answer by hand was for, and whether the answer just names what is gone."""
+    goal = re.match(r"`([^`]+)`: (.*)", what)
+    if not goal:
+        return what[:80]
+    return f"`{goal[1]}`" + (" (it names what is gone)" if GONE.search(goal[2]) else "")
+
+
+def attach(errors: list["re.Match[str]"], verdicts: dict[str, Verdict]) -> None:
+    """Gives each error on an answer to the function that the answer is of; in a cycle of calls the answer's name begins with it."""
+    by_folder = {folder_of(it.name): it for it in verdicts.values()}
+    for error in errors:
+        folder, _, cycle = parent_of(error["file"]).rstrip("/").rpartition("/")
+        answer = goal_of_answer(error["what"])
+        member = answer.strip("`").partition("-")[0]
+        verdict = by_folder.get(f"{folder}/{member}/" if cycle.startswith("+") else f"{folder}/{cycle}/")
+        if verdict:
+            verdict.answers.append(answer)
+
+
+def own_goals(verdict: Verdict, verdicts: dict[str, Verdict]) -> list[str]:
+    """The open goals of a function. The line of a member of a cycle of calls names those of all, each beginning with its function."""
+    if not verdict.cycle:
+        return verdict.goals
+    others = [it.name.rpartition("::")[2] for it in verdicts.values() if it.cycle == verdict.cycle and it is not verdict]
+    return [it for it in verdict.goals if not it.startswith(tuple(f"`{name}-" for name in others))]
+
+
+def read_output(text: str) -> Output:
+    """Reads a check's output. The notes on a function's goals stand right before its line, the errors on its answers anywhere."""
+    verdicts: dict[str, Verdict] = {}
+    errors: list["re.Match[str]"] = []
+    goals: list[str] = []
+    logic: list[str] = []
+    lines = [it for it in text.split("\n") if not it.startswith("so far:")]
+    for line in lines:
+        if found := LINE.fullmatch(line):
+            read = Verdict(found[1], found[2], found[3], found[4], with_unproved(goals, found[4]))
+            if read.name not in verdicts or verdicts[read.name].is_proved:
+                verdicts[read.name] = read
+            goals = []
+        elif found := GOAL.match(line):
+            goals.append(f"`{found['goal']}`{strength(found['rest'])}")
+        elif found := ERROR.match(line):
+            errors.append(found)
+        elif line.startswith("logic="):
+            logic.append(line)
+    attach(errors, verdicts)
+    for it in verdicts.values():
+        it.goals = own_goals(it, verdicts)
+    first = next((it for it in lines if re.search(r"\berror(\[|:)", it) or it.startswith(("rt: ", "rattle"))), lines[0] if lines else "")
+    unread = [f"{it['file']}:{it['line']}: {it['what'][:160]}" for it in errors if is_unread(it)]
+    is_proved = len(logic) == 1 and logic[0].startswith("logic=proved ")
+    has_verdict = len(logic) == 1 and (is_proved or logic[0] == "logic=not-proved") and bool(verdicts)
+    places = [(it[1], int(it[2])) for it in re.finditer(r"^(?:\./)?(src/\S+?):(\d+):\d+: error", text, re.M)]
+    return Output(verdicts, is_proved, has_verdict, unread, first[:240], places)
+
+
+def parent_of(path: str) -> str:
+    return path.rpartition("/")[0] + "/"
