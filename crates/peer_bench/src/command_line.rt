@@ -7,7 +7,7 @@ use std::alloc::{AllocError, Global};
 
 /// What a command line asks the program to do.
 #[derive(Clone, Copy)]
-pub enum Order {
+pub enum Bench {
     /// A little of each kind of work.
     Little,
     /// Work of one kind, with the time that it takes.
@@ -16,23 +16,23 @@ pub enum Order {
 
 /// Reads the words of a command line, of which the first is the program's name. An `Err` has the text
 /// for the user: help and the version too, whose status is 0.
-pub fn read(alloc: Global, words: &[String]) -> Result<Order, Error> {
+pub fn read(alloc: Global, words: &[String]) -> Result<Bench, Error> {
     let mut command = program(alloc)?;
     let matches = command.try_get_matches_from_mut(words)?;
     Ok(match matches.subcommand() {
-        Some(("slots", options)) => Order::Timed(Task::Slots {
+        Some(("slots", options)) => Bench::Timed(Task::Slots {
             crew: crew(options),
             jobs: jobs(options),
         }),
-        Some(("queue", options)) => Order::Timed(Task::Queue {
+        Some(("queue", options)) => Bench::Timed(Task::Queue {
             crew: crew(options),
             jobs: jobs(options),
         }),
-        Some(("desk", options)) => Order::Timed(Task::Desk {
+        Some(("desk", options)) => Bench::Timed(Task::Desk {
             finishing: finishing(options),
             units: options.get_one::<u32>("units").unwrap_or(0),
         }),
-        _ => Order::Little,
+        _ => Bench::Little,
     })
 }
 
@@ -52,6 +52,7 @@ fn finishing(options: &ArgMatches<'_>) -> Finishing {
         Some("cancels") => Finishing::Cancels,
         Some("stream") => Finishing::Stream,
         Some("behind") => Finishing::Behind,
+        Some("batch") => Finishing::Batch,
         _ => Finishing::Straight,
     }
 }
@@ -100,9 +101,12 @@ fn desk<'a>(alloc: Global) -> Result<Command<'a>, AllocError> {
         .long("order")
         .value_name("O")
         .help(
-            "straight: as they came; windows: in reverse within each 1000; cancels: each once it is cancelled; stream: each before the next comes; behind: so too, behind an open notification",
+            "straight: as they came; windows: in reverse within each 1000; cancels: each once it is cancelled; stream: each before the next comes; behind: so too, behind an open notification; batch: as they came, all in one batch",
         )
-        .value_parser(["straight", "windows", "cancels", "stream", "behind"].as_slice())
+        .value_parser([
+            "straight", "windows", "cancels", "stream", "behind", "batch",
+        ]
+        .as_slice())
         .default_value("straight");
     let units = Arg::new(alloc, "units")
         .long("units")

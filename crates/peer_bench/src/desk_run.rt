@@ -1,12 +1,13 @@
 //! The desk's work: requests that all arrive first, and then are finished in one order or another.
-ghost use Rattle.std.specs.Prelude.{◌≡◌, ◌+◌, ◌<◌, ◌≤◌, OnOk};
+ghost use Rattle.std.specs.Prelude.{◌≡◌, ◌+◌, ◌<◌, ◌≤◌, IfOk, OnOk, length};
 ghost use Rattle.answer_desk.specs.Desk.{view};
+ghost use Rattle.answer_desk.specs.Places.{new_numbers};
 ghost use Rattle.answer_desk.specs.State.{next_number};
 
-use crate::failure::Failure;
 use answer_desk::{Desk, Kind, Place, Shape};
-use lsp_frames::Items;
-use rpc_messages::{Id, Json, Reply, Standard};
+use json_values::{Items, Json};
+use program_edge::Failure;
+use rpc_messages::{Id, Reply, Standard};
 use std::alloc::Global;
 
 /// How many requests are finished in reverse at a time.
@@ -25,21 +26,24 @@ pub enum Finishing {
     Stream,
     /// Each before the next comes, but the first unit is a notification that is never finished.
     Behind,
+    /// As they came, all in one batch.
+    Batch,
 }
 
 impl Finishing {
     /// Each order.
-    pub const ALL: [Finishing; 5] = [
+    pub const ALL: [Finishing; 6] = [
         Finishing::Straight,
         Finishing::Windows,
         Finishing::Cancels,
         Finishing::Stream,
         Finishing::Behind,
+        Finishing::Batch,
     ];
 }
 
-/// Opens so many units of one call each, at most 1,000,000, finishes them in some order, and releases the answers as they come.
-/// It gives how many answers were released.
+/// Opens so many units of one call each, at most 1,000,000, or a batch of so many, finishes them in some order, and releases
+/// the answers as they come. It gives how many answers were released.
 pub fn run_desk(alloc: Global, finishing: Finishing, units: u32) -> Result<usize, Failure> {
     let units = units.min(1_000_000);
     let mut desk = Desk::new(alloc);
@@ -64,7 +68,28 @@ pub fn run_desk(alloc: Global, finishing: Finishing, units: u32) -> Result<usize
             open(alloc, &mut desk, None)?;
             answer_each(alloc, &mut desk, requests)
         }
+        Finishing::Batch => {
+            desk.open_unit(Shape {
+                kind: Kind::Batch,
+                places: Items::from(requests(alloc, units)?),
+            })?;
+            finish_by_windows(&mut desk, units, 1)
+        }
     }
+}
+
+/// So many requests, whose ids are their numbers in a new desk.
+fn requests(alloc: Global, count: u32) -> Result<Vec<Place>, Failure>
+    ensures { IfOk result (λ places. length (new_numbers places.items) ≡ count) }
+{
+    let mut places = Vec::with_capacity(alloc, count as usize)?;
+    for index in 0..count {
+        places.push(Place::Numbered {
+            id: Some(id_of(index.saturating_add(1))),
+            most: 0,
+        })?;
+    }
+    Ok(places)
 }
 
 /// Opens so many requests, whose ids are their numbers in a new desk.

@@ -1,5 +1,6 @@
 //! How one owner's jobs go to its workers and come home, whatever lies between them. The loops are the same for each way, so
 //! that times can be compared.
+use crate::homecomings::Homecomings;
 use crate::job::Job;
 use crate::tally::Tally;
 use std::sync::Wait;
@@ -22,22 +23,27 @@ pub trait Worker {
     fn run_one<R: Wait>(&mut self, rt: &R) -> bool;
 }
 
-/// Hands all jobs out and takes each one home, and gives how many came home turned once. Whenever a round moves nothing, the
-/// thread yields.
-pub fn own<R: Wait, O: Owner>(rt: &R, owner: &mut O, jobs: u32) -> u32 {
-    let mut tally = Tally::new(jobs);
+/// Hands all jobs out and takes each one home, and gives how often each came home turned once. Whenever a round moves nothing,
+/// the thread yields.
+pub fn own<R: Wait, O: Owner>(
+    rt: &R,
+    owner: &mut O,
+    jobs: u32,
+    homecomings: Homecomings,
+) -> Homecomings {
+    let mut tally = Tally::new(jobs, homecomings);
     for _ in rt.forever() {
         if tally.is_over() {
             break;
         }
-        let before = tally;
+        let before = tally.moves();
         offer_all(rt, owner, &mut tally);
         owner.collect(rt, &mut tally);
-        if tally == before {
+        if tally.moves() == before {
             thread::yield_now();
         }
     }
-    tally.turned_once()
+    tally.into_homecomings()
 }
 
 /// Hands out as many jobs as there is room for.

@@ -4,8 +4,8 @@
 mod command_line;
 mod crew;
 mod desk_run;
-mod failure;
 mod handoff;
+mod homecomings;
 mod job;
 mod program;
 mod queue_handoff;
@@ -13,33 +13,16 @@ mod slots_handoff;
 mod stopwatch;
 mod tally;
 mod task;
-#[cfg(test)]
-mod tests;
+mod work;
 
-use failure::Failure;
-use std::io::ErrorKind;
+use program_edge::{read_words, tell_end};
 use std::process::ExitCode;
 
 /// Runs the program on the process's arguments and standard outputs.
 fn main(rt: HostRuntime) -> ExitCode {
-    let words: Vec<String> = match std::env::args(&rt) {
-        Ok(arguments) => match arguments.collect(rt.alloc()) {
-            Ok(words) => words,
-            Err(_) => return refused(&rt, Failure::Memory),
-        },
-        Err(error) if error.kind() == ErrorKind::OutOfMemory => {
-            return refused(&rt, Failure::Memory);
-        }
-        Err(_) => {
-            let _ = eprintln!(rt; "the arguments cannot be read");
-            return ExitCode::from(2);
-        }
+    let status = match read_words(&rt) {
+        Ok(words) => program::run(&rt, words.as_slice(), &mut rt.stdout(), &mut rt.stderr()),
+        Err(failure) => tell_end(Err(failure), &mut rt.stderr()),
     };
-    let status = program::run(&rt, words.as_slice(), &mut rt.stdout(), &mut rt.stderr());
     ExitCode::from(status)
-}
-
-fn refused(rt: &impl Eprint, failure: Failure) -> ExitCode {
-    let _ = eprintln!(rt; "{failure}");
-    ExitCode::from(failure.status())
 }

@@ -1,12 +1,10 @@
 //! The program over any clock and any two writers.
-use crate::command_line::{Order, read};
+use crate::command_line::{Bench, read};
 use crate::crew::Crew;
 use crate::desk_run::Finishing;
-use crate::failure::Failure;
 use crate::stopwatch::Stopwatch;
 use crate::task::Task;
-use clap::Error;
-use clap::error::ErrorKind;
+use program_edge::{Failure, answer_words, tell_end};
 use std::io::Write;
 use std::sync::Wait;
 use std::thread::Threads;
@@ -21,19 +19,19 @@ where
     E: Write,
 {
     match read(rt.alloc(), words) {
-        Ok(order) => ended(obey(rt, order, output), errors),
-        Err(error) => answered(&error, output, errors),
+        Ok(bench) => tell_end(obey(rt, bench, output), errors),
+        Err(error) => answer_words(&error, output, errors),
     }
 }
 
-fn obey<R, W>(rt: &R, order: Order, output: &mut W) -> Result<(), Failure>
+fn obey<R, W>(rt: &R, bench: Bench, output: &mut W) -> Result<(), Failure>
 where
     R: Threads + Wait + Sync + Clock + AllocGlobal,
     W: Write,
 {
-    match order {
-        Order::Little => run_little(rt, output),
-        Order::Timed(task) => run_timed(rt, task, output),
+    match bench {
+        Bench::Little => run_little(rt, output),
+        Bench::Timed(task) => run_timed(rt, task, output),
     }
 }
 
@@ -46,13 +44,21 @@ where
     let crew = Crew::new(2, 8);
     let (jobs, units) = (1_000, 2_500);
     for task in [Task::Slots { crew, jobs }, Task::Queue { crew, jobs }] {
-        tell(output, task, task.run(rt)?)?;
+        tell(output, task, done(rt, task)?)?;
     }
     for finishing in Finishing::ALL {
         let task = Task::Desk { finishing, units };
-        tell(output, task, task.run(rt)?)?;
+        tell(output, task, done(rt, task)?)?;
     }
     written(output.flush())
+}
+
+/// Does the work, and gives how many jobs came home turned once or how many answers were released.
+fn done<R>(rt: &R, task: Task) -> Result<usize, Failure>
+where
+    R: Threads + Wait + Sync + AllocGlobal,
+{
+    Ok(task.begin(rt.alloc())?.run(rt)?.count())
 }
 
 /// Says what became of each job or unit.
@@ -67,9 +73,11 @@ where
     R: Threads + Wait + Sync + Clock + AllocGlobal,
     W: Write,
 {
+    let work = task.begin(rt.alloc())?;
     let watch = Stopwatch::start(rt)?;
-    let count = task.run(rt)?;
+    let done = work.run(rt)?;
     let took = watch.microseconds(rt)?;
+    let count = done.count();
     let (name, outcome) = (task.name(), task.outcome());
     written(writeln!(output, "{name}: {count} {outcome} in {took} us"))?;
     written(output.flush())
@@ -77,30 +85,4 @@ where
 
 fn written(outcome: std::io::Result<()>) -> Result<(), Failure> {
     outcome.map_err(|_| Failure::Write)
-}
-
-/// Tells why the program gave up, where it did, and gives the status.
-fn ended<E: Write>(outcome: Result<(), Failure>, errors: &mut E) -> u8 {
-    match outcome {
-        Ok(()) => 0,
-        Err(failure) => {
-            let _ = writeln!(errors, "{failure}");
-            failure.status()
-        }
-    }
-}
-
-/// Writes the text of a command line that asks for no work, and gives the status.
-fn answered<W: Write, E: Write>(error: &Error, output: &mut W, errors: &mut E) -> u8 {
-    if error.kind() == ErrorKind::OutOfMemory {
-        return ended(Err(Failure::Memory), errors);
-    }
-    if error.use_stderr() {
-        let _ = write!(errors, "{error}");
-        return 2;
-    }
-    if write!(output, "{error}").is_err() || output.flush().is_err() {
-        return ended(Err(Failure::Write), errors);
-    }
-    0
 }

@@ -1,11 +1,12 @@
 //! The way through two queues of `crossbeam_queue`: one of jobs out, one of turned jobs home.
 use crate::crew::Crew;
-use crate::failure::Failure;
 use crate::handoff::{Owner, Worker, own, work};
+use crate::homecomings::Homecomings;
 use crate::job::Job;
 use crate::tally::Tally;
 use crossbeam_queue::ArrayQueue;
 use job_slots::Turns;
+use program_edge::Failure;
 use std::alloc::Global;
 use std::sync::Wait;
 use std::sync::atomic::AtomicBool;
@@ -78,20 +79,21 @@ fn send_home<R: Wait>(rt: &R, home: &ArrayQueue<Job>, job: Job) {
     }
 }
 
-/// Sends jobs through the queues to workers and back, and gives how many came home turned once.
+/// Sends jobs through the queues to workers and back, and gives how often each came home turned once.
 pub fn through_queues<R: Threads + Wait + Sync>(
     rt: &R,
     alloc: Global,
     crew: Crew,
     jobs: u32,
-) -> Result<u32, Failure> {
+    homecomings: Homecomings,
+) -> Result<Homecomings, Failure> {
     let room = crew.room as usize;
     let queues = Queues {
         out: ArrayQueue::new(alloc, room)?,
         home: ArrayQueue::new(alloc, room)?,
     };
     let stop = AtomicBool::new(false);
-    run_with(rt, &queues, &stop, crew, jobs)
+    run_with(rt, &queues, &stop, crew, jobs, homecomings)
 }
 
 /// Starts the workers in a scope, and hands the jobs to them.
@@ -101,11 +103,12 @@ fn run_with<R: Threads + Wait + Sync>(
     stop: &AtomicBool,
     crew: Crew,
     jobs: u32,
-) -> Result<u32, Failure> {
+    homecomings: Homecomings,
+) -> Result<Homecomings, Failure> {
     thread::scope(
         thread::scope_env(),
         rt,
-        move |scope| -> Result<u32, Failure> {
+        move |scope| -> Result<Homecomings, Failure> {
             for _ in 0..crew.workers {
                 let hand = Hand { queues };
                 if scope.spawn(move || work(rt, hand, stop)).is_err() {
@@ -118,9 +121,9 @@ fn run_with<R: Threads + Wait + Sync>(
                 room: crew.room,
                 under_way: 0,
             };
-            let turned = own(rt, &mut owner, jobs);
+            let homecomings = own(rt, &mut owner, jobs, homecomings);
             stop.store(true, SeqCst);
-            Ok(turned)
+            Ok(homecomings)
         },
     )
 }

@@ -2,11 +2,12 @@
 ghost use Rattle.job_slots.specs.Seats.{IsClerkOf, IsWorkerOf};
 
 use crate::crew::Crew;
-use crate::failure::Failure;
 use crate::handoff::{Owner, Worker, own, work};
+use crate::homecomings::Homecomings;
 use crate::job::Job;
 use crate::tally::Tally;
 use job_slots::{ClerkSeat, JobSlots, Ran, WorkerSeat};
+use program_edge::Failure;
 use std::alloc::Global;
 use std::sync::Wait;
 use std::sync::atomic::AtomicBool;
@@ -57,16 +58,19 @@ impl Worker for Hand<'_> {
     }
 }
 
-/// Sends jobs through slots to workers and back, and gives how many came home turned once.
+/// Sends jobs through slots to workers and back, and gives how often each came home turned once.
 pub fn through_slots<R: Threads + Wait + Sync>(
     rt: &R,
     alloc: Global,
     crew: Crew,
     jobs: u32,
-) -> Result<u32, Failure> {
-    let (slots, clerk) = JobSlots::make(alloc, crew.room)?;
+    homecomings: Homecomings,
+) -> Result<Homecomings, Failure> {
+    let Ok((slots, clerk)) = JobSlots::make(alloc, crew.room) else {
+        return Err(Failure::Memory);
+    };
     let stop = AtomicBool::new(false);
-    run_with(rt, &slots, clerk, &stop, crew, jobs)
+    run_with(rt, &slots, clerk, &stop, crew, jobs, homecomings)
 }
 
 /// Starts the workers in a scope, and hands the jobs to them.
@@ -77,13 +81,14 @@ fn run_with<R: Threads + Wait + Sync>(
     stop: &AtomicBool,
     crew: Crew,
     jobs: u32,
-) -> Result<u32, Failure>
+    homecomings: Homecomings,
+) -> Result<Homecomings, Failure>
     requires { IsClerkOf slots.now clerk }
 {
     thread::scope(
         thread::scope_env(),
         rt,
-        move |scope| -> Result<u32, Failure>
+        move |scope| -> Result<Homecomings, Failure>
             requires { IsClerkOf slots.now clerk }
         {
             let mut clerk = clerk;
@@ -103,9 +108,9 @@ fn run_with<R: Threads + Wait + Sync>(
                 seat: clerk,
                 count: crew.room,
             };
-            let turned = own(rt, &mut owner, jobs);
+            let homecomings = own(rt, &mut owner, jobs, homecomings);
             stop.store(true, SeqCst);
-            Ok(turned)
+            Ok(homecomings)
         },
     )
 }

@@ -1,4 +1,4 @@
-use crate::failure::Failure;
+use program_edge::Failure;
 use std::time::{Clock, Instant};
 
 /// How long something takes.

@@ -1,22 +1,23 @@
+use crate::homecomings::Homecomings;
 use crate::job::Job;
 
 /// How far one owner is with its jobs.
-#[derive(Clone, Copy, PartialEq, Eq)]
+#[derive(Drop)]
 pub struct Tally {
     jobs: u32,
     handed_out: u32,
     home: u32,
-    turned_once: u32,
+    homecomings: Homecomings,
 }
 
 impl Tally {
     /// Of so many jobs none is handed out yet.
-    pub fn new(jobs: u32) -> Tally {
+    pub fn new(jobs: u32, homecomings: Homecomings) -> Tally {
         Tally {
             jobs,
             handed_out: 0,
             home: 0,
-            turned_once: 0,
+            homecomings,
         }
     }
 
@@ -37,18 +38,27 @@ impl Tally {
     /// A job came home.
     pub fn take_home(&mut self, job: &Job) {
         self.home = self.home.saturating_add(1);
-        if job.turns == 1 {
-            self.turned_once = self.turned_once.saturating_add(1);
-        }
+        self.homecomings.note(job);
     }
 
-    /// Whether each job is home.
+    /// How many jobs were handed out, and how many came home.
+    pub fn moves(&self) -> (u32, u32) {
+        (self.handed_out, self.home)
+    }
+
+    /// Whether as many jobs came home as there are.
     pub fn is_over(&self) -> bool {
         self.home >= self.jobs
     }
 
-    /// How many jobs came home turned once.
-    pub fn turned_once(&self) -> u32 {
-        self.turned_once
+    /// How often each job came home turned once.
+    pub fn into_homecomings(self) -> Homecomings {
+        let Tally {
+            jobs: _,
+            handed_out: _,
+            home: _,
+            homecomings,
+        } = self;
+        homecomings
     }
 }

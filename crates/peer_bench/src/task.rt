@@ -1,10 +1,9 @@
 use crate::crew::Crew;
-use crate::desk_run::{Finishing, run_desk};
-use crate::failure::Failure;
-use crate::queue_handoff::through_queues;
-use crate::slots_handoff::through_slots;
-use std::sync::Wait;
-use std::thread::Threads;
+use crate::desk_run::Finishing;
+use crate::homecomings::Homecomings;
+use crate::work::Work;
+use program_edge::Failure;
+use std::alloc::Global;
 
 /// Work of one kind, and how much of it.
 #[derive(Clone, Copy)]
@@ -13,21 +12,26 @@ pub enum Task {
     Slots { crew: Crew, jobs: u32 },
     /// So many jobs, through queues.
     Queue { crew: Crew, jobs: u32 },
-    /// So many units of one call each, through the desk.
+    /// So many units of one call each, or a batch of so many, through the desk.
     Desk { finishing: Finishing, units: u32 },
 }
 
 impl Task {
-    /// Does the work, and gives how many jobs came home turned once or how many answers were released.
-    pub fn run<R>(self, rt: &R) -> Result<usize, Failure>
-    where
-        R: Threads + Wait + Sync + AllocGlobal,
-    {
-        match self {
-            Task::Slots { crew, jobs } => Ok(through_slots(rt, rt.alloc(), crew, jobs)? as usize),
-            Task::Queue { crew, jobs } => Ok(through_queues(rt, rt.alloc(), crew, jobs)? as usize),
-            Task::Desk { finishing, units } => run_desk(rt.alloc(), finishing, units),
-        }
+    /// Makes all ready, so that no more than the work itself is timed.
+    pub fn begin(self, alloc: Global) -> Result<Work, Failure> {
+        Ok(match self {
+            Task::Slots { crew, jobs } => Work::Slots {
+                crew,
+                jobs,
+                homecomings: Homecomings::new(alloc, jobs)?,
+            },
+            Task::Queue { crew, jobs } => Work::Queue {
+                crew,
+                jobs,
+                homecomings: Homecomings::new(alloc, jobs)?,
+            },
+            Task::Desk { finishing, units } => Work::Desk { finishing, units },
+        })
     }
 
     /// What is worked on.
@@ -41,6 +45,7 @@ impl Task {
                 Finishing::Cancels => "desk cancels",
                 Finishing::Stream => "desk stream",
                 Finishing::Behind => "desk behind",
+                Finishing::Batch => "desk batch",
             },
         }
     }

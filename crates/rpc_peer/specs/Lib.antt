@@ -1,5 +1,5 @@
 pub mod Close
 pub mod Plain
-pub mod Texts
 pub mod Played
 pub mod Player
+pub mod Inner

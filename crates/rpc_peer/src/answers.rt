@@ -1,16 +1,14 @@
 //! What a peer without methods answers to a unit.
 
-ghost use Rattle.std.specs.Prelude.{◌≡◌, ℕ, [], ◌∷◌, IfOk, map, if◌then◌else◌};
-ghost use Rattle.rpc_messages.specs.Dues.{answers_from, entry_answers, unit_dues};
+ghost use Rattle.std.specs.Prelude.{◌≡◌, ℕ, IfOk, map, option_map, if◌then◌else◌};
+ghost use Rattle.rpc_messages.specs.Dues.{answer_seen, answers_from, entry_answers, unit_answers, unit_kind, unit_text};
 ghost use Rattle.rpc_messages.specs.Entry.{entry_seen};
 ghost use Rattle.rpc_messages.specs.Numbering.{numbers_in, numbers_of as numbers_of_entry, unit_numbers};
 ghost use Rattle.rpc_messages.specs.Unit.{unit_seen};
-ghost use Rattle.rpc_messages.specs.Texts.{answer_text_of};
-ghost use Rattle.rpc_messages.specs.declared.reply.Reply.TheVariants.{Standard as Fixed};
 ghost use Rattle.rpc_peer.specs.Plain.{not_found};
-ghost use Rattle.rpc_peer.specs.Texts.{text_list, batch_list, PutsAnswer};
+ghost use Rattle.rpc_peer.specs.Inner.Lists.{answer_list};
 
-use rpc_messages::{Entry, Id, Reply, Standard, Unit, answer_text, put_answer};
+use rpc_messages::{Answer, Entry, Kind, Reply, Standard, Unit, put_unit_answer};
 use std::alloc::{AllocError, Global};
 
 /// How many numbers the unit's calls take.
@@ -42,76 +40,68 @@ fn is_call(entry: &Entry) -> bool
 
 /// The text that a unit is answered with, where it is answered.
 pub(crate) fn answer(alloc: Global, unit: &Unit) -> Result<Option<Vec<u8>>, AllocError>
-    ensures { (number : ℕ) → IfOk result (λ text.
-        map (λ due. due.text) (unit_dues not_found number (unit_seen unit.now)) ≡ text_list text) }
+    ensures { (number : ℕ) → IfOk result (λ text. option_map (λ (bytes : _). bytes.items) text
+        ≡ unit_text (unit_kind (unit_seen unit.now)) (unit_answers not_found number (unit_seen unit.now))) }
 {
+    let not_found = Reply::Standard(Standard::MethodNotFound);
     match unit {
         Unit::Unreadable => {
-            let reply = Reply::Standard(Standard::ParseError);
-            Ok(Some(answer_text(alloc, &Id::Null, &reply)?))
+            text_of_answers(alloc, Kind::Single, &[Answer::Error(Standard::ParseError)])
         }
-        Unit::Single(entry) => single_answer(alloc, entry),
-        Unit::Batch(entries) => batch_answer(alloc, entries.as_slice()),
+        Unit::Single(entry) => match answer_of(entry, &not_found) {
+            Some(answer) => text_of_answers(alloc, Kind::Single, &[answer]),
+            None => Ok(None),
+        },
+        Unit::Batch(entries) => {
+            let answers = answers_of(alloc, entries.as_slice(), &not_found)?;
+            text_of_answers(alloc, Kind::Batch, answers.as_slice())
+        }
     }
 }
 
-fn single_answer(alloc: Global, entry: &Entry) -> Result<Option<Vec<u8>>, AllocError>
-    ensures { (number : ℕ) → IfOk result (λ text. entry_answers not_found number (entry_seen entry.now) ≡ text_list text) }
+fn text_of_answers(
+    alloc: Global,
+    kind: Kind,
+    answers: &[Answer<'_>],
+) -> Result<Option<Vec<u8>>, AllocError>
+    ensures { IfOk result (λ text. option_map (λ (bytes : _). bytes.items) text ≡ unit_text kind (map answer_seen answers.now)) }
 {
     let mut text = Vec::new(alloc);
-    if put_answer_of(alloc, &mut text, b"", entry)? {
+    if put_unit_answer(alloc, &mut text, kind, answers)? {
         Ok(Some(text))
     } else {
         Ok(None)
     }
 }
 
-/// The answers of a batch, put one after another into one text.
-fn batch_answer(alloc: Global, entries: &[Entry]) -> Result<Option<Vec<u8>>, AllocError>
-    ensures { (number : ℕ) → IfOk result (λ text. batch_list (answers_from not_found number (map entry_seen entries.now)) ≡ text_list text) }
+/// The answers that a batch's entries have, where each request has this reply.
+fn answers_of<'a>(
+    alloc: Global,
+    entries: &'a [Entry],
+    reply: &'a Reply,
+) -> Result<Vec<Answer<'a>>, AllocError>
+    ensures { (number : ℕ) → IfOk result (λ answers. map answer_seen answers.items
+        ≡ answers_from (λ _. reply.now) number (map entry_seen entries.now)) }
 {
-    let mut text = Vec::new(alloc);
+    let mut answers = Vec::with_capacity(alloc, entries.len())?;
     for entry in entries {
-        let before: &[u8] = if text.is_empty() { b"[" } else { b"," };
-        put_answer_of(alloc, &mut text, before, entry)?;
+        if let Some(answer) = answer_of(entry, reply) {
+            answers.push(answer)?;
+        }
     }
-    if text.is_empty() {
-        return Ok(None);
-    }
-    text.push(b']')?;
-    Ok(Some(text))
+    Ok(answers)
 }
 
-/// Puts the answer of an entry behind the text and `before`, and tells whether there is one.
-fn put_answer_of(
-    alloc: Global,
-    text: &mut Vec<u8>,
-    before: &[u8],
-    entry: &Entry,
-) -> Result<bool, AllocError>
-    ensures { (number : ℕ) → IfOk result (λ some.
-        PutsAnswer some (entry_answers not_found number (entry_seen entry.now)) text.old.items before.now text.new.items) }
+/// The answer that an entry has, if it has one, where each request has this reply.
+fn answer_of<'a>(entry: &'a Entry, reply: &'a Reply) -> Option<Answer<'a>>
+    ensures { (number : ℕ) → entry_answers (λ _. reply.now) number (entry_seen entry.now) ≡ answer_list result }
 {
     match entry {
         Entry::Call(call) => match &call.id {
-            None => Ok(false),
-            Some(id) => put_reply(alloc, text, before, id, Standard::MethodNotFound),
+            Some(id) => Some(Answer::Reply(id, reply)),
+            None => None,
         },
-        Entry::Invalid => put_reply(alloc, text, before, &Id::Null, Standard::InvalidRequest),
-        Entry::Reply { .. } | Entry::Stray => Ok(false),
+        Entry::Invalid => Some(Answer::Error(Standard::InvalidRequest)),
+        Entry::Reply { .. } | Entry::Stray => None,
     }
-}
-
-fn put_reply(
-    alloc: Global,
-    text: &mut Vec<u8>,
-    before: &[u8],
-    id: &Id,
-    standard: Standard,
-) -> Result<bool, AllocError>
-    ensures { IfOk result (λ some. PutsAnswer some (answer_text_of id.now (Fixed standard) ∷ []) text.old.items before.now text.new.items) }
-{
-    text.extend_from_slice(before)?;
-    put_answer(alloc, text, id, &Reply::Standard(standard))?;
-    Ok(true)
 }

@@ -10,6 +10,3 @@ mod report;
 pub use limits::Limits;
 pub use play::{PlayFault, Player, play_plain};
 pub use report::{Close, Report};
-
-#[cfg(test)]
-mod tests;

@@ -3,7 +3,7 @@
 ghost use Rattle.std.specs.Prelude.{◌≡◌, ◌+◌, ◌-◌, ◌^◌, ◌<◌, ◌++◌, [], ◌∷◌, List, ℕ, OnOk, flat_map, length, min};
 ghost use Rattle.lsp_frames.specs.Frames.{written};
 ghost use Rattle.rpc_messages.specs.Unit.{SeenUnit, unit_seen, units_of};
-ghost use Rattle.rpc_peer.specs.Texts.{text_list};
+ghost use Rattle.rpc_peer.specs.Inner.Lists.{text_list};
 
 use crate::answers::{answer, numbers_of};
 use lsp_frames::{Frame, put_frame};

@@ -1,7 +1,7 @@
 //! The command `check`: a table of methods is read from a file and judged.
-use crate::failure::Failure;
 use crate::reading::read_all;
 use method_steps::{Table, TableFault};
+use program_edge::Failure;
 use std::fs;
 use std::io::{ErrorKind, Write};
 use std::rt::Files;

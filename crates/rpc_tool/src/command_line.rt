@@ -10,7 +10,7 @@ pub const GREATEST_PIECE: u32 = 65_536;
 
 /// What a command line asks the program to do.
 #[derive(Clone, Copy, Debug, PartialEq, Eq)]
-pub enum Order<'a> {
+pub enum Subcommand<'a> {
     /// Plays the whole of standard input.
     Play(PlayOptions),
     /// Judges the table of methods in this file.
@@ -37,12 +37,14 @@ impl PlayOptions {
 
 /// Reads the words of a command line, of which the first is the program's name. An `Err` has the text
 /// for the user: help and the version too, whose status is 0.
-pub fn read<'a>(alloc: Global, words: &'a [String]) -> Result<Order<'a>, Error> {
+pub fn read<'a>(alloc: Global, words: &'a [String]) -> Result<Subcommand<'a>, Error> {
     let mut command = program(alloc)?;
     let matches = command.try_get_matches_from_mut(words)?;
     let order = match matches.subcommand() {
-        Some(("play", options)) => Some(Order::Play(play_options(options))),
-        Some(("check", options)) => options.get_str("table").map(|table| Order::Check { table }),
+        Some(("play", options)) => Some(Subcommand::Play(play_options(options))),
+        Some(("check", options)) => options
+            .get_str("table")
+            .map(|table| Subcommand::Check { table }),
         _ => None,
     };
     match order {

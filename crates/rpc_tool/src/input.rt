@@ -7,17 +7,17 @@ use std::alloc::{AllocError, Global};
 
 /// What the input becomes as it is read: a stream of frames, played in pieces.
 #[derive(Drop)]
-pub struct Intake {
+pub struct InputStream {
     alloc: Global,
     pieces: Pieces,
     /// Where each line is the content of a frame: the line under way.
     line: Option<Vec<u8>>,
 }
 
-impl Intake {
+impl InputStream {
     /// Takes frames as they come.
-    pub fn of_frames(alloc: Global, pieces: Pieces) -> Intake {
-        Intake {
+    pub fn of_frames(alloc: Global, pieces: Pieces) -> InputStream {
+        InputStream {
             alloc,
             pieces,
             line: None,
@@ -26,8 +26,8 @@ impl Intake {
 
     /// Takes each line that isn't empty as the content of a frame. A line ends before its LF, or where
     /// the input ends; a CR is part of it.
-    pub fn of_lines(alloc: Global, pieces: Pieces) -> Intake {
-        Intake {
+    pub fn of_lines(alloc: Global, pieces: Pieces) -> InputStream {
+        InputStream {
             alloc,
             pieces,
             line: Some(Vec::new(alloc)),
@@ -36,7 +36,7 @@ impl Intake {
 
     /// What was written, where the input ends here, and what is told of it.
     pub fn finish(self) -> Result<(Vec<u8>, Report), AllocError> {
-        let Intake {
+        let InputStream {
             alloc,
             mut pieces,
             line,
@@ -48,7 +48,7 @@ impl Intake {
     }
 }
 
-impl Taker for Intake {
+impl Taker for InputStream {
     fn take(&mut self, bytes: &[u8]) -> Result<(), AllocError> {
         match &mut self.line {
             None => self.pieces.add(bytes),

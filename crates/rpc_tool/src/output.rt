@@ -1,11 +1,8 @@
 //! What was played, written as frames or as lines.
-use crate::failure::Failure;
-use lsp_frames::{Decoder, End, FeedFault, Frame};
+use lsp_frames::{Decoder, End, FeedFault, Frame, LARGEST_CONTENT};
+use program_edge::Failure;
 use std::alloc::{AllocError, Global};
 use std::io::Write;
-
-/// The greatest content that is printed as a line, in bytes.
-const GREATEST_CONTENT: u32 = 16_777_216;
 
 /// How many bytes of frames are turned into lines at a time.
 const STRETCH: usize = 65_536;
@@ -21,7 +18,7 @@ pub fn write_frames<W: Write>(bytes: &[u8], output: &mut W) -> Result<(), Failur
 /// # Errors
 /// `Long` where a content is over 16,777,216 bytes; the lines before it are written.
 pub fn write_lines<W: Write>(alloc: Global, bytes: &[u8], output: &mut W) -> Result<(), Failure> {
-    let mut decoder = Decoder::new(alloc, GREATEST_CONTENT);
+    let mut decoder = Decoder::new(alloc, LARGEST_CONTENT);
     for stretch in bytes.chunks(STRETCH) {
         match decoder.feed(stretch) {
             Ok(frames) => write(lines(alloc, frames.as_slice())?.as_slice(), output)?,

@@ -1,14 +1,12 @@
 //! The program over any reader and any two writers.
 use crate::checking::{CheckFailure, check};
-use crate::command_line::{Order, PlayOptions, read};
-use crate::failure::Failure;
-use crate::input::Intake;
+use crate::command_line::{PlayOptions, Subcommand, read};
+use crate::input::InputStream;
 use crate::output::{write_frames, write_lines};
 use crate::pieces::Pieces;
 use crate::reading::read_all;
-use clap::Error;
-use clap::error::ErrorKind;
 use lsp_frames::FrameFault;
+use program_edge::{Failure, answer_words, tell_end};
 use rpc_peer::{Close, Report};
 use std::alloc::Global;
 use std::io::{Read, Write};
@@ -25,9 +23,9 @@ where
     E: Write,
 {
     match read(rt.alloc(), words) {
-        Ok(Order::Play(options)) => ended(play(rt.alloc(), options, input, output), errors),
-        Ok(Order::Check { table }) => checked(check(rt, table, output), errors),
-        Err(error) => answered(&error, output, errors),
+        Ok(Subcommand::Play(options)) => ended(play(rt.alloc(), options, input, output), errors),
+        Ok(Subcommand::Check { table }) => checked(check(rt, table, output), errors),
+        Err(error) => answer_words(&error, output, errors),
     }
 }
 
@@ -55,9 +53,9 @@ fn played<I: Read + Drop>(
 ) -> Result<(Vec<u8>, Report), Failure> {
     let pieces = Pieces::new(alloc, options.size());
     let mut intake = if options.lines {
-        Intake::of_lines(alloc, pieces)
+        InputStream::of_lines(alloc, pieces)
     } else {
-        Intake::of_frames(alloc, pieces)
+        InputStream::of_frames(alloc, pieces)
     };
     read_all(&mut input, &mut intake)?;
     Ok(intake.finish()?)
@@ -72,10 +70,7 @@ fn ended<E: Write>(outcome: Result<Close, Failure>, errors: &mut E) -> u8 {
             let _ = writeln!(errors, "input ended: {name}");
             1
         }
-        Err(failure) => {
-            let _ = writeln!(errors, "{failure}");
-            failure.status()
-        }
+        Err(failure) => tell_end(Err(failure), errors),
     }
 }
 
@@ -88,21 +83,6 @@ fn checked<E: Write>(outcome: Result<(), CheckFailure>, errors: &mut E) -> u8 {
             failure.status()
         }
     }
-}
-
-/// Writes the text of a command line that asks for no work, and gives the status.
-fn answered<W: Write, E: Write>(error: &Error, output: &mut W, errors: &mut E) -> u8 {
-    if error.kind() == ErrorKind::OutOfMemory {
-        return ended(Err(Failure::Memory), errors);
-    }
-    if error.use_stderr() {
-        let _ = write!(errors, "{error}");
-        return 2;
-    }
-    if write!(output, "{error}").is_err() || output.flush().is_err() {
-        return ended(Err(Failure::Write), errors);
-    }
-    0
 }
 
 fn name_of(close: Close) -> &'static str {

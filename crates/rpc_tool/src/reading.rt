@@ -1,5 +1,5 @@
 //! A reader, read to its end.
-use crate::failure::Failure;
+use program_edge::Failure;
 use std::alloc::AllocError;
 use std::io::Read;
 
