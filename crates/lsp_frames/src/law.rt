@@ -4,6 +4,7 @@ ghost use Rattle.std.specs.Prelude.{◌≡◌, ◌≢◌, ◌≤◌, ◌↔◌, 
 ghost use Rattle.lsp_frames.specs.declared.frame.Frame.{Frame};
 ghost use Rattle.lsp_frames.specs.declared.frame.FrameFault.{FrameFault};
 ghost use Rattle.lsp_frames.specs.declared.frame.FrameFault.TheVariants.{Truncated};
+ghost use Rattle.lsp_frames.specs.declared.limits.TheConstants.{LARGEST_CONTENT as MOST_BYTES, LONGEST_HEAD, LONGEST_NUMBER};
 ghost use Rattle.lsp_frames.specs.Frames.{HasForm, ShowsFault, front, Whole, Faulty, written};
 ghost use Rattle.lsp_frames.specs.Contents.{Standing, Open, Broken, IsContents};
 
@@ -66,4 +67,9 @@ pub fn contents_stay()
 pub fn no_bytes_show_an_end()
     ensures { (limit : ℕ) (bytes : List ℕ) (frames : List Frame) (fault : FrameFault) →
         IsContents limit bytes frames (Broken fault) → fault ≢ Truncated }
+{}
+
+/// The limits of frames, in figures. All other definitions and clauses cite the constants.
+pub fn limits_of_frames_in_figures()
+    ensures { (MOST_BYTES ≡ 16777216) × (LONGEST_HEAD ≡ 4096) × (LONGEST_NUMBER ≡ 10) }
 {}

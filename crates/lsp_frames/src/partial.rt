@@ -1,9 +1,9 @@
 //! What has come of the frame under way, and what a piece adds to it.
 
-ghost use Rattle.std.specs.Prelude.{◌≡◌, ◌==◌, ◌<◌, ◌++◌, ◌∷◌, ℕ, List, [], length, position, take, IfOk, OnErr, OnOk};
+ghost use Rattle.std.specs.Prelude.{◌≡◌, ◌==◌, ◌<◌, ◌++◌, ◌∷◌, ℕ, List, [], None, length, position, take, IfOk, IfSome, OnErr, OnOk};
 ghost use Rattle.lsp_frames.specs.Heads.{head_from};
 ghost use Rattle.lsp_frames.specs.Decoding.{end_known};
-ghost use Rattle.lsp_frames.specs.Inner.Partials.{Cuts, Gives, HasKept, IsPartial, IsSame, IsUnderWay, Takes, frames_of, known_read, read_at, read_of, read_on};
+ghost use Rattle.lsp_frames.specs.Inner.Partials.{Cuts, Gives, HasKept, IsFront, IsPartial, IsSame, IsShort, IsUnderWay, Takes, TakesAll, frames_of, known_read, read_at, read_of, read_on};
 
 use crate::field::place_of;
 use crate::frame::{End, Frame, FrameFault};
@@ -39,6 +39,14 @@ pub(crate) enum Taken<'a> {
     All,
     /// Its front, with which a line or a content is whole. What comes next, and the bytes behind.
     Front(Stage, &'a [u8]),
+}
+
+/// A line or a content that stands whole in a piece, what comes next, and the bytes behind.
+#[derive(Clone, Copy)]
+pub(crate) struct Front<'a> {
+    pub(crate) whole: &'a [u8],
+    pub(crate) next: Stage,
+    pub(crate) behind: &'a [u8],
 }
 
 /// A line or a content, and the bytes that have come of it.
@@ -115,7 +123,7 @@ impl Partial {
             Stage::Content(size, _) => {
                 let missing = size as usize - self.held.len();
                 if piece.len() < missing {
-                    self.held.extend_from_slice(piece)?;
+                    self.hold(alloc, piece)?;
                     return Ok(Taken::All);
                 }
                 let (last, behind) = piece.split_at(missing);
@@ -148,18 +156,35 @@ impl Partial {
                 Ok(Taken::Front(next, &piece[end + 1..]))
             }
             None => {
-                if piece.len() < room {
-                    self.held.extend_from_slice(piece)?;
+                self.hold(alloc, piece)?;
+                Ok(Taken::All)
+            }
+        }
+    }
+
+    /// Takes bytes with which the line or the content under way isn't whole.
+    fn hold(&mut self, alloc: Global, bytes: &[u8]) -> Result<(), AllocError>
+        requires partial { IsPartial self.old }
+        requires short { IsShort self.old.stage self.old.held.items bytes.now }
+        ensures ok { (limit : ℕ) → OnOk result (TakesAll limit self.old self.new bytes.now) }
+        ensures err { OnErr result (HasKept self.old self.new) }
+    {
+        match self.stage {
+            Stage::Ended(_) => {}
+            Stage::Head(place) => {
+                if bytes.len() < place.room {
+                    self.held.extend_from_slice(bytes)?;
                     self.stage = Stage::Head(Place {
-                        fields,
-                        room: room - piece.len(),
+                        fields: place.fields,
+                        room: place.room - bytes.len(),
                     });
                 } else {
                     *self = Partial::new(alloc, Stage::Ended(FrameFault::HeadTooLong));
                 }
-                Ok(Taken::All)
             }
+            Stage::Content(..) => self.held.extend_from_slice(bytes)?,
         }
+        Ok(())
     }
 
     /// What comes behind the line under way, which ends so. The place is that before the LF.
@@ -182,8 +207,8 @@ impl Partial {
     /// was held.
     fn take(&mut self, alloc: Global, limit: u32, piece: &[u8]) -> Result<Vec<Frame>, AllocError>
         requires { IsPartial self.old }
-        ensures given { IfOk result (λ given.
-            Gives limit (read_on limit (read_of self.old) piece.now) given.items (read_of self.new)) }
+        ensures given { IfOk result (λ given. Gives limit
+            (read_on limit (read_of self.old) piece.now) given.items (read_of self.new)) }
         ensures partial { OnOk result (IsPartial self.new) }
         ensures err { OnErr result (HasKept self.old self.new) }
     {
@@ -222,8 +247,8 @@ impl Partial {
         piece: &[u8],
     ) -> Result<Vec<Frame>, AllocError>
         requires { IsPartial self.old }
-        ensures given { IfOk result (λ given.
-            Gives limit (read_on limit (read_of self.old) piece.now) given.items (read_of self.new)) }
+        ensures given { IfOk result (λ given. Gives limit
+            (read_on limit (read_of self.old) piece.now) given.items (read_of self.new)) }
         ensures partial { OnOk result (IsPartial self.new) }
         ensures err { OnErr result (IsSame self.old self.new) }
     {
@@ -255,17 +280,54 @@ impl Partial {
     }
 }
 
-/// Puts the frame of a whole content behind the others. A line makes none.
-fn push_whole(frames: &mut Vec<Frame>, whole: Partial) -> Result<(), AllocError>
-    ensures { OnOk result (frames.new.items ≡
-        frames.old.items ++ frames_of whole.stage whole.held.items) }
+/// The line or the content that begins with the bytes, if it is whole among them.
+fn whole_front(limit: u32, stage: Stage, bytes: &[u8]) -> Option<Front<'_>>
+    requires { IsUnderWay stage [] }
+    ensures some { IfSome result (λ front. IsFront limit stage bytes.now front) }
+    ensures none { result ≡ None → IsShort stage [] bytes.now }
 {
-    match whole.stage {
+    match stage {
+        Stage::Ended(_) => None,
+        Stage::Head(Place { fields, room }) => {
+            let end = line_end(bytes, room)?;
+            let before_lf = Place {
+                fields,
+                room: room - end,
+            };
+            let whole = &bytes[..end];
+            Some(Front {
+                whole,
+                next: before_lf.behind_line(limit, whole),
+                behind: &bytes[end + 1..],
+            })
+        }
+        Stage::Content(size, _) => {
+            if bytes.len() < size as usize {
+                return None;
+            }
+            let (whole, behind) = bytes.split_at(size as usize);
+            Some(Front {
+                whole,
+                next: Stage::Head(Place::FIRST),
+                behind,
+            })
+        }
+    }
+}
+
+/// Puts the frame of a whole content behind the others. A line makes none.
+fn push_whole(
+    alloc: Global,
+    frames: &mut Vec<Frame>,
+    stage: Stage,
+    whole: &[u8],
+) -> Result<(), AllocError>
+    ensures { OnOk result (frames.new.items ≡ frames.old.items ++ frames_of stage whole.now) }
+{
+    match stage {
         Stage::Content(_, foreign) => {
-            frames.push(Frame {
-                content: whole.held.into(),
-                foreign,
-            })?;
+            let content = Vec::from_slice(alloc, whole)?.into();
+            frames.push(Frame { content, foreign })?;
             Ok(())
         }
         Stage::Head(_) => Ok(()),
@@ -277,25 +339,23 @@ fn push_whole(frames: &mut Vec<Frame>, whole: Partial) -> Result<(), AllocError>
 fn cut(
     alloc: Global,
     limit: u32,
-    stage: Stage,
+    first: Stage,
     frames: &mut Vec<Frame>,
     bytes: &[u8],
 ) -> Result<Partial, AllocError>
-    requires { IsUnderWay stage [] }
+    requires { IsUnderWay first [] }
     ensures given { IfOk result (λ partial. Cuts limit frames.old.items frames.new.items
-        (read_on limit (read_at stage []) bytes.now) (read_of partial)) }
+        (read_on limit (read_at first []) bytes.now) (read_of partial)) }
     ensures partial { IfOk result (λ partial. IsPartial partial) }
 {
-    let mut partial = Partial::new(alloc, stage);
+    let mut stage = first;
     let mut rest = bytes;
-    loop {
-        match partial.take_front(alloc, limit, rest)? {
-            Taken::All => return Ok(partial),
-            Taken::Front(next, behind) => {
-                let whole = mem::replace(&mut partial, Partial::new(alloc, next));
-                push_whole(frames, whole)?;
-                rest = behind;
-            }
-        }
+    while let Some(front) = whole_front(limit, stage, rest) {
+        push_whole(alloc, frames, stage, front.whole)?;
+        stage = front.next;
+        rest = front.behind;
     }
+    let mut partial = Partial::new(alloc, stage);
+    partial.hold(alloc, rest)?;
+    Ok(partial)
 }

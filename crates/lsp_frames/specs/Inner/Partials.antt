@@ -1,5 +1,5 @@
 -- What has come of the frame under way.
-use Rattle.std.specs.Prelude.{◌≡◌, ℕ, ◌+◌, ◌*◌, ◌<◌, ◌≤◌, List, [], ◌∷◌, ◌++◌, length, take}
+use Rattle.std.specs.Prelude.{◌≡◌, ℕ, ◌+◌, ◌*◌, ◌<◌, ◌≤◌, ◌==◌, List, [], ◌∷◌, ◌++◌, None, length, position, take}
 use Rattle.lsp_frames.specs.Heads.{HeadRead, Ends, Breaks, Unended, head_from, head_at}
 use Rattle.lsp_frames.specs.Frames.{Whole, front_of}
 use Rattle.lsp_frames.specs.Decoding.{Known, Open, Broken}
@@ -7,6 +7,7 @@ use Rattle.lsp_frames.specs.declared.frame.Frame.{Frame}
 use Rattle.lsp_frames.specs.declared.partial.Stage.{Stage}
 use Rattle.lsp_frames.specs.declared.partial.Stage.TheVariants as stages
 use Rattle.lsp_frames.specs.declared.partial.Partial.{Partial}
+use Rattle.lsp_frames.specs.declared.partial.Front.{Front}
 use Rattle.lsp_frames.specs.declared.partial.Taken.{Taken}
 use Rattle.lsp_frames.specs.declared.partial.Taken.TheVariants as takes
 
@@ -84,9 +85,24 @@ pub record HasKept (old new : Partial) : Type 0 where
   pub stage : new.stage ≡ old.stage
   pub held : take (length old.held.items) new.held.items ≡ old.held.items
 
+-- These bytes don't make the line or the content whole of which that has come.
+abbrev pub IsShort : Stage → List ℕ → List ℕ → Type 0
+IsShort (stages.Head place) held bytes = position (λ b. b == 10) (take place.room bytes) ≡ None
+IsShort (stages.Content n foreign) held bytes = length held + length bytes < n
+IsShort (stages.Ended fault) held bytes = Unit {0}
+
+-- All of a piece was taken, and gives no frame.
+abbrev pub TakesAll : ℕ → Partial → Partial → List ℕ → Type 0
+TakesAll limit old new piece = IsPartial new × HasNoFrame (read_of new) × (read_of new ≡ read_on limit (read_of old) piece)
+
+-- A line or a content is whole at the front of a piece.
+abbrev pub IsFront : ℕ → Stage → List ℕ → Front → Type 0
+IsFront limit stage piece front = IsUnderWay front.next [] × (measure front.next front.behind.now < measure stage piece)
+    × Completes limit stage front.whole.now front.next front.behind.now (read_on limit (read_at stage []) piece)
+
 -- A piece was taken: all of it, or up to the end of the line or the content under way.
 abbrev pub Takes : ℕ → Partial → Partial → List ℕ → Taken → Type 0
-Takes limit old new piece takes.All = IsPartial new × HasNoFrame (read_of new) × (read_of new ≡ read_on limit (read_of old) piece)
+Takes limit old new piece takes.All = TakesAll limit old new piece
 Takes limit old new piece (takes.Front next rest) =
     HasKept old new × IsUnderWay next [] × (measure next rest.now < measure old.stage piece)
     × Completes limit old.stage new.held.items next rest.now (read_on limit (read_of old) piece)

@@ -1,13 +1,13 @@
-use Rattle.std.proofs.Common.{[], subst}
-use Rattle.lsp_frames.specs.Inner.Partials.{Takes, read_at, read_of, read_on}
-use Rattle.lsp_frames.specs.declared.partial.Taken.{Taken}
-use Rattle.lsp_frames.specs.declared.partial.Taken.TheVariants.{All}
+use Rattle.std.proofs.Common.{ℕ, List, [], ap, ◌∙◌}
+use Rattle.lsp_frames.specs.Inner.Partials.{read_at, read_of, read_on}
+use Rattle.lsp_frames.specs.declared.partial.Stage.{Stage}
 use Rattle.lsp_frames.proofs.Cuts.{all_cut}
 use Rattle.lsp_frames.proofs.partial.cut.Goals as goal
 
-pub returns-in-All-clause-given : goal.returns-in-All-clause-given
-returns-in-All-clause-given c =
-    let P : Taken → Type 0 = λ t. Takes c.args.limit c.loop-partial.partial c.take_front.new.self c.loop-partial.rest.now t in
-    let taken : Takes c.args.limit c.loop-partial.partial c.take_front.new.self c.loop-partial.rest.now All = subst P c.in-All.is c.in_ok-take_front.ensures.ok in
-    all_cut c.args.limit c.args.frames.now.items c.loop-partial.frames.items (read_on c.args.limit (read_at c.args.stage []) c.args.bytes.now) (read_on c.args.limit (read_of c.loop-partial.partial) c.loop-partial.rest.now) (read_of c.take_front.new.self)
-    c.loop-partial.invariant.so_far taken.1 taken.2
+pub returns-clause-given : goal.returns-clause-given
+returns-clause-given c =
+    let held = c.in_ok-hold.ensures.ok c.args.limit in
+    let began = ap (λ (s : Stage). read_on c.args.limit (read_at s c.new-partial.result.held.items) c.loop-front.rest.now) c.new-partial.ensures.stage
+    ∙ ap (λ (xs : List ℕ). read_on c.args.limit (read_at c.loop-front.stage xs) c.loop-front.rest.now) c.new-partial.ensures.held in
+    all_cut c.args.limit c.args.frames.now.items c.loop-front.frames.items (read_on c.args.limit (read_at c.args.first []) c.args.bytes.now) (read_on c.args.limit (read_at c.loop-front.stage []) c.loop-front.rest.now) (read_of c.hold.new.self)
+    c.loop-front.invariant.so_far held.1 (held.2 ∙ began)

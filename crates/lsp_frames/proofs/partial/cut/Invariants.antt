@@ -1,13 +1,13 @@
 use Rattle.std.proofs.Common.{[]}
-use Rattle.lsp_frames.specs.Inner.Partials.{IsPartial, measure, read_at, read_of, read_on}
+use Rattle.lsp_frames.specs.Inner.Partials.{IsUnderWay, measure, read_at, read_on}
 use Rattle.lsp_frames.proofs.Cuts.{IsCutSoFar}
 use Rattle.lsp_frames.proofs.partial.cut.Given as goal
 
-abbrev pub invariant-loop-partial : goal.invariant-loop-partial
-invariant-loop-partial l = record {
-  partial : IsPartial l.partial;
-  so_far : IsCutSoFar l.limit l.fn.frames.items l.frames.items (read_on l.limit (read_at l.fn.stage []) l.bytes) (read_on l.limit (read_of l.partial) l.rest);
+abbrev pub invariant-loop-front : goal.invariant-loop-front
+invariant-loop-front l = record {
+  under_way : IsUnderWay l.stage [];
+  so_far : IsCutSoFar l.limit l.fn.frames.items l.frames.items (read_on l.limit (read_at l.fn.first []) l.bytes) (read_on l.limit (read_at l.stage []) l.rest);
 }
 
-abbrev pub decreases-loop-partial : goal.decreases-loop-partial
-decreases-loop-partial l = measure l.partial.stage l.rest
+abbrev pub decreases-loop-front : goal.decreases-loop-front
+decreases-loop-front l = measure l.stage l.rest
