@@ -22,7 +22,8 @@ pub(crate) fn put_text(
     unit: &WaitingUnit,
 ) -> Result<bool, AllocError>
     requires { text.old.items ≡ [] }
-    ensures { IfOk result (λ some. unit_text (waiting_of numbers.now unit.now) ≡ (if some then Some text.new.items else None)) }
+    ensures { IfOk result (λ some. unit_text (waiting_of numbers.now unit.now) ≡
+        (if some then Some text.new.items else None)) }
 {
     let answers = answers_of(alloc, numbers, unit.dues.as_slice())?;
     if answers.is_empty() {
@@ -38,7 +39,8 @@ fn answers_of<'a>(
     numbers: &'a Numbers,
     dues: &[Due],
 ) -> Result<Vec<Answer<'a>>, AllocError>
-    ensures { IfOk result (λ answers. map answer_seen answers.items ≡ filter_map part_answer (map (part_of numbers.now) dues.now)) }
+    ensures { IfOk result (λ answers. map answer_seen answers.items ≡
+        filter_map part_answer (map (part_of numbers.now) dues.now)) }
 {
     let mut answers = Vec::with_capacity(alloc, count_answered(dues))?;
     for due in dues {
@@ -75,7 +77,8 @@ pub(crate) fn count_finished(numbers: &Numbers, dues: &[Due], from: usize) -> us
     requires { list_all is_finished (take from (map (part_of numbers.now) dues.now)) ≡ true }
     ensures within { result ≤ length dues.now }
     ensures front { list_all is_finished (take result (map (part_of numbers.now) dues.now)) ≡ true }
-    ensures whole { (result == length dues.now) ≡ list_all is_finished (map (part_of numbers.now) dues.now) }
+    ensures whole { (result == length dues.now) ≡
+        list_all is_finished (map (part_of numbers.now) dues.now) }
 {
     for index in from..dues.len() {
         if !is_part_finished(numbers, dues[index]) {

@@ -1,4 +1,5 @@
 ghost use Rattle.std.specs.Prelude.{◌≡◌, ◌+◌, ◌≤◌, ◌++◌, [], ◌∷◌, IfOk, OnOk, length, map};
+ghost use Rattle.rpc_messages.specs.declared.key.TheConstants.{MOST_NUMBERS};
 ghost use Rattle.answer_desk.specs.Inner.Kept.{kept_in};
 ghost use Rattle.answer_desk.specs.Inner.Arrivals.{calls_of_place, calls_of, due_of_place, dues_of};
 
@@ -18,8 +19,9 @@ pub struct Arrival {
 impl Arrival {
     /// The calls take the numbers from `number` on.
     pub fn make(alloc: Global, number: u32, places: Vec<Place>) -> Result<Arrival, AllocError>
-        requires { number + length (calls_of places.items) ≤ 1000001 }
-        ensures calls { IfOk result (λ arrival. map kept_in arrival.calls.items ≡ calls_of places.items) }
+        requires { number + length (calls_of places.items) ≤ MOST_NUMBERS + 1 }
+        ensures calls { IfOk result (λ arrival.
+            map kept_in arrival.calls.items ≡ calls_of places.items) }
         ensures dues { IfOk result (λ arrival. arrival.dues.items ≡ dues_of number places.items) }
     {
         let mut calls = Vec::new(alloc);
@@ -53,7 +55,8 @@ fn push_call(
     calls: &mut Vec<Option<Box<Kept>>>,
     place: Place,
 ) -> Result<(), AllocError>
-    ensures { OnOk result (map kept_in calls.new.items ≡ map kept_in calls.old.items ++ calls_of_place place) }
+    ensures { OnOk result (map kept_in calls.new.items ≡
+        map kept_in calls.old.items ++ calls_of_place place) }
 {
     if let Place::Numbered { id, most } = place {
         calls.push(Some(Kept::open(alloc, id, most)?))?;

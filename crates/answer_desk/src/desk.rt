@@ -1,5 +1,6 @@
 ghost use Rattle.std.specs.Prelude.{◌≡◌, ◌+◌, ◌<◌, ◌++◌, ◌≤◌, ◌↔◌, [], IsTrue, IfOk, IfSome, OnOk, OnErr, flat_map, length, map, drop, is_some, true, false};
 ghost use Rattle.lsp_frames.specs.Frames.{written};
+ghost use Rattle.rpc_messages.specs.declared.key.TheConstants.{MOST_NUMBERS};
 ghost use Rattle.answer_desk.specs.Seen.{kept_at, open_number, waiting_of};
 ghost use Rattle.answer_desk.specs.Waiting.{behind_front};
 ghost use Rattle.answer_desk.specs.Inner.Requests.{IsOutOfReach};
@@ -31,7 +32,8 @@ pub struct Desk {
     finished_parts: usize,
     is_closed: bool,
     ghost numbers_ascend: { ascends 0 (length numbers) (requests_of units.items) ≡ true },
-    ghost parts_are_finished: { front_finished finished_parts (map (waiting_of numbers) units.items) ≡ true },
+    ghost parts_are_finished: { front_finished finished_parts
+        (map (waiting_of numbers) units.items) ≡ true },
     ghost opening: { IsOutOfReach (kept_at numbers 0) },
 }
 
@@ -60,7 +62,8 @@ impl Desk {
     /// No unit waits, and the board is open.
     fn with_numbers(alloc: Global, numbers: Numbers) -> Desk
         requires { IsOutOfReach (kept_at numbers 0) }
-        ensures { view result ≡ record { numbers = map open_number numbers; is_closed = false; units = [] } }
+        ensures { view result ≡
+            record { numbers = map open_number numbers; is_closed = false; units = [] } }
     {
         Desk {
             alloc,
@@ -90,7 +93,8 @@ impl Desk {
     /// number, for its mark and for its answer. The numbers stay at most 1,000,000. A single unit has one place; a batch
     /// has at least one, and none that is unreadable.
     pub fn open_unit(&mut self, shape: Shape) -> Result<u32, AllocError>
-        requires { next_number (view self.old) + length (new_numbers shape.places) ≤ 1000001 }
+        requires { next_number (view self.old) + length (new_numbers shape.places)
+            ≤ MOST_NUMBERS + 1 }
         ensures number { IfOk result (λ number. number ≡ next_number (view self.old)) }
         ensures ok { OnOk result (view self.new ≡ with_unit (view self.old) shape) }
         ensures err { OnErr result (view self.new ≡ view self.old) }
@@ -206,7 +210,8 @@ impl Desk {
     /// are.
     pub fn release_to(&mut self, bytes: &mut Vec<u8>) -> Result<usize, AllocError>
         ensures count { IfOk result (λ count. count ≡ length (front_texts (view self.old))) }
-        ensures bytes { OnOk result (bytes.new.items ≡ bytes.old.items ++ flat_map written (front_texts (view self.old))) }
+        ensures bytes { OnOk result (bytes.new.items ≡
+            bytes.old.items ++ flat_map written (front_texts (view self.old))) }
         ensures ok { OnOk result (view self.new ≡ without_front (view self.old)) }
         ensures err { OnErr result (view self.new ≡ view self.old) }
         ensures bytes_err { OnErr result (bytes.new.items ≡ bytes.old.items) }
@@ -219,8 +224,10 @@ impl Desk {
 
     /// Lets go of the units of the front, and of their answers.
     fn drop_front(&mut self, front: Front)
-        requires behind { drop front.count (view self.old).units ≡ behind_front (view self.old).units }
-        requires finished { front_finished front.finished_parts (drop front.count (view self.old).units) ≡ true }
+        requires behind { drop front.count (view self.old).units ≡
+            behind_front (view self.old).units }
+        requires finished { front_finished front.finished_parts
+            (drop front.count (view self.old).units) ≡ true }
         ensures { view self.new ≡ without_front (view self.old) }
     {
         drop_front(&mut self.numbers, &mut self.units, front.count);

@@ -26,11 +26,15 @@ pub struct Front {
 impl Front {
     /// The first `finished_parts` parts of the first unit are known to be finished.
     pub fn find(numbers: &Numbers, units: &VecDeque<WaitingUnit>, finished_parts: usize) -> Front
-        requires { front_finished finished_parts (map (waiting_of numbers.now) units.now.items) ≡ true }
+        requires { front_finished finished_parts
+            (map (waiting_of numbers.now) units.now.items) ≡ true }
         ensures inside { result.count ≤ deque_len units.now }
-        ensures whole { map (waiting_of numbers.now) (take result.count units.now.items) ≡ whole_front (map (waiting_of numbers.now) units.now.items) }
-        ensures behind { drop result.count (map (waiting_of numbers.now) units.now.items) ≡ behind_front (map (waiting_of numbers.now) units.now.items) }
-        ensures finished { front_finished result.finished_parts (drop result.count (map (waiting_of numbers.now) units.now.items)) ≡ true }
+        ensures whole { map (waiting_of numbers.now) (take result.count units.now.items) ≡
+            whole_front (map (waiting_of numbers.now) units.now.items) }
+        ensures behind { drop result.count (map (waiting_of numbers.now) units.now.items) ≡
+            behind_front (map (waiting_of numbers.now) units.now.items) }
+        ensures finished { front_finished result.finished_parts
+            (drop result.count (map (waiting_of numbers.now) units.now.items)) ≡ true }
     {
         let mut known = finished_parts;
         for count in 0..units.len() {
@@ -59,7 +63,8 @@ pub(crate) fn texts_of(
     count: usize,
 ) -> Result<Vec<Items<u8>>, AllocError>
     requires { count ≤ deque_len units.now }
-    ensures { IfOk result (λ texts. texts.items ≡ filter_map unit_text (map (waiting_of numbers.now) (take count units.now.items))) }
+    ensures { IfOk result (λ texts. texts.items ≡
+        filter_map unit_text (map (waiting_of numbers.now) (take count units.now.items))) }
 {
     let mut texts = Vec::new(alloc);
     for index in 0..count {
@@ -74,7 +79,8 @@ fn push_text(
     numbers: &Numbers,
     unit: &WaitingUnit,
 ) -> Result<(), AllocError>
-    ensures { OnOk result (texts.new.items ≡ texts.old.items ++ option_to_list (unit_text (waiting_of numbers.now unit.now))) }
+    ensures { OnOk result (texts.new.items ≡
+        texts.old.items ++ option_to_list (unit_text (waiting_of numbers.now unit.now))) }
 {
     let mut text = Vec::new(alloc);
     if put_text(alloc, &mut text, numbers, unit)? {
@@ -92,8 +98,10 @@ pub(crate) fn put_frames(
     count: usize,
 ) -> Result<usize, AllocError>
     requires { count ≤ deque_len units.now }
-    ensures bytes { OnOk result (bytes.new.items ≡ bytes.old.items ++ flat_map written (filter_map unit_text (map (waiting_of numbers.now) (take count units.now.items)))) }
-    ensures count { IfOk result (λ answers. answers ≡ length (filter_map unit_text (map (waiting_of numbers.now) (take count units.now.items)))) }
+    ensures bytes { OnOk result (bytes.new.items ≡ bytes.old.items ++ flat_map written
+        (filter_map unit_text (map (waiting_of numbers.now) (take count units.now.items)))) }
+    ensures count { IfOk result (λ answers. answers ≡
+        length (filter_map unit_text (map (waiting_of numbers.now) (take count units.now.items)))) }
     ensures err { OnErr result (bytes.new.items ≡ bytes.old.items) }
 {
     let before = bytes.len();
@@ -122,8 +130,10 @@ fn put_unit_frame(
     unit: &WaitingUnit,
 ) -> Result<usize, AllocError>
     requires { text.old.items ≡ [] }
-    ensures bytes { OnOk result (bytes.new.items ≡ bytes.old.items ++ flat_map written (option_to_list (unit_text (waiting_of numbers.now unit.now)))) }
-    ensures count { IfOk result (λ count. count ≡ length (option_to_list (unit_text (waiting_of numbers.now unit.now)))) }
+    ensures bytes { OnOk result (bytes.new.items ≡ bytes.old.items ++
+        flat_map written (option_to_list (unit_text (waiting_of numbers.now unit.now)))) }
+    ensures count { IfOk result (λ count.
+        count ≡ length (option_to_list (unit_text (waiting_of numbers.now unit.now)))) }
     ensures few { IfOk result (λ count. count ≤ 1) }
     ensures err { OnErr result (bytes.new.items ≡ bytes.old.items) }
 {
@@ -139,7 +149,8 @@ pub(crate) fn drop_front(numbers: &mut Numbers, units: &mut VecDeque<WaitingUnit
     requires { ascends 0 (length numbers.old) (requests_of units.old.items) ≡ true }
     ensures units { units.new.items ≡ drop count units.old.items }
     ensures numbers { map open_number numbers.new ≡ map open_number numbers.old }
-    ensures left { map (waiting_of numbers.new) units.new.items ≡ drop count (map (waiting_of numbers.old) units.old.items) }
+    ensures left { map (waiting_of numbers.new) units.new.items ≡
+        drop count (map (waiting_of numbers.old) units.old.items) }
     ensures ascends { ascends 0 (length numbers.new) (requests_of units.new.items) ≡ true }
     ensures opening { IsOutOfReach (kept_at numbers.old 0) → IsOutOfReach (kept_at numbers.new 0) }
 {

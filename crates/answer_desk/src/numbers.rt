@@ -2,6 +2,7 @@ ghost use Rattle.std.specs.Prelude.{◌≡◌, ◌+◌, ◌-◌, ◌<◌, ◌≤
 ghost use Rattle.std.specs.VecDeque.{deque_len};
 ghost use Rattle.std.specs.BinaryHeap.{IsHeap, KeepsHeap, heap_items, heap_len, heap_capacity};
 ghost use Rattle.std.specs.List.Sorted.{IsPermutation};
+ghost use Rattle.rpc_messages.specs.declared.key.TheConstants.{MOST_NUMBERS};
 ghost use Rattle.answer_desk.specs.declared.kept.Kept.TheVariants.{Open};
 ghost use Rattle.answer_desk.specs.declared.mark.Mark.TheVariants.{Told};
 ghost use Rattle.answer_desk.specs.Places.{new_number};
@@ -51,7 +52,8 @@ impl Model for Numbers {
 
     ghost view = { λ n. all_numbers n.first (map kept_in n.window.items) };
 
-    ghost invariant = { λ n. IsWindow n.first (map kept_in n.window.items) × IsIndexed (all_numbers n.first (map kept_in n.window.items)) n.in_reach n.new_marks };
+    ghost invariant = { λ n. IsWindow n.first (map kept_in n.window.items)
+        × IsIndexed (all_numbers n.first (map kept_in n.window.items)) n.in_reach n.new_marks };
 }
 
 impl Numbers {
@@ -84,7 +86,7 @@ impl Numbers {
     /// The number that the next call takes.
     pub fn next(&self) -> u32
         ensures next { result ≡ length self.now }
-        ensures few { result ≤ 1000001 }
+        ensures few { result ≤ MOST_NUMBERS + 1 }
         ensures some { 0 < result }
     {
         self.first + self.window.len() as u32
@@ -92,7 +94,7 @@ impl Numbers {
 
     /// New numbers, all of them kept.
     pub fn append(&mut self, calls: Vec<Option<Box<Kept>>>) -> Result<(), AllocError>
-        requires room { length self.old + length calls.items ≤ 1000001 }
+        requires room { length self.old + length calls.items ≤ MOST_NUMBERS + 1 }
         requires kept { begins_kept (map kept_in calls.items) ≡ true }
         requires unmarked { NoNewBelow (length calls.items) (map kept_in calls.items) }
         ensures ok { OnOk result (self.new ≡ self.old ++ map kept_in calls.items) }
@@ -107,7 +109,8 @@ impl Numbers {
 
     /// What is kept of a number, where it isn't over.
     pub fn kept(&self, number: u32) -> Option<&Kept>
-        ensures { MatchOption result (kept_at self.now number ≡ None) (λ kept. kept_at self.now number ≡ Some kept.now) }
+        ensures { MatchOption result (kept_at self.now number ≡ None) (λ kept.
+            kept_at self.now number ≡ Some kept.now) }
     {
         let index = index_of(self.first, self.window.len(), number)?;
         match &self.window[index] {
@@ -118,7 +121,8 @@ impl Numbers {
 
     /// What is kept of a number that is open.
     pub fn open_number(&self, number: u32) -> Option<&Number>
-        ensures { MatchOption result (open_number (kept_at self.now number) ≡ None) (λ n. open_number (kept_at self.now number) ≡ Some n.now) }
+        ensures { MatchOption result (open_number (kept_at self.now number) ≡ None) (λ n.
+            open_number (kept_at self.now number) ≡ Some n.now) }
     {
         match self.kept(number) {
             Some(Kept::Open(call)) => Some(call),
@@ -128,7 +132,8 @@ impl Numbers {
 
     pub fn put_reply(&mut self, number: u32, turn: u32, reply: Reply) -> Put
         ensures put { result ≡ put_into (slot_in (kept_at self.old number) turn) }
-        ensures after { self.new ≡ slice_set self.old number (with_put turn reply (kept_at self.old number)) }
+        ensures after { self.new ≡
+            slice_set self.old number (with_put turn reply (kept_at self.old number)) }
     {
         let Some(index) = index_of(self.first, self.window.len(), number) else {
             drop(reply);
@@ -151,7 +156,8 @@ impl Numbers {
 
     pub fn take_reply(&mut self, number: u32, turn: u32, is_closed: bool) -> Option<Reply>
         ensures reply { result ≡ given_by is_closed (slot_in (kept_at self.old number) turn) }
-        ensures after { self.new ≡ slice_set self.old number (with_taken turn is_closed (kept_at self.old number)) }
+        ensures after { self.new ≡
+            slice_set self.old number (with_taken turn is_closed (kept_at self.old number)) }
     {
         let index = index_of(self.first, self.window.len(), number)?;
         match &mut self.window[index] {
@@ -172,8 +178,11 @@ impl Numbers {
 
     /// Marks the lowest request of this id that no cancel has reached, if it is below `before`.
     fn mark_lowest(&mut self, id: &Id, before: u32) -> Option<u32>
-        ensures none { IfNone result ((self.new ≡ self.old) × NoneReachedBelow id.now before self.old) }
-        ensures some { IfSome result (λ n. (n < before) × (is_reached_by id.now (kept_at self.old n) ≡ true) × (self.new ≡ slice_set self.old n (with_mark id.now (kept_at self.old n)))) }
+        ensures none { IfNone result (
+            (self.new ≡ self.old) × NoneReachedBelow id.now before self.old) }
+        ensures some { IfSome result (λ n.
+            (n < before) × (is_reached_by id.now (kept_at self.old n) ≡ true)
+            × (self.new ≡ slice_set self.old n (with_mark id.now (kept_at self.old n)))) }
     {
         let number = self.in_reach.lowest(id)?;
         if number >= before {
@@ -190,7 +199,8 @@ impl Numbers {
     pub fn take_marked(&mut self) -> Option<u32>
         ensures lowest { IsLowestNew self.old result }
         ensures none { IfNone result (self.new ≡ self.old) }
-        ensures some { IfSome result (λ n. self.new ≡ slice_set self.old n (marked_as Told (kept_at self.old n))) }
+        ensures some { IfSome result (λ n.
+            self.new ≡ slice_set self.old n (marked_as Told (kept_at self.old n))) }
     {
         let index = pop_marked(&mut self.new_marks, self.first, &self.window)?;
         set_mark(&mut self.window[index], Mark::Told);
@@ -199,7 +209,8 @@ impl Numbers {
 
     /// The end of an open number: a request keeps its answer.
     pub fn finish(&mut self, number: u32, reply: Reply)
-        ensures { self.new ≡ slice_set self.old number (with_answer reply (kept_at self.old number)) }
+        ensures { self.new ≡
+            slice_set self.old number (with_answer reply (kept_at self.old number)) }
     {
         match index_of(self.first, self.window.len(), number) {
             Some(index) => {
@@ -270,7 +281,8 @@ fn answer(place: &mut Option<Box<Kept>>, reply: Reply)
 /// Puts a number into a heap that has room for it.
 fn push_reserved(heap: &mut BinaryHeap<Reverse<u32>>, number: u32)
     requires { heap_len heap.old < heap_capacity heap.old }
-    ensures items { IsPermutation (record { 0 = number } ∷ heap_items heap.old) (heap_items heap.new) }
+    ensures items { IsPermutation
+        (record { 0 = number } ∷ heap_items heap.old) (heap_items heap.new) }
     ensures ordered { KeepsHeap lowest_first (heap_items heap.old) (heap_items heap.new) }
     ensures len { heap_len heap.new ≡ heap_len heap.old + 1 }
     ensures capacity { heap_capacity heap.old ≤ heap_capacity heap.new }
@@ -284,10 +296,12 @@ fn pop_marked(
     first: u32,
     window: &VecDeque<Option<Box<Kept>>>,
 ) -> Option<usize>
-    requires room { first + deque_len window.now ≤ 1000001 }
-    requires marked { HoldsNew (all_numbers first (map kept_in window.now.items)) (heap_items new_marks.old) }
+    requires room { first + deque_len window.now ≤ MOST_NUMBERS + 1 }
+    requires marked { HoldsNew (all_numbers first (map kept_in window.now.items))
+        (heap_items new_marks.old) }
     requires ordered { IsHeap lowest_first (heap_items new_marks.old) }
-    ensures lowest { IsMarkedFirst first (map kept_in window.now.items) (heap_items new_marks.new) result }
+    ensures lowest { IsMarkedFirst first (map kept_in window.now.items)
+        (heap_items new_marks.new) result }
     ensures inside { IfSome result (λ i. i < deque_len window.now) }
     ensures ordered { IsHeap lowest_first (heap_items new_marks.new) }
     ensures len { heap_len new_marks.new ≤ heap_len new_marks.old }
@@ -320,8 +334,9 @@ fn is_newly_marked(place: &Option<Box<Kept>>) -> bool
 
 /// Lets go of the places at the front in which nothing is kept.
 fn trim(first: &mut u32, window: &mut VecDeque<Option<Box<Kept>>>)
-    requires { first.old + deque_len window.old ≤ 1000001 }
-    ensures same { all_numbers first.new (map kept_in window.new.items) ≡ all_numbers first.old (map kept_in window.old.items) }
+    requires { first.old + deque_len window.old ≤ MOST_NUMBERS + 1 }
+    ensures same { all_numbers first.new (map kept_in window.new.items) ≡
+        all_numbers first.old (map kept_in window.old.items) }
     ensures trimmed { begins_kept (map kept_in window.new.items) ≡ true }
     ensures end { first.new + deque_len window.new ≡ first.old + deque_len window.old }
 {

@@ -2,6 +2,7 @@ ghost use Rattle.std.specs.Prelude.{◌≡◌, ◌+◌, ◌-◌, ◌<◌, ◌≤
 ghost use Rattle.answer_desk.specs.Inner.Kept.{kept_in};
 ghost use Rattle.answer_desk.specs.Inner.Requests.{id_in_reach_of};
 ghost use Rattle.rpc_messages.specs.declared.id.Id.{Id};
+ghost use Rattle.rpc_messages.specs.declared.key.TheConstants.{MOST_NUMBERS};
 ghost use Rattle.rpc_messages.specs.Ids.{same_id};
 
 use crate::kept::Kept;
@@ -48,8 +49,10 @@ impl RequestsById {
 
     /// Takes a number of this id out.
     pub fn remove(&mut self, id: &Id, number: u32)
-        ensures listed { (q : Id) (k : ℕ) → is_listed self.new q k ≡ (if same_id id.now q && (number == k) then false else is_listed self.old q k) }
-        ensures len { self.new.len ≡ self.old.len - (if is_listed self.old id.now number then 1 else 0) }
+        ensures listed { (q : Id) (k : ℕ) → is_listed self.new q k ≡
+            (if same_id id.now q && (number == k) then false else is_listed self.old q k) }
+        ensures len { self.new.len ≡
+            self.old.len - (if is_listed self.old id.now number then 1 else 0) }
     {
         match self.numbers.get_mut(id) {
             Some(numbers) => {
@@ -66,7 +69,9 @@ impl RequestsById {
 
     /// Takes this number out, where it is one that a cancel can reach.
     pub fn remove_kept(&mut self, number: u32, place: &Option<Box<Kept>>)
-        ensures { ((id : Id) → is_listed self.old id number ≡ is_reached_by id (kept_in place.now)) → IsWithout self.new self.old number (kept_in place.now) }
+        ensures { ((id : Id) → is_listed self.old id number ≡
+            is_reached_by id (kept_in place.now)) →
+            IsWithout self.new self.old number (kept_in place.now) }
     {
         match id_in_reach(place) {
             Some(id) => self.remove(id, number),
@@ -76,8 +81,8 @@ impl RequestsById {
 
     /// Adds the requests among these calls that a cancel can reach. The calls have the numbers from `number` on.
     pub fn add_all(&mut self, number: u32, calls: &[Option<Box<Kept>>]) -> Result<(), AllocError>
-        requires room { number + length calls.now ≤ 1000001 }
-        requires few { self.old.len + length calls.now ≤ 1000001 }
+        requires room { number + length calls.now ≤ MOST_NUMBERS + 1 }
+        requires few { self.old.len + length calls.now ≤ MOST_NUMBERS + 1 }
         requires fresh { (id : Id) (k : ℕ) → number ≤ k → is_listed self.old id k ≡ false }
         ensures ok { OnOk result (IsWithAdded self.new self.old number (map kept_in calls.now)) }
         ensures err { OnErr result (IsUnchanged self.new self.old) }
@@ -95,9 +100,11 @@ impl RequestsById {
     }
 
     fn add_kept(&mut self, number: u32, place: &Option<Box<Kept>>) -> Result<(), AllocError>
-        requires few { self.old.len ≤ 1000000 }
+        requires few { self.old.len ≤ MOST_NUMBERS }
         requires fresh { (id : Id) → is_listed self.old id number ≡ false }
-        ensures listed { OnOk result ((id : Id) (k : ℕ) → is_listed self.new id k ≡ (if number == k then is_reached_by id (kept_in place.now) else is_listed self.old id k)) }
+        ensures listed { OnOk result ((id : Id) (k : ℕ) → is_listed self.new id k ≡
+            (if number == k then is_reached_by id (kept_in place.now)
+            else is_listed self.old id k)) }
         ensures len { OnOk result (self.new.len ≡ self.old.len + in_reach (kept_in place.now)) }
         ensures err { OnErr result (IsUnchanged self.new self.old) }
     {
@@ -108,8 +115,9 @@ impl RequestsById {
     }
 
     fn add(&mut self, id: &Id, number: u32) -> Result<(), AllocError>
-        requires few { self.old.len ≤ 1000000 }
-        ensures listed { OnOk result ((q : Id) (k : ℕ) → is_listed self.new q k ≡ (if same_id id.now q && (number == k) then true else is_listed self.old q k)) }
+        requires few { self.old.len ≤ MOST_NUMBERS }
+        ensures listed { OnOk result ((q : Id) (k : ℕ) → is_listed self.new q k ≡
+            (if same_id id.now q && (number == k) then true else is_listed self.old q k)) }
         ensures len { OnOk result (self.new.len ≡ self.old.len + 1) }
         ensures err { OnErr result (IsUnchanged self.new self.old) }
     {
@@ -125,9 +133,10 @@ impl RequestsById {
 
     /// Adds a number of an id that has none.
     fn add_first(&mut self, id: &Id, number: u32) -> Result<(), AllocError>
-        requires few { self.old.len ≤ 1000000 }
+        requires few { self.old.len ≤ MOST_NUMBERS }
         requires none { (k : ℕ) → is_listed self.old id.now k ≡ false }
-        ensures listed { OnOk result ((q : Id) (k : ℕ) → is_listed self.new q k ≡ (if same_id id.now q && (number == k) then true else is_listed self.old q k)) }
+        ensures listed { OnOk result ((q : Id) (k : ℕ) → is_listed self.new q k ≡
+            (if same_id id.now q && (number == k) then true else is_listed self.old q k)) }
         ensures len { OnOk result (self.new.len ≡ self.old.len + 1) }
         ensures err { OnErr result (IsUnchanged self.new self.old) }
     {
@@ -141,8 +150,11 @@ impl RequestsById {
     /// Takes the first `count` of these calls out again.
     fn remove_first(&mut self, number: u32, calls: &[Option<Box<Kept>>], count: usize)
         requires count { count ≤ length calls.now }
-        requires room { number + length calls.now ≤ 1000001 }
-        ensures { (was : RequestsById) → ((id : Id) (k : ℕ) → number ≤ k → is_listed was id k ≡ false) → IsWithAdded self.old was number (take count (map kept_in calls.now)) → IsUnchanged self.new was }
+        requires room { number + length calls.now ≤ MOST_NUMBERS + 1 }
+        ensures { (was : RequestsById) →
+            ((id : Id) (k : ℕ) → number ≤ k → is_listed was id k ≡ false) →
+            IsWithAdded self.old was number (take count (map kept_in calls.now)) →
+            IsUnchanged self.new was }
     {
         let mut left = count;
         while left > 0 {

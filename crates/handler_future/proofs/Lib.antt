@@ -8,6 +8,7 @@ pub mod Heard
 pub mod Heards
 pub mod Hearing
 pub mod KeptItems
+pub mod Lengths
 pub mod Outgoings
 pub mod Polls
 pub mod Rehearsing

@@ -10,6 +10,7 @@ use Rattle.rpc_messages.specs.declared.standard.Standard.{Standard}
 use Rattle.rpc_messages.specs.declared.standard.Standard.TheVariants.{InvalidParams, InternalError}
 use Rattle.method_steps.specs.declared.filling.FillFault.{FillFault}
 use Rattle.method_steps.specs.declared.filling.FillFault.TheVariants as fault
+use Rattle.method_steps.specs.declared.limits.TheConstants.{MOST_LISTED}
 use Rattle.method_steps.specs.declared.step.ListedCall.{ListedCall}
 use Rattle.method_steps.specs.Steps.{Step}
 use Rattle.method_steps.specs.declared.step.Step.TheVariants as step
@@ -94,10 +95,10 @@ abbrev pub calls_for : List ℕ → Items → List Outgoing
 calls_for method no_items = []
 calls_for method (item d ds) = call_for method d ∷ calls_for method ds
 
--- an array has at most 16 elements; any other value is the caller's fault
+-- an array has at most as many elements as a batch has calls; any other value is the caller's fault
 abbrev pub calls_for_array : List ℕ → Option Items → Result (List Outgoing) Standard
 calls_for_array method None = Err InvalidParams
-calls_for_array method (Some ds) = if nat_le (length (calls_for method ds)) 16 then Ok (calls_for method ds) else Err InvalidParams
+calls_for_array method (Some ds) = if nat_le (length (calls_for method ds)) MOST_LISTED then Ok (calls_for method ds) else Err InvalidParams
 
 abbrev pub calls_for_each : List ℕ → Data → Result (List Outgoing) Standard
 calls_for_each method over = calls_for_array method (as_array over)

@@ -2,6 +2,8 @@
 
 ghost use Rattle.std.specs.Prelude.{◌≡◌, ◌≢◌, ◌+◌, ◌≤◌, ◌<◌, ◌++◌, [], length, OnOk, OnErr, IfOk, vec_len, vec_capacity};
 ghost use Rattle.std.specs.List.{range_with_len};
+ghost use Rattle.rpc_messages.specs.declared.key.TheConstants.{MOST_TURNS};
+ghost use Rattle.method_steps.specs.declared.limits.TheConstants.{MOST_STEPS};
 ghost use Rattle.method_steps.specs.Steps.{AreWithinLimits, KeepsLimits, calls_in};
 ghost use Rattle.handler_future.specs.Act.{act_of};
 ghost use Rattle.handler_future.specs.Inner.Course.{seen, with_value, with_notice, asking, after_act, after_replies, HasRoom};
@@ -96,8 +98,8 @@ fn run(alloc: Global, steps: &[Step], course: &mut Course) -> Result<Progress, A
 /// Does the step at the course's place.
 fn follow(alloc: Global, step: &Step, course: &mut Course) -> Result<Progress, AllocError>
     requires limits { KeepsLimits step.now }
-    requires place { course.old.place < 64 }
-    requires turns { course.old.turn + calls_in step.now ≤ 1025 }
+    requires place { course.old.place < MOST_STEPS }
+    requires turns { course.old.turn + calls_in step.now ≤ MOST_TURNS + 1 }
     requires no_waits { course.old.waits.items ≡ [] }
     ensures course { OnOk result (seen course.new
         ≡ (after_act step.now (seen course.old) (act_of course.old.registers step.now)).0) }
@@ -123,7 +125,7 @@ fn follow(alloc: Global, step: &Step, course: &mut Course) -> Result<Progress, A
 }
 
 fn put(course: &mut Course, step: &Step, value: Json) -> Result<Progress, AllocError>
-    requires { course.old.place < 64 }
+    requires { course.old.place < MOST_STEPS }
     ensures course { OnOk result (seen course.new ≡ with_value step.now value (seen course.old)) }
     ensures progress { IfOk result (λ progress. progress ≡ Progress.Going) }
     ensures err { OnErr result (seen course.new ≡ seen course.old) }
@@ -134,8 +136,9 @@ fn put(course: &mut Course, step: &Step, value: Json) -> Result<Progress, AllocE
 }
 
 fn notify(course: &mut Course, outgoing: Outgoing) -> Result<Progress, AllocError>
-    requires { course.old.place < 64 }
-    ensures course { OnOk result (seen course.new ≡ with_notice (Message.Notice outgoing) (seen course.old)) }
+    requires { course.old.place < MOST_STEPS }
+    ensures course { OnOk result (seen course.new ≡
+        with_notice (Message.Notice outgoing) (seen course.old)) }
     ensures progress { IfOk result (λ progress. progress ≡ Progress.Going) }
     ensures err { OnErr result (seen course.new ≡ seen course.old) }
 {
@@ -146,7 +149,7 @@ fn notify(course: &mut Course, outgoing: Outgoing) -> Result<Progress, AllocErro
 
 /// Makes so many calls, and the room for their replies.
 fn ask(course: &mut Course, message: Message, calls: u32) -> Result<Progress, AllocError>
-    requires turns { course.old.turn + calls ≤ 1025 }
+    requires turns { course.old.turn + calls ≤ MOST_TURNS + 1 }
     requires no_waits { course.old.waits.items ≡ [] }
     ensures course { OnOk result (seen course.new ≡ asking message calls (seen course.old)) }
     ensures progress { IfOk result (λ progress. progress ≡ Progress.Waiting) }
@@ -165,7 +168,7 @@ fn ask(course: &mut Course, message: Message, calls: u32) -> Result<Progress, Al
 /// Awaits so many turns from this one on, for which there is room.
 fn push_turns(waits: &mut Vec<u32>, turn: u32, calls: u32)
     requires room { vec_len waits.old + calls ≤ vec_capacity waits.old }
-    requires turns { turn + calls ≤ 1025 }
+    requires turns { turn + calls ≤ MOST_TURNS + 1 }
     ensures { waits.new.items ≡ waits.old.items ++ range_with_len turn calls }
 {
     for awaited in turn..turn + calls {
@@ -175,12 +178,13 @@ fn push_turns(waits: &mut Vec<u32>, turn: u32, calls: u32)
 
 /// Puts the replies to the step's calls into its register, or ends with an error among them.
 fn take_replies(alloc: Global, step: &Step, course: &mut Course) -> Result<Progress, AllocError>
-    requires place { course.old.place < 64 }
-    requires turns { course.old.turn + course.old.asked ≤ 1025 }
+    requires place { course.old.place < MOST_STEPS }
+    requires turns { course.old.turn + course.old.asked ≤ MOST_TURNS + 1 }
     requires asked { 0 < course.old.asked }
     requires heard { course.old.heard_before ≤ length course.old.heard.items }
     ensures course { OnOk result (seen course.new ≡ (after_replies step.now (seen course.old)).0) }
-    ensures progress { IfOk result (λ progress. progress ≡ (after_replies step.now (seen course.old)).1) }
+    ensures progress { IfOk result (λ progress.
+        progress ≡ (after_replies step.now (seen course.old)).1) }
     ensures err { OnErr result (seen course.new ≡ seen course.old) }
 {
     let heard = &course.heard.as_slice()[course.heard_before..];

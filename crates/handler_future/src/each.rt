@@ -8,12 +8,10 @@ ghost use Rattle.handler_future.specs.Inner.Fault.{GivesItems};
 
 use crate::fault::StepFault;
 use json_values::{Json, JsonArray, Text};
+use method_steps::MOST_LISTED;
 use rpc_messages::{Outgoing, Standard};
 use serde_json::Value;
 use std::alloc::{AllocError, Global};
-
-/// The most elements that a step takes, as many as a batch has calls.
-const MOST_ELEMENTS: usize = 16;
 
 /// One call of the method for each element of an array, in order.
 pub(crate) fn calls_for_each(
@@ -37,7 +35,7 @@ fn calls_for_few(
     requires { items_have_float (items_view elements.now) ≡ false }
     ensures { GivesItems (calls_for_array method.now (Some (items_view elements.now))) result }
 {
-    if elements.len() > MOST_ELEMENTS {
+    if elements.len() > MOST_LISTED {
         return Err(StepFault::Ended(Standard::InvalidParams));
     }
     Ok(calls_for(alloc, method, elements)?)

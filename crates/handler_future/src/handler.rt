@@ -1,6 +1,8 @@
 ghost use Rattle.std.specs.Prelude.{◌≡◌, ◌≢◌, ◌≤◌, ◌<◌, ◌==◌, length, All, not, IfOk, IfErr, OnOk, OnErr, is_ok};
 ghost use Rattle.std.specs.Arc.{arc_value};
 ghost use Rattle.std.specs.List.{filter, list_any};
+ghost use Rattle.rpc_messages.specs.declared.key.TheConstants.{MOST_NUMBERS};
+ghost use Rattle.method_steps.specs.declared.limits.TheConstants.{MOST_CALLS};
 ghost use Rattle.method_steps.specs.Steps.{AreWithinLimits, shared_steps, calls_of};
 ghost use Rattle.handler_future.specs.Front.{HasTurnsUpTo, unheard, last_turns};
 ghost use Rattle.handler_future.specs.Inner.Handler.{params_in};
@@ -56,7 +58,7 @@ impl Handler {
         call: Arc<Call>,
     ) -> Result<Handler, AllocError>
         requires method { method < length table.now.methods }
-        requires number { (1 ≤ number) × (number ≤ 1000000) }
+        requires number { (1 ≤ number) × (number ≤ MOST_NUMBERS) }
         requires params { (arc_value call).params ≢ Params.Fractional }
         ensures { IfOk result (λ handler. handler
             ≡ new_state number (program_at table.now.methods method call)) }
@@ -151,7 +153,8 @@ impl Handler {
     pub fn waits(&self) -> &[u32]
         ensures value { result.now ≡ self.now.waits }
         ensures last { result.now ≡ unheard self.now.heard (last_turns self.now.messages) }
-        ensures within { All (λ turn. (1 ≤ turn) × (turn ≤ calls_of self.now.program.steps)) result.now }
+        ensures within { All (λ turn.
+            (1 ≤ turn) × (turn ≤ calls_of self.now.program.steps)) result.now }
     {
         self.course.waits.as_slice()
     }
@@ -176,7 +179,7 @@ impl Handler {
     pub fn messages(&self) -> &[Message]
         ensures value { result.now ≡ self.now.messages }
         ensures turns { All (HasTurnsUpTo (calls_of self.now.program.steps)) result.now }
-        ensures few { calls_of self.now.program.steps ≤ 1024 }
+        ensures few { calls_of self.now.program.steps ≤ MOST_CALLS }
     {
         self.course.messages.as_slice()
     }

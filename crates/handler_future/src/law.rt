@@ -1,6 +1,6 @@
 //! What holds of evaluations, whatever handler there is. Each law is the contract of a function that does nothing.
 
-ghost use Rattle.std.specs.Prelude.{◌≡◌, ℕ, ◌<◌, ◌++◌, List, Bool, All, nat_lt};
+ghost use Rattle.std.specs.Prelude.{◌≡◌, ℕ, ◌<◌, ◌≤◌, ◌++◌, List, Bool, All, length, nat_lt};
 ghost use Rattle.method_steps.specs.Steps.{AreWithinLimits, calls_of};
 ghost use Rattle.handler_future.specs.declared.message.Message.{Message};
 ghost use Rattle.handler_future.specs.Evaluation.{Replies, Program, evaluation};
@@ -31,4 +31,11 @@ pub fn front_begins_the_messages()
 pub fn turns_lie_within_the_calls()
     ensures { (program : Program) (replies : Replies) → AreWithinLimits program.steps →
         All (HasTurnsUpTo (calls_of program.steps)) (evaluation replies program).messages }
+{}
+
+/// A step sends at most one message, and no step is carried out twice: so an evaluation has at most as many messages as there
+/// are steps.
+pub fn messages_are_at_most_the_steps()
+    ensures { (program : Program) (replies : Replies) →
+        length (evaluation replies program).messages ≤ length program.steps }
 {}

@@ -19,7 +19,7 @@ pub use awaiting::Awaiting;
 pub use handler::Handler;
 pub use law::{
     earlier_replies_decide, front_begins_the_messages, front_is_the_same_under_every_map,
-    turns_lie_within_the_calls,
+    messages_are_at_most_the_steps, turns_lie_within_the_calls,
 };
 pub use message::Message;
 pub use outcome::{NotWaiting, Outcome};

@@ -47,7 +47,8 @@ impl Rehearsal {
 impl Future for Rehearsal {
     type Output = Outcome;
 
-    ghost gives = { λ rehearsal outcome. IsRehearsed rehearsal.handler rehearsal.replies.items outcome };
+    ghost gives = { λ rehearsal outcome.
+        IsRehearsed rehearsal.handler rehearsal.replies.items outcome };
 
     fn poll(&mut self, _cx: &mut Context<'_>) -> Poll<Outcome>
         ensures ready { IsReadyWith result

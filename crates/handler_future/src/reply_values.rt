@@ -1,6 +1,7 @@
 //! What a register holds of the replies to a step's calls.
 
 ghost use Rattle.std.specs.Prelude.{◌≡◌, ◌+◌, ◌≤◌, ◌<◌, IfOk, option_copied};
+ghost use Rattle.rpc_messages.specs.declared.key.TheConstants.{MOST_TURNS};
 ghost use Rattle.handler_future.specs.Evaluation.{replies_from};
 ghost use Rattle.handler_future.specs.Front.{heard_replies, find_heard};
 ghost use Rattle.handler_future.specs.ReplyValues.{kept_reply, kept_result, kept_error, kept_array, value_of_replies};
@@ -19,9 +20,10 @@ pub(crate) fn value_of_replies(
     turn: u32,
     calls: u32,
 ) -> Result<Result<Json, Reply>, AllocError>
-    requires turns { turn + calls ≤ 1025 }
+    requires turns { turn + calls ≤ MOST_TURNS + 1 }
     requires some { 0 < calls }
-    ensures { IfOk result (λ value. value ≡ value_of_replies step.now (replies_from (heard_replies heard.now) turn calls)) }
+    ensures { IfOk result (λ value.
+        value ≡ value_of_replies step.now (replies_from (heard_replies heard.now) turn calls)) }
 {
     match step {
         Step::Call { on_error, .. } => kept_turn(alloc, *on_error, heard, turn),
@@ -81,8 +83,9 @@ fn kept_values(
     turn: u32,
     calls: u32,
 ) -> Result<Result<Json, Reply>, AllocError>
-    requires { turn + calls ≤ 1025 }
-    ensures { IfOk result (λ values. values ≡ kept_array on_error (replies_from (heard_replies heard.now) turn calls)) }
+    requires { turn + calls ≤ MOST_TURNS + 1 }
+    ensures { IfOk result (λ values.
+        values ≡ kept_array on_error (replies_from (heard_replies heard.now) turn calls)) }
 {
     let mut values = JsonArray::new(alloc);
     for called in turn..turn + calls {

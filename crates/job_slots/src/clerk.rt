@@ -1,5 +1,6 @@
 ghost use Rattle.std.specs.Prelude.{◌≡◌, ◌≤◌, ◌<◌, ℕ, length, vec_len, vec_capacity};
 ghost use Rattle.std.specs.Int.{bit_at};
+ghost use Rattle.job_slots.specs.declared.limits.TheConstants.{MOST_SLOTS};
 ghost use Rattle.job_slots.specs.Looks.{IsClerkAtRest, view_looks};
 ghost use Rattle.job_slots.specs.Inner.FreeSlots.{free_bit};
 
@@ -15,7 +16,9 @@ pub struct ClerkSeat<J> {
     pub(crate) room: Vec<J>,
     // This is what it is between two calls.
     ghost rests: { IsClerkAtRest seat.me },
-    ghost sized: { (length (view_looks seat.me.0) ≡ seat.table_id.slots) × (seat.table_id.slots ≤ 128) },
-    ghost mapped: { (k : ℕ) → k < 128 → bit_at free.bits k ≡ free_bit (view_looks seat.me.0) k },
+    ghost sized: { (length (view_looks seat.me.0) ≡ seat.table_id.slots)
+        × (seat.table_id.slots ≤ MOST_SLOTS) },
+    ghost mapped: { (k : ℕ) → k < MOST_SLOTS →
+        bit_at free.bits k ≡ free_bit (view_looks seat.me.0) k },
     ghost roomy: { (vec_len room ≡ 0) × (seat.table_id.slots ≤ vec_capacity room) },
 }

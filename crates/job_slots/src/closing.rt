@@ -11,8 +11,10 @@ use std::alloc::Global;
 // Puts the job of a slot behind the others where the word says that it is at home, and else drops what was there.
 fn keep<J: Drop>(jobs: &mut Vec<J>, word: u64, held: Option<J>)
     requires { vec_len jobs.old < vec_capacity jobs.old }
-    ensures items { jobs.new.items ≡ jobs.old.items ++ (if is_kept word then option_to_list held else []) }
-    ensures room { (vec_len jobs.new ≤ vec_len jobs.old + 1) × (vec_capacity jobs.new ≡ vec_capacity jobs.old) }
+    ensures items { jobs.new.items ≡
+        jobs.old.items ++ (if is_kept word then option_to_list held else []) }
+    ensures room { (vec_len jobs.new ≤ vec_len jobs.old + 1)
+        × (vec_capacity jobs.new ≡ vec_capacity jobs.old) }
 {
     if word == READY || word == DONE {
         if let Some(job) = held {
@@ -23,7 +25,8 @@ fn keep<J: Drop>(jobs: &mut Vec<J>, word: u64, held: Option<J>)
 
 // The jobs at home, by slot.
 pub(crate) fn gather<J: Drop>(mut closed: Closed<Option<J>, Global>, mut room: Vec<J>) -> Vec<J>
-    requires full { IsFull closed.words × IsFull closed.slots × (slots_len closed.words ≡ slots_len closed.slots) }
+    requires full { IsFull closed.words × IsFull closed.slots
+        × (slots_len closed.words ≡ slots_len closed.slots) }
     requires room { (vec_len room ≡ 0) × (slots_len closed.slots ≤ vec_capacity room) }
     ensures { result.items ≡ kept (slots_items closed.words) (slots_items closed.slots) }
 {

@@ -12,7 +12,8 @@ pub(crate) fn exchange<J: Turns>(
 ) -> Option<J>
     requires table { seat.old.table_id ≡ shared.now.table_id }
     requires held { (old : Option J) × (seat.old.me.1 ≡ (slot, old) ∷ []) }
-    ensures seat { (seat.new.table_id ≡ seat.old.table_id) × (seat.new.me ≡ (seat.old.me.0, (slot, new) ∷ [])) }
+    ensures seat { (seat.new.table_id ≡ seat.old.table_id)
+        × (seat.new.me ≡ (seat.old.me.0, (slot, new) ∷ [])) }
     ensures old { seat.old.me.1 ≡ (slot, result) ∷ [] }
 {
     shared.exchange(seat, slot, new)

@@ -1,5 +1,6 @@
 ghost use Rattle.std.specs.Prelude.{◌≡◌, ◌≢◌, ℕ, ◌<◌, ◌≤◌, ◌↔◌, IsTrue, MatchOption, nat_lt, if◌then◌else◌};
 ghost use Rattle.std.specs.Int.{bit_at};
+ghost use Rattle.job_slots.specs.declared.limits.TheConstants.{MOST_SLOTS};
 
 /// Which of at most 128 slots are free, one bit each: the bit of a free slot is 1.
 #[derive(Clone, Copy)]
@@ -10,7 +11,7 @@ pub(crate) struct FreeSlots {
 impl FreeSlots {
     /// All of so many slots.
     pub(crate) fn all(slots: u32) -> FreeSlots
-        requires { (0 < slots) × (slots ≤ 128) }
+        requires { (0 < slots) × (slots ≤ MOST_SLOTS) }
         ensures { (k : ℕ) → bit_at result.bits k ≡ (if nat_lt k slots then 1 else 0) }
     {
         FreeSlots {
@@ -20,7 +21,9 @@ impl FreeSlots {
 
     /// The free slot with the least number.
     pub(crate) fn least(self) -> Option<u32>
-        ensures { MatchOption result ((k : ℕ) → k < 128 → bit_at self.bits k ≡ 0) (λ slot. (slot < 128) × (bit_at self.bits slot ≡ 1) × ((k : ℕ) → k < slot → bit_at self.bits k ≡ 0)) }
+        ensures { MatchOption result ((k : ℕ) → k < MOST_SLOTS → bit_at self.bits k ≡ 0) (λ slot.
+            (slot < MOST_SLOTS) × (bit_at self.bits slot ≡ 1)
+            × ((k : ℕ) → k < slot → bit_at self.bits k ≡ 0)) }
     {
         if self.bits == 0 {
             None
@@ -30,7 +33,7 @@ impl FreeSlots {
     }
 
     pub(crate) fn has(self, slot: u32) -> bool
-        requires { slot < 128 }
+        requires { slot < MOST_SLOTS }
         ensures { IsTrue result ↔ (bit_at self.bits slot ≡ 1) }
     {
         (self.bits >> slot) & 1 == 1
@@ -38,16 +41,20 @@ impl FreeSlots {
 
     /// The slot is free no more.
     pub(crate) fn remove(&mut self, slot: u32)
-        requires { slot < 128 }
-        ensures { (bit_at self.new.bits slot ≡ 0) × ((k : ℕ) → k < 128 → k ≢ slot → bit_at self.new.bits k ≡ bit_at self.old.bits k) }
+        requires { slot < MOST_SLOTS }
+        ensures { (bit_at self.new.bits slot ≡ 0)
+            × ((k : ℕ) → k < MOST_SLOTS → k ≢ slot →
+            bit_at self.new.bits k ≡ bit_at self.old.bits k) }
     {
         self.bits &= !(1 << slot);
     }
 
     /// The slot is free.
     pub(crate) fn insert(&mut self, slot: u32)
-        requires { slot < 128 }
-        ensures { (bit_at self.new.bits slot ≡ 1) × ((k : ℕ) → k < 128 → k ≢ slot → bit_at self.new.bits k ≡ bit_at self.old.bits k) }
+        requires { slot < MOST_SLOTS }
+        ensures { (bit_at self.new.bits slot ≡ 1)
+            × ((k : ℕ) → k < MOST_SLOTS → k ≢ slot →
+            bit_at self.new.bits k ≡ bit_at self.old.bits k) }
     {
         self.bits |= 1 << slot;
     }

@@ -10,6 +10,7 @@ mod closing;
 mod collecting;
 mod exchange;
 mod free_slots;
+mod limits;
 mod offering;
 mod plays;
 mod rule;
@@ -21,6 +22,7 @@ mod word;
 mod worker;
 
 pub use clerk::ClerkSeat;
+pub use limits::{MOST_SLOTS, limit_of_slots_in_figures};
 pub use slots::{JobSlots, Refused};
 pub use turns::Turns;
 pub use view::{Look, View};

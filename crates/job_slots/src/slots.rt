@@ -1,5 +1,6 @@
 //! The slots, and all that is done with them.
 ghost use Rattle.std.specs.Prelude.{◌≡◌, ℕ, ◌+◌, ◌-◌, ◌<◌, ◌≤◌, [], ◌∷◌, ◌++◌, Some, None, IsOk, IfOk, IfErr, OnErr, IfSome, OnSome, IfNone, position, replicate, slice_set};
+ghost use Rattle.job_slots.specs.declared.limits.TheConstants.{MOST_SLOTS};
 ghost use Rattle.job_slots.specs.declared.view.Look.TheVariants.{Free, In};
 ghost use Rattle.job_slots.specs.declared.worker.Ran.TheVariants.{One, Nothing};
 ghost use Rattle.job_slots.specs.Looks.{is_free, HasTurned};
@@ -8,6 +9,7 @@ use crate::clerk::ClerkSeat;
 use crate::closing::gather;
 use crate::collecting::take_home;
 use crate::free_slots::FreeSlots;
+use crate::limits::MOST_SLOTS;
 use crate::offering::fill;
 use crate::plays::{Hire, TakeIn};
 use crate::rule::SlotTable;
@@ -17,15 +19,13 @@ use crate::word::EMPTY;
 use crate::worker::{Ran, WorkerSeat};
 use std::alloc::Global;
 
-/// The most slots that a table may have.
-const MOST_SLOTS: usize = 128;
-
 /// The slots, which the clerk and all workers share by reference.
 #[derive(Drop)]
 pub struct JobSlots<J: Turns> {
     pub(crate) table: SlotTable<J>,
     pub(crate) count: u32,
-    ghost sized: { (table.shared.table_id.words ≡ count) × (table.shared.table_id.slots ≡ count) × (0 < count) × (count ≤ 128) },
+    ghost sized: { (table.shared.table_id.words ≡ count) × (table.shared.table_id.slots ≡ count)
+        × (0 < count) × (count ≤ MOST_SLOTS) },
 }
 
 /// There was no memory for a table, or it makes no more seats.
@@ -38,7 +38,7 @@ impl<J: Turns> JobSlots<J> {
     /// A table of 1 to 128 slots, all free, with its clerk's seat and no worker's. Refused where memory runs out.
     pub fn make(alloc: Global, slots: u32) -> Result<(JobSlots<J>, ClerkSeat<J>), Refused>
         requires some { 0 < slots }
-        requires few { slots ≤ 128 }
+        requires few { slots ≤ MOST_SLOTS }
         ensures table { IfOk result (λ made. IsClerkOf made.0 made.1) }
         ensures count { IfOk result (λ made. slot_count made.0 ≡ slots) }
         ensures free { IfOk result (λ made. looks_of made.1 ≡ replicate slots Free) }
@@ -88,7 +88,8 @@ impl<J: Turns> JobSlots<J> {
         ensures workers { live_of clerk.new ≡ live_of clerk.old }
 
         ensures least { IfOk result (λ slot. position is_free (looks_of clerk.old) ≡ Some slot) }
-        ensures placed { IfOk result (λ slot. looks_of clerk.new ≡ slice_set (looks_of clerk.old) slot (In job)) }
+        ensures placed { IfOk result (λ slot.
+            looks_of clerk.new ≡ slice_set (looks_of clerk.old) slot (In job)) }
 
         ensures full { OnErr result (position is_free (looks_of clerk.old) ≡ None) }
         ensures given_back { IfErr result (λ back. back ≡ job) }
@@ -107,7 +108,8 @@ impl<J: Turns> JobSlots<J> {
         requires { IsWorkerOf self.now worker.old }
         ensures table { IsWorkerOf self.now worker.new }
         ensures within { (slot : ℕ) → result ≡ One slot → slot < slot_count self.now }
-        ensures one { (slot : ℕ) → result ≡ One slot → shut_of worker.new ≡ shut_of worker.old ++ slot ∷ [] }
+        ensures one { (slot : ℕ) → result ≡ One slot →
+            shut_of worker.new ≡ shut_of worker.old ++ slot ∷ [] }
         ensures nothing { result ≡ Nothing → shut_of worker.new ≡ shut_of worker.old }
     {
         for slot in 0..self.count {
@@ -126,7 +128,8 @@ impl<J: Turns> JobSlots<J> {
         ensures workers { live_of clerk.new ≡ live_of clerk.old }
 
         ensures turned { IfSome result (HasTurned J.turned (looks_of clerk.old) slot) }
-        ensures emptied { OnSome result (looks_of clerk.new ≡ slice_set (looks_of clerk.old) slot Free) }
+        ensures emptied { OnSome result (looks_of clerk.new ≡
+            slice_set (looks_of clerk.old) slot Free) }
 
         ensures not_yet { IfNone result (looks_of clerk.new ≡ looks_of clerk.old) }
     {

@@ -3,6 +3,7 @@ use Rattle.std.specs.Prelude.{ℕ, ℤ, pos, negsuc, List, [], ◌∷◌, codes,
 use Rattle.std.specs.Option.{option_map_or}
 use Rattle.std.specs.Str.{bytes_eq}
 use Rattle.toml.specs.Data.{Data, string, array, table, as_str, as_integer, as_array, get_member, Items, no_items, item, Members, no_members, member}
+use Rattle.method_steps.specs.declared.limits.TheConstants.{LONGEST_SKIP}
 use Rattle.method_steps.specs.declared.read.entry.Entry.{Entry}
 use Rattle.method_steps.specs.declared.read.entry.Entry.TheVariants as entry
 use Rattle.method_steps.specs.declared.read.kind.Kind.{Kind}
@@ -87,7 +88,7 @@ integer_at name ms = option_and_then as_integer (get_member name ms)
 
 -- a number from 1 to 64, and 0 for any other, which is no count
 abbrev pub count_in : ℤ → ℕ
-count_in (pos n) = if nat_le 1 n && nat_le n 64 then n else 0
+count_in (pos n) = if nat_le 1 n && nat_le n LONGEST_SKIP then n else 0
 count_in (negsuc n) = 0
 
 abbrev pub count_at : Members → Option ℕ

@@ -5,6 +5,7 @@ use Rattle.toml.specs.Data.{Data, table, push_item, Items, no_items, item, Membe
 use Rattle.method_steps.specs.declared.fault.FaultKind.{FaultKind}
 use Rattle.method_steps.specs.declared.fault.FaultKind.TheVariants as fault
 use Rattle.method_steps.specs.declared.fault.TableFault.{TableFault}
+use Rattle.method_steps.specs.declared.limits.TheConstants.{MOST_METHODS, MOST_STEPS}
 use Rattle.method_steps.specs.declared.read.entry.Entry.TheVariants as entry
 use Rattle.method_steps.specs.declared.read.kind.Kind.{Kind}
 use Rattle.method_steps.specs.declared.read.version.Version.{Version}
@@ -84,7 +85,7 @@ abbrev pub fault_of_method : Version → ℕ → Items → Members → Option Ta
 fault_of_method v method earlier ms =
     if not (has_method_fields ms) then Some (in_method method fault.Field)
     else if not (is_method_name (word_at (codes "name") ms)) || is_used (word_at (codes "name") ms) earlier then Some (in_method method fault.Name)
-    else if nat_lt 64 (items_len (list_at (codes "step") ms)) then Some (in_method method fault.Limit)
+    else if nat_lt MOST_STEPS (items_len (list_at (codes "step") ms)) then Some (in_method method fault.Limit)
     else steps_fault v method no_items (list_at (codes "step") ms)
 
 abbrev pub method_fault : Version → Items → Data → Option TableFault
@@ -104,7 +105,7 @@ document_fields_hold v top = has_only (entry.Document v) top && is_some (tables_
 abbrev pub fault_of_document : Version → Members → Option TableFault
 fault_of_document v top =
     if not (document_fields_hold v top) then Some (in_document fault.Field)
-    else if nat_lt 256 (items_len (list_at (codes "method") top)) || nat_lt 64 (items_len (list_at (codes "opening") top)) then Some (in_document fault.Limit)
+    else if nat_lt MOST_METHODS (items_len (list_at (codes "method") top)) || nat_lt MOST_STEPS (items_len (list_at (codes "opening") top)) then Some (in_document fault.Limit)
     else first_of (steps_fault v 0 no_items (list_at (codes "opening") top)) (methods_fault v no_items (list_at (codes "method") top))
 
 abbrev pub document_fault : Members → Option TableFault

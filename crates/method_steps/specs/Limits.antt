@@ -3,6 +3,7 @@ use Rattle.std.specs.Prelude.{ℕ, ◌+◌, List, length, Bool, true, ◌&&◌, 
 use Rattle.std.specs.List.{list_all}
 use Rattle.std.specs.Option.{option_map_or}
 use Rattle.toml.specs.Data.{Items, no_items, item}
+use Rattle.method_steps.specs.declared.limits.TheConstants.{DEEPEST_TEMPLATE, LONGEST_SKIP, MOST_LISTED}
 use Rattle.method_steps.specs.declared.step.ListedCall.{ListedCall}
 use Rattle.method_steps.specs.declared.step.Step.TheVariants as step
 use Rattle.method_steps.specs.Names.{is_name_length}
@@ -13,13 +14,13 @@ abbrev pub items_len : Items → ℕ
 items_len no_items = 0
 items_len (item d ds) = items_len ds + 1
 
--- a template is at most 16 deep
+-- how deep a template may be
 abbrev pub is_shallow : Shape → Bool
-is_shallow t = nat_le (depth t) 16
+is_shallow t = nat_le (depth t) DEEPEST_TEMPLATE
 
--- 1 to 64
+-- so many steps may a `skip` pass over
 abbrev pub is_count : ℕ → Bool
-is_count n = nat_le 1 n && nat_le n 64
+is_count n = nat_le 1 n && nat_le n LONGEST_SKIP
 
 -- the name of a method of the other side has 1 to 128 bytes
 abbrev pub is_within : List ℕ → Option Shape → Bool
@@ -31,9 +32,9 @@ is_call_within c = is_within c.method c.params
 abbrev pub are_calls_within : List ListedCall → Bool
 are_calls_within cs = list_all is_call_within cs
 
--- 1 to 16
+-- so many calls may one step make at once
 abbrev pub is_list_length : ℕ → Bool
-is_list_length n = nat_le 1 n && nat_le n 16
+is_list_length n = nat_le 1 n && nat_le n MOST_LISTED
 
 abbrev pub is_list_within : List ListedCall → Bool
 is_list_within cs = is_list_length (length cs) && are_calls_within cs

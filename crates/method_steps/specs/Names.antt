@@ -1,11 +1,12 @@
 -- The rules for names and pointers.
-use Rattle.std.specs.Prelude.{ℕ, List, [], ◌∷◌, length, codes, Bool, true, false, not, ◌&&◌, ◌||◌, ◌==◌, nat_le, nat_eq, slice_index, if◌then◌else◌}
+use Rattle.std.specs.Prelude.{ℕ, List, [], ◌∷◌, length, codes, Bool, true, false, not, ◌&&◌, ◌||◌, ◌==◌, ◌-◌, nat_le, nat_eq, slice_index, if◌then◌else◌}
 use Rattle.std.specs.List.{list_all, starts_with}
 use Rattle.std.specs.Str.{bytes_eq}
+use Rattle.method_steps.specs.declared.limits.TheConstants.{LONGEST_NAME, LONGEST_REGISTER}
 
 -- 1 to 128 bytes
 abbrev pub is_name_length : ℕ → Bool
-is_name_length n = nat_le 1 n && nat_le n 128
+is_name_length n = nat_le 1 n && nat_le n LONGEST_NAME
 
 -- a method's name: 1 to 128 bytes, not begun by `rpc.` (JSON-RPC 2.0, section 4.3) or by `$/` (LSP 3.17, "$ Notifications and Requests")
 abbrev pub is_method_name : List ℕ → Bool
@@ -19,9 +20,9 @@ is_lower b = nat_le 97 b && nat_le b 122
 abbrev pub is_register_byte : ℕ → Bool
 is_register_byte b = is_lower b || nat_le 48 b && nat_le b 57 || b == 95
 
--- up to 31 of them
+-- of these, one byte less than a register may have
 abbrev pub is_register_rest : List ℕ → Bool
-is_register_rest s = nat_le (length s) 31 && list_all is_register_byte s
+is_register_rest s = nat_le (length s) (LONGEST_REGISTER - 1) && list_all is_register_byte s
 
 -- `params` and `null` mean something else in a template
 abbrev pub is_taken : List ℕ → Bool

@@ -5,6 +5,7 @@ use Rattle.toml.specs.Data.{Data, table, push_item, Items, no_items, item, Membe
 use Rattle.method_steps.specs.declared.fault.FaultKind.{FaultKind}
 use Rattle.method_steps.specs.declared.fault.FaultKind.TheVariants as fault
 use Rattle.method_steps.specs.declared.fault.TableFault.{TableFault}
+use Rattle.method_steps.specs.declared.limits.TheConstants.{MOST_METHODS, MOST_STEPS}
 use Rattle.method_steps.specs.declared.read.kind.Kind.{Kind}
 use Rattle.method_steps.specs.declared.read.version.Version.{Version}
 use Rattle.method_steps.specs.Fault.{in_document, in_method, in_step}
@@ -70,7 +71,7 @@ abbrev pub TableShows : Version → ℕ → Items → Members → TableFault →
 TableShows v number earlier ms f =
     ((f ≡ in_method number fault.Field) × (has_method_fields ms ≡ false))
     ⊎ (((f ≡ in_method number fault.Name) × (not (is_method_name (word_at (codes "name") ms)) || is_used (word_at (codes "name") ms) earlier ≡ true))
-    ⊎ (((f ≡ in_method number fault.Limit) × (nat_lt 64 (items_len (list_at (codes "step") ms)) ≡ true))
+    ⊎ (((f ≡ in_method number fault.Limit) × (nat_lt MOST_STEPS (items_len (list_at (codes "step") ms)) ≡ true))
     ⊎ StepsShow v number no_items (list_at (codes "step") ms) f))
 
 -- with an item of the list of methods
@@ -88,7 +89,7 @@ abbrev pub VersionShows : Option Version → Members → TableFault → Type 0
 VersionShows None top f = f ≡ in_document fault.Version
 VersionShows (Some v) top f =
     ((f ≡ in_document fault.Field) × (document_fields_hold v top ≡ false))
-    ⊎ (((f ≡ in_document fault.Limit) × (nat_lt 256 (items_len (list_at (codes "method") top)) || nat_lt 64 (items_len (list_at (codes "opening") top)) ≡ true))
+    ⊎ (((f ≡ in_document fault.Limit) × (nat_lt MOST_METHODS (items_len (list_at (codes "method") top)) || nat_lt MOST_STEPS (items_len (list_at (codes "opening") top)) ≡ true))
     ⊎ (StepsShow v 0 no_items (list_at (codes "opening") top) f
     ⊎ MethodsShow v no_items (list_at (codes "method") top) f))
 

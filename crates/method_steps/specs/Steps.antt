@@ -6,6 +6,7 @@ use Rattle.std.specs.declared.sync.Arc.{Arc}
 use Rattle.std.specs.List.{position_from}
 use Rattle.std.specs.Str.{bytes_eq}
 use Rattle.method_steps.specs.Shape.{Shape}
+use Rattle.method_steps.specs.declared.limits.TheConstants.{LONGEST_SKIP, MOST_CALLS, MOST_LISTED, MOST_STEPS}
 use Rattle.method_steps.specs.declared.step.ListedCall.{ListedCall}
 use Rattle.method_steps.specs.declared.step.Step.{Step as StepOf}
 use Rattle.method_steps.specs.declared.step.Step.TheVariants as step
@@ -18,7 +19,7 @@ Step = StepOf Shape (List ListedCall)
 abbrev pub calls_in : Step → ℕ
 calls_in (step.Call to method params on_error) = 1
 calls_in (step.Calls to list on_error) = length list
-calls_in (step.Each to over method on_error) = 16
+calls_in (step.Each to over method on_error) = MOST_LISTED
 calls_in _ = 0
 
 -- those of the steps of a method
@@ -27,15 +28,15 @@ calls_of steps = sum_by calls_in steps
 
 -- the numbers of a step are in their range
 abbrev pub KeepsLimits : Step → Type 0
-KeepsLimits (step.Skip left right count) = (1 ≤ count) × (count ≤ 64)
-KeepsLimits (step.Calls to list on_error) = (1 ≤ length list) × (length list ≤ 16)
+KeepsLimits (step.Skip left right count) = (1 ≤ count) × (count ≤ LONGEST_SKIP)
+KeepsLimits (step.Calls to list on_error) = (1 ≤ length list) × (length list ≤ MOST_LISTED)
 KeepsLimits _ = Unit {0}
 
--- so are those of the steps of a method, which make at most 1,024 calls
+-- so are those of the steps of a method, which make few calls
 pub record AreWithinLimits (steps : List Step) : Type 0 where
-  pub few : length steps ≤ 64
+  pub few : length steps ≤ MOST_STEPS
   pub each : All KeepsLimits steps
-  pub few_calls : calls_of steps ≤ 1024
+  pub few_calls : calls_of steps ≤ MOST_CALLS
 
 -- the steps that an `Arc` shares
 abbrev pub shared_steps : Arc (Vec Step Global) Global → List Step

@@ -13,7 +13,9 @@ mod template;
 
 pub use fault::{FaultKind, TableFault};
 pub use filling::{FillFault, fill};
-pub use law::{text_without_faults_is_a_table, told_fault_is_the_first_shown};
+pub use law::{
+    limits_of_tables_in_figures, text_without_faults_is_a_table, told_fault_is_the_first_shown,
+};
 pub use limits::{
     DEEPEST_TEMPLATE, LONGEST_NAME, LONGEST_REGISTER, LONGEST_SKIP, MOST_CALLS, MOST_LISTED,
     MOST_METHODS, MOST_STEPS,

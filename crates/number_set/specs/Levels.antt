@@ -1,6 +1,7 @@
 -- Levels of counts over the marks of a set: what a set holds, for its private contracts.
-use Rattle.std.specs.Prelude.{◌≡◌, ℕ, zero, suc, ◌+◌, ◌-◌, ◌*◌, ◌<◌, ◌≤◌, List, [], ◌∷◌, Bool, true, false, length, set, slice_index, nat_lt, if◌then◌else◌, ⊤}
+use Rattle.std.specs.Prelude.{◌≡◌, ℕ, zero, suc, ◌+◌, ◌-◌, ◌*◌, ◌^◌, ◌<◌, ◌≤◌, List, [], ◌∷◌, Bool, true, false, length, set, slice_index, nat_lt, if◌then◌else◌, ⊤}
 use Rattle.number_set.specs.declared.levels.Found.{Found}
+use Rattle.number_set.specs.declared.limits.TheConstants.{LARGEST_END}
 
 abbrev pub half : ℕ → ℕ
 half zero = zero
@@ -32,7 +33,7 @@ IsChain (counts ∷ above ∷ levels) = (above ≡ pair_sums counts) × IsChain 
 -- the place leads to a count on each level, and none of them is at its greatest
 abbrev pub HasPlace : ℕ → List (List ℕ) → Type 0
 HasPlace place [] = ⊤
-HasPlace place (counts ∷ levels) = (place < length counts) × (slice_index counts place < 4294967295) × HasPlace (half place) levels
+HasPlace place (counts ∷ levels) = (place < length counts) × (slice_index counts place < 2 ^ 32 - 1) × HasPlace (half place) levels
 
 -- the levels after one more was counted at the place
 abbrev pub one_more : ℕ → List (List ℕ) → List (List ℕ)
@@ -82,7 +83,7 @@ HasWay (counts ∷ levels) before = (2 * (found_below levels before).place < len
 
 -- counts of which any two can be added
 abbrev pub AreSmall : List ℕ → Type 0
-AreSmall counts = total counts < 4294967296
+AreSmall counts = total counts < 2 ^ 32
 
 -- the marks that a set's levels stand over
 abbrev pub lowest : List (List ℕ) → List ℕ
@@ -101,7 +102,7 @@ is_one (suc n) = true
 pub record AreLevels (levels : List (List ℕ)) (len : ℕ) : Type 0 where
   pub sums : AreSums levels
   pub marks : AreMarks (lowest levels)
-  pub few : length (lowest levels) ≤ 1000001
+  pub few : length (lowest levels) ≤ LARGEST_END
   pub counted : len ≡ total (lowest levels)
 
 abbrev pub mark_count : Bool → ℕ

@@ -9,7 +9,8 @@ use std::alloc::{AllocError, Global};
 pub fn levels_over(alloc: Global, marks: Vec<u32>) -> Result<Vec<Vec<u32>>, AllocError>
     requires { AreSmall marks.items }
     ensures sums { IfOk result (λ levels. AreSums (map (λ counts. counts.items) levels.items)) }
-    ensures lowest { IfOk result (λ levels. lowest (map (λ counts. counts.items) levels.items) ≡ marks.items) }
+    ensures lowest { IfOk result (λ levels.
+        lowest (map (λ counts. counts.items) levels.items) ≡ marks.items) }
 {
     let mut levels = Vec::new(alloc);
     let mut counts = marks;
@@ -42,7 +43,8 @@ fn sums_of_pairs(alloc: Global, counts: &[u32]) -> Result<Vec<u32>, AllocError>
 /// Counts one more at this place, on each level.
 pub fn count_one_more(levels: &mut [Vec<u32>], place: usize)
     requires { HasPlace place (map (λ counts. counts.items) levels.old) }
-    ensures { map (λ counts. counts.items) levels.new ≡ one_more place (map (λ counts. counts.items) levels.old) }
+    ensures { map (λ counts. counts.items) levels.new ≡
+        one_more place (map (λ counts. counts.items) levels.old) }
 {
     let mut at = place;
     for level in 0..levels.len() {
@@ -54,7 +56,8 @@ pub fn count_one_more(levels: &mut [Vec<u32>], place: usize)
 /// Counts one less at this place, on each level.
 pub fn count_one_less(levels: &mut [Vec<u32>], place: usize)
     requires { HasOne place (map (λ counts. counts.items) levels.old) }
-    ensures { map (λ counts. counts.items) levels.new ≡ one_less place (map (λ counts. counts.items) levels.old) }
+    ensures { map (λ counts. counts.items) levels.new ≡
+        one_less place (map (λ counts. counts.items) levels.old) }
 {
     let mut at = place;
     for level in 0..levels.len() {

@@ -3,6 +3,8 @@
 #![tactic(auto)]
 
 mod levels;
+mod limits;
 mod number_set;
 
+pub use limits::{LARGEST_END, limit_of_sets_in_figures};
 pub use number_set::NumberSet;

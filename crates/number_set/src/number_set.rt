@@ -1,4 +1,5 @@
 ghost use Rattle.std.specs.Prelude.{◌≡◌, ◌≤◌, ◌↔◌, ◌-◌, [], length, map, slice_get, IfOk, IsTrue, OnOk, OnErr, true, false};
+ghost use Rattle.number_set.specs.declared.limits.TheConstants.{LARGEST_END};
 ghost use Rattle.number_set.specs.Numbers.{HasRoom, is_in, marks_from, numbers, with_mark};
 ghost use Rattle.number_set.specs.Levels.{mark_count, total};
 
@@ -21,6 +22,7 @@ pub struct NumberSet {
 
 impl Model for NumberSet {
     ghost use Rattle.std.specs.Prelude.{map, ◌≤◌, ◌+◌, length};
+    ghost use Rattle.number_set.specs.declared.limits.TheConstants.{LARGEST_END};
     ghost use Rattle.number_set.specs.Numbers.{Marked};
     ghost use Rattle.number_set.specs.Levels.{AreLevels, is_one, lowest};
 
@@ -32,7 +34,8 @@ impl Model for NumberSet {
     } };
 
     ghost invariant = { λ set. AreLevels (map (λ counts. counts.items) set.levels.items) set.len
-        × (set.first + length (lowest (map (λ counts. counts.items) set.levels.items)) ≤ 1000001) };
+        × (set.first + length (lowest (map (λ counts. counts.items) set.levels.items))
+        ≤ LARGEST_END) };
 }
 
 impl NumberSet {
@@ -52,8 +55,9 @@ impl NumberSet {
     /// back. It takes time and memory for all of them, so whoever makes room one number at a time asks for twice as much.
     pub fn make_room(&mut self, first: u32, end: u32) -> Result<(), AllocError>
         requires order { first ≤ end }
-        requires most { end ≤ 1000001 }
-        ensures ok { OnOk result (self.new ≡ record { first = first; marks = marks_from self.old first (end - first) }) }
+        requires most { end ≤ LARGEST_END }
+        ensures ok { OnOk result (self.new ≡
+            record { first = first; marks = marks_from self.old first (end - first) }) }
         ensures err { OnErr result (self.new ≡ self.old) }
     {
         let (marks, len) = self.marks_between(first, end)?;
@@ -66,8 +70,9 @@ impl NumberSet {
     /// The marks of these numbers, and how many are in.
     fn marks_between(&self, first: u32, end: u32) -> Result<(Vec<u32>, u32), AllocError>
         requires order { first ≤ end }
-        requires most { end ≤ 1000001 }
-        ensures marks { IfOk result (λ made. made.0.items ≡ map mark_count (marks_from self.now first (end - first))) }
+        requires most { end ≤ LARGEST_END }
+        ensures marks { IfOk result (λ made.
+            made.0.items ≡ map mark_count (marks_from self.now first (end - first))) }
         ensures len { IfOk result (λ made. made.1 ≡ total made.0.items) }
     {
         let mut marks = Vec::with_capacity(self.alloc, (end - first) as usize)?;

@@ -1,5 +1,6 @@
 //! The desk's work: requests that all arrive first, and then are finished in one order or another.
 ghost use Rattle.std.specs.Prelude.{◌≡◌, ◌+◌, ◌<◌, ◌≤◌, IfOk, OnOk, length};
+ghost use Rattle.rpc_messages.specs.declared.key.TheConstants.{MOST_NUMBERS};
 ghost use Rattle.answer_desk.specs.Desk.{view};
 ghost use Rattle.answer_desk.specs.Places.{new_numbers};
 ghost use Rattle.answer_desk.specs.State.{next_number};
@@ -7,7 +8,7 @@ ghost use Rattle.answer_desk.specs.State.{next_number};
 use answer_desk::{Desk, Kind, Place, Shape};
 use json_values::{Items, Json};
 use program_edge::Failure;
-use rpc_messages::{Id, Reply, Standard};
+use rpc_messages::{Id, MOST_NUMBERS, Reply, Standard};
 use std::alloc::Global;
 
 /// How many requests are finished in reverse at a time.
@@ -45,7 +46,7 @@ impl Finishing {
 /// Opens so many units of one call each, at most 1,000,000, or a batch of so many, finishes them in some order, and releases
 /// the answers as they come. It gives how many answers were released.
 pub fn run_desk(alloc: Global, finishing: Finishing, units: u32) -> Result<usize, Failure> {
-    let units = units.min(1_000_000);
+    let units = units.min(MOST_NUMBERS);
     let mut desk = Desk::new(alloc);
     match finishing {
         Finishing::Straight => {
@@ -94,7 +95,7 @@ fn requests(alloc: Global, count: u32) -> Result<Vec<Place>, Failure>
 
 /// Opens so many requests, whose ids are their numbers in a new desk.
 fn open_all(alloc: Global, desk: &mut Desk, units: u32) -> Result<(), Failure>
-    requires { next_number (view desk.old) + units ≤ 1000001 }
+    requires { next_number (view desk.old) + units ≤ MOST_NUMBERS + 1 }
 {
     for index in 0..units {
         open(alloc, desk, Some(id_of(index.saturating_add(1))))?;
@@ -104,7 +105,7 @@ fn open_all(alloc: Global, desk: &mut Desk, units: u32) -> Result<(), Failure>
 
 /// Opens a unit of one call, and gives its number.
 fn open(alloc: Global, desk: &mut Desk, id: Option<Id>) -> Result<u32, Failure>
-    requires { next_number (view desk.old) ≤ 1000000 }
+    requires { next_number (view desk.old) ≤ MOST_NUMBERS }
     ensures { OnOk result (next_number (view desk.new) ≡ next_number (view desk.old) + 1) }
 {
     let call = Place::Numbered { id, most: 0 };
@@ -158,7 +159,7 @@ fn cancel_all(desk: &mut Desk, units: u32) -> Result<usize, Failure> {
 
 /// Opens so many requests, each once the one before it is finished.
 fn answer_each(alloc: Global, desk: &mut Desk, requests: u32) -> Result<usize, Failure>
-    requires { next_number (view desk.old) + requests ≤ 1000001 }
+    requires { next_number (view desk.old) + requests ≤ MOST_NUMBERS + 1 }
 {
     let mut released = 0usize;
     for index in 0..requests {

@@ -19,9 +19,10 @@ impl Job {
 }
 
 impl Turns for Job {
-    ghost use Rattle.std.specs.Prelude.{◌≡◌, ◌+◌, min};
+    ghost use Rattle.std.specs.Prelude.{◌≡◌, ◌+◌, ◌-◌, ◌^◌, min};
 
-    ghost turned = { λ before after. (after.number ≡ before.number) × (after.turns ≡ min (before.turns + 1) 4294967295) };
+    ghost turned = { λ before after. (after.number ≡ before.number)
+        × (after.turns ≡ min (before.turns + 1) (2 ^ 32 - 1)) };
 
     fn turn(&mut self) {
         self.turns = self.turns.saturating_add(1);

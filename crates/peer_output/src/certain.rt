@@ -22,9 +22,11 @@ ghost use Rattle.peer_output.specs.Later.{MayBecome, IsUnderWay, IsFinished, IsH
 /// More entries change neither the work of a call that has come, nor the reply that has come to one of its own calls; and
 /// a request that a cancel has reached stays reached.
 pub fn more_entries_change_nothing_that_came()
-    ensures work { (table : MethodTable) (entries later : List SeenEntry) (n : ℕ) → n ≤ numbers_in entries → Begins entries later →
+    ensures work { (table : MethodTable) (entries later : List SeenEntry) (n : ℕ) →
+        n ≤ numbers_in entries → Begins entries later →
         work table later n ≡ work table entries n }
-    ensures reply { (n turn : ℕ) (reply : Reply) (entries later : List SeenEntry) → n ≤ numbers_in entries → Begins entries later →
+    ensures reply { (n turn : ℕ) (reply : Reply) (entries later : List SeenEntry) →
+        n ≤ numbers_in entries → Begins entries later →
         reply_to n turn entries ≡ Some reply → replies later n turn ≡ reply }
     ensures cancel { (entries later : List SeenEntry) (n : ℕ) → Begins entries later →
         is_cancelled entries n ≡ true → is_cancelled later n ≡ true }
@@ -32,27 +34,35 @@ pub fn more_entries_change_nothing_that_came()
 
 /// One more entry reaches the requests before it of which it is a cancel, and no call that comes with it or behind it.
 pub fn cancel_reaches_what_stands_before_it()
-    ensures before { (entries : List SeenEntry) (entry : SeenEntry) (n : ℕ) → n ≤ numbers_in entries →
+    ensures before { (entries : List SeenEntry) (entry : SeenEntry) (n : ℕ) →
+        n ≤ numbers_in entries →
         is_cancelled (entries ++ entry ∷ []) n
-        ≡ (is_cancelled entries n || option_map_or (λ id. cancels id entry) (request_id entries n) false) }
-    ensures behind { (entries : List SeenEntry) (entry : SeenEntry) (n : ℕ) → numbers_in entries < n →
+        ≡ (is_cancelled entries n
+        || option_map_or (λ id. cancels id entry) (request_id entries n) false) }
+    ensures behind { (entries : List SeenEntry) (entry : SeenEntry) (n : ℕ) →
+        numbers_in entries < n →
         is_cancelled (entries ++ entry ∷ []) n ≡ false }
 {}
 
 /// What is certain stays so when more entries come and when the input ends.
 pub fn certain_facts_stay()
-    ensures under_way { (table : MethodTable) (is_over : Bool) (entries longer : List SeenEntry) (n : ℕ) (sends : List Sending) → Begins entries longer →
+    ensures under_way { (table : MethodTable) (is_over : Bool) (entries longer : List SeenEntry)
+        (n : ℕ) (sends : List Sending) → Begins entries longer →
         IsUnderWay table false entries n sends → IsUnderWay table is_over longer n sends }
-    ensures finished { (table : MethodTable) (is_over : Bool) (entries longer : List SeenEntry) (n : ℕ) (c : Course) → Begins entries longer →
+    ensures finished { (table : MethodTable) (is_over : Bool) (entries longer : List SeenEntry)
+        (n : ℕ) (c : Course) → Begins entries longer →
         IsFinished table false entries n c → IsFinished table is_over longer n c }
-    ensures heard { (is_over : Bool) (entries longer : List SeenEntry) (n : ℕ) (heard : Heard) → Begins entries longer →
+    ensures heard { (is_over : Bool) (entries longer : List SeenEntry) (n : ℕ) (heard : Heard) →
+        Begins entries longer →
         IsHeardFrom false entries n heard → IsHeardFrom is_over longer n heard }
 {}
 
 /// A handler may hear the first reply to its call that has come, and once the input is over `No reply` where none has.
 pub fn replies_may_be_heard()
-    ensures nothing { (is_over : Bool) (entries : List SeenEntry) (n : ℕ) → IsHeardFrom is_over entries n [] }
-    ensures reply { (is_over : Bool) (entries : List SeenEntry) (n turn : ℕ) (heard : Heard) (reply : Reply) → n ≤ numbers_in entries →
+    ensures nothing { (is_over : Bool) (entries : List SeenEntry) (n : ℕ) →
+        IsHeardFrom is_over entries n [] }
+    ensures reply { (is_over : Bool) (entries : List SeenEntry) (n turn : ℕ) (heard : Heard)
+        (reply : Reply) → n ≤ numbers_in entries →
         IsHeardFrom is_over entries n heard → reply_to n turn entries ≡ Some reply →
         IsHeardFrom is_over entries n (heard ++ (turn, reply) ∷ []) }
     ensures over { (entries : List SeenEntry) (n turn : ℕ) (heard : Heard) →
@@ -62,25 +72,38 @@ pub fn replies_may_be_heard()
 
 /// What a handler has sent begins its course while it waits, and where it failed; once it has ended, it is its course.
 pub fn handlers_keep_to_their_course()
-    ensures nothing { (table : MethodTable) (is_over : Bool) (entries : List SeenEntry) (n : ℕ) → IsUnderWay table is_over entries n [] }
-    ensures waiting { (table : MethodTable) (is_over : Bool) (entries : List SeenEntry) (n : ℕ) (s : HandlerState) → n ≤ numbers_in entries →
+    ensures nothing { (table : MethodTable) (is_over : Bool) (entries : List SeenEntry) (n : ℕ) →
+        IsUnderWay table is_over entries n [] }
+    ensures waiting { (table : MethodTable) (is_over : Bool) (entries : List SeenEntry) (n : ℕ)
+        (s : HandlerState) → n ≤ numbers_in entries →
         work table entries n ≡ run s.program → IsHeardFrom is_over entries n s.heard → IsWaiting s →
         IsUnderWay table is_over entries n (map message s.messages) }
-    ensures failed { (table : MethodTable) (is_over : Bool) (entries : List SeenEntry) (n : ℕ) (s : HandlerState) → n ≤ numbers_in entries →
+    ensures failed { (table : MethodTable) (is_over : Bool) (entries : List SeenEntry) (n : ℕ)
+        (s : HandlerState) → n ≤ numbers_in entries →
         work table entries n ≡ run s.program → IsHeardFrom is_over entries n s.heard → HasFailed s →
         IsUnderWay table is_over entries n (map message s.messages) }
-    ensures ended { (table : MethodTable) (is_over : Bool) (entries : List SeenEntry) (n : ℕ) (s : HandlerState) (answer : Reply) → n ≤ numbers_in entries →
-        work table entries n ≡ run s.program → IsHeardFrom is_over entries n s.heard → HasEnded s answer →
-        IsFinished table is_over entries n (record { sends = map message s.messages; answer = answer }) }
+    ensures ended { (table : MethodTable) (is_over : Bool) (entries : List SeenEntry) (n : ℕ)
+        (s : HandlerState) (answer : Reply) → n ≤ numbers_in entries →
+        work table entries n ≡ run s.program → IsHeardFrom is_over entries n s.heard →
+        HasEnded s answer →
+        IsFinished table is_over entries n
+        (record { sends = map message s.messages; answer = answer }) }
 {}
 
 /// A call that is at fault is finished at once. A request that a cancel has reached may be finished as cancelled wherever
 /// it stands, and withdraw any calls of its last message.
 pub fn faults_and_cancels_finish()
-    ensures fault { (table : MethodTable) (is_over : Bool) (entries : List SeenEntry) (n : ℕ) (standard : Standard) → n ≤ numbers_in entries →
-        work table entries n ≡ fault standard → IsFinished table is_over entries n (silent (Fixed standard)) }
-    ensures cancelled { (table : MethodTable) (is_over : Bool) (entries : List SeenEntry) (n : ℕ) (program : Program) (made : List Message) (is_withdrawn : ℕ → Bool) →
-        work table entries n ≡ run program → is_cancelled entries n ≡ true → IsUnderWay table is_over entries n (map message made) →
+    ensures fault { (table : MethodTable) (is_over : Bool) (entries : List SeenEntry) (n : ℕ)
+        (standard : Standard) → n ≤ numbers_in entries →
+        work table entries n ≡ fault standard →
+        IsFinished table is_over entries n (silent (Fixed standard)) }
+    ensures cancelled { (table : MethodTable) (is_over : Bool) (entries : List SeenEntry) (n : ℕ)
+        (program : Program) (made : List Message) (is_withdrawn : ℕ → Bool) →
+        work table entries n ≡ run program → is_cancelled entries n ≡ true →
+        IsUnderWay table is_over entries n (map message made) →
         IsFinished table is_over entries n
-        (record { sends = map message made ++ map withdrawal (filter is_withdrawn (last_turns made)); answer = Fixed Cancelled }) }
+        (record {
+          sends = map message made ++ map withdrawal (filter is_withdrawn (last_turns made));
+          answer = Fixed Cancelled;
+        }) }
 {}

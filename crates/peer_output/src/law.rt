@@ -81,5 +81,6 @@ pub fn without_methods_the_answers_are_all()
         (map answered (dues (λ n. Standard MethodNotFound) 1 units)) }
     ensures parts { (units : List SeenUnit) (items : List Item) →
         IsOutput (record { opening = []; methods = [] }) units items →
-        (answers_in items ≡ dues (λ n. Standard MethodNotFound) 1 units) × ((n : ℕ) → sent_by n items ≡ []) }
+        (answers_in items ≡ dues (λ n. Standard MethodNotFound) 1 units)
+        × ((n : ℕ) → sent_by n items ≡ []) }
 {}

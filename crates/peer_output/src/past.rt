@@ -20,17 +20,21 @@ pub fn nothing_is_a_past()
 
 /// Units may come while the input goes on, and then it may end.
 pub fn units_come_and_the_input_ends()
-    ensures units { (table : MethodTable) (past : Past) (units : List SeenUnit) → IsPast table false past → IsPast table false (with_units past units) }
-    ensures end { (table : MethodTable) (past : Past) → IsPast table false past → IsPast table true past }
+    ensures units { (table : MethodTable) (past : Past) (units : List SeenUnit) →
+        IsPast table false past → IsPast table false (with_units past units) }
+    ensures end { (table : MethodTable) (past : Past) →
+        IsPast table false past → IsPast table true past }
 {}
 
 /// A number that was given and isn't finished may send more, and may be finished, where that is certain.
 pub fn numbers_send_and_finish()
-    ensures sends { (table : MethodTable) (is_over : Bool) (past : Past) (n : ℕ) (sends : List Sending) → IsPast table is_over past →
+    ensures sends { (table : MethodTable) (is_over : Bool) (past : Past) (n : ℕ)
+        (sends : List Sending) → IsPast table is_over past →
         n ≤ units_numbers (past_units past) → past.took n ≡ None →
         Begins (past.sends n) sends → IsUnderWay table is_over (past_entries past) n sends →
         IsPast table is_over (with_sends past n sends) }
-    ensures finished { (table : MethodTable) (is_over : Bool) (past : Past) (n : ℕ) (c : Course) → IsPast table is_over past →
+    ensures finished { (table : MethodTable) (is_over : Bool) (past : Past) (n : ℕ) (c : Course) →
+        IsPast table is_over past →
         n ≤ units_numbers (past_units past) → past.took n ≡ None →
         Begins (past.sends n) c.sends → IsFinished table is_over (past_entries past) n c →
         IsPast table is_over (with_course past n c) }
@@ -39,10 +43,12 @@ pub fn numbers_send_and_finish()
 /// What a number has sent may be written next; and the answers of the next units, once all is written that their requests
 /// have sent.
 pub fn sendings_and_answers_are_written()
-    ensures sent { (table : MethodTable) (is_over : Bool) (past : Past) (n : ℕ) (s : Sending) → IsPast table is_over past →
+    ensures sent { (table : MethodTable) (is_over : Bool) (past : Past) (n : ℕ) (s : Sending) →
+        IsPast table is_over past →
         Begins (sent_by n past.items ++ s ∷ []) (past.sends n) →
         IsPast table is_over (with_sent past n s) }
-    ensures released { (table : MethodTable) (is_over : Bool) (past : Past) (units left : List SeenUnit) → IsPast table is_over past →
+    ensures released { (table : MethodTable) (is_over : Bool) (past : Past)
+        (units left : List SeenUnit) → IsPast table is_over past →
         past.left ≡ units ++ left →
         All (IsAllSent past.took past.items) (requests_of (1 + units_numbers past.released) units) →
         IsPast table is_over (with_released past units left) }
@@ -50,7 +56,8 @@ pub fn sendings_and_answers_are_written()
 
 /// What a past has written is a partial output, whatever may yet come.
 pub fn past_is_a_partial_output()
-    ensures { (table : MethodTable) (is_over : Bool) (past : Past) (later : List SeenUnit) → IsPast table is_over past →
+    ensures { (table : MethodTable) (is_over : Bool) (past : Past) (later : List SeenUnit) →
+        IsPast table is_over past →
         MayBecome is_over (past_units past) later → IsPartialOutput table later past.items }
 {}
 

@@ -11,7 +11,8 @@ use Rattle.std.proofs.lemmas.Slice.Eq.{bytes_eq-Decides}
 use Rattle.std.specs.List.{before_first, after_first, position_or_len}
 use Rattle.std.specs.Str.{bytes_eq}
 use Rattle.std.specs.Str.Parse.{AllDigits, ParsesUnsigned, digits_value}
-use Rattle.rpc_messages.specs.Key.{most_numbers, most_turns, dot, key_text, decimal_number, key_of, IsKeyOf}
+use Rattle.rpc_messages.specs.declared.key.TheConstants.{MOST_NUMBERS, MOST_TURNS}
+use Rattle.rpc_messages.specs.Key.{dot, key_text, decimal_number, key_of, IsKeyOf}
 
 -- ---- one number
 
@@ -79,10 +80,10 @@ after_dot n rest fits =
     ap (λ k. drop (k + 1) (decimal n ++ dot ∷ rest)) (dot_at n rest fits)
     ∙ ap (drop (length (decimal n) + 1)) (sym (append_assoc (decimal n) (dot ∷ []) rest)) ∙ drop_at (decimal n ++ dot ∷ []) rest (length (decimal n) + 1) (length_push (decimal n) dot)
 
-pub key_of-key_text : (n t : ℕ) → n ≤ most_numbers → 1 ≤ t → t ≤ most_turns → key_of (key_text n t) ≡ Some (n, t)
+pub key_of-key_text : (n t : ℕ) → n ≤ MOST_NUMBERS → 1 ≤ t → t ≤ MOST_TURNS → key_of (key_text n t) ≡ Some (n, t)
 key_of-key_text n t number_in_range from_one turn_in_range =
     let no_zero : (t == 0) ≡ false = grind (arith, nat_tests) in
-    rw (before_dot n (decimal t) (omega arith), after_dot n (decimal t) (omega arith), decimal_number-decimal most_numbers n number_in_range (omega arith), decimal_number-decimal most_turns t turn_in_range (omega arith), no_zero)
+    rw (before_dot n (decimal t) (omega arith), after_dot n (decimal t) (omega arith), decimal_number-decimal MOST_NUMBERS n number_in_range (omega arith), decimal_number-decimal MOST_TURNS t turn_in_range (omega arith), no_zero)
 
 -- ---- what is read as a key
 
@@ -94,10 +95,10 @@ split_at_dot text h =
     let here : get_or text (position_or_len (λ b. b == dot) text) 0 ≡ dot = let p = passes_at_first (λ b. b == dot) text 0 h in grind (arith, nat_tests, p) in
     split_at_first (λ b. b == dot) text 0 h ∙ ap (λ b. before_first (λ x. x == dot) text ++ b ∷ after_first (λ x. x == dot) text) here
 
-from_parts : (text : List ℕ) (n t : ℕ) → decimal_number most_numbers (before_first (λ b. b == dot) text) ≡ Some n → decimal_number most_turns (after_first (λ b. b == dot) text) ≡ Some t → 1 ≤ t → IsKeyOf text n t
+from_parts : (text : List ℕ) (n t : ℕ) → decimal_number MOST_NUMBERS (before_first (λ b. b == dot) text) ≡ Some n → decimal_number MOST_TURNS (after_first (λ b. b == dot) text) ≡ Some t → 1 ≤ t → IsKeyOf text n t
 from_parts text n t read_number read_turn from_one =
-    let number = decimal_number-is most_numbers n _ read_number in
-    let turn = decimal_number-is most_turns t _ read_turn in
+    let number = decimal_number-is MOST_NUMBERS n _ read_number in
+    let turn = decimal_number-is MOST_TURNS t _ read_turn in
     let inside : position_or_len (λ b. b == dot) text < length text = by_place (cases_lt (position_or_len (λ b. b == dot) text) (length text)) turn.0 turn.1 in
     record {
       written = split_at_dot text inside ∙ ap (λ s. s ++ dot ∷ after_first (λ b. b == dot) text) number.0 ∙ ap (λ s. decimal n ++ dot ∷ s) turn.0;
@@ -106,16 +107,16 @@ from_parts text n t read_number read_turn from_one =
       turn_in_range = turn.1;
     }
   where
-    by_place : (position_or_len (λ b. b == dot) text < length text) ⊎ (length text ≤ position_or_len (λ b. b == dot) text) → after_first (λ b. b == dot) text ≡ decimal t → t ≤ most_turns → position_or_len (λ b. b == dot) text < length text
+    by_place : (position_or_len (λ b. b == dot) text < length text) ⊎ (length text ≤ position_or_len (λ b. b == dot) text) → after_first (λ b. b == dot) text ≡ decimal t → t ≤ MOST_TURNS → position_or_len (λ b. b == dot) text < length text
     by_place (inl lt) is small = lt
     by_place (inr past) is small = absurd (omega (arith, decimal_nonempty t (omega arith), ap length (sym is ∙ after_none text past)))
 
 pub IsKeyOf-from_key_of : (text : List ℕ) (n t : ℕ) → key_of text ≡ Some (n, t) → IsKeyOf text n t
 IsKeyOf-from_key_of text n t read =
-    option_and_then_some _ (decimal_number most_numbers (before_first (λ b. b == dot) text)) (n, t) read (λ m read_number rest.
-    option_and_then_some _ (decimal_number most_turns (after_first (λ b. b == dot) text)) (n, t) rest (λ u read_turn last. by_zero m u read_number read_turn (u == 0) refl last))
+    option_and_then_some _ (decimal_number MOST_NUMBERS (before_first (λ b. b == dot) text)) (n, t) read (λ m read_number rest.
+    option_and_then_some _ (decimal_number MOST_TURNS (after_first (λ b. b == dot) text)) (n, t) rest (λ u read_turn last. by_zero m u read_number read_turn (u == 0) refl last))
   where
-    by_zero : (m u : ℕ) → decimal_number most_numbers (before_first (λ b. b == dot) text) ≡ Some m → decimal_number most_turns (after_first (λ b. b == dot) text) ≡ Some u
+    by_zero : (m u : ℕ) → decimal_number MOST_NUMBERS (before_first (λ b. b == dot) text) ≡ Some m → decimal_number MOST_TURNS (after_first (λ b. b == dot) text) ≡ Some u
         → (b : Bool) → (u == 0) ≡ b → cond {A = Option (ℕ × ℕ)} b None (Some (m, u)) ≡ Some (n, t) → IsKeyOf text n t
     by_zero m u read_number read_turn true is last = cc
     by_zero m u read_number read_turn false is last =

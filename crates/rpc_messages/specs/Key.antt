@@ -3,13 +3,7 @@ use Rattle.std.specs.Prelude.{◌≡◌, ◌≤◌, ℕ, List, ◌∷◌, ◌++�
 use Rattle.std.specs.List.{before_first, after_first}
 use Rattle.std.specs.Str.{bytes_eq}
 use Rattle.std.specs.Str.Parse.{digits_value}
-
--- handlers have the numbers up to this one, and each makes calls with the turns 1 to `most_turns`
-abbrev pub most_numbers : ℕ
-most_numbers = 1000000
-
-abbrev pub most_turns : ℕ
-most_turns = 1024
+use Rattle.rpc_messages.specs.declared.key.TheConstants.{MOST_NUMBERS, MOST_TURNS}
 
 -- the byte between the two numbers, `.`
 abbrev pub dot : ℕ
@@ -27,12 +21,12 @@ decimal_number most s = if nat_le (digits_value 10 s) most && bytes_eq (decimal 
 -- the handler's number and the turn that a text is the key of
 abbrev pub key_of : List ℕ → Option (ℕ × ℕ)
 key_of text =
-    option_and_then (λ n. option_and_then (λ t. if t == 0 then None else Some (n, t)) (decimal_number most_turns (after_first (λ b. b == dot) text)))
-    (decimal_number most_numbers (before_first (λ b. b == dot) text))
+    option_and_then (λ n. option_and_then (λ t. if t == 0 then None else Some (n, t)) (decimal_number MOST_TURNS (after_first (λ b. b == dot) text)))
+    (decimal_number MOST_NUMBERS (before_first (λ b. b == dot) text))
 
 -- the text is the key of call t of handler n
 pub record IsKeyOf (text : List ℕ) (n t : ℕ) : Type 0 where
   pub written : text ≡ key_text n t
-  pub number_in_range : n ≤ most_numbers
+  pub number_in_range : n ≤ MOST_NUMBERS
   pub turn_from_one : 1 ≤ t
-  pub turn_in_range : t ≤ most_turns
+  pub turn_in_range : t ≤ MOST_TURNS

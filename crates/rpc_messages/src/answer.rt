@@ -33,7 +33,8 @@ pub fn put_answer(
     id: &Id,
     reply: &Reply,
 ) -> Result<(), AllocError>
-    ensures text { OnOk result (bytes.new.items ≡ bytes.old.items ++ answer_text_of id.now reply.now) }
+    ensures text { OnOk result (bytes.new.items ≡
+        bytes.old.items ++ answer_text_of id.now reply.now) }
     ensures reads_back { OnOk result (depth (answer_of id.now reply.now) ≤ max_depth
         → read (answer_text_of id.now reply.now) ≡ Some (answer_of id.now reply.now)) }
     ensures err { OnErr result (bytes.new.items ≡ bytes.old.items) }
@@ -55,7 +56,8 @@ fn put_response(
     id: &Id,
     reply: &Reply,
 ) -> Result<(), AllocError>
-    ensures text { OnOk result (bytes.new.items ≡ bytes.old.items ++ answer_text_of id.now reply.now) }
+    ensures text { OnOk result (bytes.new.items ≡
+        bytes.old.items ++ answer_text_of id.now reply.now) }
     ensures reads_back { OnOk result (depth (answer_of id.now reply.now) ≤ max_depth
         → read (answer_text_of id.now reply.now) ≡ Some (answer_of id.now reply.now)) }
     ensures front { OnErr result (StartsWith bytes.new.items bytes.old.items) }
@@ -73,7 +75,8 @@ fn put_response(
 /// Puts a response with a result of that text.
 fn put_done(alloc: Global, bytes: &mut Vec<u8>, id: &Id, value: &[u8]) -> Result<(), AllocError>
     ensures text { OnOk result (bytes.new.items ≡ bytes.old.items ++ done_text id.now value.now) }
-    ensures id_reads_back { OnOk result (read (compact_text (id_data id.now)) ≡ Some (id_data id.now)) }
+    ensures id_reads_back { OnOk result (read (compact_text (id_data id.now)) ≡
+        Some (id_data id.now)) }
     ensures front { OnErr result (StartsWith bytes.new.items bytes.old.items) }
 {
     bytes.reserve(ROOM + value.len())?;
@@ -87,7 +90,8 @@ fn put_done(alloc: Global, bytes: &mut Vec<u8>, id: &Id, value: &[u8]) -> Result
 /// Puts a response with an error of that text.
 fn put_error(alloc: Global, bytes: &mut Vec<u8>, id: &Id, error: &[u8]) -> Result<(), AllocError>
     ensures text { OnOk result (bytes.new.items ≡ bytes.old.items ++ error_text id.now error.now) }
-    ensures id_reads_back { OnOk result (read (compact_text (id_data id.now)) ≡ Some (id_data id.now)) }
+    ensures id_reads_back { OnOk result (read (compact_text (id_data id.now)) ≡
+        Some (id_data id.now)) }
     ensures front { OnErr result (StartsWith bytes.new.items bytes.old.items) }
 {
     bytes.reserve(ROOM + error.len())?;

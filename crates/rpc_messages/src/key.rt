@@ -1,4 +1,5 @@
 ghost use Rattle.std.specs.Prelude.{◌≡◌, ◌↔◌, ℕ, List, IfOk, Some, string_bytes};
+ghost use Rattle.rpc_messages.specs.declared.key.TheConstants.{MOST_NUMBERS, MOST_TURNS};
 ghost use Rattle.rpc_messages.specs.Key.{key_text, key_of, decimal_number as number_of, IsKeyOf};
 
 use itoa::Buffer;
@@ -46,4 +47,9 @@ fn decimal_number(text: &str, most: u32) -> Option<u32>
 /// A text is read as a key exactly where it is that key.
 pub fn keys_are_what_is_written()
     ensures { (text : List ℕ) (n t : ℕ) → (key_of text ≡ Some (n, t)) ↔ IsKeyOf text n t }
+{}
+
+/// The limits of keys, in figures. All other definitions and clauses cite the constants.
+pub fn limits_of_keys_in_figures()
+    ensures { (MOST_NUMBERS ≡ 1000000) × (MOST_TURNS ≡ 1024) }
 {}

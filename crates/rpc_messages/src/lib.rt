@@ -23,7 +23,10 @@ pub use call::{Call, cancel_target};
 pub use entry::Entry;
 pub use error_value::ErrorValue;
 pub use id::Id;
-pub use key::{MOST_NUMBERS, MOST_TURNS, call_key, keys_are_what_is_written, read_key};
+pub use key::{
+    MOST_NUMBERS, MOST_TURNS, call_key, keys_are_what_is_written, limits_of_keys_in_figures,
+    read_key,
+};
 pub use kind::Kind;
 pub use outgoing::Outgoing;
 pub use params::Params;

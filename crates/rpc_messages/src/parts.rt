@@ -15,8 +15,10 @@ use std::alloc::{AllocError, Global};
 use std::mem;
 
 pub(crate) fn put_id(alloc: Global, bytes: &mut Vec<u8>, id: &Id) -> Result<(), AllocError>
-    ensures text { OnOk result (bytes.new.items ≡ bytes.old.items ++ compact_text (id_data id.now)) }
-    ensures reads_back { OnOk result (read (compact_text (id_data id.now)) ≡ Some (id_data id.now)) }
+    ensures text { OnOk result (bytes.new.items ≡
+        bytes.old.items ++ compact_text (id_data id.now)) }
+    ensures reads_back { OnOk result (read (compact_text (id_data id.now)) ≡
+        Some (id_data id.now)) }
     ensures front { OnErr result (StartsWith bytes.new.items bytes.old.items) }
 {
     match id {

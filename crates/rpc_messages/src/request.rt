@@ -3,6 +3,7 @@ ghost use Rattle.std.specs.Io.{StartsWith};
 ghost use Rattle.serde_json.specs.Data.{depth, array};
 ghost use Rattle.serde_json.specs.Read.{read, max_depth};
 ghost use Rattle.serde_json.specs.View.{items_of};
+ghost use Rattle.rpc_messages.specs.declared.key.TheConstants.{MOST_TURNS};
 ghost use Rattle.rpc_messages.specs.Parts.{method_text, params_text, AreReadBack, AllAreReadBack};
 ghost use Rattle.rpc_messages.specs.Texts.{call_of, call_text_of, calls_of, calls_text_of, notice_of, notice_text_of, withdrawal_of, withdraw_text_of};
 
@@ -38,7 +39,8 @@ pub fn put_call(
     turn: u32,
     outgoing: &Outgoing,
 ) -> Result<(), AllocError>
-    ensures text { OnOk result (bytes.new.items ≡ bytes.old.items ++ call_text_of number turn outgoing.now) }
+    ensures text { OnOk result (bytes.new.items ≡
+        bytes.old.items ++ call_text_of number turn outgoing.now) }
     ensures reads_back { OnOk result (depth (call_of number turn outgoing.now) ≤ max_depth
         → read (call_text_of number turn outgoing.now) ≡ Some (call_of number turn outgoing.now)) }
     ensures err { OnErr result (bytes.new.items ≡ bytes.old.items) }
@@ -62,7 +64,7 @@ pub fn calls_text(
     calls: &[Outgoing],
 ) -> Result<Vec<u8>, AllocError>
     requires some { 0 < length calls.now }
-    requires turns { first + length calls.now ≤ 1025 }
+    requires turns { first + length calls.now ≤ MOST_TURNS + 1 }
     ensures text { IfOk result (λ bytes. bytes.items ≡ calls_text_of number first calls.now) }
     ensures reads_back { IfOk result (λ bytes.
         depth (array (items_of (calls_of number first calls.now))) ≤ max_depth
@@ -83,10 +85,13 @@ pub fn put_calls(
     calls: &[Outgoing],
 ) -> Result<(), AllocError>
     requires some { 0 < length calls.now }
-    requires turns { first + length calls.now ≤ 1025 }
-    ensures text { OnOk result (bytes.new.items ≡ bytes.old.items ++ calls_text_of number first calls.now) }
-    ensures reads_back { OnOk result (depth (array (items_of (calls_of number first calls.now))) ≤ max_depth
-        → read (calls_text_of number first calls.now) ≡ Some (array (items_of (calls_of number first calls.now)))) }
+    requires turns { first + length calls.now ≤ MOST_TURNS + 1 }
+    ensures text { OnOk result (bytes.new.items ≡
+        bytes.old.items ++ calls_text_of number first calls.now) }
+    ensures reads_back { OnOk result (
+        depth (array (items_of (calls_of number first calls.now))) ≤ max_depth
+        → read (calls_text_of number first calls.now) ≡
+        Some (array (items_of (calls_of number first calls.now)))) }
     ensures err { OnErr result (bytes.new.items ≡ bytes.old.items) }
 {
     let before = bytes.len();
@@ -131,7 +136,8 @@ pub fn put_notice(alloc: Global, bytes: &mut Vec<u8>, outgoing: &Outgoing) -> Re
 /// with no space.
 pub fn withdraw_text(alloc: Global, number: u32, turn: u32) -> Result<Vec<u8>, AllocError>
     ensures text { IfOk result (λ bytes. bytes.items ≡ withdraw_text_of number turn) }
-    ensures reads_back { IfOk result (λ bytes. read bytes.items ≡ Some (withdrawal_of number turn)) }
+    ensures reads_back { IfOk result (λ bytes.
+        read bytes.items ≡ Some (withdrawal_of number turn)) }
 {
     let mut bytes = Vec::with_capacity(alloc, ROOM)?;
     put_withdrawal(&mut bytes, number, turn)?;
@@ -163,7 +169,8 @@ fn put_one_call(
     turn: u32,
     outgoing: &Outgoing,
 ) -> Result<(), AllocError>
-    ensures text { OnOk result (bytes.new.items ≡ bytes.old.items ++ call_text_of number turn outgoing.now) }
+    ensures text { OnOk result (bytes.new.items ≡
+        bytes.old.items ++ call_text_of number turn outgoing.now) }
     ensures params { OnOk result (AreReadBack outgoing.now.params) }
     ensures front { OnErr result (StartsWith bytes.new.items bytes.old.items) }
 {
@@ -181,8 +188,9 @@ fn put_each_call(
     calls: &[Outgoing],
 ) -> Result<(), AllocError>
     requires some { 0 < length calls.now }
-    requires turns { first + length calls.now ≤ 1025 }
-    ensures text { OnOk result (bytes.new.items ≡ bytes.old.items ++ calls_text_of number first calls.now) }
+    requires turns { first + length calls.now ≤ MOST_TURNS + 1 }
+    ensures text { OnOk result (bytes.new.items ≡
+        bytes.old.items ++ calls_text_of number first calls.now) }
     ensures params { OnOk result (AllAreReadBack calls.now) }
     ensures front { OnErr result (StartsWith bytes.new.items bytes.old.items) }
 {

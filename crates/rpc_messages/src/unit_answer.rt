@@ -32,7 +32,8 @@ pub fn put_unit_answer(
 ) -> Result<bool, AllocError>
     ensures text { IfOk result (λ some. bytes.new.items
         ≡ bytes.old.items ++ unwrap_or (unit_text kind (map answer_seen answers.now)) []) }
-    ensures some { IfOk result (λ some. some ≡ is_some (unit_text kind (map answer_seen answers.now))) }
+    ensures some { IfOk result (λ some.
+        some ≡ is_some (unit_text kind (map answer_seen answers.now))) }
     ensures err { OnErr result (bytes.new.items ≡ bytes.old.items) }
 {
     if answers.is_empty() {
@@ -82,7 +83,8 @@ fn put_each_answer(
 }
 
 fn put_one_answer(alloc: Global, bytes: &mut Vec<u8>, answer: &Answer<'_>) -> Result<(), AllocError>
-    ensures text { OnOk result (bytes.new.items ≡ bytes.old.items ++ text_of (answer_seen answer.now)) }
+    ensures text { OnOk result (bytes.new.items ≡
+        bytes.old.items ++ text_of (answer_seen answer.now)) }
     ensures err { OnErr result (bytes.new.items ≡ bytes.old.items) }
 {
     match answer {

@@ -21,9 +21,10 @@ struct Counted {
 }
 
 impl Turns for Counted {
-    ghost use Rattle.std.specs.Prelude.{◌≡◌, ◌+◌, min};
+    ghost use Rattle.std.specs.Prelude.{◌≡◌, ◌+◌, ◌-◌, ◌^◌, min};
 
-    ghost turned = { λ before after. (after.number ≡ before.number) × (after.turns ≡ min (before.turns + 1) 4294967295) };
+    ghost turned = { λ before after. (after.number ≡ before.number)
+        × (after.turns ≡ min (before.turns + 1) (2 ^ 32 - 1)) };
 
     fn turn(&mut self) {
         self.turns = self.turns.saturating_add(1);
@@ -374,7 +375,9 @@ fn hand_to_four<R: Threads + Wait + Abort + Sync>(
     third: WorkerSeat<Counted>,
     fourth: WorkerSeat<Counted>,
 ) -> (ClerkSeat<Counted>, Result<Vec<u8>, AllocError>, u32)
-    requires { IsClerkOf slots.now clerk × IsWorkerOf slots.now first × IsWorkerOf slots.now second × IsWorkerOf slots.now third × IsWorkerOf slots.now fourth }
+    requires { IsClerkOf slots.now clerk × IsWorkerOf slots.now first
+        × IsWorkerOf slots.now second × IsWorkerOf slots.now third
+        × IsWorkerOf slots.now fourth }
     ensures { IsClerkOf slots.now result.0 }
 {
     let (stop, ran) = (AtomicBool::new(false), AtomicU32::new(0));
@@ -383,7 +386,9 @@ fn hand_to_four<R: Threads + Wait + Abort + Sync>(
         thread::scope_env(),
         rt,
         move |scope| -> (ClerkSeat<Counted>, Result<Vec<u8>, AllocError>, u32)
-            requires { IsClerkOf slots.now clerk × IsWorkerOf slots.now first × IsWorkerOf slots.now second × IsWorkerOf slots.now third × IsWorkerOf slots.now fourth }
+            requires { IsClerkOf slots.now clerk × IsWorkerOf slots.now first
+                × IsWorkerOf slots.now second × IsWorkerOf slots.now third
+                × IsWorkerOf slots.now fourth }
             ensures { IsClerkOf slots.entry.now result.0 }
         {
             let first = scope

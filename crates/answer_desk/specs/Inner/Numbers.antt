@@ -8,6 +8,7 @@ use Rattle.std.specs.Ordering.{nat_cmp}
 use Rattle.std.specs.declared.cmp.Ordering.{Ordering}
 use Rattle.std.specs.declared.cmp.Reverse.{Reverse}
 use Rattle.rpc_messages.specs.declared.id.Id.{Id}
+use Rattle.rpc_messages.specs.declared.key.TheConstants.{MOST_NUMBERS}
 use Rattle.answer_desk.specs.declared.kept.Kept.{Kept}
 use Rattle.answer_desk.specs.declared.requests_by_id.RequestsById.{RequestsById}
 use Rattle.answer_desk.specs.Seen.{kept_at}
@@ -31,7 +32,7 @@ NoNewBelow bound numbers = (k : ℕ) → k < bound → is_new_at (kept_at number
 
 -- what the window keeps true: the numbers are at most 1,000,000
 pub record IsWindow (first : ℕ) (window : List (Option Kept)) : Type 0 where
-  pub few : first + length window ≤ 1000001
+  pub few : first + length window ≤ MOST_NUMBERS + 1
   pub some_given : 0 < first + length window
   pub trimmed : begins_kept window ≡ true
 

@@ -1,6 +1,7 @@
 -- A method that goes on until it waits for replies or ends. Only private functions' clauses cite this.
 use Rattle.std.specs.Prelude.{◌≡◌, ◌+◌, ◌≤◌, ◌<◌, List, [], ◌++◌, length, drop, Result, Ok, Err}
 use Rattle.std.specs.declared.alloc.AllocError.{AllocError}
+use Rattle.rpc_messages.specs.declared.key.TheConstants.{MOST_TURNS}
 use Rattle.method_steps.specs.Steps.{Step, calls_of}
 use Rattle.handler_future.specs.declared.course.Progress.{Progress}
 use Rattle.handler_future.specs.declared.course.Progress.TheVariants.{Going, Waiting, Ended}
@@ -26,7 +27,7 @@ Extends (Err e) before after = AddsNotices before.messages after.messages []
 pub record IsRunnable (steps : List Step) (c : Seen) : Type 0 where
   pub no_waits : c.waits ≡ []
   pub not_asked : c.asked ≡ 0
-  pub turns : c.turn + calls_of (drop c.place steps) ≤ 1025
+  pub turns : c.turn + calls_of (drop c.place steps) ≤ MOST_TURNS + 1
 
 -- all that was waited for was heard
 pub record IsSettling (steps : List Step) (c : Seen) : Type 0 where
@@ -34,7 +35,7 @@ pub record IsSettling (steps : List Step) (c : Seen) : Type 0 where
   pub asked : 0 < c.asked
   pub place : c.place < length steps
   pub heard : c.heard_before ≤ length c.heard
-  pub turns : (c.turn + c.asked) + calls_of (drop (c.place + 1) steps) ≤ 1025
+  pub turns : (c.turn + c.asked) + calls_of (drop (c.place + 1) steps) ≤ MOST_TURNS + 1
 
 pub record IsReady (steps : List Step) (c : Seen) : Type 0 where
   pub run : c.asked ≡ 0 → IsRunnable steps c

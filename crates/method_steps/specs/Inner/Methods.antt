@@ -3,6 +3,7 @@ use Rattle.std.specs.Prelude.{◌≡◌, ℕ, ◌≤◌, List, [], length, map, 
 use Rattle.std.specs.declared.alloc.Global.{Global}
 use Rattle.std.specs.declared.sync.Arc.{Arc}
 use Rattle.std.specs.BTreeMap.{BTreeMap, get_by_text}
+use Rattle.method_steps.specs.declared.limits.TheConstants.{MOST_METHODS}
 use Rattle.method_steps.specs.declared.table.Method.{Method}
 use Rattle.method_steps.specs.Steps.{Step, NamedSteps, MethodTable, AreWithinLimits, place_of, shared_steps, unless_empty}
 
@@ -12,7 +13,7 @@ named_steps m = record { name = m.name; steps = shared_steps m.steps }
 
 -- the map finds each name's place, and the methods keep their limits
 pub record IsIndexed (methods : List Method) (places : BTreeMap (String Global) ℕ) : Type 0 where
-  pub few : length methods ≤ 256
+  pub few : length methods ≤ MOST_METHODS
   pub within : All (λ m. AreWithinLimits m.steps) (map named_steps methods)
   pub found : (name : List ℕ) → get_by_text places name ≡ place_of name (map named_steps methods)
 
