@@ -16,6 +16,8 @@ from tools.repository import TOP, Fault, listing, read_text
 
 # How many processors one check can use, and after how many seconds each line of progress comes.
 MOST_JOBS, EACH = 4, 15
+# How much later in line a check stands that others wait for less than for another one.
+NICE = 5
 
 
 class Run:
@@ -26,12 +28,13 @@ class Run:
         self.folder, self.log = f"{self.room}/crates/{name}", f"{room}/{name}.log"
         self.process, self.jobs, self.estimate = None, 0, 0
 
-    def start(self, jobs):
+    def start(self, jobs, is_first):
         words = ["run", "--jobs", str(jobs), "--", "--version"] if self.name == sources.PROGRAM else ["lib", "--jobs", str(jobs)]
+        later = [] if is_first else ["nice", "-n", str(NICE)]
         self.jobs = jobs
         with open(self.log, "wb") as log:
             how = {"stdin": subprocess.DEVNULL, "stdout": log, "stderr": subprocess.STDOUT}
-            self.process = subprocess.Popen(["rt", *words], cwd=self.folder, **how)
+            self.process = subprocess.Popen([*later, "rt", *words], cwd=self.folder, **how)
 
     def told(self):
         return read_text(self.log) if os.path.isfile(self.log) else ""
@@ -93,15 +96,30 @@ def progress(runs, begun):
     return f"{proved} of some {functions} functions proved, {minutes:.1f} minutes so far; at work: {at_work}"
 
 
-def start_ready(left, done, listed, lanes, busy):
-    """Starts each run whose libraries are built, as long as there are processors, which they share evenly."""
+def behind(run, runs, listed):
+    """How many functions stand on the longest way from a crate up to the program."""
+    above = [it for it in runs if run.name in listed.libraries[it.name]]
+    return run.estimate + max((behind(it, runs, listed) for it in above), default=0)
+
+
+def needed(jobs):
+    """The memory that a check takes with so many jobs: each further one takes less than the first."""
+    return MEMORY * (1 + 0.6 * (jobs - 1))
+
+
+def start_ready(left, runs, done, listed, memory):
+    """Starts each run whose libraries are built, as memory allows, the one first for which most is waiting. Each may use all
+    processors, since a check uses one at its beginning and its end; the others stand behind the first one in line."""
     ready = [it for it in left if {*listed.below(it.name)} - {it.name} <= done]
-    for at, run in enumerate(ready):
-        free = lanes - busy
-        if free > 0:
-            run.start(max(1, min(MOST_JOBS, free // (len(ready) - at))))
+    running = [it for it in runs if it.is_running()]
+    for run in sorted(ready, key=lambda it: -behind(it, runs, listed)):
+        free = memory - sum(needed(it.jobs) for it in running)
+        jobs = max((it for it in range(1, min(MOST_JOBS, processors()) + 1) if needed(it) <= free), default=0)
+        if jobs or not running:
+            is_first = all(behind(run, runs, listed) >= behind(it, runs, listed) for it in [*left, *running])
+            run.start(max(1, jobs), is_first)
             left.remove(run)
-            busy += run.jobs
+            running.append(run)
 
 
 def take_ended(runs, done):
@@ -116,11 +134,11 @@ def take_ended(runs, done):
 
 def prove(runs, listed, say):
     """Proves and builds each crate once those below it are built."""
-    lanes = max(1, min(processors(), free_memory() // MEMORY))
+    memory = free_memory()
     left, done, begun, said = [*runs], set(), time.monotonic(), 0.0
     try:
         while len(done) < len(runs):
-            start_ready(left, done, listed, lanes, sum(it.jobs for it in runs if it.is_running()))
+            start_ready(left, runs, done, listed, memory)
             if time.monotonic() - begun >= said + EACH:
                 said = time.monotonic() - begun
                 say(progress(runs, begun))

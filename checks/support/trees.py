@@ -83,6 +83,7 @@ class Trees:
             self.add_below(name, direct)
         needed = {*texts, *(it for name in texts for it in self.below[name])}
         self.needed = [it for it in self.below if it in needed]
+        self.lines = {it: lines_below(f"{root}/crates/{it}/src") for it in self.needed}
         for name in self.needed:
             for part in PARTS:
                 copy_folder(f"{root}/crates/{name}/{part}", f"{self.plain(name)}/{part}")
@@ -122,6 +123,11 @@ class Trees:
                 self.add_below(it, direct)
             self.below[name] = [*dict.fromkeys(it for dep in direct[name] for it in (*self.below[dep], dep))]
 
+    def behind(self, name: str) -> int:
+        """How long the longest way is from a crate up to one on which nothing stands, in lines."""
+        above = [it for it in self.needed if name in self.below[it]]
+        return self.lines[name] + max(map(self.behind, above), default=0)
+
     def take_kept(self, name: str) -> bool:
         """Takes what earlier checks kept of a crate, from where `rt ci` sets it aside too; says whether there was any."""
         for out in (f"{self.root}/crates/{name}/out", f"{self.root}/.git/rt-aside/{name}"):
@@ -160,10 +166,20 @@ class Trees:
             self.put_files(top, [name, *self.below[name]])
             yield f"{top}/crates/{name}"
 
-    def check(self, name: str, texts: dict[str, str]) -> Ran:
+    def check(self, name: str, texts: dict[str, str], jobs: int) -> Ran:
         """Checks a crate with these texts in place of its own, over what its proof kept."""
         with self.room(name, texts) as folder:
-            return run(["rt", "check", "--jobs", "1"], folder, self.limit)
+            return run(["rt", "check", "--jobs", str(jobs)], folder, self.limit)
+
+
+def lines_below(folder: str) -> int:
+    """How many lines the files below a folder have."""
+    files = [f"{at}/{name}" for at, _, names in os.walk(folder) for name in names]
+    count = 0
+    for file in files:
+        with open(file, "rb") as it:
+            count += it.read().count(b"\n")
+    return count
 
 
 def copy_folder(source: str, to: str, late: str = "", is_linked: bool = False) -> None:

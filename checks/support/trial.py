@@ -12,6 +12,10 @@ from support.trees import Ran, Trees
 from support.verdicts import Output, read_output
 
 
+# How many processors one check can use.
+MOST_JOBS = 4
+
+
 def say(text: str) -> None:
     print(text, flush=True)
 
@@ -72,6 +76,11 @@ class Turn:
     def is_control(self) -> bool:
         return self.label.startswith("control")
 
+    @property
+    def cost(self) -> int:
+        """What it takes, to compare: a check of no body costs as much as some five bodies."""
+        return 5 + len(self.bodies)
+
 
 class Trial:
     """One run over the crates: the proof of each, which is its control too, and then its rounds, up to `jobs` side by side.
@@ -100,22 +109,28 @@ class Trial:
         return self.jobs - sum(jobs for jobs, _ in self.running.values())
 
     def start(self, pool: ThreadPoolExecutor) -> bool:
-        """Starts what can be started, proofs first; says whether anything runs."""
+        """Starts what can be started, proofs first, those first for which most is waiting; says whether anything runs."""
         for name in self.unproved[:]:
             if any(it in self.lost for it in self.trees.below[name]):
                 self.unproved.remove(name)
                 self.lose(name, "a crate below it is not proved")
         ready = [it for it in self.unproved if all(below in self.proved for below in self.trees.below[it])]
+        ready.sort(key=self.trees.behind, reverse=True)
         for at, name in enumerate(ready):
             if self.idle() > 0:
                 jobs = max(1, self.idle() // (len(ready) - at))
                 self.unproved.remove(name)
                 future = pool.submit(self.trees.prove, name, jobs)
                 self.running[future] = jobs, partial(self.after_proof, name)
-        while self.waiting and self.idle() > 0:
+        self.waiting.sort(key=lambda it: it.cost * self.trees.lines[it.crate.name], reverse=True)
+        # (as long as proofs are to come, they find a processor free)
+        kept_free = 1 if self.unproved and self.jobs > 1 else 0
+        while self.waiting and self.idle() > kept_free:
+            # (at the end the long ones share the processors that nothing else waits for)
+            jobs = 1 if self.unproved else min(MOST_JOBS, max(1, self.idle() // len(self.waiting)))
             turn = self.waiting.pop(0)
-            future = pool.submit(self.trees.check, turn.crate.name, self.texts(turn))
-            self.running[future] = 1, partial(self.after_turn, turn)
+            future = pool.submit(self.trees.check, turn.crate.name, self.texts(turn), jobs)
+            self.running[future] = jobs, partial(self.after_turn, turn)
         return bool(self.running)
 
     def lose(self, name: str, why: str) -> None:

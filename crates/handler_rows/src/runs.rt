@@ -146,6 +146,17 @@ fn handler(alloc: Global, table: &Table, content: &str) -> Result<Handler, Fail>
     Ok(Handler::new(alloc, table, method, 1, call)?)
 }
 
+/// The table of most tests.
+fn usual_table(alloc: Global) -> Result<Table, Fail> {
+    table(alloc, TABLE)
+}
+
+/// Handler 1 of the call's method in that table.
+fn handler_of(alloc: Global, content: &str) -> Result<Handler, Fail> {
+    let table = usual_table(alloc)?;
+    handler(alloc, &table, content)
+}
+
 /// The handler's messages and its answer as they are sent, one on each line; a notification has no answer.
 fn told(
     alloc: Global,
@@ -247,6 +258,14 @@ fn run(handler: &mut Handler, replies: &[(u32, Reply)], order: &Order) -> Result
         }
     }
     Err("a handler without an end")?
+}
+
+/// The answer that a poll gives.
+fn answered(handler: &mut Handler) -> Result<Reply, Fail> {
+    match handler.advance() {
+        Some(Outcome::Answer(answer)) => Ok(answer),
+        _ => Err("no answer")?,
+    }
 }
 
 /// A call, the replies to its own calls, and what it sends and answers.

@@ -1,7 +1,7 @@
 //! Methods at their limits.
 
-use super::{ORDERS, TABLE, handler, hears, rehearsed, run, table};
-use handler_future::{Handler, Message, Outcome};
+use super::{ORDERS, Order, answered, handler, handler_of, hears, rehearsed, run, table};
+use handler_future::{Handler, Message};
 use json_values::Json;
 use method_steps::Table;
 use rpc_messages::Reply;
@@ -75,14 +75,24 @@ fn ends_with_a_batch(handler: &Handler) -> bool {
     }
 }
 
+/// A handler that has ended, and its answer.
+fn run_to_the_end(alloc: Global, order: &Order) -> Result<(Handler, Reply), Fail> {
+    let mut handler = most_calls(alloc)?;
+    let answer = run(&mut handler, &[], order)?;
+    Ok((handler, answer))
+}
+
+fn made_all(rt: &impl Abort, handler: &Handler) {
+    assert!(rt; handler.messages().len() == 64 && handler.heard().len() == 1_024);
+    assert!(rt; ends_with_a_batch(handler));
+}
+
 #[test]
 fn most_calls_without_a_reply(rt: HostRuntime) -> Result<(), Fail> {
     for order in ORDERS {
-        let mut handler = most_calls(rt.alloc())?;
-        let answer = run(&mut handler, &[], order)?;
+        let (handler, answer) = run_to_the_end(rt.alloc(), order)?;
         assert!(rt; is_null(&answer));
-        assert!(rt; handler.messages().len() == 64 && handler.heard().len() == 1_024);
-        assert!(rt; ends_with_a_batch(&handler));
+        made_all(&rt, &handler);
     }
     Ok(())
 }
@@ -112,41 +122,40 @@ fn three_hundred_replies_are_heard_in_a_rehearsal(rt: HostRuntime) -> Result<(),
     Ok(())
 }
 
-/// The answer that a poll gives.
-fn polled(handler: &mut Handler) -> Result<Reply, Fail> {
-    match handler.advance() {
-        Some(Outcome::Answer(answer)) => Ok(answer),
-        _ => Err("no answer")?,
-    }
+/// Polls the handler, which then waits for these turns, and has it hear a reply.
+fn waits_and_hears(
+    rt: &impl Abort,
+    alloc: Global,
+    handler: &mut Handler,
+    turns: &[u32],
+    content: &str,
+) -> Result<(), Fail> {
+    assert!(rt; handler.advance().is_none() && handler.waits() == turns);
+    assert!(rt; hears(alloc, handler, content)?);
+    Ok(())
 }
+
+const SECOND: &str = r#"{"jsonrpc":"2.0","id":"1.2","result":"B"}"#;
+
+const FIRST: &str = r#"{"jsonrpc":"2.0","id":"1.1","result":"A"}"#;
 
 /// Has a handler of two calls hear the second reply and then the first.
 fn hears_two(rt: &impl Abort, alloc: Global, handler: &mut Handler) -> Result<(), Fail> {
-    assert!(rt; handler.advance().is_none() && handler.waits() == [1, 2].as_slice());
-    assert!(rt;
-        hears(
-            alloc,
-            handler,
-            r#"{"jsonrpc":"2.0","id":"1.2","result":"B"}"#
-        )?
-    );
-    assert!(rt; handler.advance().is_none() && handler.waits() == [1].as_slice());
-    assert!(rt;
-        hears(
-            alloc,
-            handler,
-            r#"{"jsonrpc":"2.0","id":"1.1","result":"A"}"#
-        )?
-    );
-    Ok(())
+    waits_and_hears(rt, alloc, handler, &[1, 2], SECOND)?;
+    waits_and_hears(rt, alloc, handler, &[1], FIRST)
+}
+
+const TWO: &str = r#"{"jsonrpc":"2.0","method":"two","id":1}"#;
+
+fn two_calls(alloc: Global) -> Result<Handler, Fail> {
+    handler_of(alloc, TWO)
 }
 
 #[test]
 fn replies_to_two_calls_come_out_of_order(rt: HostRuntime) -> Result<(), Fail> {
-    let two = r#"{"jsonrpc":"2.0","method":"two","id":1}"#;
-    let mut handler = handler(rt.alloc(), &table(rt.alloc(), TABLE)?, two)?;
+    let mut handler = two_calls(rt.alloc())?;
     hears_two(&rt, rt.alloc(), &mut handler)?;
-    let answer = polled(&mut handler)?;
+    let answer = answered(&mut handler)?;
     assert!(rt; is_result(rt.alloc(), &answer, r#"["A","B"]"#)?);
     assert!(rt; handler.messages().len() == 1);
     Ok(())
@@ -158,7 +167,7 @@ const PAST_THE_END: &str = "kind = \"skip\"\nleft = 1\nright = 1\ncount = 64\n";
 fn a_skip_past_the_last_step_answers_null(rt: HostRuntime) -> Result<(), Fail> {
     let table = method_of(rt.alloc(), PAST_THE_END, 1)?;
     let mut handler = handler(rt.alloc(), &table, M)?;
-    let answer = polled(&mut handler)?;
+    let answer = answered(&mut handler)?;
     assert!(rt; is_null(&answer) && handler.messages().is_empty());
     Ok(())
 }

@@ -1,6 +1,6 @@
 //! Handlers as futures.
 
-use super::{TABLE, answers, handler, hears, rehearsed, replies, reply, table};
+use super::{answers, handler_of, hears, rehearsed, replies, reply};
 use futures::Future;
 use futures::executor::block_on;
 use futures::task::{Context, Poll, Source};
@@ -15,7 +15,7 @@ const ASK: &str = r#"{"jsonrpc":"2.0","method":"ask","params":["x"],"id":7}"#;
 const TRUE: &str = r#"{"jsonrpc":"2.0","id":"1.1","result":true}"#;
 
 fn asked(alloc: Global) -> Result<Handler, Fail> {
-    handler(alloc, &table(alloc, TABLE)?, ASK)
+    handler_of(alloc, ASK)
 }
 
 /// What a poll gives: an answer, or nothing while a reply is awaited.
@@ -93,14 +93,17 @@ fn a_rehearsal_without_replies_is_run_by_block_on(rt: HostRuntime) -> Result<(),
 
 const TWO: &str = r#"{"jsonrpc":"2.0","method":"two","id":7}"#;
 
+fn asked_twice(alloc: Global) -> Result<Handler, Fail> {
+    handler_of(alloc, TWO)
+}
+
 const LISTED: &str = r#"{"jsonrpc":"2.0","id":"1.2","result":2}
 {"jsonrpc":"2.0","id":"1.1","result":1}
 {"jsonrpc":"2.0","id":"1.2","result":3}"#;
 
 #[test]
 fn a_rehearsal_takes_the_first_listed(rt: HostRuntime) -> Result<(), Fail> {
-    let fresh = handler(rt.alloc(), &table(rt.alloc(), TABLE)?, TWO)?;
-    let answer = rehearsed(&rt, fresh, replies(rt.alloc(), LISTED)?)?;
+    let answer = rehearsed(&rt, asked_twice(rt.alloc())?, replies(rt.alloc(), LISTED)?)?;
     answers(
         &rt,
         rt.alloc(),
@@ -113,7 +116,7 @@ fn a_rehearsal_takes_the_first_listed(rt: HostRuntime) -> Result<(), Fail> {
 
 #[test]
 fn a_rehearsal_takes_what_was_heard(rt: HostRuntime) -> Result<(), Fail> {
-    let mut begun = handler(rt.alloc(), &table(rt.alloc(), TABLE)?, TWO)?;
+    let mut begun = asked_twice(rt.alloc())?;
     assert!(rt; polled(&mut begun)?.is_none());
     assert!(rt; hears(rt.alloc(), &mut begun, TRUE)?);
     let answer = rehearsed(&rt, begun, replies(rt.alloc(), LISTED)?)?;

@@ -1,7 +1,7 @@
 //! Handlers that go from thread to thread.
 
-use super::{TABLE, handler, hears, reply, table, told};
-use handler_future::{Handler, Outcome};
+use super::{answered, handler_of, hears, reply, told};
+use handler_future::Handler;
 use rpc_messages::Id;
 use std::alloc::Global;
 use std::test::Fail;
@@ -23,15 +23,22 @@ fn ended(alloc: Global, handler: &mut Handler) -> Result<Vec<u8>, Fail> {
     if !hears(alloc, handler, FIRST)? {
         return Err("an awaited reply was refused".into());
     }
-    match handler.advance() {
-        Some(Outcome::Answer(answer)) => told(alloc, handler, &Some(Id::Unsigned(7)), &answer),
-        _ => Err("no answer")?,
-    }
+    sent(alloc, handler)
+}
+
+fn sent(alloc: Global, handler: &mut Handler) -> Result<Vec<u8>, Fail> {
+    let answer = answered(handler)?;
+    let id = Some(Id::Unsigned(7));
+    told(alloc, handler, &id, &answer)
+}
+
+fn two_calls(alloc: Global) -> Result<Handler, Fail> {
+    handler_of(alloc, TWO)
 }
 
 #[test]
 fn a_handler_is_polled_by_one_thread_and_then_by_another(rt: HostRuntime) -> Result<(), Fail> {
-    let mut handler = handler(rt.alloc(), &table(rt.alloc(), TABLE)?, TWO)?;
+    let mut handler = two_calls(rt.alloc())?;
     assert!(rt; handler.advance().is_none());
     let (turn, said) = reply(rt.alloc(), SECOND)?;
     let child = thread::spawn(&rt, move || {
