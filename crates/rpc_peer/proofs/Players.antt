@@ -9,7 +9,7 @@ use Rattle.lsp_frames.proofs.Laws.{contents_exist, contents_keep_a_fault, conten
 use Rattle.rpc_messages.specs.Unit.{SeenUnit, units_of}
 use Rattle.rpc_peer.specs.Played.{HasPlayed}
 use Rattle.rpc_peer.specs.Player.{PlaysAfter}
-use Rattle.rpc_peer.specs.declared.limits.Limits.{Limits}
+use Rattle.peer_limits.specs.declared.limits.Limits.{Limits}
 use Rattle.rpc_peer.specs.declared.play.Player.{Player}
 use Rattle.rpc_peer.proofs.Playing.{HasPlayed-full}
 

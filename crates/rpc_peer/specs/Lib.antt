@@ -1,4 +1,3 @@
-pub mod Close
 pub mod Plain
 pub mod Played
 pub mod Player

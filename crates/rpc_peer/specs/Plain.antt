@@ -9,9 +9,9 @@ use Rattle.rpc_messages.specs.Dues.{Due, dues}
 use Rattle.rpc_messages.specs.declared.reply.Reply.{Reply}
 use Rattle.rpc_messages.specs.declared.reply.Reply.TheVariants.{Standard}
 use Rattle.rpc_messages.specs.declared.standard.Standard.TheVariants.{MethodNotFound}
-use Rattle.rpc_peer.specs.Close.{Ended, close_of}
-use Rattle.rpc_peer.specs.declared.limits.Limits.{Limits}
-use Rattle.rpc_peer.specs.declared.report.Report.{Report}
+use Rattle.peer_limits.specs.Close.{Ended, close_of}
+use Rattle.peer_limits.specs.declared.limits.Limits.{Limits}
+use Rattle.peer_limits.specs.declared.report.Report.{Report}
 
 -- Without methods each request is answered so.
 abbrev pub not_found : ℕ → Reply

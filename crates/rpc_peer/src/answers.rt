@@ -41,7 +41,8 @@ fn is_call(entry: &Entry) -> bool
 /// The text that a unit is answered with, where it is answered.
 pub(crate) fn answer(alloc: Global, unit: &Unit) -> Result<Option<Vec<u8>>, AllocError>
     ensures { (number : ℕ) → IfOk result (λ text. option_map (λ (bytes : _). bytes.items) text
-        ≡ unit_text (unit_kind (unit_seen unit.now)) (unit_answers not_found number (unit_seen unit.now))) }
+        ≡ unit_text (unit_kind (unit_seen unit.now))
+        (unit_answers not_found number (unit_seen unit.now))) }
 {
     let not_found = Reply::Standard(Standard::MethodNotFound);
     match unit {
@@ -64,7 +65,8 @@ fn text_of_answers(
     kind: Kind,
     answers: &[Answer<'_>],
 ) -> Result<Option<Vec<u8>>, AllocError>
-    ensures { IfOk result (λ text. option_map (λ (bytes : _). bytes.items) text ≡ unit_text kind (map answer_seen answers.now)) }
+    ensures { IfOk result (λ text. option_map (λ (bytes : _). bytes.items) text ≡
+        unit_text kind (map answer_seen answers.now)) }
 {
     let mut text = Vec::new(alloc);
     if put_unit_answer(alloc, &mut text, kind, answers)? {
@@ -94,7 +96,8 @@ fn answers_of<'a>(
 
 /// The answer that an entry has, if it has one, where each request has this reply.
 fn answer_of<'a>(entry: &'a Entry, reply: &'a Reply) -> Option<Answer<'a>>
-    ensures { (number : ℕ) → entry_answers (λ _. reply.now) number (entry_seen entry.now) ≡ answer_list result }
+    ensures { (number : ℕ) → entry_answers (λ _. reply.now) number (entry_seen entry.now) ≡
+        answer_list result }
 {
     match entry {
         Entry::Call(call) => match &call.id {

@@ -2,11 +2,8 @@
 #![tactic(auto)]
 
 mod answers;
-mod limits;
 mod play;
 mod played;
-mod report;
 
-pub use limits::Limits;
+pub use peer_limits::{Close, Limits, Report};
 pub use play::{PlayFault, Player, play_plain};
-pub use report::{Close, Report};

@@ -3,10 +3,9 @@
 ghost use Rattle.std.specs.Prelude.{◌≡◌, ◌++◌, [], List, ℕ, IfOk, OnOk, flat_map};
 ghost use Rattle.rpc_peer.specs.Plain.{IsPlainPlay};
 
-use crate::limits::Limits;
 use crate::played::Played;
-use crate::report::{Close, Report};
 use lsp_frames::{Decoder, End, FeedFault};
+use peer_limits::{Close, Limits, Report};
 use std::alloc::{AllocError, Global};
 
 /// Why nothing was played.
@@ -31,7 +30,8 @@ pub fn play_plain(
     limits: Limits,
     pieces: &[Vec<u8>],
 ) -> Result<(Vec<u8>, Report), PlayFault>
-    ensures { IfOk result (λ played. IsPlainPlay limits (flat_map (λ piece. piece.items) pieces.now) played.0.items played.1) }
+    ensures { IfOk result (λ played.
+        IsPlainPlay limits (flat_map (λ piece. piece.items) pieces.now) played.0.items played.1) }
 {
     let mut player = Player::new(alloc, limits);
     for piece in pieces {
@@ -69,7 +69,8 @@ impl Player {
     /// Plays one more piece of the input. After an error the player is of no use any more.
     pub fn feed(&mut self, piece: &[u8]) -> Result<(), AllocError>
         ensures limits { self.new.limits ≡ self.old.limits }
-        ensures plays { (bytes : List ℕ) → PlaysAfter bytes self.old → OnOk result (PlaysAfter (bytes ++ piece.now) self.new) }
+        ensures plays { (bytes : List ℕ) → PlaysAfter bytes self.old →
+            OnOk result (PlaysAfter (bytes ++ piece.now) self.new) }
     {
         if self.played.is_full {
             return Ok(());
@@ -89,7 +90,8 @@ impl Player {
 
     /// What was written, where the input ends here, and what is told of it.
     pub fn finish(self) -> (Vec<u8>, Report)
-        ensures { (bytes : List ℕ) → PlaysAfter bytes self → IsPlainPlay self.limits bytes result.0.items result.1 }
+        ensures { (bytes : List ℕ) → PlaysAfter bytes self →
+            IsPlainPlay self.limits bytes result.0.items result.1 }
     {
         let end = if self.played.is_full {
             Close::Full

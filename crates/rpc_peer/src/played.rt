@@ -71,8 +71,10 @@ impl Played {
     /// Adds a unit's answer, where it has one, and the numbers of its calls.
     fn add(&mut self, text: Option<Vec<u8>>, numbers: u32) -> Result<(), AllocError>
         requires { self.old.numbers + numbers < 2 ^ 32 }
-        ensures output { OnOk result (self.new.output.items ≡ self.old.output.items ++ flat_map written (text_list text)) }
-        ensures answers { OnOk result (self.new.answers ≡ min (self.old.answers + length (text_list text)) (2 ^ 64 - 1)) }
+        ensures output { OnOk result (self.new.output.items ≡
+            self.old.output.items ++ flat_map written (text_list text)) }
+        ensures answers { OnOk result (self.new.answers ≡
+            min (self.old.answers + length (text_list text)) (2 ^ 64 - 1)) }
         ensures numbers { self.new.numbers ≡ self.old.numbers + numbers }
         ensures full { self.new.is_full ≡ self.old.is_full }
     {
@@ -85,7 +87,8 @@ impl Played {
 
     /// Writes an answer as a frame, and counts it.
     fn write(&mut self, text: &[u8]) -> Result<(), AllocError>
-        ensures output { OnOk result (self.new.output.items ≡ self.old.output.items ++ written text.now) }
+        ensures output { OnOk result (self.new.output.items ≡
+            self.old.output.items ++ written text.now) }
         ensures answers { OnOk result (self.new.answers ≡ min (self.old.answers + 1) (2 ^ 64 - 1)) }
         ensures numbers { self.new.numbers ≡ self.old.numbers }
         ensures full { self.new.is_full ≡ self.old.is_full }

@@ -4,7 +4,7 @@ use Rattle.std.proofs.lemmas.List.{append-nil, take_more, take_all}
 use Rattle.std.proofs.lemmas.Grind.{flat_map-append}
 use Rattle.rpc_peer.specs.Plain.{IsPlainPlay}
 use Rattle.rpc_peer.specs.Player.{PlaysAfter}
-use Rattle.rpc_peer.specs.declared.limits.Limits.{Limits}
+use Rattle.peer_limits.specs.declared.limits.Limits.{Limits}
 use Rattle.rpc_peer.proofs.play.play_plain.Goals as goal
 
 pub loop-piece-init : goal.loop-piece-init

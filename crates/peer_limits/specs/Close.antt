@@ -2,8 +2,8 @@
 use Rattle.std.specs.Prelude.{ℕ, List, [], ◌∷◌, Bool, true, false, Option, Some, None}
 use Rattle.lsp_frames.specs.Contents.{Standing, Open, Broken}
 use Rattle.lsp_frames.specs.declared.frame.FrameFault.TheVariants.{Truncated}
-use Rattle.rpc_peer.specs.declared.report.Close.{Close}
-use Rattle.rpc_peer.specs.declared.report.Close.TheVariants.{Clean, Frame, Read, Full}
+use Rattle.peer_limits.specs.declared.report.Close.{Close}
+use Rattle.peer_limits.specs.declared.report.Close.TheVariants.{Clean, Frame, Read, Full}
 
 -- How a source of bytes ended: it was asked for no more, it had no more, or it failed.
 pub data Ending : Type 0 where
