@@ -1,0 +1,349 @@
+-- One entry is passed, where it finishes no number: what the desk keeps fits the entries with it.
+use Rattle.std.proofs.Common.{◌≡◌, ◌≢◌, ℕ, ◌+◌, ◌-◌, ◌<◌, ◌≤◌, ◌==◌, List, [], ◌∷◌, ◌++◌, length, set, Bool, true, false, cond, ◌&&◌, ◌||◌, Option, Some, None, ◌⊎◌, inl, inr, refl, sym, ap, subst, ◌∙◌, arith}
+use Rattle.std.proofs.lemmas.Bool.{cases_lt, cases_eq, ne_eqb}
+use Rattle.std.proofs.lemmas.List.{length-set}
+use Rattle.std.specs.Option.{option_map, option_and_then, option_map_or}
+use Rattle.rpc_messages.specs.declared.call.Call.{Call}
+use Rattle.rpc_messages.specs.declared.id.Id.{Id}
+use Rattle.rpc_messages.specs.declared.reply.Reply.{Reply}
+use Rattle.rpc_messages.specs.declared.standard.Standard.{Standard}
+use Rattle.rpc_messages.specs.Entry.{SeenEntry, call, reply}
+use Rattle.rpc_messages.specs.Ids.{has_id}
+use Rattle.rpc_messages.specs.Numbering.{numbers_of, numbers_in}
+use Rattle.rpc_messages.specs.Replies.{first_reply, reply_to}
+use Rattle.method_steps.specs.Steps.{MethodTable}
+use Rattle.answer_desk.specs.declared.number.Number.{Number}
+use Rattle.answer_desk.specs.declared.put.Put.{Put}
+use Rattle.answer_desk.specs.declared.put.Put.TheVariants.{Unknown, Second, Kept}
+use Rattle.answer_desk.specs.declared.slot.Slot.{Slot}
+use Rattle.answer_desk.specs.declared.slot.Slot.TheVariants.{Empty, Held, Given}
+use Rattle.answer_desk.specs.Replies.{slot_at, put_into, is_kept}
+use Rattle.answer_desk.specs.State.{State, number_at, slot_of, put_of, with_reply, with_marks, number_marked, is_unmarked, is_marked_number, is_newly_marked, is_new}
+use Rattle.handler_future.specs.State.{HandlerState}
+use Rattle.session_stages.specs.declared.stage.Stage.TheVariants.{Faulty}
+use Rattle.peer_output.specs.Cancelled.{Begins, cancels, request_id, is_cancelled}
+use Rattle.peer_output.specs.Items.{sent_by}
+use Rattle.peer_output.specs.Past.{Past, past_entries}
+use Rattle.session_state.specs.Core.{Core, stage_at, with_desk}
+use Rattle.session_state.specs.Fits.{SlotFits, Fits, is_told_mark, is_told}
+use Rattle.session_state.specs.Inner.Known.{Known}
+use Rattle.session_state.proofs.Carried.{Carries, carried, slot-carried}
+use Rattle.session_state.proofs.Marks.{marks-reached, marks-untold, marks-id, marks-replies, reaches-turned}
+use Rattle.session_state.proofs.Pointwise.{closed-replied, units-replied, next-replied, next-marked}
+use Rattle.session_state.proofs.Streams.{begins-append, numbers-push, id-front, cancelled-unknown, reply-unknown, reply-found, reply-other, reply-last, reply-first}
+
+or-none : (a : Bool) → (a || false) ≡ a
+or-none true = refl
+or-none false = refl
+
+none-cancelled : (e : SeenEntry) (o : Option Id) → ((id : Id) → cancels id e ≡ false) → option_map_or (λ id. cancels id e) o false ≡ false
+none-cancelled e None none = refl
+none-cancelled e (Some id) none = none id
+
+first-apart : (b c : Bool) (r : Reply) → b ≡ false → cond (b && c) (Some r) None ≡ None
+first-apart true c r is = cc
+first-apart false c r is = refl
+
+first-turned : (b c : Bool) (r : Reply) → c ≡ false → cond (b && c) (Some r) None ≡ None
+first-turned true c r is = ap (λ d. cond d (Some r) None) is
+first-turned false c r is = refl
+
+told-mapped : (f : Number → Number) → ((k : Number) → (f k).mark ≡ k.mark) → (o : Option Number) → is_told (option_map f o) ≡ is_told o
+told-mapped f same None = refl
+told-mapped f same (Some k) = ap is_told_mark (same k)
+
+new-mapped : (f : Number → Number) → ((k : Number) → (f k).mark ≡ k.mark) → (o : Option Number) → is_newly_marked (option_map f o) ≡ is_newly_marked o
+new-mapped f same None = refl
+new-mapped f same (Some k) = ap is_new (same k)
+
+unmapped : {A : Type 0} (o : Option A) → o ≡ option_map (λ x. x) o
+unmapped None = refl
+unmapped (Some x) = refl
+
+not_empty : (slot : Slot) → is_kept (put_into (Some slot)) ≡ false → slot ≢ Empty
+not_empty slot refused is = let kept : is_kept (put_into (Some slot)) ≡ true = ap (λ s. is_kept (put_into (Some s))) is in cc
+
+empty-kept : (o : Option Slot) → put_into o ≡ Kept → o ≡ Some Empty
+empty-kept None is = cc
+empty-kept (Some Empty) is = refl
+empty-kept (Some (Held r)) is = cc
+empty-kept (Some Given) is = cc
+
+module _ (known : Known) (table : MethodTable) (passed : List SeenEntry) (s : Core) (past : Past) (jobs : ℕ → Option HandlerState) (e : SeenEntry)
+    (fits : Fits table false passed s past jobs) (more : Begins (passed ++ e ∷ []) (past_entries past)) where
+  passed-fits : (d : State) → d.is_closed ≡ s.desk.is_closed → d.units ≡ s.desk.units → length d.numbers ≡ length s.desk.numbers
+      → ((n : ℕ) → Carries table false (past_entries past) passed (past_entries past) (passed ++ e ∷ []) n (stage_at s n) (number_at s.desk n) (number_at d n))
+      → Fits table false (passed ++ e ∷ []) (with_desk s d) past jobs
+  passed-fits d closed units numbers carries = record {
+    past_is = fits.past_is;
+    closed = closed ∙ fits.closed;
+    units = units ∙ fits.units;
+    numbers = numbers ∙ fits.numbers;
+    stages = fits.stages;
+    passed_begin = more;
+    each = λ n le. carried table false (past_entries past) passed (past_entries past) (passed ++ e ∷ []) n (number_at s.desk n) (number_at d n) (stage_at s n) (jobs n)
+        (past.sends n) (sent_by n past.items) (past.took n) (carries n) (fits.each n le);
+    no_more_jobs = fits.no_more_jobs;
+  }
+
+  -- a number of which the entry says nothing
+  quiet : (n : ℕ) (d : Option Number) → d ≡ number_at s.desk n → ((t : ℕ) → reply_to n t (passed ++ e ∷ []) ≡ reply_to n t passed)
+      → is_cancelled (passed ++ e ∷ []) n ≡ is_cancelled passed n
+      → ((error : Standard) → stage_at s n ≡ Faulty error → numbers_in passed < n → numbers_in (passed ++ e ∷ []) < n)
+      → Carries table false (past_entries past) passed (past_entries past) (passed ++ e ∷ []) n (stage_at s n) (number_at s.desk n) d
+  quiet n d same replies mark behind = record {
+    works = refl;
+    closed = λ is. same ∙ is;
+    behind = behind;
+    faulty = λ error is lt kept is_open unmarked. (kept, same ∙ is_open, ap is_marked_number same ∙ unmarked);
+    told = λ untold. ap is_told same ∙ untold;
+    heard = λ heard from. known.heard_stays false passed (passed ++ e ∷ []) n heard (begins-append passed (e ∷ [])) from;
+    keeps = λ h kept is_open f. (
+      kept,
+      same ∙ is_open,
+      record {
+        id = f.id;
+        mark = f.mark ∙ sym mark;
+        turns = f.turns;
+        slots = λ turn slot at. slot-carried passed (passed ++ e ∷ []) n turn h slot (replies turn) (f.slots turn slot at);
+      },
+    );
+  }
+
+  uncancelled : ((id : Id) → cancels id e ≡ false) → (n : ℕ) → is_cancelled (passed ++ e ∷ []) n ≡ is_cancelled passed n
+  uncancelled none n = by_place (cases_lt (numbers_in passed) n)
+    where
+      by_place : (numbers_in passed < n) ⊎ (n ≤ numbers_in passed) → is_cancelled (passed ++ e ∷ []) n ≡ is_cancelled passed n
+      by_place (inl unknown) = known.cancel_passes passed e n unknown ∙ sym (cancelled-unknown passed n unknown)
+      by_place (inr here) =
+          known.cancel_reaches passed e n here ∙ ap (λ b. is_cancelled passed n || b) (none-cancelled e (request_id passed n) none) ∙ or-none (is_cancelled passed n)
+
+  behind-none : numbers_of e ≡ 0 → (n : ℕ) (error : Standard) → stage_at s n ≡ Faulty error → numbers_in passed < n → numbers_in (passed ++ e ∷ []) < n
+  behind-none none n error is lt = omega (arith, lt, none, numbers-push passed e)
+
+  -- an entry that is no call, and no reply to a call that has come
+  pub silent-fits : numbers_of e ≡ 0 → ((id : Id) → cancels id e ≡ false) → ((n t : ℕ) → reply_to n t (passed ++ e ∷ []) ≡ reply_to n t passed)
+      → Fits table false (passed ++ e ∷ []) s past jobs
+  silent-fits none uncancels replies =
+      passed-fits s.desk refl refl refl (λ n. quiet n (number_at s.desk n) refl (replies n) (uncancelled uncancels n) (behind-none none n))
+
+  -- a call that cancels nothing, and isn't at fault
+  pub call-fits : (c : Call) → e ≡ call c → c.target ≡ None → ((error : Standard) → stage_at s (1 + numbers_in passed) ≢ Faulty error)
+      → Fits table false (passed ++ e ∷ []) s past jobs
+  call-fits c is none sound = passed-fits s.desk refl refl refl (λ n.
+      quiet n (number_at s.desk n) refl (λ t. reply-other n t passed e (ap (λ x. first_reply n t (x ∷ [])) is))
+      (uncancelled (λ id. ap (cancels id) is ∙ ap (has_id id) none) n)
+      (λ error at lt. behind-call n error at lt (cases_eq n (1 + numbers_in passed))))
+    where
+      behind-call : (n : ℕ) (error : Standard) → stage_at s n ≡ Faulty error → numbers_in passed < n → (n ≡ 1 + numbers_in passed) ⊎ (n ≡ 1 + numbers_in passed → ⊥)
+          → numbers_in (passed ++ e ∷ []) < n
+      behind-call n error at lt (inl same) = absurd (sound error (subst (λ k. stage_at s k ≡ Faulty error) same at))
+      behind-call n error at lt (inr apart) = omega (arith, lt, numbers-push passed e, ap numbers_of is, apart)
+
+  -- a call that cancels others
+  module _ (c : Call) (is : e ≡ call c) (id : Id) (target : c.target ≡ Some id) (sound : (error : Standard) → stage_at s (1 + numbers_in passed) ≢ Faulty error) where
+    reaches : (own : Option Id) → option_map_or (λ i. has_id i (Some id)) own false ≡ option_map_or (λ i. cancels i e) own false
+    reaches None = refl
+    reaches (Some own) = ap (has_id own) (sym target) ∙ ap (cancels own) (sym is)
+
+    marked-mark : (n : ℕ) (kept : Number) → n ≤ numbers_in passed → kept.id ≡ request_id (past_entries past) n → is_marked_number (Some kept) ≡ is_cancelled passed n
+        → is_marked_number (Some (number_marked id kept)) ≡ is_cancelled (passed ++ e ∷ []) n
+    marked-mark n kept here own mark =
+        marks-reached id kept ∙ ap (λ b. b || has_id id kept.id) mark
+        ∙ ap (λ o. is_cancelled passed n || has_id id o) (own ∙ id-front n passed (past_entries past) here fits.passed_begin)
+        ∙ ap (λ b. is_cancelled passed n || b) (reaches-turned id (request_id passed n) ∙ reaches (request_id passed n))
+        ∙ sym (known.cancel_reaches passed e n here)
+
+    marked-carries : (n : ℕ) → n ≤ numbers_in passed
+        → Carries table false (past_entries past) passed (past_entries past) (passed ++ e ∷ []) n (stage_at s n) (number_at s.desk n) (number_at (with_marks s.desk id (1 + numbers_in passed)) n)
+    marked-carries n here =
+        let same : number_at (with_marks s.desk id (1 + numbers_in passed)) n ≡ option_map (number_marked id) (number_at s.desk n) =
+        known.marked_below s.desk id (1 + numbers_in passed) n (omega (arith, here)) in
+        record {
+          works = refl;
+          closed = λ none. same ∙ ap (option_map (number_marked id)) none;
+          behind = λ error at lt. absurd (omega (arith, here, lt));
+          faulty = λ error at lt kept is_open unmarked. absurd (omega (arith, here, lt));
+          told = λ untold. ap is_told same ∙ marks-untold id (number_at s.desk n) untold;
+          heard = λ heard from. known.heard_stays false passed (passed ++ e ∷ []) n heard (begins-append passed (e ∷ [])) from;
+          keeps = λ h kept is_open f. (
+            number_marked id kept,
+            same ∙ ap (option_map (number_marked id)) is_open,
+            record {
+              id = marks-id id kept ∙ f.id;
+              mark = marked-mark n kept here f.id f.mark;
+              turns = ap length (marks-replies id kept) ∙ f.turns;
+              slots = λ turn slot at. slot-carried passed (passed ++ e ∷ []) n turn h slot (reply-other n turn passed e (ap (λ x. first_reply n turn (x ∷ [])) is))
+                  (f.slots turn slot (ap (λ rs. slot_at rs turn) (sym (marks-replies id kept)) ∙ at));
+            },
+          );
+        }
+
+    behind-cancel : (n : ℕ) → numbers_in passed < n → (error : Standard) → stage_at s n ≡ Faulty error → (n ≡ 1 + numbers_in passed) ⊎ (n ≡ 1 + numbers_in passed → ⊥)
+        → numbers_in (passed ++ e ∷ []) < n
+    behind-cancel n lt error at (inl same) = absurd (sound error (subst (λ k. stage_at s k ≡ Faulty error) same at))
+    behind-cancel n lt error at (inr apart) = omega (arith, lt, numbers-push passed e, ap numbers_of is, apart)
+
+    later-carries : (n : ℕ) → numbers_in passed < n
+        → Carries table false (past_entries past) passed (past_entries past) (passed ++ e ∷ []) n (stage_at s n) (number_at s.desk n) (number_at (with_marks s.desk id (1 + numbers_in passed)) n)
+    later-carries n unknown = quiet n (number_at (with_marks s.desk id (1 + numbers_in passed)) n) (known.marked_from s.desk id (1 + numbers_in passed) n (omega (arith, unknown)))
+        (λ t. reply-other n t passed e (ap (λ x. first_reply n t (x ∷ [])) is))
+        (known.cancel_passes passed e n unknown ∙ sym (cancelled-unknown passed n unknown))
+        (λ error at lt. behind-cancel n unknown error at (cases_eq n (1 + numbers_in passed)))
+
+    pub cancel-fits : Fits table false (passed ++ e ∷ []) (with_desk s (with_marks s.desk id (1 + numbers_in passed))) past jobs
+    cancel-fits = passed-fits (with_marks s.desk id (1 + numbers_in passed)) refl refl (next-marked s.desk id (1 + numbers_in passed))
+        (λ n. by_place n (cases_lt (numbers_in passed) n))
+      where
+        by_place : (n : ℕ) → (numbers_in passed < n) ⊎ (n ≤ numbers_in passed)
+            → Carries table false (past_entries past) passed (past_entries past) (passed ++ e ∷ []) n (stage_at s n) (number_at s.desk n)
+            (number_at (with_marks s.desk id (1 + numbers_in passed)) n)
+        by_place n (inl unknown) = later-carries n unknown
+        by_place n (inr here) = marked-carries n here
+
+  -- a reply to a call that has come
+  module _ (m t : ℕ) (r : Reply) (is : e ≡ reply m t r) where
+    no_cancel : (id : Id) → cancels id e ≡ false
+    no_cancel id = ap (cancels id) is
+
+    no_number : numbers_of e ≡ 0
+    no_number = ap numbers_of is
+
+    replies-apart : (n u : ℕ) → (n ≡ m → ⊥) → reply_to n u (passed ++ e ∷ []) ≡ reply_to n u passed
+    replies-apart n u apart = reply-other n u passed e (ap (λ x. first_reply n u (x ∷ [])) is ∙ first-apart (m == n) (t == u) r (ne_eqb m n (λ same. apart (sym same))))
+
+    turns-apart : (u : ℕ) → (u ≡ t → ⊥) → reply_to m u (passed ++ e ∷ []) ≡ reply_to m u passed
+    turns-apart u apart = reply-other m u passed e (ap (λ x. first_reply m u (x ∷ [])) is ∙ first-turned (m == m) (t == u) r (ne_eqb t u (λ same. apart (sym same))))
+
+    -- to one that hasn't come
+    pub early-fits : numbers_in passed < m → Fits table false (passed ++ e ∷ []) s past jobs
+    early-fits early = silent-fits no_number no_cancel (λ n u. by_number n u (cases_eq n m))
+      where
+        by_number : (n u : ℕ) → (n ≡ m) ⊎ (n ≡ m → ⊥) → reply_to n u (passed ++ e ∷ []) ≡ reply_to n u passed
+        by_number n u (inl same) =
+            let unknown : numbers_in passed < n = omega (arith, early, same) in
+            reply-last n u passed e unknown ∙ sym (reply-unknown n u passed unknown)
+        by_number n u (inr apart) = replies-apart n u apart
+
+    module _ (here : m ≤ numbers_in passed) where
+      -- what the desk keeps of its number, where its slots fit
+      replied-carries : (d : Option Number) (f : Number → Number) → ((k : Number) → (f k).id ≡ k.id) → ((k : Number) → (f k).mark ≡ k.mark)
+          → ((k : Number) → length (f k).replies ≡ length k.replies) → d ≡ option_map f (number_at s.desk m)
+          → ((h : HandlerState) (kept : Number) → number_at s.desk m ≡ Some kept → ((u : ℕ) (slot : Slot) → slot_at kept.replies u ≡ Some slot → SlotFits passed m h u slot)
+          → (u : ℕ) (slot : Slot) → slot_at (f kept).replies u ≡ Some slot → SlotFits (passed ++ e ∷ []) m h u slot)
+          → Carries table false (past_entries past) passed (past_entries past) (passed ++ e ∷ []) m (stage_at s m) (number_at s.desk m) d
+      replied-carries d f same_id same_mark same_length same slots = record {
+        works = refl;
+        closed = λ none. same ∙ ap (option_map f) none;
+        behind = λ error at lt. absurd (omega (arith, here, lt));
+        faulty = λ error at lt kept is_open unmarked. absurd (omega (arith, here, lt));
+        told = λ untold. ap is_told same ∙ told-mapped f same_mark (number_at s.desk m) ∙ untold;
+        heard = λ heard from. known.heard_stays false passed (passed ++ e ∷ []) m heard (begins-append passed (e ∷ [])) from;
+        keeps = λ h kept is_open fit. (
+          f kept,
+          same ∙ ap (option_map f) is_open,
+          record {
+            id = same_id kept ∙ fit.id;
+            mark = ap (λ k. cond (is_unmarked k) false true) (same_mark kept) ∙ fit.mark ∙ sym (uncancelled no_cancel m);
+            turns = same_length kept ∙ fit.turns;
+            slots = slots h kept is_open fit.slots;
+          },
+        );
+      }
+
+      put-open : put_of s.desk m t ≡ put_into (slot_of s.desk m t)
+      put-open = ap (λ b. cond b Unknown (put_into (slot_of s.desk m t))) fits.closed
+
+      slot-seen : (kept : Number) → number_at s.desk m ≡ Some kept → (u : ℕ) → slot_of s.desk m u ≡ slot_at kept.replies u
+      slot-seen kept is_open u = ap (option_and_then (λ (n : Number). slot_at n.replies u)) is_open
+
+      -- one that isn't kept
+      second-slot : (h : HandlerState) (slot : Slot) → slot ≢ Empty → SlotFits passed m h t slot → SlotFits (passed ++ e ∷ []) m h t slot
+      second-slot h Empty some fit = absurd (some refl)
+      second-slot h (Held q) some fit = (reply-found m t q passed (e ∷ []) here fit.0, fit.1)
+      second-slot h Given some fit = fit
+
+      refused-slots : is_kept (put_of s.desk m t) ≡ false → (h : HandlerState) (kept : Number) → number_at s.desk m ≡ Some kept
+          → ((u : ℕ) (slot : Slot) → slot_at kept.replies u ≡ Some slot → SlotFits passed m h u slot)
+          → (u : ℕ) (slot : Slot) → slot_at kept.replies u ≡ Some slot → SlotFits (passed ++ e ∷ []) m h u slot
+      refused-slots refused h kept is_open old u slot at = by_turn (cases_eq u t)
+        where
+          by_turn : (u ≡ t) ⊎ (u ≡ t → ⊥) → SlotFits (passed ++ e ∷ []) m h u slot
+          by_turn (inl same) =
+              let at_turn : slot_at kept.replies t ≡ Some slot = subst (λ v. slot_at kept.replies v ≡ Some slot) same at in
+              subst (λ v. SlotFits (passed ++ e ∷ []) m h v slot) (sym same)
+              (second-slot h slot (not_empty slot (ap (λ o. is_kept (put_into o)) (sym (slot-seen kept is_open t ∙ at_turn)) ∙ ap is_kept (sym put-open) ∙ refused)) (old t slot at_turn))
+          by_turn (inr apart) = slot-carried passed (passed ++ e ∷ []) m u h slot (turns-apart u apart) (old u slot at)
+
+      refused-carries : is_kept (put_of s.desk m t) ≡ false
+          → Carries table false (past_entries past) passed (past_entries past) (passed ++ e ∷ []) m (stage_at s m) (number_at s.desk m) (number_at (with_reply s.desk m t r) m)
+      refused-carries refused =
+          replied-carries (number_at (with_reply s.desk m t r) m) (λ k. k) (λ k. refl) (λ k. refl) (λ k. refl)
+          (ap (λ (d : State). number_at d m) (known.reply_refused s.desk m t r refused) ∙ unmapped (number_at s.desk m)) (refused-slots refused)
+
+      -- one that is
+      kept-slots : put_of s.desk m t ≡ Kept → (h : HandlerState) (kept : Number) → number_at s.desk m ≡ Some kept
+          → ((u : ℕ) (slot : Slot) → slot_at kept.replies u ≡ Some slot → SlotFits passed m h u slot)
+          → (u : ℕ) (slot : Slot) → slot_at (set kept.replies (t - 1) (Held r)) u ≡ Some slot → SlotFits (passed ++ e ∷ []) m h u slot
+      kept-slots put h kept is_open old u slot at = by_turn (cases_eq u t)
+        where
+          now-seen : (v : ℕ) → slot_of (with_reply s.desk m t r) m v ≡ slot_at (set kept.replies (t - 1) (Held r)) v
+          now-seen v = ap (option_and_then (λ (n : Number). slot_at n.replies v))
+              (known.reply_here s.desk m t r put ∙ ap (option_map (λ (k : Number). record k { replies = set k.replies (t - 1) (Held r) })) is_open)
+
+          was-empty : SlotFits passed m h t Empty
+          was-empty = old t Empty (sym (slot-seen kept is_open t) ∙ empty-kept (slot_of s.desk m t) (sym put-open ∙ put))
+
+          now-held : SlotFits (passed ++ e ∷ []) m h t (Held r)
+          now-held = (ap (λ x. reply_to m t (passed ++ x ∷ [])) is ∙ reply-first m t r passed here was-empty.0, was-empty.1)
+
+          slot-is : (v : ℕ) → v ≡ t → slot_at (set kept.replies (t - 1) (Held r)) v ≡ Some slot → Held r ≡ slot
+          slot-is v same at_slot =
+              let held : slot_of (with_reply s.desk m t r) m t ≡ Some (Held r) = known.reply_slot s.desk m t r put in
+              let seen : slot_of (with_reply s.desk m t r) m t ≡ Some slot = now-seen t ∙ subst (λ w. slot_at (set kept.replies (t - 1) (Held r)) w ≡ Some slot) same at_slot in
+              (cc)
+
+          by_turn : (u ≡ t) ⊎ (u ≡ t → ⊥) → SlotFits (passed ++ e ∷ []) m h u slot
+          by_turn (inl same) = subst (λ v. SlotFits (passed ++ e ∷ []) m h v slot) (sym same) (subst (SlotFits (passed ++ e ∷ []) m h t) (slot-is u same at) now-held)
+          by_turn (inr apart) =
+              slot-carried passed (passed ++ e ∷ []) m u h slot (turns-apart u apart)
+              (old u slot (sym (slot-seen kept is_open u) ∙ sym (known.reply_other_slot s.desk m t u r apart) ∙ now-seen u ∙ at))
+
+      kept-carries : put_of s.desk m t ≡ Kept
+          → Carries table false (past_entries past) passed (past_entries past) (passed ++ e ∷ []) m (stage_at s m) (number_at s.desk m) (number_at (with_reply s.desk m t r) m)
+      kept-carries put =
+          replied-carries (number_at (with_reply s.desk m t r) m) (λ (k : Number). record k { replies = set k.replies (t - 1) (Held r) }) (λ k. refl) (λ k. refl)
+          (λ k. length-set k.replies (t - 1) (Held r)) (known.reply_here s.desk m t r put) (kept-slots put)
+
+      by_put : (put : Put) → put_of s.desk m t ≡ put
+          → Carries table false (past_entries past) passed (past_entries past) (passed ++ e ∷ []) m (stage_at s m) (number_at s.desk m) (number_at (with_reply s.desk m t r) m)
+      by_put Kept put = kept-carries put
+      by_put Unknown put = refused-carries (ap is_kept put)
+      by_put Second put = refused-carries (ap is_kept put)
+
+      reply-carries : (n : ℕ) → (n ≡ m) ⊎ (n ≡ m → ⊥)
+          → Carries table false (past_entries past) passed (past_entries past) (passed ++ e ∷ []) n (stage_at s n) (number_at s.desk n) (number_at (with_reply s.desk m t r) n)
+      reply-carries n (inl same) =
+          subst (λ k. Carries table false (past_entries past) passed (past_entries past) (passed ++ e ∷ []) k (stage_at s k) (number_at s.desk k) (number_at (with_reply s.desk m t r) k))
+          (sym same) (by_put (put_of s.desk m t) refl)
+      reply-carries n (inr apart) = quiet n (number_at (with_reply s.desk m t r) n) (known.reply_elsewhere s.desk m t n r apart) (λ u. replies-apart n u apart)
+          (uncancelled no_cancel n) (behind-none no_number n)
+
+      pub reply-fits : Fits table false (passed ++ e ∷ []) (with_desk s (with_reply s.desk m t r)) past jobs
+      reply-fits = passed-fits (with_reply s.desk m t r) (closed-replied s.desk m t r) (units-replied s.desk m t r) (next-replied s.desk m t r) (λ n. reply-carries n (cases_eq n m))
+
+-- ---- a reply marks nothing
+
+module _ (known : Known) (d : State) (m t : ℕ) (r : Reply) where
+  new-replied_here : (put : Put) → put_of d m t ≡ put → is_newly_marked (number_at (with_reply d m t r) m) ≡ is_newly_marked (number_at d m)
+  new-replied_here Kept put =
+      ap is_newly_marked (known.reply_here d m t r put) ∙ new-mapped (λ (k : Number). record k { replies = set k.replies (t - 1) (Held r) }) (λ k. refl) (number_at d m)
+  new-replied_here Unknown put = ap (λ (x : State). is_newly_marked (number_at x m)) (known.reply_refused d m t r (ap is_kept put))
+  new-replied_here Second put = ap (λ (x : State). is_newly_marked (number_at x m)) (known.reply_refused d m t r (ap is_kept put))
+
+  pub new-replied : (n : ℕ) → is_newly_marked (number_at (with_reply d m t r) n) ≡ is_newly_marked (number_at d n)
+  new-replied n = by_number (cases_eq n m)
+    where
+      by_number : (n ≡ m) ⊎ (n ≡ m → ⊥) → is_newly_marked (number_at (with_reply d m t r) n) ≡ is_newly_marked (number_at d n)
+      by_number (inl same) = subst (λ k. is_newly_marked (number_at (with_reply d m t r) k) ≡ is_newly_marked (number_at d k)) (sym same) (new-replied_here (put_of d m t) refl)
+      by_number (inr apart) = ap is_newly_marked (known.reply_elsewhere d m t n r apart)

@@ -1,0 +1,10 @@
+pub mod Core
+pub mod Finishing
+pub mod Fits
+pub mod Hearing
+pub mod Inner
+pub mod Passing
+pub mod Stands
+pub mod Taking
+pub mod Turning
+pub mod Turns

@@ -1,0 +1,22 @@
+//! What a session keeps, what each event makes of it, and what holds of it after any events: definitions and laws. It has no
+//! code that runs.
+#![tactic(auto)]
+
+mod draining;
+mod known;
+mod standing;
+mod taking;
+mod turning;
+mod turns;
+
+pub use draining::{nothing_is_stuck, what_is_due_is_written, what_was_written_is_an_output};
+pub use standing::{events_keep_standing, what_stands_is_an_output};
+pub use taking::{
+    cancels_finish_the_handlers_that_are_here, entries_are_passed, start_is_at_rest,
+    units_are_opened, units_are_taken,
+};
+pub use turning::{
+    cancelled_jobs_withdraw_what_is_unanswered, handlers_hear_what_is_there, input_ends_at_rest,
+    jobs_are_out, jobs_come_back, ready_handlers_go_out,
+};
+pub use turns::turned_handlers_have_fewer_turns_left;
