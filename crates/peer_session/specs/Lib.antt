@@ -1,0 +1,5 @@
+pub mod Events
+pub mod Inner
+pub mod Session
+pub mod SessionState
+pub mod Turned

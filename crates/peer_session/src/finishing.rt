@@ -1,0 +1,99 @@
+//! How numbers are finished: by their fault, with an answer, or by a cancel (LSP 3.17,
+//! "Cancellation Support").
+
+ghost use Rattle.std.specs.Prelude.{◌≡◌, MatchOption, true, false};
+ghost use Rattle.answer_desk.specs.State.{is_open, with_marks};
+ghost use Rattle.session_stages.specs.declared.stage.Stage.TheVariants.{Idle, Failed};
+ghost use Rattle.session_stages.specs.Stages.{is_gone};
+ghost use Rattle.session_state.specs.Core.{stage_at, with_stage, with_desk};
+ghost use Rattle.session_state.specs.Finishing.{over_or_gone, finished, cancelled, Tells, fault_passed};
+ghost use Rattle.peer_session.specs.Inner.Runs.{is_idle, told_here};
+
+use crate::hearing::hear_waits;
+use crate::runs::{Runs, is_more_than};
+use handler_future::Handler;
+use rpc_messages::{Id, Reply, Standard};
+use session_stages::Stage;
+
+/// The stage of a finished number: it is gone once all is written.
+fn over_or_gone(handler: Handler, written: usize) -> Stage
+    ensures { result ≡ over_or_gone handler written }
+{
+    if is_more_than(written, &handler) {
+        Stage::Over(handler, written)
+    } else {
+        Stage::Gone
+    }
+}
+
+/// Takes the handler of a number out of the runs, where it is here. Its place is kept.
+pub(crate) fn take_idle(runs: &mut Runs, number: u32) -> Option<(Handler, usize)>
+    ensures { MatchOption result
+        ((runs.new ≡ runs.old) × (is_idle (stage_at runs.old number) ≡ false))
+        (λ taken. (runs.new ≡ with_stage runs.old number Failed)
+        × (stage_at runs.old number ≡ Idle taken.0 taken.1) × (taken.0.number ≡ number)
+        × (is_open runs.old.desk number ≡ true)) }
+{
+    let Some(Stage::Idle(..)) = runs.stage(number) else {
+        return None;
+    };
+    match runs.replace(number, Stage::Failed) {
+        Stage::Idle(handler, written) => Some((handler, written)),
+        _ => None,
+    }
+}
+
+/// Finishes a number, whose handler isn't among the runs, with an answer.
+pub(crate) fn finish(runs: &mut Runs, handler: Handler, written: usize, answer: Reply)
+    requires here { is_gone (stage_at runs.old handler.number) ≡ false }
+    requires open { is_open runs.old.desk handler.number ≡ true }
+    ensures { runs.new ≡ finished runs.old handler written answer }
+{
+    let number = handler.number();
+    drop(runs.replace(number, over_or_gone(handler, written)));
+    runs.finish(number, answer);
+}
+
+/// Finishes a number, whose handler isn't among the runs, as cancelled: it hears what is there of
+/// the replies that it waits for, and withdraws the other calls.
+pub(crate) fn cancel(runs: &mut Runs, mut handler: Handler, written: usize)
+    requires here { is_gone (stage_at runs.old handler.number) ≡ false }
+    requires away { is_idle (stage_at runs.old handler.number) ≡ false }
+    requires open { is_open runs.old.desk handler.number ≡ true }
+    ensures { runs.new ≡ cancelled runs.old handler written }
+{
+    hear_waits(runs, &mut handler);
+    finish(runs, handler, written, Reply::Standard(Standard::Cancelled));
+}
+
+/// A number is told of its cancel: it is finished where its handler is here. One that is out is
+/// finished as it comes back.
+fn tell(runs: &mut Runs, number: u32)
+    ensures { runs.new ≡ told_here runs.old number }
+{
+    if let Some((handler, written)) = take_idle(runs, number) {
+        cancel(runs, handler, written);
+    }
+}
+
+/// A cancel of this id, which is call `number` of the stream, reaches the requests before it.
+pub(crate) fn cancel_requests(runs: &mut Runs, id: &Id, number: u32)
+    ensures { Tells (with_desk runs.old (with_marks runs.old.desk id.now number)) runs.new }
+{
+    runs.mark(id, number);
+    while let Some(reached) = runs.take_marked() {
+        tell(runs, reached);
+    }
+}
+
+/// Finishes a call that is at fault.
+pub(crate) fn pass_fault(runs: &mut Runs, number: u32)
+    ensures { runs.new ≡ fault_passed runs.old number }
+{
+    let Some(Stage::Faulty(error)) = runs.stage(number) else {
+        return;
+    };
+    let error = *error;
+    drop(runs.replace(number, Stage::Gone));
+    runs.finish(number, Reply::Standard(error));
+}

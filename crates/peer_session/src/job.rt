@@ -1,0 +1,39 @@
+ghost use Rattle.std.specs.Prelude.{◌≡◌, None};
+
+use handler_future::{Handler, Outcome};
+use job_slots::Turns;
+
+/// A handler that is out for a turn.
+#[derive(Debug, Drop)]
+pub struct Job {
+    pub handler: Handler,
+    /// What its last poll answered; none before the first, and where it was Pending.
+    pub outcome: Option<Outcome>,
+    /// How many times it was polled since it went out. It stays at the greatest value.
+    pub polls: u64,
+}
+
+impl Job {
+    /// A handler as it goes out.
+    pub(crate) fn new(handler: Handler) -> Job
+        ensures { result ≡ record { handler = handler; outcome = None; polls = 0 } }
+    {
+        Job {
+            handler,
+            outcome: None,
+            polls: 0,
+        }
+    }
+}
+
+impl Turns for Job {
+    ghost use Rattle.peer_session.specs.Turned.{Turned};
+
+    ghost turned = { Turned };
+
+    /// One poll.
+    fn turn(&mut self) {
+        self.outcome = self.handler.advance();
+        self.polls = self.polls.saturating_add(1);
+    }
+}

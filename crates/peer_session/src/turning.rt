@@ -1,0 +1,45 @@
+//! Handlers go out for a turn, and come back.
+
+ghost use Rattle.std.specs.Prelude.{◌≡◌, slice_get};
+ghost use Rattle.session_state.specs.Turning.{ready, returned};
+ghost use Rattle.peer_session.specs.Inner.Runs.{LeavesFrom};
+
+use crate::finishing::{cancel, finish, take_idle};
+use crate::hearing::hear_waits;
+use crate::runs::Runs;
+use handler_future::{Handler, Outcome};
+use session_stages::Stage;
+
+/// The handler at a place of those that are ready goes out. It hears the replies that it waited
+/// for.
+pub(crate) fn leave(runs: &mut Runs, place: u32) -> Option<Handler>
+    ensures { LeavesFrom runs.old (slice_get (ready runs.old) place) result runs.new }
+{
+    let number = runs.ready_at(place)?;
+    let (mut handler, written) = take_idle(runs, number)?;
+    hear_waits(runs, &mut handler);
+    drop(runs.replace(number, Stage::Out(written)));
+    Some(handler)
+}
+
+/// A handler that was out is here again, with what its poll answered. One that isn't out is let go.
+pub(crate) fn come_back(runs: &mut Runs, handler: Handler, outcome: Option<Outcome>)
+    ensures { runs.new ≡ returned runs.old handler outcome }
+{
+    let number = handler.number();
+    let Some(Stage::Out(written)) = runs.stage(number) else {
+        return;
+    };
+    let written = *written;
+    match outcome {
+        Some(Outcome::Answer(answer)) => finish(runs, handler, written, answer),
+        Some(Outcome::Failed) => drop(runs.replace(number, Stage::Failed)),
+        None => {
+            if runs.is_marked(number) {
+                cancel(runs, handler, written);
+            } else {
+                drop(runs.replace(number, Stage::Idle(handler, written)));
+            }
+        }
+    }
+}

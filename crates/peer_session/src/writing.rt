@@ -1,0 +1,227 @@
+//! What is due, as frames (LSP 3.17, "Base Protocol").
+
+ghost use Rattle.std.specs.Prelude.{◌≡◌, ◌++◌, [], ◌∷◌, All, IfOk, OnOk, OnErr, length, map, drop, true};
+ghost use Rattle.handler_future.specs.Front.{HasTurnsUpTo};
+ghost use Rattle.answer_desk.specs.State.{front_texts};
+ghost use Rattle.peer_output.specs.Course.{message as sends_message, withdrawal};
+ghost use Rattle.peer_output.specs.Items.{sent, message_text, bytes_of};
+ghost use Rattle.session_state.specs.Core.{stage_at, with_stage, unwritten, unwritten_from};
+ghost use Rattle.session_state.specs.Turning.{due_bytes, written_stage, drained};
+ghost use Rattle.peer_session.specs.Inner.Runs.{has_unwritten};
+ghost use Rattle.peer_session.specs.Inner.Writing.{Counts, CountsOn};
+
+use crate::runs::Runs;
+use handler_future::Message;
+use lsp_frames::put_frame;
+use rpc_messages::{put_call, put_calls, put_notice, put_withdrawal};
+use session_stages::Stage;
+use std::alloc::{AllocError, Global};
+
+/// How many messages and answers were put.
+#[derive(Clone, Copy)]
+pub(crate) struct Written {
+    /// Messages and withdrawals.
+    pub(crate) messages: u64,
+    /// Those of them that await a reply.
+    pub(crate) call_frames: u64,
+    pub(crate) answers: u64,
+}
+
+/// Nothing yet.
+pub(crate) const NOTHING: Written = Written {
+    messages: 0,
+    call_frames: 0,
+    answers: 0,
+};
+
+impl Written {
+    /// These and more.
+    pub(crate) fn and(self, more: Written) -> Written
+        ensures { CountsOn self more result }
+    {
+        Written {
+            messages: self.messages.saturating_add(more.messages),
+            call_frames: self.call_frames.saturating_add(more.call_frames),
+            answers: self.answers.saturating_add(more.answers),
+        }
+    }
+
+    /// One message.
+    fn of_message(message: &Message) -> Written
+        ensures { Counts result (sent 0 (sends_message message.now) ∷ []) }
+    {
+        let awaits = !matches!(message, Message::Notice(_));
+        Written {
+            messages: 1,
+            call_frames: u64::from(awaits),
+            answers: 0,
+        }
+    }
+}
+
+/// Puts all that is due behind the bytes: first what numbers have sent, by number, and then
+/// answers. All that may fail comes before what was put is noted.
+pub(crate) fn put_due(
+    alloc: Global,
+    runs: &mut Runs,
+    bytes: &mut Vec<u8>,
+) -> Result<Written, AllocError>
+    ensures bytes { OnOk result (bytes.new.items ≡ bytes.old.items ++ due_bytes runs.old) }
+    ensures counts { IfOk result (λ written. Counts written (unwritten_from 0 runs.old.stages)) }
+    ensures answers { IfOk result (λ written.
+        written.answers ≡ length (front_texts runs.old.desk)) }
+    ensures ok { OnOk result (runs.new ≡ drained runs.old) }
+    ensures err { OnErr result (runs.new ≡ runs.old) }
+{
+    let sendings = put_sendings(alloc, runs, bytes)?;
+    let answers = runs.release_to(bytes)? as u64;
+    note_written(runs);
+    Ok(Written {
+        answers,
+        ..sendings
+    })
+}
+
+/// Puts what numbers have sent.
+fn put_sendings(alloc: Global, runs: &Runs, bytes: &mut Vec<u8>) -> Result<Written, AllocError>
+    ensures bytes { OnOk result (bytes.new.items ≡
+        bytes.old.items ++ bytes_of (unwritten_from 0 runs.now.stages)) }
+    ensures counts { IfOk result (λ written. Counts written (unwritten_from 0 runs.now.stages)) }
+{
+    let mut written = NOTHING;
+    let mut text = Vec::new(alloc);
+    for place in 0..runs.unwritten_len() {
+        if let Some(number) = runs.unwritten_at(place) {
+            written = written.and(put_number(alloc, bytes, &mut text, runs, number)?);
+        }
+    }
+    Ok(written)
+}
+
+/// Puts what one number has sent.
+fn put_number(
+    alloc: Global,
+    bytes: &mut Vec<u8>,
+    text: &mut Vec<u8>,
+    runs: &Runs,
+    number: u32,
+) -> Result<Written, AllocError>
+    ensures bytes { OnOk result (bytes.new.items ≡
+        bytes.old.items ++ bytes_of (map (sent number) (unwritten (stage_at runs.now number)))) }
+    ensures counts { IfOk result (λ written.
+        Counts written (map (sent number) (unwritten (stage_at runs.now number)))) }
+{
+    match runs.stage(number) {
+        Some(Stage::Idle(handler, so_far)) => {
+            let messages = behind(handler.messages(), *so_far);
+            put_messages(alloc, bytes, text, number, messages)
+        }
+        Some(Stage::Over(handler, so_far)) => {
+            let made = handler.messages().len();
+            let messages = behind(handler.messages(), *so_far);
+            let turns = behind(handler.waits(), so_far.saturating_sub(made));
+            let written = put_messages(alloc, bytes, text, number, messages)?;
+            Ok(written.and(put_withdrawals(bytes, text, number, turns)?))
+        }
+        _ => Ok(NOTHING),
+    }
+}
+
+/// What stands behind the first so many.
+fn behind<T>(items: &[T], count: usize) -> &[T]
+    ensures { result.now ≡ drop count items.now }
+{
+    &items[count.min(items.len())..]
+}
+
+/// Puts messages of a number.
+fn put_messages(
+    alloc: Global,
+    bytes: &mut Vec<u8>,
+    text: &mut Vec<u8>,
+    number: u32,
+    messages: &[Message],
+) -> Result<Written, AllocError>
+    requires { All (HasTurnsUpTo 1024) messages.now }
+    ensures bytes { OnOk result (bytes.new.items ≡
+        bytes.old.items ++ bytes_of (map (sent number) (map sends_message messages.now))) }
+    ensures counts { IfOk result (λ written.
+        Counts written (map (sent number) (map sends_message messages.now))) }
+{
+    let mut written = NOTHING;
+    for message in messages {
+        text.clear();
+        put_message(alloc, text, number, message)?;
+        put_frame(bytes, text.as_slice())?;
+        written = written.and(Written::of_message(message));
+    }
+    Ok(written)
+}
+
+fn put_message(
+    alloc: Global,
+    text: &mut Vec<u8>,
+    number: u32,
+    message: &Message,
+) -> Result<(), AllocError>
+    requires { HasTurnsUpTo 1024 message.now }
+    ensures { OnOk result (text.new.items ≡ text.old.items ++ message_text number message.now) }
+{
+    match message {
+        Message::Call(turn, outgoing) => put_call(alloc, text, number, *turn, outgoing),
+        Message::Calls(first, calls) => put_calls(alloc, text, number, *first, calls.as_slice()),
+        Message::Notice(outgoing) => put_notice(alloc, text, outgoing),
+    }
+}
+
+/// Puts the withdrawals of calls of a number.
+fn put_withdrawals(
+    bytes: &mut Vec<u8>,
+    text: &mut Vec<u8>,
+    number: u32,
+    turns: &[u32],
+) -> Result<Written, AllocError>
+    ensures bytes { OnOk result (bytes.new.items ≡
+        bytes.old.items ++ bytes_of (map (sent number) (map withdrawal turns.now))) }
+    ensures counts { IfOk result (λ written.
+        Counts written (map (sent number) (map withdrawal turns.now))) }
+{
+    for turn in turns {
+        text.clear();
+        put_withdrawal(text, number, *turn)?;
+        put_frame(bytes, text.as_slice())?;
+    }
+    Ok(Written {
+        messages: turns.len() as u64,
+        call_frames: 0,
+        answers: 0,
+    })
+}
+
+/// All that numbers have sent is written.
+fn note_written(runs: &mut Runs)
+    ensures desk { runs.new.desk ≡ runs.old.desk }
+    ensures stages { runs.new.stages ≡ map written_stage runs.old.stages }
+{
+    while let Some(number) = runs.unwritten_at(0) {
+        note_number(runs, number);
+    }
+    runs.stages_fit();
+}
+
+fn note_number(runs: &mut Runs, number: u32)
+    requires { has_unwritten (stage_at runs.old number) ≡ true }
+    ensures { runs.new ≡ with_stage runs.old number (written_stage (stage_at runs.old number)) }
+{
+    runs.stages_fit();
+    match runs.replace(number, Stage::Failed) {
+        Stage::Idle(handler, so_far) => {
+            let messages = handler.messages().len();
+            runs.replace(number, Stage::Idle(handler, so_far.max(messages)));
+        }
+        Stage::Over(..) => {
+            runs.replace(number, Stage::Gone);
+        }
+        _ => unreachable!(),
+    }
+}
