@@ -1,0 +1,9 @@
+pub mod Draining
+pub mod Ending
+pub mod Pieces
+pub mod Players
+pub mod Results
+pub mod Settling
+pub mod Taking
+pub mod Turned
+pub mod Unfailing

@@ -1,0 +1,15 @@
+-- Where it stops, it stops among what the bytes so far allow.
+use Rattle.rpc_messages.specs.Numbering.{taken}
+use Rattle.rpc_messages.specs.Unit.{units_of}
+use Rattle.peer_session.specs.Session.{view}
+use Rattle.peer_player.specs.Playing.{close_by}
+use Rattle.peer_player.proofs.Players.{stopped-settling}
+use Rattle.peer_player.proofs.Results.{on-err}
+use Rattle.peer_player.proofs.player.Player.begin.Goals as goal
+
+pub returns-in_err-settle_if_eager-clause-stopped : goal.returns-in_err-settle_if_eager-clause-stopped
+returns-in_err-settle_if_eager-clause-stopped g c = λ table limits bytes before had.
+    on-err c.from_residual.result
+    (stopped-settling table limits bytes before c.args.self.now.decoder (view c.args.self.now.playing.session) (g.S.Sink.bytes_taken c.args.self.now.playing.sink) had
+    (g.S.Sink.bytes_taken c.settle_if_eager.new.self.sink)
+    (c.in_err-settle_if_eager.ensures.err table limits (close_by limits.numbers (units_of had.frames)) (taken limits.numbers (units_of had.frames)) before had.written))

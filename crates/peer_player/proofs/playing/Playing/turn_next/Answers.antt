@@ -1,0 +1,25 @@
+-- A turn is one more event of the session; nothing is written.
+use Rattle.std.proofs.Common.{◌<◌, sym, subst}
+use Rattle.session_state.specs.Turns.{all_turns_left}
+use Rattle.peer_session.specs.Session.{view}
+use Rattle.peer_session.specs.SessionState.{SessionState}
+use Rattle.peer_player.specs.Playing.{PlaysOn}
+use Rattle.peer_player.proofs.Settling.{turn-plays, turn-fewer}
+use Rattle.peer_player.proofs.playing.Playing.turn_next.Goals as goal
+
+pub returns-clause-turned : goal.returns-clause-turned
+returns-clause-turned g c = λ table limits close units before had. record {
+  items = had.items;
+  plays = subst (PlaysOn table limits close units had.items) (sym c.back.ensures)
+      (turn-plays c.known.ensures (view c.args.self.now.session) (view c.next_job.new.self) c.place-pick.result
+      c.in-Some.job.handler c.turn.new.self.handler c.turn.new.self.outcome c.turn.new.self.polls
+      c.in-Some.ensures.leaves c.turn.ensures.poll table limits close units had.items had.plays);
+  wrote = had.wrote;
+}
+
+pub returns-clause-fewer : goal.returns-clause-fewer
+returns-clause-fewer g c = λ is.
+    subst (λ (x : SessionState). all_turns_left x.core.stages < all_turns_left (view c.args.self.now.session).core.stages) (sym c.back.ensures)
+    (turn-fewer c.known.ensures (view c.args.self.now.session) (view c.next_job.new.self) c.place-pick.result
+    c.in-Some.job.handler c.turn.new.self.handler c.turn.new.self.outcome c.turn.new.self.polls
+    c.in-Some.ensures.leaves c.turn.ensures.poll c.in-Some.ensures.number)

@@ -1,0 +1,45 @@
+-- The laws that a player stands on: each is a clause of a function that does nothing.
+use Rattle.std.specs.Prelude.{◌≡◌, ◌≢◌, ℕ, ◌<◌, List, [], ◌∷◌, ◌++◌, map, Bool, true, false, Option, None}
+use Rattle.rpc_messages.specs.Dues.{Due}
+use Rattle.rpc_messages.specs.Unit.{SeenUnit}
+use Rattle.method_steps.specs.Steps.{MethodTable}
+use Rattle.answer_desk.specs.State.{front_texts}
+use Rattle.handler_future.specs.State.{HandlerState, IsPoll}
+use Rattle.handler_future.specs.declared.outcome.Outcome.{Outcome}
+use Rattle.session_stages.specs.declared.stage.Stage.TheVariants.{Gone, Failed}
+use Rattle.peer_output.specs.Items.{Item, answered, bytes_of}
+use Rattle.peer_output.specs.Later.{MayBecome}
+use Rattle.peer_output.specs.Output.{IsOutput, IsPartialOutput}
+use Rattle.session_state.specs.Core.{Core, stage_at, unwritten_from}
+use Rattle.session_state.specs.Stands.{StandsAfter}
+use Rattle.session_state.specs.Taking.{Takes}
+use Rattle.session_state.specs.Turning.{start, Leaves, ready, returned, closed, due_bytes, drained}
+use Rattle.session_state.specs.Turns.{all_turns_left}
+
+pub record Known : Type 0 where
+  pub start_stands : (table : MethodTable) → StandsAfter table false (start table) (λ n. None) [] []
+  pub take_stands : (table : MethodTable) (s after : Core) (jobs : ℕ → Option HandlerState) (units : List SeenUnit) (items : List Item) (unit : SeenUnit) →
+      StandsAfter table false s jobs units items → Takes table s unit after →
+      StandsAfter table false after jobs (units ++ unit ∷ []) items
+  pub turn_stands : (table : MethodTable) (is_over : Bool) (s between : Core) (jobs : ℕ → Option HandlerState) (units : List SeenUnit) (items : List Item) (n : ℕ)
+      (job turned : HandlerState) (outcome : Option Outcome) →
+      StandsAfter table is_over s jobs units items → Leaves s n job between → IsPoll job turned outcome →
+      StandsAfter table is_over (returned between turned outcome) jobs units items
+  pub end_stands : (table : MethodTable) (s : Core) (jobs : ℕ → Option HandlerState) (units : List SeenUnit) (items : List Item) →
+      StandsAfter table false s jobs units items → StandsAfter table true (closed s) jobs units items
+  pub drain_stands : (table : MethodTable) (is_over : Bool) (s : Core) (jobs : ℕ → Option HandlerState) (units : List SeenUnit) (items : List Item) →
+      StandsAfter table is_over s jobs units items →
+      (dues : List Due) × StandsAfter table is_over (drained s) jobs units (items ++ unwritten_from 0 s.stages ++ map answered dues)
+      × (map (λ (due : Due). due.text) dues ≡ front_texts s.desk)
+      × (bytes_of (items ++ unwritten_from 0 s.stages ++ map answered dues) ≡ bytes_of items ++ due_bytes s)
+  pub is_partial : (table : MethodTable) (is_over : Bool) (s : Core) (jobs : ℕ → Option HandlerState) (units later : List SeenUnit) (items : List Item) →
+      StandsAfter table is_over s jobs units items → MayBecome is_over units later → IsPartialOutput table later items
+  pub is_whole : (table : MethodTable) (s : Core) (jobs : ℕ → Option HandlerState) (units : List SeenUnit) (items : List Item) →
+      StandsAfter table true s jobs units items → ((n : ℕ) → stage_at s n ≡ Gone) → s.desk.units ≡ [] → IsOutput table units items
+  pub is_drained : (table : MethodTable) (s : Core) (jobs : ℕ → Option HandlerState) (units : List SeenUnit) (items : List Item) →
+      StandsAfter table true s jobs units items → ready s ≡ [] → ((n : ℕ) → jobs n ≡ None) → ((n : ℕ) → stage_at s n ≢ Failed) →
+      ((n : ℕ) → stage_at (drained s) n ≡ Gone) × ((drained s).desk.units ≡ [])
+  pub fewer_turns : (s between : Core) (n : ℕ) (job turned : HandlerState) (outcome : Option Outcome) →
+      Leaves s n job between → job.number ≡ n → IsPoll job turned outcome →
+      all_turns_left (returned between turned outcome).stages < all_turns_left s.stages
+  pub same_turns : (s : Core) → all_turns_left (drained s).stages ≡ all_turns_left s.stages

@@ -1,0 +1,4 @@
+pub mod Inner
+pub mod Play
+pub mod Player
+pub mod Playing

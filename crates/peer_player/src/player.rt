@@ -1,0 +1,142 @@
+//! A player that is fed its input piece by piece.
+
+ghost use Rattle.std.specs.Prelude.{◌≡◌, ◌++◌, ℕ, List, [], IfOk, IfErr, OnOk, OnErr, Option};
+ghost use Rattle.method_steps.specs.Steps.{MethodTable};
+ghost use Rattle.peer_session.specs.Session.{view};
+ghost use Rattle.peer_player.specs.Play.{IsPlay, IsPlayCutShort};
+ghost use Rattle.peer_player.specs.Player.{PlaysAfter, StoppedAfter};
+
+use crate::known::known;
+use crate::playing::Playing;
+use crate::schedule::Schedule;
+use lsp_frames::{Decoder, End, FeedFault, Sink};
+use method_steps::Table;
+use peer_limits::{Close, Limits, Report};
+use peer_session::{DrainFault, Session};
+use std::alloc::{AllocError, Global};
+
+/// A peer on one thread, which is fed its input piece by piece and writes to its sink as it goes. Of the input it holds the
+/// frame under way and no more.
+#[derive(Drop)]
+pub struct Player<'a, S: Sink> {
+    pub(crate) decoder: Decoder,
+    pub(crate) playing: Playing<'a, S>,
+    /// Whether nothing was done yet.
+    pub(crate) is_new: bool,
+}
+
+impl<'a, S: Sink> Player<'a, S> {
+    /// A player before the first byte.
+    ///
+    /// # Errors
+    /// Where there is no memory. The sink comes back as it was.
+    pub fn new(
+        alloc: Global,
+        table: &'a Table,
+        limits: Limits,
+        schedule: &'a Schedule,
+        sink: S,
+    ) -> Result<Player<'a, S>, (DrainFault, S)>
+        ensures ok { IfOk result (λ player. PlaysAfter table.now limits [] (S.bytes_taken sink)
+            player.decoder (view player.playing.session) (S.bytes_taken player.playing.sink)) }
+        ensures err { IfErr result (λ refused. (refused.0 ≡ DrainFault.Memory) × (refused.1 ≡
+            sink)) }
+    {
+        known();
+        match Session::new(alloc, table, limits) {
+            Ok(session) => Ok(Player {
+                decoder: Decoder::new(alloc, limits.content),
+                playing: Playing {
+                    session,
+                    schedule,
+                    turned: 0,
+                    sink,
+                },
+                is_new: true,
+            }),
+            Err(AllocError) => Err((DrainFault::Memory, sink)),
+        }
+    }
+
+    /// Plays one more piece of the input. What comes behind a fault of its frames, or behind a content that needs too many
+    /// numbers, is let go. After an error the player is of no use any more, but that `into_sink` gives the sink back.
+    pub fn feed(&mut self, piece: &[u8]) -> Result<(), DrainFault>
+        ensures plays { (table : MethodTable) (limits : Limits) (bytes : List ℕ)
+            (before : Option (List ℕ)) →
+            PlaysAfter table limits bytes before self.old.decoder (view self.old.playing.session)
+            (S.bytes_taken self.old.playing.sink) →
+            OnOk result (PlaysAfter table limits (bytes ++ piece.now) before self.new.decoder
+            (view self.new.playing.session) (S.bytes_taken self.new.playing.sink)) }
+        ensures stopped { (table : MethodTable) (limits : Limits) (bytes : List ℕ)
+            (before : Option (List ℕ)) →
+            PlaysAfter table limits bytes before self.old.decoder (view self.old.playing.session)
+            (S.bytes_taken self.old.playing.sink) →
+            OnErr result (StoppedAfter table limits (bytes ++ piece.now) before
+            (S.bytes_taken self.new.playing.sink)) }
+    {
+        known();
+        self.begin()?;
+        if !self.playing.session.is_open() {
+            return Ok(());
+        }
+        match self.decoder.feed(piece) {
+            Ok(frames) => self.playing.take_frames(frames.as_slice()),
+            Err(FeedFault::Ended(_, frames)) => self.playing.take_frames(frames.as_slice()),
+            Err(FeedFault::Memory) => Err(DrainFault::Memory),
+        }
+    }
+
+    /// Ends the input, and does all that is left.
+    pub fn end(&mut self) -> Result<Report, DrainFault>
+        ensures ok { (table : MethodTable) (limits : Limits) (bytes : List ℕ)
+            (before : Option (List ℕ)) →
+            PlaysAfter table limits bytes before self.old.decoder (view self.old.playing.session)
+            (S.bytes_taken self.old.playing.sink) →
+            IfOk result (λ report. IsPlay table limits bytes before (S.bytes_taken
+            self.new.playing.sink) report) }
+        ensures err { (table : MethodTable) (limits : Limits) (bytes : List ℕ)
+            (before : Option (List ℕ)) →
+            PlaysAfter table limits bytes before self.old.decoder (view self.old.playing.session)
+            (S.bytes_taken self.old.playing.sink) →
+            OnErr result (IsPlayCutShort table limits bytes before
+            (S.bytes_taken self.new.playing.sink)) }
+    {
+        self.begin()?;
+        let close = match self.decoder.end() {
+            End::Clean => Close::Clean,
+            End::Fault(fault) => Close::Frame(fault),
+        };
+        self.playing.end(close)
+    }
+
+    /// The sink, with what was written.
+    pub fn into_sink(self) -> S
+        ensures { result ≡ self.entry.playing.sink }
+    {
+        let Player { playing, .. } = self;
+        let Playing { sink, .. } = playing;
+        sink
+    }
+
+    /// Before its first content an eager player turns the opening's handler.
+    fn begin(&mut self) -> Result<(), DrainFault>
+        ensures plays { (table : MethodTable) (limits : Limits) (bytes : List ℕ)
+            (before : Option (List ℕ)) →
+            PlaysAfter table limits bytes before self.old.decoder (view self.old.playing.session)
+            (S.bytes_taken self.old.playing.sink) →
+            OnOk result (PlaysAfter table limits bytes before self.new.decoder
+            (view self.new.playing.session) (S.bytes_taken self.new.playing.sink)) }
+        ensures stopped { (table : MethodTable) (limits : Limits) (bytes : List ℕ)
+            (before : Option (List ℕ)) →
+            PlaysAfter table limits bytes before self.old.decoder (view self.old.playing.session)
+            (S.bytes_taken self.old.playing.sink) →
+            OnErr result (StoppedAfter table limits bytes before
+            (S.bytes_taken self.new.playing.sink)) }
+    {
+        if self.is_new {
+            self.is_new = false;
+            self.playing.settle_if_eager()?;
+        }
+        Ok(())
+    }
+}

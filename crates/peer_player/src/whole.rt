@@ -1,0 +1,100 @@
+//! A whole input, played at once.
+
+ghost use Rattle.std.specs.Prelude.{ℕ, List, [], IfOk, IfErr, OnErr, Option, Some, flat_map};
+ghost use Rattle.method_steps.specs.Steps.{MethodTable};
+ghost use Rattle.peer_limits.specs.declared.limits.Limits.{Limits as LimitsOf};
+ghost use Rattle.peer_session.specs.Session.{view};
+ghost use Rattle.peer_player.specs.Player.{PlaysAfter};
+ghost use Rattle.peer_player.specs.Play.{IsPlay, IsPlayCutShort};
+
+use crate::known::known;
+use crate::player::Player;
+use crate::schedule::Schedule;
+use lsp_frames::{MemSink, Sink};
+use method_steps::Table;
+use peer_limits::{Limits, Report};
+use peer_session::DrainFault;
+use std::alloc::Global;
+
+/// Why nothing was played.
+#[derive(Clone, Copy, Debug, PartialEq, Eq)]
+pub enum PlayFault {
+    /// A growth was refused.
+    Memory,
+}
+
+/// What a peer with these methods writes for an input that comes in these pieces, and what it tells of it.
+///
+/// # Errors
+/// `Memory` where a growth is refused, or a handler finds no memory.
+pub fn play(
+    alloc: Global,
+    table: &Table,
+    limits: Limits,
+    pieces: &[Vec<u8>],
+    schedule: &Schedule,
+) -> Result<(Vec<u8>, Report), PlayFault>
+    ensures { IfOk result (λ played. IsPlay table.now limits (flat_map (λ piece. piece.items)
+        pieces.now)
+        (Some []) (Some played.0.items) played.1) }
+{
+    // (a sink in memory fails only where there is none)
+    match play_to(
+        alloc,
+        table,
+        limits,
+        pieces,
+        schedule,
+        MemSink::new(alloc, None),
+    ) {
+        Ok((report, sink)) => Ok((sink.into_vec(), report)),
+        Err(_) => Err(PlayFault::Memory),
+    }
+}
+
+/// The same into a sink, as it goes. The sink comes back.
+///
+/// # Errors
+/// `Memory` where a growth is refused, or a handler finds no memory; `Write` where the sink fails. Some of the bytes, from their
+/// front, may have been taken.
+pub fn play_to<S: Sink>(
+    alloc: Global,
+    table: &Table,
+    limits: Limits,
+    pieces: &[Vec<u8>],
+    schedule: &Schedule,
+    sink: S,
+) -> Result<(Report, S), (DrainFault, S)>
+    ensures ok { IfOk result (λ played. IsPlay table.now limits (flat_map (λ piece. piece.items)
+        pieces.now)
+        (S.bytes_taken sink) (S.bytes_taken played.1) played.0) }
+    ensures err { IfErr result (λ stopped. IsPlayCutShort table.now limits (flat_map (λ piece.
+        piece.items) pieces.now)
+        (S.bytes_taken sink) (S.bytes_taken stopped.1)) }
+{
+    known();
+    let mut player = Player::new(alloc, table, limits, schedule, sink)?;
+    match play_all(&mut player, pieces) {
+        Ok(report) => Ok((report, player.into_sink())),
+        Err(fault) => Err((fault, player.into_sink())),
+    }
+}
+
+/// Feeds the pieces to a new player, and ends the input.
+fn play_all<S: Sink>(player: &mut Player<'_, S>, pieces: &[Vec<u8>]) -> Result<Report, DrainFault>
+    ensures ok { (table : MethodTable) (limits : LimitsOf) (before : Option (List ℕ)) →
+        PlaysAfter table limits [] before player.old.decoder (view player.old.playing.session)
+        (S.bytes_taken player.old.playing.sink) →
+        IfOk result (λ report. IsPlay table limits (flat_map (λ piece. piece.items) pieces.now)
+        before (S.bytes_taken player.new.playing.sink) report) }
+    ensures err { (table : MethodTable) (limits : LimitsOf) (before : Option (List ℕ)) →
+        PlaysAfter table limits [] before player.old.decoder (view player.old.playing.session)
+        (S.bytes_taken player.old.playing.sink) →
+        OnErr result (IsPlayCutShort table limits (flat_map (λ piece. piece.items) pieces.now)
+        before (S.bytes_taken player.new.playing.sink)) }
+{
+    for piece in pieces {
+        player.feed(piece.as_slice())?;
+    }
+    player.end()
+}
