@@ -1,15 +1,10 @@
 -- How an input closed.
 use Rattle.std.specs.Prelude.{ℕ, List, [], ◌∷◌, Bool, true, false, Option, Some, None}
 use Rattle.lsp_frames.specs.Contents.{Standing, Open, Broken}
+use Rattle.lsp_frames.specs.Devices.{Ending, Unfinished, Finished, Failed}
 use Rattle.lsp_frames.specs.declared.frame.FrameFault.TheVariants.{Truncated}
 use Rattle.peer_limits.specs.declared.report.Close.{Close}
 use Rattle.peer_limits.specs.declared.report.Close.TheVariants.{Clean, Frame, Read, Full}
-
--- How a source of bytes ended: it was asked for no more, it had no more, or it failed.
-pub data Ending : Type 0 where
-  Unasked : Ending
-  Ended : Ending
-  Failed : Ending
 
 -- the end of bytes that stand inside a frame, or between two
 abbrev pub end_close : List ℕ → Close
@@ -21,5 +16,5 @@ abbrev pub close_of : Bool → Standing → Ending → Option Close
 close_of true standing ending = Some Full
 close_of false (Broken fault) ending = Some (Frame fault)
 close_of false (Open rest) Failed = Some Read
-close_of false (Open rest) Ended = Some (end_close rest)
-close_of false (Open rest) Unasked = None
+close_of false (Open rest) Finished = Some (end_close rest)
+close_of false (Open rest) Unfinished = None

@@ -5,6 +5,7 @@ pub mod Done
 pub mod Drained
 pub mod Ends
 pub mod Faults
+pub mod Frames
 pub mod Hears
 pub mod Leaving
 pub mod Marks
@@ -12,12 +13,14 @@ pub mod Opened
 pub mod Passed
 pub mod Passing
 pub mod Pointwise
+pub mod Polled
 pub mod Returned
 pub mod Started
 pub mod Stood
 pub mod Streams
 pub mod Takings
 pub mod Tellings
+pub mod Totals
 pub mod TurnsLeft
 pub mod Unanswered
 pub mod Waits

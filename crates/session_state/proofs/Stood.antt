@@ -115,8 +115,8 @@ job_gone true job o none = sym (none refl)
 job_gone false job o none = refl
 
 -- what was out before is out after
-jobs_again : (n : ℕ) (job : HandlerState) (jobs : ℕ → Option HandlerState) → jobs n ≡ None → with_at n None (with_at n (Some job) jobs) ≡ jobs
-jobs_again n job jobs none = λ i k. job_gone (n == k) (Some job) (jobs k) (λ is. subst (λ m. jobs m ≡ None) ((unsigned_Decides n k).0 is) none) i
+pub jobs-again : (n : ℕ) (job : HandlerState) (jobs : ℕ → Option HandlerState) → jobs n ≡ None → with_at n None (with_at n (Some job) jobs) ≡ jobs
+jobs-again n job jobs none = λ i k. job_gone (n == k) (Some job) (jobs k) (λ is. subst (λ m. jobs m ≡ None) ((unsigned_Decides n k).0 is) none) i
 
 pub turn-stands : (known : Known) (table : MethodTable) (is_over : Bool) (s between : Core) (jobs : ℕ → Option HandlerState) (units : List SeenUnit) (items : List Item) (n : ℕ)
     (job turned : HandlerState) (outcome : Option Outcome) → StandsAfter table is_over s jobs units items → Leaves s n job between → IsPoll job turned outcome
@@ -124,5 +124,5 @@ pub turn-stands : (known : Known) (table : MethodTable) (is_over : Bool) (s betw
 turn-stands known table is_over s between jobs units items n job turned outcome stands leaves polled =
     let out = leaves-stands known table is_over s jobs units items stands between n job leaves in
     let fits = idle_fits known table is_over s stands.past jobs n leaves.handler leaves.so_far stands.rests leaves.stage in
-    subst (λ js. StandsAfter table is_over (returned between turned outcome) js units items) (jobs_again n job jobs fits.3)
+    subst (λ js. StandsAfter table is_over (returned between turned outcome) js units items) (jobs-again n job jobs fits.3)
     (back-stands known table is_over between (with_at n (Some job) jobs) units items out n job turned outcome (at-here n (Some job) jobs) polled)

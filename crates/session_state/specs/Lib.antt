@@ -4,6 +4,7 @@ pub mod Fits
 pub mod Hearing
 pub mod Inner
 pub mod Passing
+pub mod Polls
 pub mod Stands
 pub mod Taking
 pub mod Turning

@@ -4,12 +4,14 @@
 
 mod draining;
 mod known;
+mod polls;
 mod standing;
 mod taking;
 mod turning;
 mod turns;
 
 pub use draining::{nothing_is_stuck, what_is_due_is_written, what_was_written_is_an_output};
+pub use polls::{each_turn_is_one_poll, polls_of_a_done_session_are_few};
 pub use standing::{events_keep_standing, what_stands_is_an_output};
 pub use taking::{
     cancels_finish_the_handlers_that_are_here, entries_are_passed, start_is_at_rest,
