@@ -24,3 +24,8 @@ unit_of_refused content refused = unless_text _ content refl refused
 pub batch_of_some : (es : List Entry) → (es ≡ [] → ⊥) → batch (map entry_seen es) ≡ batch_of (map entry_seen es)
 batch_of_some [] some = absurd (some refl)
 batch_of_some (e ∷ es) some = refl
+
+pub unit_of_text : (content text : List ℕ) → IsUtf8 content → text ≡ content → unit_of_reading (read text) ≡ unit_of false content
+unfolding unit_of
+unit_of_text content text utf8 same =
+    ap (λ t. unit_of_reading (read t)) same ∙ sym (ap (λ b. cond b (unit_of_reading (read content)) unreadable) (is_utf8-from_IsUtf8 content utf8))

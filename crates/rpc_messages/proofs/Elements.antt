@@ -1,19 +1,29 @@
--- The entries of an array's elements, one by one.
-use Rattle.std.proofs.Common.{◌≡◌, List, [], ◌∷◌, map, refl, sym, ap, ◌∙◌}
-use Rattle.serde_json.specs.View.{view, items_view}
-use Rattle.serde_json.specs.declared.value.Value.{Value}
-use Rattle.rpc_messages.specs.Entry.{SeenEntry, entry_of}
+-- The elements of an array, read one by one.
+use Rattle.std.proofs.Common.{◌≡◌, List, [], ◌∷◌, ◌++◌, map, Option, Some, None, refl, ap}
+use Rattle.json.specs.Json.{parse_map}
+use Rattle.json.specs.Token.{Token}
+use Rattle.serde_json.specs.Data.{Data, Items, no_items, item}
+use Rattle.rpc_messages.specs.Entry.{entry_of}
 use Rattle.rpc_messages.specs.Unit.{entries_of}
 
-entries_of-items_view : (vs : List Value) → entries_of (items_view vs) ≡ map (λ v. entry_of (view v)) vs
-entries_of-items_view [] = refl
-entries_of-items_view (v ∷ vs) = ap (λ es. entry_of (view v) ∷ es) (entries_of-items_view vs)
+-- the elements ds before others
+abbrev pub elements_before : List Data → Items → Items
+elements_before [] rest = rest
+elements_before (d ∷ ds) rest = item d (elements_before ds rest)
 
-each_itself : (vs : List Value) → map (λ v. v) vs ≡ vs
-each_itself [] = refl
-each_itself (v ∷ vs) = ap (λ ws. v ∷ ws) (each_itself vs)
+pub none_before : (r : Option (Items × List Token)) → r ≡ parse_map (elements_before []) r
+none_before None = refl
+none_before (Some p) = refl
 
--- the entries of the elements that were gone over, which are all
-pub entries_of_all : (seen : List SeenEntry) (gone vs : List Value) → seen ≡ map (λ v. entry_of (view v)) gone → map (λ v. v) gone ≡ vs
-    → seen ≡ entries_of (items_view vs)
-entries_of_all seen gone vs read all = read ∙ ap (map (λ v. entry_of (view v))) (sym (each_itself gone) ∙ all) ∙ sym (entries_of-items_view vs)
+push : (ds : List Data) (d : Data) (rest : Items) → elements_before ds (item d rest) ≡ elements_before (ds ++ d ∷ []) rest
+push [] d rest = refl
+push (e ∷ ds) d rest = ap (item e) (push ds d rest)
+
+pub one_more : (ds : List Data) (d : Data) (r : Option (Items × List Token)) → parse_map (elements_before ds) (parse_map (item d) r) ≡ parse_map (elements_before (ds ++ d ∷ [])) r
+one_more ds d None = refl
+one_more ds d (Some p) = ap (λ items. Some (items, p.1)) (push ds d p.0)
+
+-- each has its entry
+pub entries_of-all : (ds : List Data) → map entry_of ds ≡ entries_of (elements_before ds no_items)
+entries_of-all [] = refl
+entries_of-all (d ∷ ds) = ap (λ es. entry_of d ∷ es) (entries_of-all ds)

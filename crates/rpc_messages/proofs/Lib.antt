@@ -5,9 +5,11 @@ mod BatchReadBack
 mod CallTexts
 mod Contents
 mod Elements
+mod Envelopes
 mod Fronts
 mod KeyLemmas
 mod TakenMember
+mod Tokens
 pub mod Ids
 pub mod Stream
 pub mod Units

@@ -1,8 +1,9 @@
 -- What a reply to a call of ours says (JSON-RPC 2.0, sections 5 and 5.1).
 use Rattle.std.specs.Prelude.{ℕ, ℤ, List, Option, Some, None, option_map, option_and_then, unwrap_or, is_some, codes, if◌then◌else◌}
-use Rattle.serde_json.specs.Data.{Data, null, Members}
-use Rattle.serde_json.specs.Find.{get_member, get, as_str, as_number, as_i64}
+use Rattle.serde_json.specs.Data.{Data, null}
+use Rattle.serde_json.specs.Find.{get, as_str, as_number, as_i64}
 use Rattle.rpc_messages.specs.Call.{is_version_2}
+use Rattle.rpc_messages.specs.Envelope.{SeenEnvelope}
 use Rattle.json_values.specs.Whole.{whole}
 use Rattle.rpc_messages.specs.declared.reply.Reply.{Reply}
 use Rattle.rpc_messages.specs.declared.reply.Reply.TheVariants.{Done, Error, Standard}
@@ -35,7 +36,5 @@ outcome_of None (Some d) = option_map Done (whole d)
 outcome_of (Some e) answer = if is_some (unless_null answer) then None else error_in e
 
 -- a reply of another version, or of neither or both, is a faulty one
-abbrev pub reply_in : Members → Reply
-reply_in ms =
-    if is_version_2 ms then unwrap_or (outcome_of (unless_null (get_member (codes "error") ms)) (get_member (codes "result") ms)) (Standard InvalidReply)
-    else Standard InvalidReply
+abbrev pub reply_in : SeenEnvelope → Reply
+reply_in e = if is_version_2 e.version then unwrap_or (outcome_of (unless_null e.error) e.result) (Standard InvalidReply) else Standard InvalidReply

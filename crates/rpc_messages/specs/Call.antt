@@ -2,9 +2,10 @@
 use Rattle.std.specs.Prelude.{ℕ, List, Bool, true, false, Option, Some, None, option_map, option_and_then, codes, if◌then◌else◌}
 use Rattle.std.specs.Option.{option_map_or}
 use Rattle.std.specs.Str.{bytes_eq}
-use Rattle.serde_json.specs.Data.{Num, unsigned, negative, float, Data, null, number, string, array, object, Members}
-use Rattle.serde_json.specs.Find.{get_member, get, as_str}
+use Rattle.serde_json.specs.Data.{Num, unsigned, negative, float, Data, null, number, string, array, object}
+use Rattle.serde_json.specs.Find.{get, as_str}
 use Rattle.json_values.specs.Whole.{whole}
+use Rattle.rpc_messages.specs.Envelope.{SeenEnvelope}
 use Rattle.rpc_messages.specs.declared.call.Call.{Call}
 use Rattle.rpc_messages.specs.declared.id.Id.{Id}
 use Rattle.rpc_messages.specs.declared.id.Id.TheVariants.{Null, Text, Signed, Unsigned}
@@ -12,8 +13,8 @@ use Rattle.rpc_messages.specs.declared.params.Params.{Params}
 use Rattle.rpc_messages.specs.declared.params.Params.TheVariants.{Omitted, Whole, Fractional}
 
 -- section 4: the member `jsonrpc` is exactly "2.0"
-abbrev pub is_version_2 : Members → Bool
-is_version_2 ms = option_map_or (bytes_eq (codes "2.0")) (option_and_then as_str (get_member (codes "jsonrpc") ms)) false
+abbrev pub is_version_2 : Option Data → Bool
+is_version_2 version = option_map_or (bytes_eq (codes "2.0")) (option_and_then as_str version) false
 
 -- section 4: an id is a string, a number or null, and here the number is a whole one
 abbrev pub number_id : Num → Option Id
@@ -63,7 +64,5 @@ abbrev pub call_from : Bool → Option (List ℕ) → Option Params → Option (
 call_from true (Some method) (Some params) (Some id) = Some (call_with id method params)
 call_from _ _ _ _ = None
 
-abbrev pub call_in : Members → Option Call
-call_in ms =
-    call_from (is_version_2 ms) (option_and_then as_str (get_member (codes "method") ms)) (call_params (get_member (codes "params") ms))
-    (call_id (get_member (codes "id") ms))
+abbrev pub call_in : SeenEnvelope → Option Call
+call_in e = call_from (is_version_2 e.version) (option_and_then as_str e.method) (call_params e.params) (call_id e.id)

@@ -1,11 +1,12 @@
 -- What one JSON value is: a call, a reply to a call of ours, or neither (JSON-RPC 2.0, sections 4 to 6).
-use Rattle.std.specs.Prelude.{ℕ, List, Bool, ◌||◌, Option, Some, None, option_and_then, is_some, codes, if◌then◌else◌}
+use Rattle.std.specs.Prelude.{ℕ, ◌||◌, Option, Some, None, option_and_then, is_some, if◌then◌else◌}
 use Rattle.std.specs.Arc.{arc_value}
-use Rattle.serde_json.specs.Data.{Data, object, Members}
-use Rattle.serde_json.specs.Find.{get_member, as_str}
+use Rattle.serde_json.specs.Data.{Data, object}
+use Rattle.serde_json.specs.Find.{as_str}
 use Rattle.rpc_messages.specs.Key.{key_of}
 use Rattle.rpc_messages.specs.Call.{call_in}
 use Rattle.rpc_messages.specs.Answered.{reply_in}
+use Rattle.rpc_messages.specs.Envelope.{SeenEnvelope, envelope_of}
 use Rattle.rpc_messages.specs.declared.call.Call.{Call}
 use Rattle.rpc_messages.specs.declared.entry.Entry.{Entry}
 use Rattle.rpc_messages.specs.declared.entry.Entry.TheVariants as entry
@@ -34,20 +35,15 @@ abbrev pub reply_or_stray : Option (ℕ × ℕ) → Reply → SeenEntry
 reply_or_stray None r = stray
 reply_or_stray (Some key) r = reply key.0 key.1 r
 
--- whether the object has a member of that name
-abbrev pub has : List ℕ → Members → Bool
-has name ms = is_some (get_member name ms)
-
 -- a reply has the key of a call of ours as its id
-abbrev pub reply_key : Members → Option (ℕ × ℕ)
-reply_key ms = option_and_then key_of (option_and_then as_str (get_member (codes "id") ms))
+abbrev pub reply_key : SeenEnvelope → Option (ℕ × ℕ)
+reply_key e = option_and_then key_of (option_and_then as_str e.id)
 
 -- an object with a member `method` is a call or invalid; one with `result` or `error` is a reply; any other is invalid
-abbrev pub message_of : Members → SeenEntry
-message_of ms =
-    if has (codes "method") ms then call_or_invalid (call_in ms)
-    else (if has (codes "result") ms || has (codes "error") ms then reply_or_stray (reply_key ms) (reply_in ms) else invalid)
+abbrev pub message_in : SeenEnvelope → SeenEntry
+message_in e =
+    if is_some e.method then call_or_invalid (call_in e) else (if is_some e.result || is_some e.error then reply_or_stray (reply_key e) (reply_in e) else invalid)
 
 abbrev pub entry_of : Data → SeenEntry
-entry_of (object ms) = message_of ms
+entry_of (object ms) = message_in (envelope_of ms)
 entry_of _ = invalid

@@ -2,6 +2,8 @@ pub mod Answered
 pub mod Call
 pub mod Dues
 pub mod Entry
+pub mod Envelope
+pub mod Held
 pub mod Ids
 pub mod Key
 pub mod Numbering

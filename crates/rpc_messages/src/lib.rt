@@ -17,6 +17,7 @@ mod request;
 mod standard;
 mod unit;
 mod unit_answer;
+mod unit_reader;
 
 pub use answer::{answer_text, batch_text, put_answer};
 pub use call::{Call, cancel_target};
@@ -30,7 +31,6 @@ pub use key::{
 pub use kind::Kind;
 pub use outgoing::Outgoing;
 pub use params::Params;
-pub use read::read_unit;
 pub use reply::Reply;
 pub use request::{
     call_text, calls_text, notice_text, put_call, put_calls, put_notice, put_withdrawal,
@@ -39,3 +39,4 @@ pub use request::{
 pub use standard::Standard;
 pub use unit::Unit;
 pub use unit_answer::{Answer, put_unit_answer};
+pub use unit_reader::{UnitReader, read_unit};

@@ -1,92 +1,142 @@
-//! From a content to its unit (JSON-RPC 2.0, sections 4 to 6).
+//! From a text to its unit (JSON-RPC 2.0, sections 4 to 6), in one pass over its tokens.
 
-ghost use Rattle.std.specs.Prelude.{◌≡◌, IfOk, map, false};
-ghost use Rattle.serde_json.specs.View.{view, items_view, members_view};
-ghost use Rattle.rpc_messages.specs.Entry.{entry_seen, entry_of, message_of};
-ghost use Rattle.rpc_messages.specs.Unit.{unit_seen, unit_of, value_unit, batch_of, entries_of};
+ghost use Rattle.std.specs.Prelude.{◌≡◌, ◌<◌, ◌≤◌, ◌∷◌, length, map, Some, None, Err, IfOk, OnOk};
+ghost use Rattle.json.specs.Json.{value, items};
+ghost use Rattle.json.specs.Reads.{token_of};
+ghost use Rattle.json_reading.specs.declared.fault.ReadFault.TheVariants.{Refused};
+ghost use Rattle.serde_json.specs.Data.{Data, Items as ItemsRead};
+ghost use Rattle.serde_json.specs.Read.{of_json, of_items, converted, max_depth, read as read_data};
+ghost use Rattle.rpc_messages.specs.Entry.{entry_seen, entry_of, message_in};
+ghost use Rattle.rpc_messages.specs.Held.{envelope_view};
+ghost use Rattle.rpc_messages.specs.Unit.{unit_seen, unit_of_reading, value_unit, batch_of, entries_of};
 
-use self::members::has;
+use self::envelope::{Envelope, read_envelope};
 use crate::entry::Entry;
 use crate::unit::Unit;
+use json::{Reader, Scratch, Token};
+use json_reading::{ReadFault, value_from};
 use json_values::Items;
-use lsp_frames::Frame;
-use serde_json::{Map, Value};
 use std::alloc::{AllocError, Global};
 
 mod call;
+mod envelope;
 mod members;
 mod reply;
+mod version;
 
-/// The unit of a frame's content. Every content has one, so the only error is want of memory.
-#[tactic(auto, unfolding(crate::specs::Unit::unit_of))]
-pub fn read_unit(alloc: Global, frame: &Frame) -> Result<Unit, AllocError>
-    ensures { IfOk result (λ u. unit_seen u ≡ unit_of frame.now.foreign frame.now.content) }
-{
-    if frame.foreign {
-        return Ok(Unit::Unreadable);
-    }
-    read_content(alloc, frame.content.as_slice())
-}
+/// Values of a text nest at most this deep.
+const MOST_LEVELS: usize = 127;
 
-fn read_content(alloc: Global, content: &[u8]) -> Result<Unit, AllocError>
-    ensures { IfOk result (λ u. unit_seen u ≡ unit_of false content.now) }
+/// The unit of a text. It is refused where it is no JSON of at most 127 levels.
+pub(crate) fn read_text(alloc: Global, text: &str, scratch: &mut Scratch) -> Result<Unit, ReadFault>
+    ensures ok { IfOk result (λ u. unit_seen u ≡ unit_of_reading (read_data text.now)) }
+    ensures refused { result ≡ Err Refused → read_data text.now ≡ None }
 {
-    match Value::from_slice(alloc, content) {
-        Ok(value) => read_value(alloc, value),
-        Err(error) => if error.is_memory() {
-            Err(AllocError)
-        } else {
-            Ok(Unit::Unreadable)
-        },
+    let mut reader = Reader::new(text, scratch)?;
+    let unit = read_whole(alloc, &mut reader)?;
+    match reader.next() {
+        Some(_) => Err(ReadFault::Refused),
+        None => Ok(unit),
     }
 }
 
-fn read_value(alloc: Global, value: Value) -> Result<Unit, AllocError>
-    ensures { IfOk result (λ u. unit_seen u ≡ value_unit (view value)) }
+fn read_whole(alloc: Global, reader: &mut Reader<'_>) -> Result<Unit, ReadFault>
+    ensures ok { IfOk result (λ u. (d : Data)
+        × (converted of_json (value max_depth reader.old) ≡ Some (d, reader.new))
+        × (unit_seen u ≡ value_unit d)) }
+    ensures refused { result ≡ Err Refused
+        → converted of_json (value max_depth reader.old) ≡ None }
 {
-    match value {
-        Value::Array(elements) => read_array(alloc, elements),
-        value => Ok(Unit::Single(read_entry(alloc, value)?)),
+    match reader.next().ok_or(ReadFault::Refused)? {
+        Token::BeginArray => read_array(alloc, reader, MOST_LEVELS - 1),
+        token => Ok(Unit::Single(entry_from(alloc, token, reader, MOST_LEVELS)?)),
     }
 }
 
-fn read_array(alloc: Global, elements: Vec<Value>) -> Result<Unit, AllocError>
-    ensures { IfOk result (λ u. unit_seen u ≡ batch_of (entries_of (items_view elements.items))) }
+/// The unit of an array, from behind its bracket on.
+fn read_array(alloc: Global, reader: &mut Reader<'_>, depth: usize) -> Result<Unit, ReadFault>
+    ensures ok { IfOk result (λ u. (ds : ItemsRead)
+        × (converted of_items (items (value depth) (length reader.old) reader.old)
+        ≡ Some (ds, reader.new))
+        × (unit_seen u ≡ batch_of (entries_of ds))) }
+    ensures refused { result ≡ Err Refused
+        → converted of_items (items (value depth) (length reader.old) reader.old) ≡ None }
 {
-    let entries = Items::from(read_entries(alloc, elements)?);
+    let entries = Items::from(read_entries(alloc, reader, depth)?);
     if entries.is_empty() {
         return Ok(Unit::Single(Entry::Invalid));
     }
     Ok(Unit::Batch(entries))
 }
 
-fn read_entries(alloc: Global, elements: Vec<Value>) -> Result<Vec<Entry>, AllocError>
-    ensures { IfOk result
-        (λ entries. map entry_seen entries.items ≡ entries_of (items_view elements.items)) }
+fn read_entries(
+    alloc: Global,
+    reader: &mut Reader<'_>,
+    depth: usize,
+) -> Result<Vec<Entry>, ReadFault>
+    ensures ok { IfOk result (λ entries. (ds : ItemsRead)
+        × (converted of_items (items (value depth) (length reader.old) reader.old)
+        ≡ Some (ds, reader.new))
+        × (map entry_seen entries.items ≡ entries_of ds)) }
+    ensures refused { result ≡ Err Refused
+        → converted of_items (items (value depth) (length reader.old) reader.old) ≡ None }
 {
-    let mut entries = Vec::with_capacity(alloc, elements.len())?;
-    for element in elements {
-        entries.push(read_entry(alloc, element)?)?;
+    let mut entries = Vec::new(alloc);
+    'elements: while !reader.take_end_array() {
+        let entry = read_entry(alloc, reader, depth)?;
+        entries.push(entry)?;
     }
     Ok(entries)
 }
 
-fn read_entry(alloc: Global, value: Value) -> Result<Entry, AllocError>
-    ensures { IfOk result (λ e. entry_seen e ≡ entry_of (view value)) }
+fn read_entry(alloc: Global, reader: &mut Reader<'_>, depth: usize) -> Result<Entry, ReadFault>
+    ensures ok { IfOk result (λ e. (d : Data)
+        × (converted of_json (value depth reader.old) ≡ Some (d, reader.new))
+        × (entry_seen e ≡ entry_of d)) }
+    ensures shorter { OnOk result (length reader.new < length reader.old) }
+    ensures refused { result ≡ Err Refused → converted of_json (value depth reader.old) ≡ None }
 {
-    match value {
-        Value::Object(members) => read_message(alloc, members),
-        _ => Ok(Entry::Invalid),
+    let token = reader.next().ok_or(ReadFault::Refused)?;
+    entry_from(alloc, token, reader, depth)
+}
+
+/// The entry that begins with this token, which the reader has given.
+fn entry_from(
+    alloc: Global,
+    token: Token<'_>,
+    reader: &mut Reader<'_>,
+    depth: usize,
+) -> Result<Entry, ReadFault>
+    ensures ok { IfOk result (λ e. (d : Data)
+        × (converted of_json (value depth (token_of token.entry ∷ reader.old))
+        ≡ Some (d, reader.new))
+        × (entry_seen e ≡ entry_of d)) }
+    ensures shorter { OnOk result (length reader.new ≤ length reader.old) }
+    ensures refused { result ≡ Err Refused
+        → converted of_json (value depth (token_of token.entry ∷ reader.old)) ≡ None }
+{
+    match token {
+        Token::BeginObject => {
+            if depth == 0 {
+                return Err(ReadFault::Refused);
+            }
+            let envelope = read_envelope(alloc, reader, depth - 1)?;
+            Ok(read_message(alloc, envelope)?)
+        }
+        token => {
+            drop(value_from(alloc, token, reader, depth)?);
+            Ok(Entry::Invalid)
+        }
     }
 }
 
-fn read_message(alloc: Global, members: Map<String, Value>) -> Result<Entry, AllocError>
-    ensures { IfOk result (λ e. entry_seen e ≡ message_of (members_view members.entries)) }
+fn read_message(alloc: Global, envelope: Envelope<'_>) -> Result<Entry, AllocError>
+    ensures { IfOk result (λ e. entry_seen e ≡ message_in (envelope_view envelope.entry)) }
 {
-    if has(&members, "method") {
-        call::read_call(alloc, members)
-    } else if has(&members, "result") || has(&members, "error") {
-        Ok(reply::read_reply(members))
+    if envelope.method.is_some() {
+        call::read_call(alloc, envelope)
+    } else if envelope.result.is_some() || envelope.error.is_some() {
+        reply::read_reply(alloc, envelope)
     } else {
         Ok(Entry::Invalid)
     }

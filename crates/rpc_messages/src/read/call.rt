@@ -1,26 +1,31 @@
 //! Requests and notifications.
 
-ghost use Rattle.std.specs.Prelude.{◌≡◌, IfOk, option_map};
-ghost use Rattle.serde_json.specs.View.{view, members_view, number_view};
+ghost use Rattle.std.specs.Prelude.{◌≡◌, IfOk, option_map, option_and_then};
+ghost use Rattle.json_reading.specs.Piece.{piece_view};
+ghost use Rattle.serde_json.specs.Find.{as_str};
+ghost use Rattle.serde_json.specs.View.{view, number_view};
 ghost use Rattle.rpc_messages.specs.Call.{number_id, id_of, call_id, call_params, target_of, call_in, call_with};
 ghost use Rattle.rpc_messages.specs.Entry.{entry_seen, call_or_invalid};
+ghost use Rattle.rpc_messages.specs.Held.{envelope_view};
 
-use super::members::{is_version_2, take, take_text};
+use super::envelope::Envelope;
+use super::version::is_version_2;
 use crate::call::Call;
 use crate::entry::Entry;
 use crate::id::Id;
 use crate::params::Params;
+use json_reading::Piece;
 use json_values::{Json, Negative, Text};
-use serde_json::{Map, Number, Value};
+use serde_json::{Number, Value};
 use std::alloc::{AllocError, Global};
 use std::sync::Arc;
 
 /// An object with a member `method`: a call, or an invalid entry.
-pub(super) fn read_call(alloc: Global, members: Map<String, Value>) -> Result<Entry, AllocError>
+pub(super) fn read_call(alloc: Global, envelope: Envelope<'_>) -> Result<Entry, AllocError>
     ensures { IfOk result
-        (λ e. entry_seen e ≡ call_or_invalid (call_in (members_view members.entries))) }
+        (λ e. entry_seen e ≡ call_or_invalid (call_in (envelope_view envelope.entry))) }
 {
-    let Some((id, method, params)) = read_parts(members) else {
+    let Some((id, method, params)) = read_parts(alloc, envelope)? else {
         return Ok(Entry::Invalid);
     };
     let target = read_target(&id, &method, &params)?;
@@ -34,25 +39,54 @@ pub(super) fn read_call(alloc: Global, members: Map<String, Value>) -> Result<En
 }
 
 /// The id, the method and the params of a call.
-fn read_parts(mut members: Map<String, Value>) -> Option<(Option<Id>, Text, Params)>
-    ensures { option_map (λ p. call_with p.0 p.1 p.2) result
-        ≡ call_in (members_view members.entries) }
+fn read_parts(
+    alloc: Global,
+    envelope: Envelope<'_>,
+) -> Result<Option<(Option<Id>, Text, Params)>, AllocError>
+    ensures { IfOk result (λ parts. option_map (λ p. call_with p.0 p.1 p.2) parts
+        ≡ call_in (envelope_view envelope.entry)) }
 {
-    if !is_version_2(&members) {
-        return None;
+    let Envelope {
+        version,
+        method,
+        params,
+        id,
+        ..
+    } = envelope;
+    if !is_version_2(&version) {
+        return Ok(None);
     }
-    let method = take_text(&mut members, "method")?;
-    let params = read_params(take(&mut members, "params"))?;
-    let id = read_call_id(take(&mut members, "id"))?;
-    Some((id, method, params))
+    let Some(method) = read_method(alloc, method)? else {
+        return Ok(None);
+    };
+    let Some(params) = read_params(params) else {
+        return Ok(None);
+    };
+    let Some(id) = read_call_id(alloc, id)? else {
+        return Ok(None);
+    };
+    Ok(Some((id, method, params)))
 }
 
-fn read_call_id(member: Option<Value>) -> Option<Option<Id>>
-    ensures { result ≡ call_id (option_map view member) }
+fn read_method(alloc: Global, member: Option<Piece<'_>>) -> Result<Option<Text>, AllocError>
+    ensures { IfOk result
+        (λ text. text ≡ option_and_then as_str (option_map piece_view member.entry)) }
 {
-    match member {
-        None => Some(None),
-        Some(value) => Some(Some(read_id(value)?)),
+    let Some(member) = member else {
+        return Ok(None);
+    };
+    Ok(member.into_string(alloc)?.map(Text::from))
+}
+
+fn read_call_id(alloc: Global, member: Option<Piece<'_>>) -> Result<Option<Option<Id>>, AllocError>
+    ensures { IfOk result (λ id. id ≡ call_id (option_map piece_view member.entry)) }
+{
+    let Some(member) = member else {
+        return Ok(Some(None));
+    };
+    match read_id(member.into_value(alloc)?) {
+        Some(id) => Ok(Some(Some(id))),
+        None => Ok(None),
     }
 }
 
@@ -76,14 +110,16 @@ fn read_number_id(number: &Number) -> Option<Id>
     }
 }
 
-fn read_params(member: Option<Value>) -> Option<Params>
-    ensures { result ≡ call_params (option_map view member) }
+fn read_params(member: Option<Piece<'_>>) -> Option<Params>
+    ensures { result ≡ call_params (option_map piece_view member.entry) }
 {
     match member {
-        None | Some(Value::Null) => Some(Params::Omitted),
-        Some(value) if value.is_array() || value.is_object() => match Json::new(value) {
-            Some(params) => Some(Params::Whole(params)),
-            None => Some(Params::Fractional),
+        None | Some(Piece::Whole(Value::Null)) => Some(Params::Omitted),
+        Some(Piece::Whole(value)) if value.is_array() || value.is_object() => {
+            match Json::new(value) {
+                Some(params) => Some(Params::Whole(params)),
+                None => Some(Params::Fractional),
+            }
         }
         Some(_) => None,
     }

@@ -1,49 +1,71 @@
 //! Replies to calls of ours.
 
-ghost use Rattle.std.specs.Prelude.{◌≡◌, option_map};
-ghost use Rattle.serde_json.specs.View.{view, members_view};
+ghost use Rattle.std.specs.Prelude.{◌≡◌, IfOk, option_map};
+ghost use Rattle.json_reading.specs.Piece.{piece_view};
+ghost use Rattle.serde_json.specs.View.{view};
 ghost use Rattle.rpc_messages.specs.Answered.{reply_in, outcome_of, unless_null, error_in, extra_in};
 ghost use Rattle.rpc_messages.specs.Entry.{entry_seen, reply_key, reply_or_stray};
+ghost use Rattle.rpc_messages.specs.Held.{envelope_view};
 
-use super::members::{find, is_version_2, take, take_text, text};
+use super::envelope::Envelope;
+use super::members::{find, take, take_text};
+use super::version::is_version_2;
 use crate::entry::Entry;
 use crate::error_value::ErrorValue;
 use crate::key::read_key;
 use crate::reply::Reply;
 use crate::standard::Standard;
+use json_reading::Piece;
 use json_values::Json;
-use serde_json::{Map, Value};
+use serde_json::Value;
+use std::alloc::{AllocError, Global};
 
 /// An object with a member `result` or `error` and none `method`.
-pub(super) fn read_reply(members: Map<String, Value>) -> Entry
-    ensures { let ms = members_view members.entries in
-        entry_seen result ≡ reply_or_stray (reply_key ms) (reply_in ms) }
+pub(super) fn read_reply(alloc: Global, envelope: Envelope<'_>) -> Result<Entry, AllocError>
+    ensures { let e = envelope_view envelope.entry in
+        IfOk result (λ entry. entry_seen entry ≡ reply_or_stray (reply_key e) (reply_in e)) }
 {
-    let Some((number, turn)) = key(&members) else {
-        return Entry::Stray;
+    let Some((number, turn)) = key(&envelope) else {
+        return Ok(Entry::Stray);
     };
-    Entry::Reply {
+    Ok(Entry::Reply {
         number,
         turn,
-        reply: read_outcome(members),
-    }
+        reply: read_outcome(alloc, envelope)?,
+    })
 }
 
-fn key(members: &Map<String, Value>) -> Option<(u32, u32)>
-    ensures { result ≡ reply_key (members_view members.now.entries) }
+fn key(envelope: &Envelope<'_>) -> Option<(u32, u32)>
+    ensures { result ≡ reply_key (envelope_view envelope.now) }
 {
-    read_key(text(members, "id")?)
+    read_key(envelope.id.as_ref()?.as_str()?)
 }
 
-fn read_outcome(mut members: Map<String, Value>) -> Reply
-    ensures { result ≡ reply_in (members_view members.entries) }
+fn read_outcome(alloc: Global, envelope: Envelope<'_>) -> Result<Reply, AllocError>
+    ensures { IfOk result (λ reply. reply ≡ reply_in (envelope_view envelope.entry)) }
 {
-    if !is_version_2(&members) {
-        return Reply::Standard(Standard::InvalidReply);
+    let Envelope {
+        version,
+        result,
+        error,
+        ..
+    } = envelope;
+    if !is_version_2(&version) {
+        return Ok(Reply::Standard(Standard::InvalidReply));
     }
-    let error = not_null(take(&mut members, "error"));
-    let answer = take(&mut members, "result");
-    outcome(error, answer).unwrap_or(Reply::Standard(Standard::InvalidReply))
+    let error = not_null(owned(alloc, error)?);
+    let answer = owned(alloc, result)?;
+    Ok(outcome(error, answer).unwrap_or(Reply::Standard(Standard::InvalidReply)))
+}
+
+fn owned(alloc: Global, member: Option<Piece<'_>>) -> Result<Option<Value>, AllocError>
+    ensures { IfOk result
+        (λ value. option_map view value ≡ option_map piece_view member.entry) }
+{
+    match member {
+        Some(member) => Ok(Some(member.into_value(alloc)?)),
+        None => Ok(None),
+    }
 }
 
 fn outcome(error: Option<Value>, answer: Option<Value>) -> Option<Reply>

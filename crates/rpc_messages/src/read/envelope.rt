@@ -1,0 +1,82 @@
+//! The members of an object that count for a message.
+
+ghost use Rattle.std.specs.Prelude.{◌≡◌, ◌<◌, length, Some, None, Err, IfOk, OnOk};
+ghost use Rattle.json.specs.Json.{value, members};
+ghost use Rattle.json_reading.specs.Piece.{piece_view};
+ghost use Rattle.json_reading.specs.declared.fault.ReadFault.TheVariants.{Refused};
+ghost use Rattle.serde_json.specs.Data.{Members, no_members};
+ghost use Rattle.serde_json.specs.Read.{of_members, converted};
+ghost use Rattle.rpc_messages.specs.Envelope.{envelope_of};
+ghost use Rattle.rpc_messages.specs.Held.{envelope_view, with_member};
+
+use json::Reader;
+use json_reading::{Piece, ReadFault, read_piece};
+use std::alloc::Global;
+
+/// Of each name that counts for a message, the last member (JSON-RPC 2.0, sections 4 and 5).
+#[derive(Drop)]
+pub(super) struct Envelope<'a> {
+    /// The member `jsonrpc`.
+    pub(super) version: Option<Piece<'a>>,
+    pub(super) method: Option<Piece<'a>>,
+    pub(super) params: Option<Piece<'a>>,
+    pub(super) id: Option<Piece<'a>>,
+    pub(super) result: Option<Piece<'a>>,
+    pub(super) error: Option<Piece<'a>>,
+}
+
+/// Reads the members of an object, from behind its bracket on. Their values may nest `depth` deep.
+pub(super) fn read_envelope<'a>(
+    alloc: Global,
+    reader: &mut Reader<'a>,
+    depth: usize,
+) -> Result<Envelope<'a>, ReadFault>
+    ensures ok { IfOk result (λ e. (ms : Members)
+        × (converted (λ js. of_members js no_members)
+        (members (value depth) (length reader.old) reader.old) ≡ Some (ms, reader.new))
+        × (envelope_view e ≡ envelope_of ms)) }
+    ensures shorter { OnOk result (length reader.new < length reader.old) }
+    ensures refused { result ≡ Err Refused
+        → converted (λ js. of_members js no_members)
+        (members (value depth) (length reader.old) reader.old) ≡ None }
+{
+    let mut envelope = empty();
+    'members: while let Some(name) = reader.next_key()? {
+        let member = read_piece(alloc, reader, depth)?;
+        keep(&mut envelope, name, member);
+    }
+    Ok(envelope)
+}
+
+fn empty<'a>() -> Envelope<'a>
+    ensures { envelope_view result ≡ envelope_of no_members }
+{
+    Envelope {
+        version: None,
+        method: None,
+        params: None,
+        id: None,
+        result: None,
+        error: None,
+    }
+}
+
+/// Keeps a member, where its name counts, in place of an earlier one of that name.
+fn keep<'a>(envelope: &mut Envelope<'a>, name: &str, member: Piece<'a>)
+    ensures { envelope_view envelope.new
+        ≡ with_member name.now (piece_view member.entry) (envelope_view envelope.old) }
+{
+    if name == "jsonrpc" {
+        envelope.version = Some(member);
+    } else if name == "method" {
+        envelope.method = Some(member);
+    } else if name == "params" {
+        envelope.params = Some(member);
+    } else if name == "id" {
+        envelope.id = Some(member);
+    } else if name == "result" {
+        envelope.result = Some(member);
+    } else if name == "error" {
+        envelope.error = Some(member);
+    }
+}
