@@ -13,6 +13,7 @@ mod free_slots;
 mod limits;
 mod offering;
 mod plays;
+mod room;
 mod rule;
 mod running;
 mod slots;

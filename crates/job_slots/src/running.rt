@@ -9,7 +9,8 @@ use crate::rule::{Place, SharedSlots};
 use crate::turns::Turns;
 use crate::word::{DONE, READY, RUNNING};
 
-// Claims the job of the slot, turns it and shuts the slot, or changes nothing where no job is ready there.
+/// Runs the job of the slot, or changes nothing where no job is ready there. A look comes first, since most slots have
+/// none: a failed exchange would cost the other workers a cache line, and room for a job is made in the other function.
 pub(crate) fn run_at<J: Turns>(shared: &SharedSlots<J>, seat: &mut Place<J>, slot: usize) -> bool
     requires table { seat.old.table_id ≡ shared.now.table_id }
     requires slot { slot < shared.now.table_id.words }
@@ -18,10 +19,18 @@ pub(crate) fn run_at<J: Turns>(shared: &SharedSlots<J>, seat: &mut Place<J>, slo
     ensures ran { IsTrue result → seat.new.me ≡ (Idle (view_shut seat.old.me.0 ++ slot ∷ []), []) }
     ensures nothing { IsFalse result → seat.new.me ≡ seat.old.me }
 {
-    // A failed exchange costs the other workers a cache line, so the word is read first.
-    if shared.peek(slot) != READY {
-        return false;
-    }
+    shared.peek(slot) == READY && run_ready(shared, seat, slot)
+}
+
+/// Claims the job of the slot, turns it and shuts the slot, unless another worker was faster.
+fn run_ready<J: Turns>(shared: &SharedSlots<J>, seat: &mut Place<J>, slot: usize) -> bool
+    requires table { seat.old.table_id ≡ shared.now.table_id }
+    requires slot { slot < shared.now.table_id.words }
+    requires idle { (is_idle seat.old.me.0 ≡ true) × (seat.old.me.1 ≡ []) }
+    ensures table { seat.new.table_id ≡ seat.old.table_id }
+    ensures ran { IsTrue result → seat.new.me ≡ (Idle (view_shut seat.old.me.0 ++ slot ∷ []), []) }
+    ensures nothing { IsFalse result → seat.new.me ≡ seat.old.me }
+{
     if shared.compare_exchange::<Claim>(seat, slot, READY, RUNNING) != READY {
         return false;
     }

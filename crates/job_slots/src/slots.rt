@@ -1,5 +1,5 @@
 //! The slots, and all that is done with them.
-ghost use Rattle.std.specs.Prelude.{◌≡◌, ℕ, ◌+◌, ◌-◌, ◌<◌, ◌≤◌, [], ◌∷◌, ◌++◌, Some, None, IsOk, IfOk, IfErr, OnErr, IfSome, OnSome, IfNone, position, replicate, slice_set};
+ghost use Rattle.std.specs.Prelude.{◌≡◌, ℕ, ◌+◌, ◌-◌, ◌<◌, ◌≤◌, [], ◌∷◌, ◌++◌, Some, None, IsOk, IfOk, IfErr, OnErr, IfSome, OnSome, IfNone, IsTrue, position, replicate, slice_set};
 ghost use Rattle.job_slots.specs.declared.limits.TheConstants.{MOST_SLOTS};
 ghost use Rattle.job_slots.specs.declared.view.Look.TheVariants.{Free, In};
 ghost use Rattle.job_slots.specs.declared.worker.Ran.TheVariants.{One, Nothing};
@@ -15,7 +15,7 @@ use crate::plays::{Hire, TakeIn};
 use crate::rule::SlotTable;
 use crate::running::run_at;
 use crate::turns::Turns;
-use crate::word::EMPTY;
+use crate::word::{DONE, EMPTY};
 use crate::worker::{Ran, WorkerSeat};
 use std::alloc::Global;
 
@@ -118,6 +118,14 @@ impl<J: Turns> JobSlots<J> {
             }
         }
         Ran::Nothing
+    }
+
+    /// Whether the job of a slot that is in use lies there turned, by a look: then `collect` gives it. A caller that asks
+    /// first makes no room for a job that isn't there.
+    pub fn is_turned(&self, clerk: &ClerkSeat<J>, slot: u32) -> bool
+        ensures { IsTrue result → slot < slot_count self.now }
+    {
+        slot < self.count && !clerk.free.has(slot) && self.table.shared.peek(slot as usize) == DONE
     }
 
     /// The job of the slot, turned once. `None` where it is not done, where the slot is free in the clerk's view, and

@@ -3,7 +3,7 @@ use Rattle.std.specs.Prelude.{Some}
 use Rattle.job_slots.specs.Looks.{view_shut}
 use Rattle.job_slots.proofs.Lists.{holding, same_held}
 use Rattle.job_slots.proofs.Steps.{claims, shuts}
-use Rattle.job_slots.proofs.running.run_at.Goals as goal
+use Rattle.job_slots.proofs.running.run_ready.Goals as goal
 
 pub compare_exchange-requires : goal.compare_exchange-requires
 compare_exchange-requires g c = let me = c.args.seat.now.me in
