@@ -1,5 +1,6 @@
 pub mod Events
 pub mod Inner
+pub mod Run
 pub mod Session
 pub mod SessionState
 pub mod Turned

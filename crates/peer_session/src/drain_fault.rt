@@ -10,6 +10,11 @@ pub enum DrainFault {
 }
 
 impl From<AllocError> for DrainFault {
+    ghost use Rattle.std.specs.Prelude.{◌≡◌};
+    ghost use Rattle.peer_session.specs.declared.drain_fault.DrainFault.TheVariants as fault;
+
+    ghost from_gives = { λ _ made. made ≡ fault.Memory };
+
     fn from(_error: AllocError) -> DrainFault {
         DrainFault::Memory
     }

@@ -21,7 +21,7 @@ use handler_future::Outcome;
 use lsp_frames::{Frame, Sink, put_all};
 use method_steps::Table;
 use peer_limits::{Close, Limits, Report};
-use rpc_messages::{Unit, read_unit};
+use rpc_messages::{Unit, UnitReader};
 use std::alloc::{AllocError, Global};
 
 /// So much room for output is kept from one drain to the next, in bytes.
@@ -34,6 +34,8 @@ pub struct Session<'a> {
     alloc: Global,
     table: &'a Table,
     limits: Limits,
+    /// Reads the contents, over the same room.
+    reader: UnitReader,
     runs: Runs,
     /// What the last drain has put, and room for the next.
     output: Vec<u8>,
@@ -58,6 +60,7 @@ impl<'a> Session<'a> {
             alloc,
             table,
             limits,
+            reader: UnitReader::new(alloc),
             runs: Runs::new(alloc, table)?,
             output: Vec::new(alloc),
             close: None,
@@ -109,7 +112,7 @@ impl<'a> Session<'a> {
             (unit_of frame.now.foreign frame.now.content) taken (view self.new)) }
         ensures err { OnErr result (view self.new ≡ view self.old) }
     {
-        let unit = read_unit(self.alloc, frame)?;
+        let unit = self.reader.read(frame)?;
         let left = self
             .limits
             .numbers

@@ -1,5 +1,6 @@
 -- A unit that needs more numbers than are left is full, and any other is taken.
-use Rattle.std.proofs.Common.{◌≡◌, ◌≤◌, ◌<◌, ◌-◌, sym, ap, ◌∙◌, subst, arith}
+use Rattle.std.proofs.Common.{◌≡◌, ◌≤◌, ◌<◌, ◌-◌, Result, Ok, Err, refl, sym, ap, ◌∙◌, subst, arith}
+use Rattle.std.specs.Prelude.{OnErr}
 use Rattle.rpc_messages.specs.Numbering.{unit_numbers}
 use Rattle.rpc_messages.specs.Unit.{unit_seen}
 use Rattle.peer_session.specs.Events.{fits_in, TakesAll}
@@ -7,6 +8,20 @@ use Rattle.peer_session.specs.Session.{view}
 use Rattle.peer_session.specs.SessionState.{numbers_left}
 use Rattle.peer_session.proofs.Ended.{nat_le-yes, nat_le-no}
 use Rattle.peer_session.proofs.session.Session.take.Goals as goal
+
+-- what holds after every answer holds after an error
+at-error : {A B P : Type 0} (answer : Result A B) → P → OnErr answer P
+at-error (Ok value) p = tt
+at-error (Err error) p = p
+
+-- Only the reader's room has changed, of which nothing is shown.
+pub returns-in_err-unit-clause-err : goal.returns-in_err-unit-clause-err
+unfolding view
+returns-in_err-unit-clause-err c = at-error c.from_residual.result refl
+
+pub returns-in_err-take_unit-clause-err : goal.returns-in_err-take_unit-clause-err
+unfolding view
+returns-in_err-take_unit-clause-err c = at-error c.from_residual-in_err-take_unit.result c.in_err-take_unit.ensures.err
 
 pub returns-then-numbers_of-left-clause-ok : goal.returns-then-numbers_of-left-clause-ok
 unfolding view
