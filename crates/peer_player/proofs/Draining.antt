@@ -65,7 +65,7 @@ length-texts : (dues : List Due) → length (map (λ (due : Due). due.text) dues
 length-texts [] = refl
 length-texts (due ∷ dues) = ap (λ k. suc k) (length-texts dues)
 
-counted-more : (n k : ℕ) → min (min n (2 ^ 64 - 1) + k) (2 ^ 64 - 1) ≡ min (n + k) (2 ^ 64 - 1)
+pub counted-more : (n k : ℕ) → min (min n (2 ^ 64 - 1) + k) (2 ^ 64 - 1) ≡ min (n + k) (2 ^ 64 - 1)
 counted-more n k = omega arith
 
 module _ (items due : List Item) (dues : List Due) where
@@ -115,6 +115,9 @@ module _ (known : Known) (table : MethodTable) (limits : Limits) (close : Option
         ∙ ap counted (sym answers-many);
     unbroken = plays.unbroken;
     failed = λ still. drained-not s.core.stages (plays.failed still);
+    polls = plays.polls;
+    polls_are = plays.polls_are;
+    polls_fit = λ still. known.drain_polls table s.core (λ n. None) items dues plays.polls (plays.polls_fit still);
   }
 
   pub drained-well : (after : SessionState) (sink : Option (List ℕ)) → Writes s after at sink → HasDrained table limits close units before after sink
@@ -129,6 +132,7 @@ module _ (known : Known) (table : MethodTable) (limits : Limits) (close : Option
     stands = plays.stands;
     not_failed = plays.failed writes.not_failed;
     core_is = refl;
+    well = writes.not_failed;
   })
 
   module _ (later : List SeenUnit) (comes : MayBecome (is_some close) units later) where

@@ -11,6 +11,7 @@ use Rattle.peer_limits.specs.declared.report.Report.{Report}
 use Rattle.peer_output.specs.Items.{Item}
 use Rattle.peer_output.specs.Past.{past_units}
 use Rattle.session_state.specs.Core.{Core}
+use Rattle.session_state.specs.Polls.{PollsWithin}
 use Rattle.session_state.specs.Stands.{StandsAfter}
 use Rattle.peer_session.specs.Events.{ended, ended_at}
 use Rattle.peer_session.specs.SessionState.{SessionState, report_of, close_or_clean}
@@ -40,6 +41,9 @@ module _ (known : Known) (table : MethodTable) (limits : Limits) (units : List S
     answers = plays.answers;
     unbroken = plays.unbroken;
     failed = plays.failed;
+    polls = plays.polls;
+    polls_are = plays.polls_are;
+    polls_fit = λ still. known.end_polls table s.core (λ n. None) items plays.polls (plays.polls_fit still);
   })
 
 abbrev pub close_with : ℕ → List SeenUnit → Close → Close
@@ -68,4 +72,5 @@ module _ (table : MethodTable) (limits : Limits) (units : List SeenUnit) (close 
     messages = ap (λ (r : Report). r.messages) is ∙ had.plays.messages;
     call_frames = ap (λ (r : Report). r.call_frames) is ∙ had.plays.call_frames;
     answers = ap (λ (r : Report). r.answers) is ∙ had.plays.answers;
+    polls = subst (λ (r : Report). PollsWithin table r.numbers r.call_frames r.polls) (sym is) (had.few refl);
   }

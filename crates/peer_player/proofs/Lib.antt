@@ -1,3 +1,4 @@
+pub mod Counting
 pub mod Draining
 pub mod Ending
 pub mod Pieces

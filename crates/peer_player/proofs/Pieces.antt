@@ -4,7 +4,7 @@ use Rattle.std.proofs.lemmas.Grind.{flat_map-append}
 use Rattle.std.proofs.lemmas.List.{take_more, take-append-drop}
 use Rattle.method_steps.specs.Steps.{MethodTable}
 use Rattle.peer_limits.specs.declared.limits.Limits.{Limits}
-use Rattle.peer_player.specs.Play.{IsPlayCutShort}
+use Rattle.peer_session.specs.Run.{IsRunCutShort}
 use Rattle.peer_player.specs.Player.{StoppedAfter}
 
 abbrev pub bytes_in : List (Vec ℕ Global) → List ℕ
@@ -25,6 +25,6 @@ module _ (pieces : List (Vec ℕ Global)) (i : ℕ) (piece : Vec ℕ Global) (by
 
   -- What stops in the middle of a piece has stopped, whatever pieces come behind.
   pub stopped-piece : (table : MethodTable) (limits : Limits) (before after : Option (List ℕ)) → StoppedAfter table limits (bytes_in (take i pieces) ++ bytes) before after
-      → IsPlayCutShort table limits (bytes_in pieces) before after
+      → IsRunCutShort table limits (bytes_in pieces) before after
   stopped-piece table limits before after stops =
-      subst (λ all. IsPlayCutShort table limits all before after) all-bytes (stops (bytes_in (drop (i + 1) pieces)))
+      subst (λ all. IsRunCutShort table limits all before after) all-bytes (stops (bytes_in (drop (i + 1) pieces)))

@@ -12,7 +12,8 @@ use Rattle.lsp_frames.proofs.Laws.{contents_exist, contents_keep_a_fault, conten
 use Rattle.rpc_messages.specs.Numbering.{taken, is_cut}
 use Rattle.rpc_messages.specs.Unit.{SeenUnit, units_of}
 use Rattle.method_steps.specs.Steps.{MethodTable}
-use Rattle.peer_limits.specs.Close.{Ended, close_of}
+use Rattle.lsp_frames.specs.Devices.{Finished}
+use Rattle.peer_limits.specs.Close.{close_of}
 use Rattle.peer_limits.specs.declared.limits.Limits.{Limits}
 use Rattle.peer_limits.specs.declared.report.Close.{Close}
 use Rattle.peer_limits.specs.declared.report.Close.TheVariants as close
@@ -21,7 +22,8 @@ use Rattle.peer_output.specs.Cancelled.{Begins}
 use Rattle.peer_output.specs.Later.{MayBecome}
 use Rattle.peer_session.specs.SessionState.{SessionState, new_session}
 use Rattle.peer_player.specs.Inner.Known.{Known}
-use Rattle.peer_player.specs.Play.{IsPlay, IsPlayCutShort}
+use Rattle.peer_player.specs.Play.{IsPlay}
+use Rattle.peer_session.specs.Run.{IsRunCutShort}
 use Rattle.peer_player.specs.Player.{PlaysAfter, StoppedAfter}
 use Rattle.peer_player.specs.Playing.{HasWritten, HasStopped, HasEnded, close_by}
 use Rattle.peer_player.proofs.Taking.{may-become, stopped-as-is, full-stays, cut-closed, uncut-open}
@@ -47,6 +49,9 @@ start-written laws table limits before s is = subst (λ x. HasWritten table limi
     answers = refl;
     unbroken = refl;
     failed = λ still. start-not table;
+    polls = 0;
+    polls_are = refl;
+    polls_fit = λ still. laws.start_polls table;
   };
   wrote = appends-none before;
 })
@@ -142,11 +147,11 @@ stopped-frames table limits bytes before after frames standing contents stops = 
 pub stopped-later : (table : MethodTable) (limits : Limits) (bytes piece : List ℕ) (before after : Option (List ℕ))
     → StoppedAfter table limits bytes before after → StoppedAfter table limits (bytes ++ piece) before after
 stopped-later table limits bytes piece before after stops = λ more.
-    subst (λ all. IsPlayCutShort table limits all before after) (sym (append_assoc bytes piece more)) (stops (piece ++ more))
+    subst (λ all. IsRunCutShort table limits all before after) (sym (append_assoc bytes piece more)) (stops (piece ++ more))
 
 pub stopped-here : (table : MethodTable) (limits : Limits) (bytes : List ℕ) (before after : Option (List ℕ))
-    → StoppedAfter table limits bytes before after → IsPlayCutShort table limits bytes before after
-stopped-here table limits bytes before after stops = subst (λ all. IsPlayCutShort table limits all before after) (append-nil bytes) (stops [])
+    → StoppedAfter table limits bytes before after → IsRunCutShort table limits bytes before after
+stopped-here table limits bytes before after stops = subst (λ all. IsRunCutShort table limits all before after) (append-nil bytes) (stops [])
 
 module _ (table : MethodTable) (limits : Limits) (bytes : List ℕ) (before : Option (List ℕ)) (decoder : Decoding) (s : SessionState) (at : Option (List ℕ))
     (had : PlaysAfter table limits bytes before decoder s at) where
@@ -181,14 +186,14 @@ abbrev pub how_ended : End → Close
 how_ended Clean = close.Clean
 how_ended (Fault fault) = close.Frame fault
 
-close-standing : (standing : Standing) → close_of false standing Ended ≡ Some (how_ended (end_of standing))
+close-standing : (standing : Standing) → close_of false standing Finished ≡ Some (how_ended (end_of standing))
 close-standing (Open []) = refl
 close-standing (Open (b ∷ rest)) = refl
 close-standing (Broken fault) = refl
 
 module _ (table : MethodTable) (limits : Limits) (bytes : List ℕ) (before : Option (List ℕ)) (decoder : Decoding) (s : SessionState) (at : Option (List ℕ))
     (had : PlaysAfter table limits bytes before decoder s at) where
-  pub stopped-ended : (after : Option (List ℕ)) → HasStopped table (taken limits.numbers (units_of had.frames)) before after → IsPlayCutShort table limits bytes before after
+  pub stopped-ended : (after : Option (List ℕ)) → HasStopped table (taken limits.numbers (units_of had.frames)) before after → IsRunCutShort table limits bytes before after
   stopped-ended after stopped = record {
     frames = had.frames;
     standing = had.standing;
@@ -201,7 +206,7 @@ module _ (table : MethodTable) (limits : Limits) (bytes : List ℕ) (before : Op
   }
 
   close-if : (is_full : Bool) (end : End) → (is_full ≡ false → end ≡ end_of had.standing)
-      → close_of is_full had.standing Ended ≡ Some (if is_full then close.Full else how_ended end)
+      → close_of is_full had.standing Finished ≡ Some (if is_full then close.Full else how_ended end)
   close-if true end is = refl
   close-if false end is = close-standing had.standing ∙ ap (λ e. Some (how_ended e)) (sym (is refl))
 
@@ -223,6 +228,7 @@ module _ (table : MethodTable) (limits : Limits) (bytes : List ℕ) (before : Op
     messages = done.messages;
     call_frames = done.call_frames;
     answers = done.answers;
+    polls = done.polls;
   }
     where
       end_is : is_cut limits.numbers (units_of had.frames) ≡ false → end ≡ end_of had.standing
@@ -232,7 +238,7 @@ module _ (table : MethodTable) (limits : Limits) (bytes : List ℕ) (before : Op
 
 -- ---- nothing was done
 
-pub refused-short : (laws : Known) (table : MethodTable) (limits : Limits) (bytes : List ℕ) (before : Option (List ℕ)) → IsPlayCutShort table limits bytes before before
+pub refused-short : (laws : Known) (table : MethodTable) (limits : Limits) (bytes : List ℕ) (before : Option (List ℕ)) → IsRunCutShort table limits bytes before before
 refused-short laws table limits bytes before =
     let all = contents_exist limits.content bytes in
     let later = taken limits.numbers (units_of all.0) in

@@ -136,6 +136,9 @@ module _ (known : Known) (table : MethodTable) (limits : Limits) (us : List Seen
         answers = open-plays.answers;
         unbroken = open-plays.unbroken;
         failed = λ still. takes-not table s.core core u same (open-plays.failed still);
+        polls = open-plays.polls;
+        polls_are = open-plays.polls_are;
+        polls_fit = λ still. known.take_polls table s.core core (λ n. None) us had.items u open-plays.polls open-plays.stands same (open-plays.polls_fit still);
       }
 
   full-plays : PlaysOn table limits (Some Full) us had.items (ended s Full)
@@ -149,6 +152,9 @@ module _ (known : Known) (table : MethodTable) (limits : Limits) (us : List Seen
     answers = open-plays.answers;
     unbroken = open-plays.unbroken;
     failed = open-plays.failed;
+    polls = open-plays.polls;
+    polls_are = open-plays.polls_are;
+    polls_fit = λ still. known.end_polls table s.core (λ n. None) had.items open-plays.polls (open-plays.polls_fit still);
   })
 
   pub unit-taken : (taken_as : Taken) → TakesUnit s u taken_as after

@@ -54,11 +54,11 @@ back_not s h outcome (Idle other written) well none = none
 back_not s h outcome (Over other written) well none = none
 back_not s h outcome Failed well none = none
 
-or_first : (a b : Bool) → (a || b) ≡ false → a ≡ false
+pub or_first : (a b : Bool) → (a || b) ≡ false → a ≡ false
 or_first true b is = is
 or_first false b is = refl
 
-or_second : (a b : Bool) → (a || b) ≡ false → b ≡ false
+pub or_second : (a b : Bool) → (a || b) ≡ false → b ≡ false
 or_second true b is = cc
 or_second false b is = is
 

@@ -1,41 +1,18 @@
--- What is played for an input, from bytes to bytes.
-use Rattle.std.specs.Prelude.{◌≡◌, ℕ, List, length, Option, Some}
-use Rattle.std.specs.Io.KnownBytes.{Appends}
-use Rattle.lsp_frames.specs.Contents.{Standing, IsContents}
-use Rattle.lsp_frames.specs.declared.frame.Frame.{Frame}
-use Rattle.rpc_messages.specs.Numbering.{taken, is_cut, units_numbers}
-use Rattle.rpc_messages.specs.Unit.{units_of}
+-- What is played for an input.
+use Rattle.std.specs.Prelude.{◌≡◌, ℕ, ◌+◌, ◌-◌, ◌^◌, min, List, Option}
+use Rattle.lsp_frames.specs.Devices.{Finished}
 use Rattle.method_steps.specs.Steps.{MethodTable}
-use Rattle.peer_limits.specs.Close.{Ended, close_of}
 use Rattle.peer_limits.specs.declared.limits.Limits.{Limits}
 use Rattle.peer_limits.specs.declared.report.Report.{Report}
-use Rattle.peer_output.specs.Cancelled.{Begins}
-use Rattle.peer_output.specs.Items.{Item, answers_in, bytes_of, count_sendings, count_calls}
-use Rattle.peer_output.specs.Output.{IsOutput, IsPartialOutput}
-use Rattle.peer_session.specs.SessionState.{counted}
+use Rattle.peer_session.specs.Run.{IsRun}
+use Rattle.peer_session.specs.declared.drain_fault.DrainFault.{DrainFault}
+use Rattle.peer_session.specs.declared.drain_fault.DrainFault.TheVariants.{Memory, Write}
 
--- The whole of it: the frames of the input have units, of which those are taken whose calls have numbers left; what was written is an
--- output of these, each item in a frame of its own; and the report has its counts and how the input closed.
-pub record IsPlay (table : MethodTable) (limits : Limits) (input : List ℕ) (before after : Option (List ℕ)) (report : Report) : Type 0 where
-  pub frames : List Frame
-  pub standing : Standing
-  pub contents : IsContents limits.content input frames standing
-  pub items : List Item
-  pub allowed : IsOutput table (taken limits.numbers (units_of frames)) items
-  pub written : Appends before after (bytes_of items)
-  pub close : close_of (is_cut limits.numbers (units_of frames)) standing Ended ≡ Some report.end
-  pub numbers : report.numbers ≡ units_numbers (taken limits.numbers (units_of frames))
-  pub messages : report.messages ≡ counted (count_sendings items)
-  pub call_frames : report.call_frames ≡ counted (count_calls items)
-  pub answers : report.answers ≡ counted (length (answers_in items))
+-- a whole run, whose input comes to its end
+abbrev pub IsPlay : MethodTable → Limits → List ℕ → Option (List ℕ) → Option (List ℕ) → Report → Type 0
+IsPlay table limits input before after report = IsRun table limits input Finished before after report
 
--- Where it stopped short: some bytes, from the front of a partial output's.
-pub record IsPlayCutShort (table : MethodTable) (limits : Limits) (input : List ℕ) (before after : Option (List ℕ)) : Type 0 where
-  pub frames : List Frame
-  pub standing : Standing
-  pub contents : IsContents limits.content input frames standing
-  pub items : List Item
-  pub allowed : IsPartialOutput table (taken limits.numbers (units_of frames)) items
-  pub bytes : List ℕ
-  pub begins : Begins bytes (bytes_of items)
-  pub written : Appends before after bytes
+-- A sink's count of failures rises by a `Write`, and by nothing else.
+abbrev pub CountsFault : ℕ → DrainFault → ℕ → Type 0
+CountsFault before Memory after = after ≡ before
+CountsFault before Write after = after ≡ min (before + 1) (2 ^ 64 - 1)

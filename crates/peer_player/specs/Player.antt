@@ -8,7 +8,7 @@ use Rattle.rpc_messages.specs.Unit.{units_of}
 use Rattle.method_steps.specs.Steps.{MethodTable}
 use Rattle.peer_limits.specs.declared.limits.Limits.{Limits}
 use Rattle.peer_session.specs.SessionState.{SessionState}
-use Rattle.peer_player.specs.Play.{IsPlayCutShort}
+use Rattle.peer_session.specs.Run.{IsRunCutShort}
 use Rattle.peer_player.specs.Playing.{HasWritten, close_by}
 
 -- The bytes have these frames, whose units were played; the decoder stands after the bytes, unless the session is full and takes no more.
@@ -23,4 +23,4 @@ pub record PlaysAfter (table : MethodTable) (limits : Limits) (bytes : List ℕ)
 
 -- It has stopped short, whatever bytes come behind these.
 abbrev pub StoppedAfter : MethodTable → Limits → List ℕ → Option (List ℕ) → Option (List ℕ) → Type 0
-StoppedAfter table limits bytes before after = (more : List ℕ) → IsPlayCutShort table limits (bytes ++ more) before after
+StoppedAfter table limits bytes before after = (more : List ℕ) → IsRunCutShort table limits (bytes ++ more) before after

@@ -3,7 +3,8 @@
 ghost use Rattle.peer_player.specs.Inner.Known.{Known};
 
 use session_state::{
-    events_keep_standing, turned_handlers_have_fewer_turns_left, what_stands_is_an_output,
+    each_turn_is_one_poll, events_keep_standing, polls_of_a_done_session_are_few,
+    turned_handlers_have_fewer_turns_left, what_stands_is_an_output,
 };
 
 /// All that a player stands on.
@@ -13,4 +14,6 @@ pub(crate) fn known()
     events_keep_standing();
     what_stands_is_an_output();
     turned_handlers_have_fewer_turns_left();
+    each_turn_is_one_poll();
+    polls_of_a_done_session_are_few();
 }

@@ -1,9 +1,11 @@
 //! A player that is fed its input piece by piece.
 
-ghost use Rattle.std.specs.Prelude.{◌≡◌, ◌++◌, ℕ, List, [], IfOk, IfErr, OnOk, OnErr, Option};
+ghost use Rattle.std.specs.Prelude.{◌≡◌, ◌++◌, ℕ, List, [], false, IfOk, IfErr, OnOk, OnErr, Option};
 ghost use Rattle.method_steps.specs.Steps.{MethodTable};
+ghost use Rattle.peer_session.specs.Events.{CountsDrain};
 ghost use Rattle.peer_session.specs.Session.{view};
-ghost use Rattle.peer_player.specs.Play.{IsPlay, IsPlayCutShort};
+ghost use Rattle.peer_player.specs.Play.{IsPlay};
+ghost use Rattle.peer_session.specs.Run.{IsRunCutShort};
 ghost use Rattle.peer_player.specs.Player.{PlaysAfter, StoppedAfter};
 
 use crate::known::known;
@@ -39,6 +41,9 @@ impl<'a, S: Sink> Player<'a, S> {
     ) -> Result<Player<'a, S>, (DrainFault, S)>
         ensures ok { IfOk result (λ player. PlaysAfter table.now limits [] (S.bytes_taken sink)
             player.decoder (view player.playing.session) (S.bytes_taken player.playing.sink)) }
+        ensures unbroken { IfOk result (λ player.
+            (view player.playing.session).is_broken ≡ false) }
+        ensures sink { IfOk result (λ player. player.playing.sink ≡ sink) }
         ensures err { IfErr result (λ refused. (refused.0 ≡ DrainFault.Memory) × (refused.1 ≡
             sink)) }
     {
@@ -73,6 +78,12 @@ impl<'a, S: Sink> Player<'a, S> {
             (S.bytes_taken self.old.playing.sink) →
             OnErr result (StoppedAfter table limits (bytes ++ piece.now) before
             (S.bytes_taken self.new.playing.sink)) }
+
+        // The sink's count of failures rises where a write fails now, and in no other case.
+        ensures cause { CountsDrain (view self.old.playing.session)
+            (S.failures self.old.playing.sink) result (S.failures self.new.playing.sink) }
+        ensures same { OnOk result ((view self.new.playing.session).is_broken ≡
+            (view self.old.playing.session).is_broken) }
     {
         known();
         self.begin()?;
@@ -98,8 +109,12 @@ impl<'a, S: Sink> Player<'a, S> {
             (before : Option (List ℕ)) →
             PlaysAfter table limits bytes before self.old.decoder (view self.old.playing.session)
             (S.bytes_taken self.old.playing.sink) →
-            OnErr result (IsPlayCutShort table limits bytes before
+            OnErr result (IsRunCutShort table limits bytes before
             (S.bytes_taken self.new.playing.sink)) }
+
+        // The sink's count of failures rises where a write fails now, and in no other case.
+        ensures cause { CountsDrain (view self.old.playing.session)
+            (S.failures self.old.playing.sink) result (S.failures self.new.playing.sink) }
     {
         self.begin()?;
         let close = match self.decoder.end() {
@@ -132,6 +147,10 @@ impl<'a, S: Sink> Player<'a, S> {
             (S.bytes_taken self.old.playing.sink) →
             OnErr result (StoppedAfter table limits bytes before
             (S.bytes_taken self.new.playing.sink)) }
+        ensures cause { CountsDrain (view self.old.playing.session)
+            (S.failures self.old.playing.sink) result (S.failures self.new.playing.sink) }
+        ensures same { OnOk result ((view self.new.playing.session).is_broken ≡
+            (view self.old.playing.session).is_broken) }
     {
         if self.is_new {
             self.is_new = false;

@@ -10,6 +10,7 @@ ghost use Rattle.peer_output.specs.Cancelled.{Begins};
 ghost use Rattle.peer_output.specs.Later.{MayBecome};
 ghost use Rattle.session_state.specs.Turns.{all_turns_left};
 ghost use Rattle.session_state.specs.Turning.{ready};
+ghost use Rattle.peer_session.specs.Events.{CountsDrain};
 ghost use Rattle.peer_session.specs.Session.{view};
 ghost use Rattle.peer_player.specs.Playing.{HasDrained, HasWritten, HasSettled, HasStopped, close_by, HasEnded};
 
@@ -46,6 +47,10 @@ impl<'a, S: Sink> Playing<'a, S> {
             before (view self.old.session) (S.bytes_taken self.old.sink) →
             OnErr result ((all : List SeenUnit) → Begins (units ++ units_of frames.now) all →
             HasStopped table (taken limits.numbers all) before (S.bytes_taken self.new.sink)) }
+        ensures cause { CountsDrain (view self.old.session) (S.failures self.old.sink) result
+            (S.failures self.new.sink) }
+        ensures same { OnOk result ((view self.new.session).is_broken ≡
+            (view self.old.session).is_broken) }
     {
         for frame in frames {
             self.take(frame)?;
@@ -69,6 +74,10 @@ impl<'a, S: Sink> Playing<'a, S> {
             before (view self.old.session) (S.bytes_taken self.old.sink) →
             OnErr result ((all : List SeenUnit) → Begins (units ++ units_of (frame.now ∷ [])) all →
             HasStopped table (taken limits.numbers all) before (S.bytes_taken self.new.sink)) }
+        ensures cause { CountsDrain (view self.old.session) (S.failures self.old.sink) result
+            (S.failures self.new.sink) }
+        ensures same { OnOk result ((view self.new.session).is_broken ≡
+            (view self.old.session).is_broken) }
     {
         known();
         if !self.session.is_open() {
@@ -92,6 +101,10 @@ impl<'a, S: Sink> Playing<'a, S> {
             self.old.sink) →
             OnErr result ((later : List SeenUnit) → MayBecome (is_some close) units later →
             HasStopped table later before (S.bytes_taken self.new.sink)) }
+        ensures cause { CountsDrain (view self.old.session) (S.failures self.old.sink) result
+            (S.failures self.new.sink) }
+        ensures same { OnOk result ((view self.new.session).is_broken ≡
+            (view self.old.session).is_broken) }
     {
         if self.schedule.lazy {
             return Ok(());
@@ -113,6 +126,8 @@ impl<'a, S: Sink> Playing<'a, S> {
             before (view self.old.session) (S.bytes_taken self.old.sink) →
             OnErr result (HasStopped table (taken limits.numbers units) before
             (S.bytes_taken self.new.sink)) }
+        ensures cause { CountsDrain (view self.old.session) (S.failures self.old.sink) result
+            (S.failures self.new.sink) }
     {
         known();
         self.session.end(close);
@@ -134,6 +149,10 @@ impl<'a, S: Sink> Playing<'a, S> {
             self.old.sink) →
             OnErr result ((later : List SeenUnit) → MayBecome (is_some close) units later →
             HasStopped table later before (S.bytes_taken self.new.sink)) }
+        ensures cause { CountsDrain (view self.old.session) (S.failures self.old.sink) result
+            (S.failures self.new.sink) }
+        ensures same { OnOk result ((view self.new.session).is_broken ≡
+            (view self.old.session).is_broken) }
     {
         known();
         self.drain()?;
@@ -159,6 +178,10 @@ impl<'a, S: Sink> Playing<'a, S> {
             HasStopped table later before (S.bytes_taken self.new.sink)) }
         ensures turns { OnOk result (all_turns_left (view self.new.session).core.stages ≡
             all_turns_left (view self.old.session).core.stages) }
+        ensures cause { CountsDrain (view self.old.session) (S.failures self.old.sink) result
+            (S.failures self.new.sink) }
+        ensures same { OnOk result ((view self.new.session).is_broken ≡
+            (view self.old.session).is_broken) }
     {
         known();
         self.session.drain(&mut self.sink)
@@ -177,6 +200,7 @@ impl<'a, S: Sink> Playing<'a, S> {
         ensures none { result ≡ false → (ready (view self.new.session).core ≡ []) × (view
             self.new.session ≡ view self.old.session) }
         ensures sink { self.new.sink ≡ self.old.sink }
+        ensures same { (view self.new.session).is_broken ≡ (view self.old.session).is_broken }
     {
         known();
         let ready = self.session.count_ready();

@@ -1,11 +1,13 @@
 //! A whole input, played at once.
 
-ghost use Rattle.std.specs.Prelude.{ℕ, List, [], IfOk, IfErr, OnErr, Option, Some, flat_map};
+ghost use Rattle.std.specs.Prelude.{◌≡◌, ℕ, List, [], IfOk, IfErr, OnErr, Option, Some, flat_map};
 ghost use Rattle.method_steps.specs.Steps.{MethodTable};
 ghost use Rattle.peer_limits.specs.declared.limits.Limits.{Limits as LimitsOf};
 ghost use Rattle.peer_session.specs.Session.{view};
 ghost use Rattle.peer_player.specs.Player.{PlaysAfter};
-ghost use Rattle.peer_player.specs.Play.{IsPlay, IsPlayCutShort};
+ghost use Rattle.peer_session.specs.Events.{CountsDrain};
+ghost use Rattle.peer_player.specs.Play.{IsPlay, CountsFault};
+ghost use Rattle.peer_session.specs.Run.{IsRunCutShort};
 
 use crate::known::known;
 use crate::player::Player;
@@ -68,9 +70,14 @@ pub fn play_to<S: Sink>(
     ensures ok { IfOk result (λ played. IsPlay table.now limits (flat_map (λ piece. piece.items)
         pieces.now)
         (S.bytes_taken sink) (S.bytes_taken played.1) played.0) }
-    ensures err { IfErr result (λ stopped. IsPlayCutShort table.now limits (flat_map (λ piece.
+    ensures err { IfErr result (λ stopped. IsRunCutShort table.now limits (flat_map (λ piece.
         piece.items) pieces.now)
         (S.bytes_taken sink) (S.bytes_taken stopped.1)) }
+
+    // The sink's count of failures rises by `Write`, and by nothing else.
+    ensures failures { IfOk result (λ played. S.failures played.1 ≡ S.failures sink) }
+    ensures cause { IfErr result (λ stopped. CountsFault (S.failures sink) stopped.0
+        (S.failures stopped.1)) }
 {
     known();
     let mut player = Player::new(alloc, table, limits, schedule, sink)?;
@@ -90,8 +97,10 @@ fn play_all<S: Sink>(player: &mut Player<'_, S>, pieces: &[Vec<u8>]) -> Result<R
     ensures err { (table : MethodTable) (limits : LimitsOf) (before : Option (List ℕ)) →
         PlaysAfter table limits [] before player.old.decoder (view player.old.playing.session)
         (S.bytes_taken player.old.playing.sink) →
-        OnErr result (IsPlayCutShort table limits (flat_map (λ piece. piece.items) pieces.now)
+        OnErr result (IsRunCutShort table limits (flat_map (λ piece. piece.items) pieces.now)
         before (S.bytes_taken player.new.playing.sink)) }
+    ensures cause { CountsDrain (view player.old.playing.session)
+        (S.failures player.old.playing.sink) result (S.failures player.new.playing.sink) }
 {
     for piece in pieces {
         player.feed(piece.as_slice())?;

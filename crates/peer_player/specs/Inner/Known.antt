@@ -1,16 +1,18 @@
 -- The laws that a player stands on: each is a clause of a function that does nothing.
-use Rattle.std.specs.Prelude.{◌≡◌, ◌≢◌, ℕ, ◌<◌, List, [], ◌∷◌, ◌++◌, map, Bool, true, false, Option, None}
+use Rattle.std.specs.Prelude.{◌≡◌, ◌≢◌, ℕ, ◌+◌, ◌-◌, ◌<◌, List, [], ◌∷◌, ◌++◌, map, length, Bool, true, false, Option, Some, None}
 use Rattle.rpc_messages.specs.Dues.{Due}
 use Rattle.rpc_messages.specs.Unit.{SeenUnit}
 use Rattle.method_steps.specs.Steps.{MethodTable}
 use Rattle.answer_desk.specs.State.{front_texts}
 use Rattle.handler_future.specs.State.{HandlerState, IsPoll}
 use Rattle.handler_future.specs.declared.outcome.Outcome.{Outcome}
+use Rattle.handler_future.specs.declared.outcome.Outcome.TheVariants.{Failed as NoMemory}
 use Rattle.session_stages.specs.declared.stage.Stage.TheVariants.{Gone, Failed}
-use Rattle.peer_output.specs.Items.{Item, answered, bytes_of}
+use Rattle.peer_output.specs.Items.{Item, answered, bytes_of, count_calls}
 use Rattle.peer_output.specs.Later.{MayBecome}
 use Rattle.peer_output.specs.Output.{IsOutput, IsPartialOutput}
 use Rattle.session_state.specs.Core.{Core, stage_at, unwritten_from}
+use Rattle.session_state.specs.Polls.{PollsFit, PollsWithin}
 use Rattle.session_state.specs.Stands.{StandsAfter}
 use Rattle.session_state.specs.Taking.{Takes}
 use Rattle.session_state.specs.Turning.{start, Leaves, ready, returned, closed, due_bytes, drained}
@@ -43,3 +45,18 @@ pub record Known : Type 0 where
       Leaves s n job between → job.number ≡ n → IsPoll job turned outcome →
       all_turns_left (returned between turned outcome).stages < all_turns_left s.stages
   pub same_turns : (s : Core) → all_turns_left (drained s).stages ≡ all_turns_left s.stages
+  pub start_polls : (table : MethodTable) → PollsFit table (start table) (λ n. None) [] 0
+  pub take_polls : (table : MethodTable) (s after : Core) (jobs : ℕ → Option HandlerState) (units : List SeenUnit) (items : List Item) (unit : SeenUnit) (polls : ℕ) →
+      StandsAfter table false s jobs units items → Takes table s unit after →
+      PollsFit table s jobs items polls → PollsFit table after jobs items polls
+  pub turn_polls : (table : MethodTable) (is_over : Bool) (s between : Core) (jobs : ℕ → Option HandlerState) (units : List SeenUnit) (items : List Item) (n : ℕ)
+      (job turned : HandlerState) (outcome : Option Outcome) (polls : ℕ) →
+      StandsAfter table is_over s jobs units items → Leaves s n job between → IsPoll job turned outcome → outcome ≢ Some NoMemory →
+      PollsFit table s jobs items polls → PollsFit table (returned between turned outcome) jobs items (polls + 1)
+  pub end_polls : (table : MethodTable) (s : Core) (jobs : ℕ → Option HandlerState) (items : List Item) (polls : ℕ) →
+      PollsFit table s jobs items polls → PollsFit table (closed s) jobs items polls
+  pub drain_polls : (table : MethodTable) (s : Core) (jobs : ℕ → Option HandlerState) (items : List Item) (dues : List Due) (polls : ℕ) →
+      PollsFit table s jobs items polls → PollsFit table (drained s) jobs (items ++ unwritten_from 0 s.stages ++ map answered dues) polls
+  pub done_polls : (table : MethodTable) (s : Core) (jobs : ℕ → Option HandlerState) (items : List Item) (polls : ℕ) →
+      PollsFit table s jobs items polls → ((n : ℕ) → stage_at s n ≡ Gone) →
+      PollsWithin table (length s.stages - 1) (count_calls items) polls

@@ -1,10 +1,11 @@
 -- A turn is one more event of the session; nothing is written.
-use Rattle.std.proofs.Common.{◌<◌, sym, subst}
+use Rattle.std.proofs.Common.{◌<◌, sym, ap, ◌∙◌, subst}
 use Rattle.session_state.specs.Turns.{all_turns_left}
 use Rattle.peer_session.specs.Session.{view}
 use Rattle.peer_session.specs.SessionState.{SessionState}
 use Rattle.peer_player.specs.Playing.{PlaysOn}
-use Rattle.peer_player.proofs.Settling.{turn-plays, turn-fewer}
+use Rattle.peer_player.proofs.Counting.{leaves-same}
+use Rattle.peer_player.proofs.Settling.{one-turn, turn-plays, turn-fewer}
 use Rattle.peer_player.proofs.playing.Playing.turn_next.Goals as goal
 
 pub returns-clause-turned : goal.returns-clause-turned
@@ -13,7 +14,9 @@ returns-clause-turned g c = λ table limits close units before had. record {
   plays = subst (PlaysOn table limits close units had.items) (sym c.back.ensures)
       (turn-plays c.known.ensures (view c.args.self.now.session) (view c.next_job.new.self) c.place-pick.result
       c.in-Some.job.handler c.turn.new.self.handler c.turn.new.self.outcome c.turn.new.self.polls
-      c.in-Some.ensures.leaves c.turn.ensures.poll table limits close units had.items had.plays);
+      c.in-Some.ensures.leaves c.turn.ensures.poll
+      (one-turn c.in-Some.job.polls c.turn.new.self.polls c.in-Some.ensures.unturned.1 c.turn.ensures.polls)
+      table limits close units had.items had.plays);
   wrote = had.wrote;
 }
 
@@ -23,3 +26,8 @@ returns-clause-fewer g c = λ is.
     (turn-fewer c.known.ensures (view c.args.self.now.session) (view c.next_job.new.self) c.place-pick.result
     c.in-Some.job.handler c.turn.new.self.handler c.turn.new.self.outcome c.turn.new.self.polls
     c.in-Some.ensures.leaves c.turn.ensures.poll c.in-Some.ensures.number)
+
+pub returns-clause-same : goal.returns-clause-same
+returns-clause-same g c =
+    ap (λ (x : SessionState). x.is_broken) c.back.ensures
+    ∙ leaves-same (view c.args.self.now.session) (view c.next_job.new.self) c.place-pick.result c.in-Some.job.handler c.in-Some.ensures.leaves
