@@ -1,9 +1,36 @@
-//! The peer: what it answers to a stream of bytes.
+//! A JSON-RPC 2.0 peer over one byte stream: the front door of the libraries below.
+//!
+//! A table of methods says what the peer can do. A player takes the bytes that come in, in any pieces, runs the methods
+//! that they ask for, and writes what the peer sends and answers:
+//!
+//! ```text
+//! use lsp_frames::encode;
+//! use method_steps::Table;
+//! use rpc_peer::{Limits, Picks, PlayFault, Report, Schedule, play};
+//!
+//! /// What a peer with the methods of this table writes for one content, as frames.
+//! fn answered(
+//!     alloc: Global,
+//!     table: &Table,
+//!     content: &[u8],
+//! ) -> Result<(Vec<u8>, Report), PlayFault> {
+//!     let schedule = Schedule {
+//!         lazy: false,
+//!         picks: Picks::First,
+//!     };
+//!     let pieces = [encode(alloc, content).map_err(|_| PlayFault::Memory)?];
+//!     play(alloc, table, Limits::standard(), &pieces, &schedule)
+//! }
+//! ```
+//!
+//! - `serve` serves a source and a sink by several threads, and `serve_with` holds each handler at a gate before its turns.
+//! - `play` plays a whole input and keeps what is written; `play_to` writes it to a sink as it goes.
+//! - A `Player` is fed its input piece by piece.
+//! - A `Session` is what a player stands on, for who brings contents in and handlers to their turns by himself.
 #![tactic(auto)]
 
-mod answers;
-mod play;
-mod played;
-
 pub use peer_limits::{Close, Limits, Report};
-pub use play::{PlayFault, Player, play_plain};
+pub use peer_player::{Picks, PlayFault, Player, Schedule, play, play_to};
+pub use peer_server::{ServeFault, serve, serve_with};
+pub use peer_session::{DrainFault, Job, Session, Taken};
+pub use server_clerk::{Gate, Gated, OpenGate};

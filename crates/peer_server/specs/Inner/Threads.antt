@@ -1,0 +1,16 @@
+-- What the threads of a server leave. No public contract cites this file.
+use Rattle.std.specs.Prelude.{ℕ, List, Option, IfOk, OnErr}
+use Rattle.rtrb.specs.Ring.{received}
+use Rattle.method_steps.specs.Steps.{MethodTable}
+use Rattle.peer_limits.specs.declared.limits.Limits.{Limits}
+use Rattle.peer_session.specs.Run.{IsRun, IsRunCutShort}
+use Rattle.server_clerk.specs.Clerk.{CountsRun}
+use Rattle.server_clerk.specs.declared.clerk.Served.{Served}
+use Rattle.server_ring.specs.Arriving.{bytes_of, ending_of}
+
+-- The clerk has served what it took from the ring.
+pub record HasServed {K : Type 0} (taken : K → Option (List ℕ)) (failures : K → ℕ) (table : MethodTable) (limits : Limits) (sink : K) (served : Served K) : Type 0 where
+  pub whole : IfOk served.outcome (λ report.
+      IsRun table limits (bytes_of (received served.ring)) (ending_of (received served.ring)) (taken sink) (taken served.sink) report)
+  pub part : OnErr served.outcome (IsRunCutShort table limits (bytes_of (received served.ring)) (taken sink) (taken served.sink))
+  pub cause : CountsRun (failures sink) served.outcome (failures served.sink)

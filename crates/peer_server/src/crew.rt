@@ -1,0 +1,23 @@
+//! The threads that a server asks for.
+
+ghost use Rattle.std.specs.Prelude.{◌≡◌};
+
+/// How many workers a server has, and how often a thread that finds nothing to do yields before it sleeps.
+#[derive(Clone, Copy, Debug, PartialEq, Eq)]
+pub struct Crew {
+    /// The threads that turn jobs, 1 to 64.
+    pub workers: u32,
+    pub yields: u32,
+}
+
+impl Crew {
+    /// So many workers, with the usual patience.
+    pub fn of(workers: u32) -> Crew
+        ensures { result.workers ≡ workers }
+    {
+        Crew {
+            workers,
+            yields: 200,
+        }
+    }
+}

@@ -1,0 +1,261 @@
+//! The server: a peer of several threads.
+
+ghost use Rattle.std.specs.Prelude.{◌≡◌, ◌≢◌, ◌↔◌, ℕ, ◌<◌, ◌≤◌, All, IsTrue, IfOk, IfErr, IsErr};
+ghost use Rattle.job_slots.specs.Seats.{IsClerkOf, IsWorkerOf, looks_of};
+ghost use Rattle.method_steps.specs.Steps.{MethodTable};
+ghost use Rattle.peer_limits.specs.declared.limits.Limits.{Limits as LimitsOf};
+ghost use Rattle.rtrb.specs.Ring.{sent, IsPair};
+ghost use Rattle.server_ring.specs.Arriving.{Reads};
+ghost use Rattle.peer_server.specs.declared.server.TheConstants.{MOST_WORKERS};
+ghost use Rattle.peer_server.specs.declared.fault.ServeFault.TheVariants.{Workers};
+ghost use Rattle.peer_server.specs.Inner.Threads.{HasServed};
+ghost use Rattle.peer_server.specs.Serve.{IsServed, IsServedInPart, IsImpossible, CountsFault};
+
+use crate::crew::Crew;
+use crate::fault::ServeFault;
+use crate::law::nothing_is_served_in_part;
+use crate::threads::run_threads;
+use job_slots::{ClerkSeat, JobSlots, MOST_SLOTS, Turns, WorkerSeat};
+use lsp_frames::{Sink, Source};
+use method_steps::Table;
+use peer_limits::{Limits, Report};
+use peer_session::DrainFault;
+use rtrb::{Producer, RingBuffer};
+use server_clerk::{Clerk, Gate, OpenGate, Served};
+use server_ring::{Arrival, Bells, what_arrives_was_given};
+use std::alloc::{AllocError, Global};
+use std::sync::{Arc, Wait};
+use std::thread::Threads;
+
+/// The most workers that a server may have.
+pub const MOST_WORKERS: u32 = 64;
+
+/// So many pieces of the input may wait for the clerk.
+const PIECES: usize = 64;
+
+/// Serves an input to its end, with gates that are open.
+pub fn serve<S, K, R>(
+    rt: &R,
+    alloc: Global,
+    table: &Table,
+    limits: Limits,
+    workers: u32,
+    source: S,
+    sink: K,
+) -> Result<(Report, K), (ServeFault, K)>
+where
+    S: Source + Drop + Send,
+    K: Sink + Drop,
+    R: Threads + Wait + Sync,
+    ensures ok { IfOk result (λ done. IsServed table.now limits (S.gave source)
+        (K.bytes_taken sink) (K.bytes_taken done.1) done.0) }
+    ensures in_part { IfErr result (λ failed. IsServedInPart table.now limits (S.gave source)
+        (K.bytes_taken sink) (K.bytes_taken failed.1)) }
+
+    // No number of workers is refused but an impossible one, and of that nothing comes but the refusal.
+    ensures refused { IfErr result (λ failed. (failed.0 ≡ Workers) ↔ IsImpossible workers) }
+    ensures impossible { IsImpossible workers → IsErr result }
+    ensures untouched { IfErr result (λ failed. failed.0 ≡ Workers → failed.1 ≡ sink) }
+
+    // The sink's failures are counted.
+    ensures failures { IfOk result (λ done. K.failures done.1 ≡ K.failures sink) }
+    ensures cause { IfErr result (λ failed. CountsFault (K.failures sink) failed.0
+        (K.failures failed.1)) }
+{
+    nothing_is_served_in_part::<S>();
+    if !is_possible(workers) {
+        return Err((ServeFault::Workers, sink));
+    }
+    let Ok(gate) = Arc::new(alloc, OpenGate) else {
+        return Err((ServeFault::Memory, sink));
+    };
+    serve_with(rt, alloc, table, limits, workers, gate, source, sink)
+}
+
+/// Serves an input to its end: reads the source, runs the methods of the table by `workers` threads, and writes to the
+/// sink. Each job passes the gate before its turn.
+pub fn serve_with<S, K, G, R>(
+    rt: &R,
+    alloc: Global,
+    table: &Table,
+    limits: Limits,
+    workers: u32,
+    gate: Arc<G, Global>,
+    source: S,
+    sink: K,
+) -> Result<(Report, K), (ServeFault, K)>
+where
+    S: Source + Drop + Send,
+    K: Sink + Drop,
+    G: Gate + Send + Sync,
+    R: Threads + Wait + Sync,
+    ensures ok { IfOk result (λ done. IsServed table.now limits (S.gave source)
+        (K.bytes_taken sink) (K.bytes_taken done.1) done.0) }
+    ensures in_part { IfErr result (λ failed. IsServedInPart table.now limits (S.gave source)
+        (K.bytes_taken sink) (K.bytes_taken failed.1)) }
+
+    // No number of workers is refused but an impossible one, and of that nothing comes but the refusal.
+    ensures refused { IfErr result (λ failed. (failed.0 ≡ Workers) ↔ IsImpossible workers) }
+    ensures impossible { IsImpossible workers → IsErr result }
+    ensures untouched { IfErr result (λ failed. failed.0 ≡ Workers → failed.1 ≡ sink) }
+
+    // The sink's failures are counted.
+    ensures failures { IfOk result (λ done. K.failures done.1 ≡ K.failures sink) }
+    ensures cause { IfErr result (λ failed. CountsFault (K.failures sink) failed.0
+        (K.failures failed.1)) }
+{
+    serve_by(
+        rt,
+        alloc,
+        table,
+        limits,
+        Crew::of(workers),
+        gate,
+        source,
+        sink,
+    )
+}
+
+/// The same by a crew that is chosen.
+pub fn serve_by<S, K, G, R>(
+    rt: &R,
+    alloc: Global,
+    table: &Table,
+    limits: Limits,
+    crew: Crew,
+    gate: Arc<G, Global>,
+    source: S,
+    sink: K,
+) -> Result<(Report, K), (ServeFault, K)>
+where
+    S: Source + Drop + Send,
+    K: Sink + Drop,
+    G: Gate + Send + Sync,
+    R: Threads + Wait + Sync,
+    ensures ok { IfOk result (λ done. IsServed table.now limits (S.gave source)
+        (K.bytes_taken sink) (K.bytes_taken done.1) done.0) }
+    ensures in_part { IfErr result (λ failed. IsServedInPart table.now limits (S.gave source)
+        (K.bytes_taken sink) (K.bytes_taken failed.1)) }
+
+    // No number of workers is refused but an impossible one, and of that nothing comes but the refusal.
+    ensures refused { IfErr result (λ failed. (failed.0 ≡ Workers) ↔ IsImpossible crew.workers) }
+    ensures impossible { IsImpossible crew.workers → IsErr result }
+    ensures untouched { IfErr result (λ failed. failed.0 ≡ Workers → failed.1 ≡ sink) }
+
+    // The sink's failures are counted.
+    ensures failures { IfOk result (λ done. K.failures done.1 ≡ K.failures sink) }
+    ensures cause { IfErr result (λ failed. CountsFault (K.failures sink) failed.0
+        (K.failures failed.1)) }
+{
+    nothing_is_served_in_part::<S>();
+    if !is_possible(crew.workers) {
+        return Err((ServeFault::Workers, sink));
+    }
+    let Ok((producer, consumer)) = RingBuffer::new(alloc, PIECES) else {
+        return Err((ServeFault::Memory, sink));
+    };
+    let Ok((slots, mut seat)) = JobSlots::make(alloc, MOST_SLOTS as u32) else {
+        return Err((ServeFault::Memory, sink));
+    };
+    let Ok(seats) = split_seats(alloc, &slots, &mut seat, crew.workers) else {
+        return Err((ServeFault::Memory, sink));
+    };
+    let bells = Bells::new();
+    let clerk = match Clerk::new(
+        alloc,
+        table,
+        limits,
+        gate,
+        consumer,
+        &slots,
+        seat,
+        &bells,
+        crew.yields,
+        sink,
+    ) {
+        Ok(clerk) => clerk,
+        Err(sink) => return Err((ServeFault::Memory, sink)),
+    };
+    match run_threads(
+        rt,
+        alloc,
+        &slots,
+        &bells,
+        crew.yields,
+        seats,
+        clerk,
+        producer,
+        source,
+    ) {
+        Ok((served, ring)) => tell::<S, K>(served, ring),
+        Err(sink) => Err((ServeFault::Memory, sink)),
+    }
+}
+
+fn is_possible(workers: u32) -> bool
+    ensures { IsTrue result ↔ ((0 < workers) × (workers ≤ MOST_WORKERS)) }
+{
+    0 < workers && workers <= MOST_WORKERS
+}
+
+/// A seat for each worker.
+fn split_seats<J: Turns>(
+    alloc: Global,
+    slots: &JobSlots<J>,
+    clerk: &mut ClerkSeat<J>,
+    workers: u32,
+) -> Result<Vec<WorkerSeat<J>>, AllocError>
+    requires { IsClerkOf slots.now clerk.old }
+    ensures table { IsClerkOf slots.now clerk.new }
+    ensures looks { looks_of clerk.new ≡ looks_of clerk.old }
+    ensures seats { IfOk result (λ seats. All (IsWorkerOf slots.now) seats.items) }
+{
+    let mut seats = Vec::new(alloc);
+    for _ in 0..workers {
+        let Ok(seat) = slots.split(clerk) else {
+            return Err(AllocError);
+        };
+        seats.push(seat)?;
+    }
+    Ok(seats)
+}
+
+/// What a server tells, once both ends of its ring are in one thread again.
+fn tell<S: Source, K: Sink>(
+    served: Served<K>,
+    producer: Producer<Arrival>,
+) -> Result<(Report, K), (ServeFault, K)>
+    requires { IsPair producer served.ring }
+    ensures ok { (table : MethodTable) (limits : LimitsOf) (source : S) (sink : K) →
+        Reads (S.gave source) (sent producer) →
+        HasServed K.bytes_taken K.failures table limits sink served →
+        IfOk result (λ done. IsServed table limits (S.gave source)
+        (K.bytes_taken sink) (K.bytes_taken done.1) done.0) }
+    ensures in_part { (table : MethodTable) (limits : LimitsOf) (source : S) (sink : K) →
+        Reads (S.gave source) (sent producer) →
+        HasServed K.bytes_taken K.failures table limits sink served →
+        IfErr result (λ failed. IsServedInPart table limits (S.gave source)
+        (K.bytes_taken sink) (K.bytes_taken failed.1)) }
+    ensures possible { IfErr result (λ failed. failed.0 ≢ Workers) }
+    ensures failures { (table : MethodTable) (limits : LimitsOf) (sink : K) →
+        HasServed K.bytes_taken K.failures table limits sink served →
+        IfOk result (λ done. K.failures done.1 ≡ K.failures sink) }
+    ensures cause { (table : MethodTable) (limits : LimitsOf) (sink : K) →
+        HasServed K.bytes_taken K.failures table limits sink served →
+        IfErr result (λ failed. CountsFault (K.failures sink) failed.0
+        (K.failures failed.1)) }
+{
+    what_arrives_was_given::<S>();
+    let Served {
+        outcome,
+        mut ring,
+        sink,
+    } = served;
+    let mut producer = producer;
+    ring.slots_beside(&mut producer);
+    match outcome {
+        Ok(report) => Ok((report, sink)),
+        Err(DrainFault::Memory) => Err((ServeFault::Memory, sink)),
+        Err(DrainFault::Write) => Err((ServeFault::Write, sink)),
+    }
+}

@@ -1,0 +1,137 @@
+//! The threads of a server.
+
+ghost use Rattle.std.specs.Prelude.{◌≡◌, [], All, IfOk, IfErr, IfSome};
+ghost use Rattle.job_slots.specs.Seats.{IsWorkerOf};
+ghost use Rattle.rtrb.specs.Ring.{sent, SameProducer, SameConsumer};
+ghost use Rattle.server_clerk.specs.Clerk.{IsNew};
+ghost use Rattle.server_ring.specs.Arriving.{Reads};
+ghost use Rattle.peer_server.specs.Inner.Threads.{HasServed};
+
+use crate::reading::Reading;
+use crate::worker::work;
+use job_slots::{JobSlots, Turns, WorkerSeat};
+use lsp_frames::{Sink, Source};
+use rtrb::Producer;
+use server_clerk::{Clerk, Gate, Gated, Served};
+use server_ring::{Arrival, Bells, read_into};
+use std::alloc::Global;
+use std::snapshot::Snapshot;
+use std::sync::Wait;
+use std::thread;
+use std::thread::{PromisedHandle, Scope, Threads};
+
+/// Starts a worker for each seat, and tells whether all were started.
+fn hire<'s, E, J, R>(
+    scope: &'s Scope<'s, E>,
+    rt: &'s R,
+    slots: &'s JobSlots<J>,
+    bells: &'s Bells,
+    yields: u32,
+    seats: Vec<WorkerSeat<J>>,
+) -> bool
+where
+    J: Turns + Send + 's,
+    R: Wait + Sync,
+    requires { All (IsWorkerOf slots.now) seats.items }
+{
+    for seat in seats {
+        let turns = move ||
+            requires { IsWorkerOf slots.now seat }
+        {
+            let _ = work(rt, slots, seat, bells, yields);
+        };
+        if scope.spawn(turns).is_err() {
+            return false;
+        }
+    }
+    true
+}
+
+/// Starts the reader.
+fn begin_reading<'s, E, S, R>(
+    scope: &'s Scope<'s, E>,
+    rt: &'s R,
+    alloc: Global,
+    source: S,
+    ring: Producer<Arrival>,
+    bells: &'s Bells,
+    yields: u32,
+) -> Option<PromisedHandle<Producer<Arrival>, Reading<S>>>
+where
+    S: Source + Drop + Send + 's,
+    R: Wait + Sync,
+    requires { sent ring ≡ [] }
+    ensures { IfSome result (λ reader.
+        (reader.promise.source.value ≡ source) × (reader.promise.ring.value ≡ ring)) }
+{
+    let promise = Reading {
+        source: Snapshot::of(&source),
+        ring: Snapshot::of(&ring),
+    };
+    let reads = move || -> Producer<Arrival>
+        requires { sent ring ≡ [] }
+        ensures { SameProducer ring result × Reads (S.gave source) (sent result) }
+    {
+        let mut ring = ring;
+        let _ = read_into(rt, alloc, source, &mut ring, bells, yields);
+        ring
+    };
+    scope.spawn_with(promise, reads).ok()
+}
+
+/// Runs the clerk in this thread, with the reader and the workers in threads of their own. Where one of them can't be
+/// made, the sink comes back as it was.
+pub(crate) fn run_threads<'a, S, G, K, R>(
+    rt: &R,
+    alloc: Global,
+    slots: &JobSlots<Gated<G>>,
+    bells: &Bells,
+    yields: u32,
+    seats: Vec<WorkerSeat<Gated<G>>>,
+    clerk: Clerk<'a, G, K>,
+    ring: Producer<Arrival>,
+    source: S,
+) -> Result<(Served<K>, Producer<Arrival>), K>
+where
+    S: Source + Drop + Send,
+    G: Gate + Send + Sync,
+    K: Sink + Drop,
+    R: Threads + Wait + Sync,
+    requires seats { All (IsWorkerOf slots.now) seats.items }
+    requires clerk { IsNew clerk }
+    requires ring { sent ring ≡ [] }
+    ensures served { IfOk result (λ done. HasServed K.bytes_taken K.failures clerk.entry.table.now
+        clerk.entry.limits clerk.entry.sink done.0) }
+    ensures consumer { IfOk result (λ done. SameConsumer clerk.entry.ring done.0.ring) }
+    ensures producer { IfOk result (λ done. SameProducer ring done.1) }
+    ensures reads { IfOk result (λ done. Reads (S.gave source) (sent done.1)) }
+    ensures refused { IfErr result (λ sink. sink ≡ clerk.entry.sink) }
+{
+    thread::scope(
+        thread::scope_env(),
+        rt,
+        move |scope| -> Result<(Served<K>, Producer<Arrival>), K>
+            requires seats { All (IsWorkerOf slots.now) seats.items }
+            requires clerk { IsNew clerk }
+            requires ring { sent ring ≡ [] }
+            ensures served { IfOk result (λ done. HasServed K.bytes_taken K.failures
+                clerk.entry.table.now clerk.entry.limits clerk.entry.sink done.0) }
+            ensures consumer { IfOk result (λ done. SameConsumer clerk.entry.ring done.0.ring) }
+            ensures producer { IfOk result (λ done. SameProducer ring done.1) }
+            ensures reads { IfOk result (λ done. Reads (S.gave source) (sent done.1)) }
+            ensures refused { IfErr result (λ sink. sink ≡ clerk.entry.sink) }
+        {
+            if !hire(scope, rt, slots, bells, yields, seats) {
+                bells.stop();
+                return Err(clerk.into_sink());
+            }
+            let Some(reader) = begin_reading(scope, rt, alloc, source, ring, bells, yields) else {
+                bells.stop();
+                return Err(clerk.into_sink());
+            };
+            let served = clerk.run(rt);
+            bells.stop();
+            Ok((served, reader.join(rt)))
+        },
+    )
+}

@@ -1,0 +1,35 @@
+//! A worker: a thread that turns jobs.
+
+ghost use Rattle.job_slots.specs.Seats.{IsWorkerOf};
+
+use job_slots::{JobSlots, Ran, Turns, WorkerSeat};
+use server_ring::{Bells, Patience, Stopped};
+use std::sync::Wait;
+
+/// Turns jobs until it sees that the server has stopped.
+pub(crate) fn work<J: Turns, R: Wait>(
+    rt: &R,
+    slots: &JobSlots<J>,
+    seat: WorkerSeat<J>,
+    bells: &Bells,
+    yields: u32,
+) -> Stopped
+    requires { IsWorkerOf slots.now seat }
+{
+    let mut seat = seat;
+    let mut patience = Patience::new(yields);
+    for _ in rt.forever() {
+        let key = patience.announce(&bells.workers);
+        if let Some(stopped) = bells.stopped() {
+            return stopped;
+        }
+        match slots.run_one(&mut seat) {
+            Ran::One(_) => {
+                bells.clerk.notify_one();
+                patience.renew();
+            }
+            Ran::Nothing => patience.rest(rt, key),
+        }
+    }
+    unreachable!()
+}

@@ -1,4 +1,0 @@
-mod Answering
-mod Playing
-mod Players
-mod Steps

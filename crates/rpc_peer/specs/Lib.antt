@@ -1,4 +1,0 @@
-pub mod Plain
-pub mod Played
-pub mod Player
-pub mod Inner

@@ -1,0 +1,105 @@
+//! The program over any clock and any two writers.
+use crate::command_line::{Rounds, read};
+use crate::lockstep::{Asking, Counting, Step};
+use lsp_frames::encode;
+use method_steps::Table;
+use peer_limits::Limits;
+use peer_server::serve_by;
+use program_edge::{Failure, answer_words, tell_end};
+use server_clerk::OpenGate;
+use std::io::Write;
+use std::sync::atomic::AtomicU64;
+use std::sync::{Arc, Wait};
+use std::thread::Threads;
+use std::time::{Clock, Instant};
+
+const METHODS: &[u8] = br#"version = 2
+
+[[method]]
+name = "add"
+[[method.step]]
+kind = "add"
+to = "sum"
+left = "$params/0"
+right = "$params/1"
+[[method.step]]
+kind = "answer"
+value = "$sum"
+"#;
+
+const REQUEST: &[u8] = br#"{"jsonrpc":"2.0","method":"add","params":[2,3],"id":1}"#;
+
+const ANSWER: &[u8] = br#"{"id":1,"jsonrpc":"2.0","result":5}"#;
+
+/// Does what the words ask for, of which the first is the program's name, and gives the exit status:
+/// 0, or 1 where something failed, or 2 where the words are refused.
+pub fn run<R, W, E>(rt: &R, words: &[String], output: &mut W, errors: &mut E) -> u8
+where
+    R: Threads + Wait + Sync + Clock + AllocGlobal,
+    W: Write,
+    E: Write,
+{
+    match read(rt.alloc(), words) {
+        Ok(rounds) => tell_end(go_round(rt, rounds, output), errors),
+        Err(error) => answer_words(&error, output, errors),
+    }
+}
+
+/// Goes all rounds, and tells how many requests were answered.
+fn go_round<R, W>(rt: &R, rounds: Rounds, output: &mut W) -> Result<(), Failure>
+where
+    R: Threads + Wait + Sync + Clock + AllocGlobal,
+    W: Write,
+{
+    let begun = Instant::now(rt).map_err(|_| Failure::Clock)?;
+    let answered = answered(rt, rounds)?;
+    let took = begun.elapsed(rt).map_err(|_| Failure::Clock)?.as_micros();
+    written(if rounds.is_timed {
+        writeln!(output, "{answered} requests answered in {took} us")
+    } else {
+        writeln!(output, "{answered} requests answered")
+    })?;
+    written(output.flush())
+}
+
+/// How many requests are answered.
+fn answered<R>(rt: &R, rounds: Rounds) -> Result<u64, Failure>
+where
+    R: Threads + Wait + Sync + AllocGlobal,
+{
+    let alloc = rt.alloc();
+    let Ok(table) = Table::read(alloc, METHODS) else {
+        return Err(Failure::Memory);
+    };
+    let request = encode(alloc, REQUEST)?;
+    let answer = encode(alloc, ANSWER)?.len() as u64;
+    let taken = AtomicU64::new(0);
+    let source = Asking {
+        step: Step {
+            request: request.as_slice(),
+            answer,
+        },
+        left: rounds.count,
+        wanted: 0,
+        taken: &taken,
+    };
+    let sink = Counting { taken: &taken };
+    let gate = Arc::new(alloc, OpenGate)?;
+    match serve_by(
+        rt,
+        alloc,
+        &table,
+        Limits::standard(),
+        rounds.crew,
+        gate,
+        source,
+        sink,
+    ) {
+        Ok((report, _)) => Ok(report.answers),
+        Err(_) => Err(Failure::Memory),
+    }
+}
+
+fn written(outcome: std::io::Result<()>) -> Result<(), Failure> {
+    outcome.map_err(|_| Failure::Write)
+}

@@ -1,0 +1,11 @@
+pub mod Arriving
+pub mod Draining
+pub mod Happenings
+pub mod Failing
+pub mod Jobs
+pub mod Results
+pub mod Outcomes
+pub mod Rings
+pub mod Runs
+pub mod Unfailing
+pub mod Units

@@ -1,0 +1,27 @@
+-- What holds of a result, carried on.
+use Rattle.std.proofs.Common.{Result, Ok, Err, IfOk, OnOk, OnErr}
+use Rattle.std.specs.Prelude.{IfErr}
+
+pub on-err : {A E X : Type 0} (r : Result A E) → X → OnErr r X
+on-err (Ok a) x = tt
+on-err (Err e) x = x
+
+pub OnOk-map : {A E P Q : Type 0} (r : Result A E) → (P → Q) → OnOk r P → OnOk r Q
+OnOk-map (Ok a) f p = f p
+OnOk-map (Err e) f p = tt
+
+pub OnErr-map : {A E P Q : Type 0} (r : Result A E) → (P → Q) → OnErr r P → OnErr r Q
+OnErr-map (Ok a) f p = tt
+OnErr-map (Err e) f p = f p
+
+pub IfOk-map : {A E : Type 0} {P Q : A → Type 0} (r : Result A E) → ((a : A) → P a → Q a) → IfOk r P → IfOk r Q
+IfOk-map (Ok a) f p = f a p
+IfOk-map (Err e) f p = tt
+
+pub OnOk-with : {A E P Q R : Type 0} (r : Result A E) → (P → Q → R) → OnOk r P → OnOk r Q → OnOk r R
+OnOk-with (Ok a) f p q = f p q
+OnOk-with (Err e) f p q = tt
+
+pub IfErr-with : {A E : Type 0} {P Q R : E → Type 0} (r : Result A E) → ((e : E) → P e → Q e → R e) → IfErr r P → IfErr r Q → IfErr r R
+IfErr-with (Ok a) f p q = tt
+IfErr-with (Err e) f p q = f e p q

@@ -1,0 +1,35 @@
+-- A job goes out to a free slot.
+use Rattle.std.proofs.Common.{sym, ap, subst, ◌∙◌}
+use Rattle.rtrb.specs.Ring.{received}
+use Rattle.job_slots.specs.Seats.{looks_of}
+use Rattle.peer_session.specs.Session.{view}
+use Rattle.peer_session.specs.declared.job.Job.{Job}
+use Rattle.server_clerk.specs.Serves.{ServesAfter}
+use Rattle.server_clerk.proofs.Happenings.{cut-short, goes-out}
+use Rattle.server_clerk.proofs.serving.Serving.hand_out_one.Goals as goal
+
+pub returns-in_default-clause-err : goal.returns-in_default-clause-err
+returns-in_default-clause-err g c = λ start had.
+    let self = c.args.self.now in
+    record {
+      short = cut-short c.known.ensures start.table start.limits (received self.ring) start.taken self.decoder (view self.session) (looks_of self.seat)
+          (g.K.Sink.bytes_taken self.sink) had.after;
+      ring = had.ring;
+      cause = had.unfailing;
+    }
+
+pub returns-clause-ok : goal.returns-clause-ok
+returns-clause-ok g c = λ start had.
+    let self = c.args.self.now in
+    let at = g.K.Sink.bytes_taken self.sink in
+    record {
+      after = subst (λ looks. ServesAfter start.table start.limits (received self.ring) start.taken self.decoder (view c.next_job.new.self) looks at)
+          (sym c.in-Ok-offer.ensures.placed)
+          (goes-out c.known.ensures start.table start.limits (received self.ring) start.taken self.decoder (view self.session) (looks_of self.seat) at had.after
+          c.in-Ok-offer.field-0 c.new.result c.in-Some.job.handler (view c.next_job.new.self) c.in-Some.ensures.leaves
+          (ap (λ (job : Job). job.handler) c.new.ensures) c.in-Some.ensures.number
+          (ap (λ (job : Job). job.outcome) c.new.ensures ∙ c.in-Some.ensures.unturned.0)
+          (ap (λ (job : Job). job.polls) c.new.ensures ∙ c.in-Some.ensures.unturned.1));
+      ring = had.ring;
+      unfailing = had.unfailing;
+    }
