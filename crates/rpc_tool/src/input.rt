@@ -7,16 +7,16 @@ use std::alloc::{AllocError, Global};
 
 /// What the input becomes as it is read: a stream of frames, played in pieces.
 #[derive(Drop)]
-pub struct InputStream {
+pub struct InputStream<'a> {
     alloc: Global,
-    pieces: Pieces,
+    pieces: Pieces<'a>,
     /// Where each line is the content of a frame: the line under way.
     line: Option<Vec<u8>>,
 }
 
-impl InputStream {
+impl<'a> InputStream<'a> {
     /// Takes frames as they come.
-    pub fn of_frames(alloc: Global, pieces: Pieces) -> InputStream {
+    pub fn of_frames(alloc: Global, pieces: Pieces<'a>) -> InputStream<'a> {
         InputStream {
             alloc,
             pieces,
@@ -26,7 +26,7 @@ impl InputStream {
 
     /// Takes each line that isn't empty as the content of a frame. A line ends before its LF, or where
     /// the input ends; a CR is part of it.
-    pub fn of_lines(alloc: Global, pieces: Pieces) -> InputStream {
+    pub fn of_lines(alloc: Global, pieces: Pieces<'a>) -> InputStream<'a> {
         InputStream {
             alloc,
             pieces,
@@ -48,7 +48,7 @@ impl InputStream {
     }
 }
 
-impl Taker for InputStream {
+impl Taker for InputStream<'_> {
     fn take(&mut self, bytes: &[u8]) -> Result<(), AllocError> {
         match &mut self.line {
             None => self.pieces.add(bytes),
@@ -62,7 +62,7 @@ fn add_lines(
     alloc: Global,
     bytes: &[u8],
     line: &mut Vec<u8>,
-    frames: &mut Pieces,
+    frames: &mut Pieces<'_>,
 ) -> Result<(), AllocError> {
     for (index, part) in bytes.split(|byte| *byte == b'\n').enumerate() {
         if index > 0 {
@@ -74,7 +74,7 @@ fn add_lines(
 }
 
 /// Adds the line as the content of a frame, unless it is empty, and begins the next.
-fn end_line(alloc: Global, line: &mut Vec<u8>, frames: &mut Pieces) -> Result<(), AllocError> {
+fn end_line(alloc: Global, line: &mut Vec<u8>, frames: &mut Pieces<'_>) -> Result<(), AllocError> {
     if !line.is_empty() {
         frames.add(encode(alloc, line.as_slice())?.as_slice())?;
         line.clear();

@@ -1,13 +1,15 @@
 //! The program `rpc_tool`: a JSON-RPC 2.0 peer on the standard streams.
 #![tactic(auto)]
 
-mod checking;
-mod command_line;
 mod input;
 mod output;
 mod pieces;
+mod playing;
 mod program;
 mod reading;
+mod run_failure;
+mod serving;
+mod table_file;
 
 use program_edge::{read_words, tell_end};
 use std::process::ExitCode;

@@ -1,28 +1,39 @@
 //! A stream of bytes, played in pieces of one size.
 ghost use Rattle.std.specs.Prelude.{◌<◌};
 
-use rpc_peer::{Limits, Player, Report};
+use lsp_frames::MemSink;
+use method_steps::Table;
+use rpc_peer::{DrainFault, Limits, Player, Report, Schedule};
 use std::alloc::{AllocError, Global};
 
-/// Bytes that are played in pieces of one size as they come; the last piece may be shorter.
+/// Bytes that are played in pieces of one size as they come; the last piece may be shorter. What is written is kept.
 #[derive(Drop)]
-pub struct Pieces {
-    player: Player,
+pub struct Pieces<'a> {
+    player: Player<'a, MemSink>,
     /// The piece under way, which is shorter than the others.
     last: Vec<u8>,
     size: usize,
     ghost has_a_size: { 0 < size },
 }
 
-impl Pieces {
-    /// No bytes yet, to be played in pieces of `size` bytes.
-    pub fn new(alloc: Global, size: usize) -> Pieces
+impl<'a> Pieces<'a> {
+    /// No bytes yet, to be played in pieces of `size` bytes by a peer with the methods of this table.
+    pub fn new(
+        alloc: Global,
+        table: &'a Table,
+        schedule: &'a Schedule,
+        size: usize,
+    ) -> Result<Pieces<'a>, AllocError>
         requires { 0 < size }
     {
-        Pieces {
-            player: Player::new(alloc, Limits::standard()),
-            last: Vec::new(alloc),
-            size,
+        let sink = MemSink::new(alloc, None);
+        match Player::new(alloc, table, Limits::standard(), schedule, sink) {
+            Ok(player) => Ok(Pieces {
+                player,
+                last: Vec::new(alloc),
+                size,
+            }),
+            Err((fault, _)) => Err(no_memory(fault)),
         }
     }
 
@@ -33,7 +44,7 @@ impl Pieces {
             if piece.len() < self.size {
                 self.last.extend_from_slice(piece)?;
             } else {
-                self.player.feed(piece)?;
+                self.player.feed(piece).map_err(no_memory)?;
             }
         }
         Ok(())
@@ -48,7 +59,7 @@ impl Pieces {
         let (head, rest) = bytes.split_at(room.min(bytes.len()));
         self.last.extend_from_slice(head)?;
         if self.last.len() >= self.size {
-            self.player.feed(self.last.as_slice())?;
+            self.player.feed(self.last.as_slice()).map_err(no_memory)?;
             self.last.clear();
         }
         Ok(rest)
@@ -61,7 +72,13 @@ impl Pieces {
             last,
             size: _,
         } = self;
-        player.feed(last.as_slice())?;
-        Ok(player.finish())
+        player.feed(last.as_slice()).map_err(no_memory)?;
+        let report = player.end().map_err(no_memory)?;
+        Ok((player.into_sink().into_vec(), report))
     }
+}
+
+/// A sink in memory fails only where there is none.
+fn no_memory(_fault: DrainFault) -> AllocError {
+    AllocError
 }

@@ -1,0 +1,36 @@
+//! What a command line asks for.
+
+/// What a command line asks the program to do.
+#[derive(Clone, Copy, Debug, PartialEq, Eq)]
+pub enum Subcommand<'a> {
+    /// Serves standard input and output until the input ends.
+    Serve(ServeOptions<'a>),
+    /// Plays the whole of standard input.
+    Play(PlayOptions<'a>),
+    /// Judges the table of methods in this file.
+    Check { table: &'a str },
+}
+
+/// How `serve` runs methods.
+#[derive(Clone, Copy, Debug, PartialEq, Eq)]
+pub struct ServeOptions<'a> {
+    /// The file of the table of methods; without one there are no methods.
+    pub table: Option<&'a str>,
+    /// How many threads run methods, from 1 to 64.
+    pub workers: u32,
+}
+
+/// How `play` reads its input, runs methods and writes its output.
+#[derive(Clone, Copy, Debug, PartialEq, Eq)]
+pub struct PlayOptions<'a> {
+    /// The file of the table of methods; without one there are no methods.
+    pub table: Option<&'a str>,
+    /// Whether the input is taken to its end before the first method runs.
+    pub lazy: bool,
+    /// Whether of the methods that can go on the last goes on, and not the first.
+    pub last: bool,
+    /// How many bytes each piece of the input has, from 1 to 65,536; the last may have fewer.
+    pub piece: u32,
+    /// Whether each line of the input is one content, and each content written is one line.
+    pub lines: bool,
+}

@@ -1,0 +1,70 @@
+//! The command `play`: the whole of the input is played, and what was written goes out.
+ghost use Rattle.std.specs.Prelude.{◌<◌};
+
+use crate::input::InputStream;
+use crate::output::{write_frames, write_lines};
+use crate::pieces::Pieces;
+use crate::reading::read_all;
+use crate::run_failure::RunFailure;
+use crate::table_file::table_in;
+use command_line::PlayOptions;
+use method_steps::Table;
+use program_edge::Failure;
+use rpc_peer::{Close, Picks, Report, Schedule};
+use std::alloc::Global;
+use std::io::{Read, Write};
+use std::rt::Files;
+
+/// Plays the whole of the input, and gives how it ended. The table's file is read and judged before.
+pub fn play<R: Files + AllocGlobal, I: Read + Drop, W: Write>(
+    rt: &R,
+    options: PlayOptions<'_>,
+    input: I,
+    output: &mut W,
+) -> Result<Close, RunFailure> {
+    let table = table_in(rt, options.table)?;
+    let (bytes, report) = played(rt.alloc(), &table, options, input)?;
+    if options.lines {
+        write_lines(rt.alloc(), bytes.as_slice(), output)?;
+    } else {
+        write_frames(bytes.as_slice(), output)?;
+    }
+    Ok(report.end)
+}
+
+/// What is written for the input as frames, cut into pieces. Nothing of it goes out before the input has ended.
+fn played<I: Read + Drop>(
+    alloc: Global,
+    table: &Table,
+    options: PlayOptions<'_>,
+    mut input: I,
+) -> Result<(Vec<u8>, Report), Failure> {
+    let schedule = schedule_of(options);
+    let pieces = Pieces::new(alloc, table, &schedule, size_of(options))?;
+    let mut intake = if options.lines {
+        InputStream::of_lines(alloc, pieces)
+    } else {
+        InputStream::of_frames(alloc, pieces)
+    };
+    read_all(&mut input, &mut intake)?;
+    Ok(intake.finish()?)
+}
+
+/// The size of a piece in bytes, at least 1.
+fn size_of(options: PlayOptions<'_>) -> usize
+    ensures { 0 < result }
+{
+    (options.piece as usize).max(1)
+}
+
+/// When methods run, and which of them first.
+fn schedule_of(options: PlayOptions<'_>) -> Schedule {
+    Schedule {
+        lazy: options.lazy,
+        picks: if options.last {
+            Picks::Last
+        } else {
+            Picks::First
+        },
+    }
+}

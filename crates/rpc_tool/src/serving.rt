@@ -1,0 +1,48 @@
+//! The command `serve`: the input is served as it comes, by several threads.
+use crate::run_failure::RunFailure;
+use crate::table_file::table_in;
+use command_line::ServeOptions;
+use lsp_frames::{StdSink, StdSource};
+use program_edge::Failure;
+use rpc_peer::{Close, Limits, ServeFault, serve};
+use std::io::{Read, Write};
+use std::rt::Files;
+use std::sync::Wait;
+use std::thread::Threads;
+
+/// Serves the input until it ends, and gives how it ended. The table's file is read and judged before.
+pub fn serve_streams<R, I, W>(
+    rt: &R,
+    options: ServeOptions<'_>,
+    input: I,
+    output: &mut W,
+) -> Result<Close, RunFailure>
+where
+    R: Files + AllocGlobal + Threads + Wait + Sync,
+    I: Read + Drop + Send,
+    W: Write,
+{
+    let table = table_in(rt, options.table)?;
+    let (source, sink) = (StdSource::new(input), StdSink::new(output));
+    match serve(
+        rt,
+        rt.alloc(),
+        &table,
+        Limits::standard(),
+        options.workers,
+        source,
+        sink,
+    ) {
+        Ok((report, _)) => Ok(report.end),
+        Err((fault, _)) => Err(RunFailure::Program(failure_of(fault))),
+    }
+}
+
+/// What the program tells of a server that gave up. The command line lets no other numbers of workers through than a server has.
+fn failure_of(fault: ServeFault) -> Failure {
+    match fault {
+        ServeFault::Workers => Failure::Words,
+        ServeFault::Memory => Failure::Memory,
+        ServeFault::Write => Failure::Write,
+    }
+}
