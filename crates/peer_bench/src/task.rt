@@ -14,6 +14,8 @@ pub enum Task {
     Queue { crew: Crew, jobs: u32 },
     /// So many units of one call each, or a batch of so many, through the desk.
     Desk { finishing: Finishing, units: u32 },
+    /// So many texts, each read in two ways.
+    Read { texts: u32 },
 }
 
 impl Task {
@@ -31,6 +33,7 @@ impl Task {
                 homecomings: Homecomings::new(alloc, jobs)?,
             },
             Task::Desk { finishing, units } => Work::Desk { finishing, units },
+            Task::Read { texts } => Work::Read { texts },
         })
     }
 
@@ -47,14 +50,16 @@ impl Task {
                 Finishing::Behind => "desk behind",
                 Finishing::Batch => "desk batch",
             },
+            Task::Read { .. } => "read",
         }
     }
 
-    /// What became of each job or unit.
+    /// What became of each job, unit or text.
     pub fn outcome(self) -> &'static str {
         match self {
             Task::Slots { .. } | Task::Queue { .. } => "turned",
             Task::Desk { .. } => "released",
+            Task::Read { .. } => "alike",
         }
     }
 }

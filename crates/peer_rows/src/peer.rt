@@ -1,0 +1,174 @@
+//! The answers of a peer as bytes, however its input is cut: without methods, and with those of a table.
+use crate::cuts::{self, Part, joined};
+use method_steps::Table;
+use methods::Runs;
+use peer_limits::{Close, Limits, Report};
+use peer_player::{Picks, PlayFault, Schedule, play};
+use std::alloc::{AllocError, Global};
+use std::process::Abort;
+use std::test::Fail;
+
+mod methods;
+mod rows;
+
+/// An input, the texts that it gives, and how it ends.
+pub struct Row {
+    pub name: &'static str,
+    pub limits: (u32, u32),
+    pub input: &'static [Part],
+    pub output: &'static [&'static str],
+    pub end: Close,
+    pub numbers: u64,
+    pub answers: u64,
+}
+
+/// A row as it is played by the methods of a table, and what these do.
+#[derive(Drop)]
+struct Case<'a> {
+    row: &'a Row,
+    table: &'a Table,
+    runs: Runs,
+}
+
+impl cuts::Row for Case<'_> {
+    fn name(&self) -> &str {
+        self.row.name
+    }
+
+    fn stream(&self) -> &[Part] {
+        self.row.input
+    }
+
+    fn holds(&self, alloc: Global, pieces: &[&[u8]]) -> Result<bool, AllocError> {
+        let Some(limits) = Limits::new(self.row.limits.0, self.row.limits.1) else {
+            return Ok(false);
+        };
+        let (bytes, report) = played(alloc, self.table, limits, pieces)?;
+        Ok(report == self.wanted() && is_made_of(bytes.as_slice(), self.row.output))
+    }
+}
+
+impl Case<'_> {
+    fn wanted(&self) -> Report {
+        Report {
+            end: self.row.end,
+            numbers: self.row.numbers,
+            messages: self.runs.messages,
+            call_frames: self.runs.call_frames,
+            answers: self.row.answers,
+            polls: self.runs.polls,
+        }
+    }
+}
+
+/// What the peer writes where its input comes in these pieces.
+fn played(
+    alloc: Global,
+    table: &Table,
+    limits: Limits,
+    pieces: &[&[u8]],
+) -> Result<(Vec<u8>, Report), AllocError> {
+    let mut owned = Vec::new(alloc);
+    for piece in pieces {
+        owned.push(piece.to_vec(alloc)?)?;
+    }
+    let schedule = Schedule {
+        lazy: false,
+        picks: Picks::First,
+    };
+    match play(alloc, table, limits, owned.as_slice(), &schedule) {
+        Ok(played) => Ok(played),
+        Err(PlayFault::Memory) => Err(AllocError),
+    }
+}
+
+/// Whether these are the texts, one behind the other.
+fn is_made_of(bytes: &[u8], texts: &[&str]) -> bool {
+    let mut rest = bytes;
+    for text in texts {
+        match rest.strip_prefix(text.as_bytes()) {
+            Some(behind) => rest = behind,
+            None => return false,
+        }
+    }
+    rest.is_empty()
+}
+
+/// Each row, in which no method of the table runs.
+fn each_is_answered(
+    rt: &impl Abort,
+    alloc: Global,
+    table: &Table,
+    rows: &[Row],
+) -> Result<(), AllocError> {
+    for row in rows {
+        let case = Case {
+            row,
+            table,
+            runs: methods::NONE,
+        };
+        assert!(rt; cuts::holds_however_cut(alloc, &case)?, "{}", row.name);
+    }
+    Ok(())
+}
+
+/// The same by a peer without methods, and by one whose methods nobody asks for.
+fn each_is_answered_alike(rt: &impl Abort, alloc: Global, rows: &[Row]) -> Result<(), Fail> {
+    each_is_answered(rt, alloc, &Table::empty(alloc), rows)?;
+    let table = crate::plays::methods(alloc)?;
+    each_is_answered(rt, alloc, &table, rows)?;
+    Ok(())
+}
+
+#[test]
+fn messages_are_answered(rt: HostRuntime) -> Result<(), Fail> {
+    let table = Table::empty(rt.alloc());
+    Ok(each_is_answered(&rt, rt.alloc(), &table, rows::MESSAGES)?)
+}
+
+#[test]
+fn heads_are_taken_or_end_the_input(rt: HostRuntime) -> Result<(), Fail> {
+    each_is_answered_alike(&rt, rt.alloc(), rows::HEADS)
+}
+
+#[test]
+fn heads_of_about_4096_bytes(rt: HostRuntime) -> Result<(), Fail> {
+    each_is_answered_alike(&rt, rt.alloc(), rows::LONG)
+}
+
+#[test]
+fn contents_numbers_and_depths_have_limits(rt: HostRuntime) -> Result<(), Fail> {
+    each_is_answered_alike(&rt, rt.alloc(), rows::LIMITS)
+}
+
+#[test]
+fn methods_run_however_their_input_is_cut(rt: HostRuntime) -> Result<(), Fail> {
+    let table = crate::plays::methods(rt.alloc())?;
+    for (row, runs) in methods::ROWS {
+        let case = Case {
+            row,
+            table: &table,
+            runs: *runs,
+        };
+        assert!(rt; cuts::holds_however_cut(rt.alloc(), &case)?, "{}", row.name);
+    }
+    Ok(())
+}
+
+#[test]
+fn limits_are_at_most_the_standard_ones(rt: HostRuntime) {
+    assert!(rt; Limits::new(16_777_217, 2).is_none());
+    assert!(rt; Limits::new(16_777_216, 1_000_001).is_none());
+    let (content, numbers) = rows::STANDARD;
+    assert!(rt; Limits::new(content, numbers) == Some(Limits::standard()));
+}
+
+#[test]
+fn many_frames_in_one_piece_are_answered(rt: HostRuntime) -> Result<(), Fail> {
+    let piece = joined(rt.alloc(), &[(rows::ASKED, 100_000)])?;
+    let wanted = joined(rt.alloc(), &[(rows::NOT_FOUND, 100_000)])?;
+    let table = Table::empty(rt.alloc());
+    let (bytes, report) = played(rt.alloc(), &table, Limits::standard(), &[piece.as_slice()])?;
+    assert!(rt; report.answers == 100_000 && bytes == wanted);
+    Ok(())
+}

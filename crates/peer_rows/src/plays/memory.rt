@@ -1,0 +1,201 @@
+//! Contents that are taken again, and bytes that are written again, after want of memory.
+
+use super::{METHODS, framed};
+use handler_future::Outcome;
+use job_slots::Turns;
+use json_values::Items;
+use lsp_frames::{Frame, StdSink};
+use method_steps::Table;
+use peer_limits::{Close, Limits};
+use peer_session::{DrainFault, Session};
+use std::alloc::Global;
+use std::io::{self, Write};
+
+/// So often a call is made that finds no memory.
+const TRIES: u32 = 4;
+
+/// More turns than the methods of the stream have.
+const TURNS: u32 = 16;
+
+/// A call and its reply, a batch, two calls at once, a cancel, and an error that is kept.
+const STREAM: &str = r#"< {"jsonrpc":"2.0","method":"ask","params":["x"],"id":7}
+> {"id":"1.1","jsonrpc":"2.0","method":"confirm","params":["x"]}
+< {"jsonrpc":"2.0","id":"1.1","result":true}
+> {"id":7,"jsonrpc":"2.0","result":true}
+< [{"jsonrpc":"2.0","method":"add","params":[2,3],"id":1},{"jsonrpc":"2.0","method":"add","params":[4,5]},{"foo":"boo"},{"jsonrpc":"2.0","method":"nope","id":"x"}]
+> [{"id":1,"jsonrpc":"2.0","result":5},{"error":{"code":-32600,"message":"Invalid Request"},"id":null,"jsonrpc":"2.0"},{"error":{"code":-32601,"message":"Method not found"},"id":"x","jsonrpc":"2.0"}]
+< {"jsonrpc":"2.0","method":"two","id":1}
+> [{"id":"5.1","jsonrpc":"2.0","method":"a"},{"id":"5.2","jsonrpc":"2.0","method":"b"}]
+< [{"jsonrpc":"2.0","id":"5.2","result":"B"},{"jsonrpc":"2.0","id":"5.1","result":"A"}]
+> {"id":1,"jsonrpc":"2.0","result":["A","B"]}
+< {"jsonrpc":"2.0","method":"ask","params":["y"],"id":9}
+> {"id":"6.1","jsonrpc":"2.0","method":"confirm","params":["y"]}
+< {"jsonrpc":"2.0","method":"$/cancelRequest","params":{"id":9}}
+> {"jsonrpc":"2.0","method":"$/cancelRequest","params":{"id":"6.1"}}
+> {"error":{"code":-32800,"message":"Request cancelled"},"id":9,"jsonrpc":"2.0"}
+< {"jsonrpc":"2.0","method":"keep","id":1}
+> {"id":"8.1","jsonrpc":"2.0","method":"confirm"}
+> {"id":1,"jsonrpc":"2.0","result":{"error":{"code":-32000,"message":"No reply"},"ok":false}}
+"#;
+
+/// Compares what is written with what is wanted, and takes no memory.
+#[derive(Drop)]
+struct Compared<'a> {
+    /// What is still to come.
+    wanted: &'a [u8],
+    differs: bool,
+}
+
+impl Write for Compared<'_> {
+    fn write(&mut self, buf: &[u8]) -> io::Result<usize> {
+        match self.wanted.strip_prefix(buf) {
+            Some(rest) => self.wanted = rest,
+            None => self.differs = true,
+        }
+        Ok(buf.len())
+    }
+
+    fn flush(&mut self) -> io::Result<()> {
+        Ok(())
+    }
+}
+
+/// How a stream went.
+#[derive(Clone, Copy, PartialEq, Eq)]
+enum Went {
+    Whole,
+    /// Up to a handler that found no memory while it was turned.
+    ToAFailedHandler,
+    /// Up to a call that found no memory however often it was made.
+    NoFurther,
+}
+
+fn table_at_last(alloc: Global) -> Option<Table> {
+    for _ in 0..TRIES {
+        if let Ok(table) = Table::read(alloc, METHODS.as_bytes()) {
+            return Some(table);
+        }
+    }
+    None
+}
+
+fn wanted_at_last(alloc: Global) -> Option<Vec<u8>> {
+    for _ in 0..TRIES {
+        if let Ok(wanted) = framed(alloc, STREAM, "> ") {
+            return Some(wanted);
+        }
+    }
+    None
+}
+
+fn session_at_last(alloc: Global, table: &Table) -> Option<Session<'_>> {
+    for _ in 0..TRIES {
+        if let Ok(session) = Session::new(alloc, table, Limits::standard()) {
+            return Some(session);
+        }
+    }
+    None
+}
+
+fn frame_at_last(alloc: Global, content: &str) -> Option<Frame> {
+    for _ in 0..TRIES {
+        if let Ok(bytes) = content.as_bytes().to_vec(alloc) {
+            return Some(Frame {
+                content: Items::from(bytes),
+                foreign: false,
+            });
+        }
+    }
+    None
+}
+
+/// Whether the session takes the content, at the first try or at a later one.
+fn is_taken(session: &mut Session<'_>, frame: &Frame) -> bool {
+    for _ in 0..TRIES {
+        if session.is_open() && session.take(frame).is_ok() {
+            return true;
+        }
+    }
+    false
+}
+
+fn drain(session: &mut Session<'_>, written: &mut Compared<'_>) -> Result<(), DrainFault> {
+    session.drain(&mut StdSink::new(written))
+}
+
+/// Whether what is due is written, at the first try or at a later one.
+fn is_drained(session: &mut Session<'_>, written: &mut Compared<'_>) -> bool {
+    for _ in 0..TRIES {
+        if drain(session, written).is_ok() {
+            return true;
+        }
+    }
+    false
+}
+
+/// Turns the first handler that is ready. Whether one was, and whether it found memory.
+fn turned(session: &mut Session<'_>) -> Option<bool> {
+    let mut job = session.next_job(0)?;
+    job.turn();
+    let has_failed = matches!(job.outcome, Some(Outcome::Failed));
+    session.back(job);
+    Some(!has_failed)
+}
+
+/// Writes what is due, and turns handlers until none is ready.
+fn settled(session: &mut Session<'_>, written: &mut Compared<'_>) -> Went {
+    for _ in 0..TURNS {
+        if !is_drained(session, written) {
+            return Went::NoFurther;
+        }
+        match turned(session) {
+            None => return Went::Whole,
+            Some(false) => return Went::ToAFailedHandler,
+            Some(true) => {}
+        }
+    }
+    Went::NoFurther
+}
+
+fn content_went(
+    alloc: Global,
+    session: &mut Session<'_>,
+    content: &str,
+    written: &mut Compared<'_>,
+) -> Went {
+    match frame_at_last(alloc, content) {
+        Some(frame) if is_taken(session, &frame) => settled(session, written),
+        _ => Went::NoFurther,
+    }
+}
+
+fn stream_went(alloc: Global, session: &mut Session<'_>, written: &mut Compared<'_>) -> Went {
+    for line in STREAM.lines() {
+        if let Some(content) = line.strip_prefix("< ") {
+            let went = content_went(alloc, session, content, written);
+            if went != Went::Whole {
+                return went;
+            }
+        }
+    }
+    session.end(Close::Clean);
+    settled(session, written)
+}
+
+/// A content that found no memory is taken again, and what found none to be written is written again: then all comes as if there
+/// had been memory at once. `bin/test` runs this test with each request for memory refused in turn.
+#[test]
+fn contents_are_taken_and_written_again_after_memory(rt: HostRuntime) {
+    let alloc = rt.alloc();
+    let table = table_at_last(alloc).expect(&rt, "a table");
+    let wanted = wanted_at_last(alloc).expect(&rt, "what is wanted");
+    let mut session = session_at_last(alloc, &table).expect(&rt, "a session");
+    let mut written = Compared {
+        wanted: wanted.as_slice(),
+        differs: false,
+    };
+    let went = stream_went(alloc, &mut session, &mut written);
+    assert!(rt; !written.differs);
+    assert!(rt; went != Went::NoFurther);
+    assert!(rt; went == Went::ToAFailedHandler || written.wanted.is_empty() && session.is_done());
+}

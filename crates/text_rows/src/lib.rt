@@ -1,0 +1,11 @@
+//! Values, messages and tables of methods: what texts are read as, and the texts that are written.
+#![tactic(auto)]
+
+#[cfg(test)]
+mod items;
+#[cfg(test)]
+mod reading;
+#[cfg(test)]
+mod tables;
+#[cfg(test)]
+mod writing;

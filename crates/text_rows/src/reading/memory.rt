@@ -1,0 +1,96 @@
+//! Contents whose reading was refused memory.
+
+use json_values::Items;
+use lsp_frames::Frame;
+use rpc_messages::UnitReader;
+use std::alloc::{AllocError, Global};
+
+/// A content: so many letters `a` between a front and a back; and what `Debug` shows of its unit, with as many.
+struct Row {
+    front: &'static str,
+    letters: usize,
+    back: &'static str,
+    shown_front: &'static str,
+    shown_back: &'static str,
+}
+
+const ROWS: &[Row] = &[
+    Row {
+        front: r#"{"jsonrpc":"2.0","method":"f","params":{"b":["\n",-1],"a":"x"},"id":"\u0031"}"#,
+        letters: 0,
+        back: "",
+        shown_front: r#"Single(Call(Call { id: Some(Text("1")), method: "f", params: Whole({"a":"x","b":["\n",-1]}), target: None }))"#,
+        shown_back: "",
+    },
+    Row {
+        front: r#"{"jsonrpc":"2.0","method":"f","params":[""#,
+        letters: 70_000,
+        back: r#""]}"#,
+        shown_front: r#"Single(Call(Call { id: None, method: "f", params: Whole([""#,
+        shown_back: r#""]), target: None }))"#,
+    },
+    Row {
+        front: r#"[{"id":"2.3","jsonrpc":"2.0","result":["y"]},{},1e999]"#,
+        letters: 0,
+        back: "",
+        shown_front: "Unreadable",
+        shown_back: "",
+    },
+    Row {
+        front: r#"[{"id":"2.3","jsonrpc":"2.0","result":["y"]},{},1e99]"#,
+        letters: 0,
+        back: "",
+        shown_front: r#"Batch(Items { items: [Reply { number: 2, turn: 3, reply: Done(["y"]) }, Invalid, Invalid] })"#,
+        shown_back: "",
+    },
+];
+
+/// A content whose reading found no memory is read by the same reader again. `bin/test` runs this test with each request for
+/// memory refused in turn.
+#[test]
+fn a_content_is_read_again_after_memory(rt: HostRuntime) {
+    let mut reader = UnitReader::new(rt.alloc());
+    for row in ROWS {
+        assert!(rt;
+            is_read_at_last(rt.alloc(), &mut reader, row),
+            "{}",
+            row.front
+        );
+    }
+}
+
+fn is_read_at_last(alloc: Global, reader: &mut UnitReader, row: &Row) -> bool {
+    for _ in 0..4 {
+        if let Ok(is_read) = is_read(alloc, reader, row) {
+            return is_read;
+        }
+    }
+    false
+}
+
+fn is_read(alloc: Global, reader: &mut UnitReader, row: &Row) -> Result<bool, AllocError> {
+    let content = with_letters(alloc, row.front, row.letters, row.back)?;
+    let frame = Frame {
+        content: Items::from(content),
+        foreign: false,
+    };
+    let unit = reader.read(&frame)?;
+    let shown = format!(in alloc; "{unit:?}")?;
+    let wanted = with_letters(alloc, row.shown_front, row.letters, row.shown_back)?;
+    Ok(shown.as_bytes() == wanted.as_slice())
+}
+
+fn with_letters(
+    alloc: Global,
+    front: &str,
+    letters: usize,
+    back: &str,
+) -> Result<Vec<u8>, AllocError> {
+    let mut all = Vec::new(alloc);
+    all.extend_from_slice(front.as_bytes())?;
+    for _ in 0..letters {
+        all.push(b'a')?;
+    }
+    all.extend_from_slice(back.as_bytes())?;
+    Ok(all)
+}
