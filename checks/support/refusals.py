@@ -19,13 +19,13 @@ def compiled(name, room):
     return library
 
 
-def memory_held(words):
+def memory_held(words, given=b""):
     """Runs a program of one thread: its status, the most bytes that it held, and the bytes that it held behind its last request."""
     with tempfile.TemporaryDirectory(prefix="held-") as room, tempfile.TemporaryFile() as told:
         told.write(bytes(16))
         told.flush()
         env = {**os.environ, "LD_PRELOAD": compiled("count_malloc", room), "HELD_TELL": str(told.fileno())}
-        ended = subprocess.run(words, stdin=subprocess.DEVNULL, capture_output=True, timeout=120, env=env, pass_fds=[told.fileno()], check=False)
+        ended = subprocess.run(words, input=given, capture_output=True, timeout=600, env=env, pass_fds=[told.fileno()], check=False)
         told.seek(0)
         return ended.returncode, *struct.unpack("QQ", told.read())
 

@@ -26,8 +26,9 @@ __attribute__((constructor)) static void begin(void) {
 }
 
 static int refused(size_t size) {
-  seen++;
-  if (seen != nth && (from == 0 || seen < from) && (over == 0 || size <= over)) return 0;
+  /* (threads ask side by side) */
+  unsigned long number = __atomic_add_fetch(&seen, 1, __ATOMIC_SEQ_CST);
+  if (number != nth && (from == 0 || number < from) && (over == 0 || size <= over)) return 0;
   if (tell >= 0 && write(tell, "x", 1) != 1) tell = -1;
   errno = ENOMEM;
   return 1;

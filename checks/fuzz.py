@@ -1,0 +1,59 @@
+"""usage: python3 checks/fuzz.py [--cases N] [--seed S] [--player FILE]      tries N streams, 5,000 where none are named
+       python3 checks/fuzz.py --replay FILE [--player FILE]               tries the one stream in a file that an earlier run wrote
+
+Makes streams at random and runs each by several schedules, whole and cut, and by servers of one and of four workers; a share of them by
+the built program too, over real pipes. What is written has to keep the laws of checks/support/laws.py. A stream that breaks one is made
+as small as it goes and written to out/fuzz, and the line that says so has the command that tries it again."""
+import argparse
+import sys
+import tempfile
+from functools import partial
+from typing import Iterable
+
+from support import cases
+from support import fuzzing
+from support import ran
+
+CASES = 5_000
+
+
+def words_of(words: Iterable[str]) -> argparse.Namespace:
+    parser = argparse.ArgumentParser(usage=__doc__.partition("\n\n")[0].removeprefix("usage: "))
+    parser.add_argument("--cases", type=int, default=CASES)
+    parser.add_argument("--seed", type=int, default=1)
+    parser.add_argument("--player", default=ran.gates_program("case_player"))
+    parser.add_argument("--replay")
+    return parser.parse_args([*words])
+
+
+def check_refusals(count: ran.Count, player: str, file: str) -> None:
+    """The player refuses what is no case, and what it can't run."""
+    refused = (b"x", b"play\n", b"play eager\n", b"play eager first 0\n", b"play soon first - 0\n", b"play eager 1,x - 0\n", b"play eager first - 1\n")
+    for given in (*refused, b"serve first - 0\n", b"serve 4 -1 0\n", b"serve 4 - 99999999999\n", b"turn 4 - 0\n", b"\xff - 0\n"):
+        got = ran.run([], given, program=player)
+        count.check(f"refused: {given!r}", got == (2, b"", b"a case cannot be read\n"), f"{got}")
+    for workers in (0, 65):
+        got = ran.run([], b"serve %d - 0\n" % workers, program=player)
+        count.check(f"{workers} workers", got == (0, b"Workers 0 0 0 0 0 0\n", b""), f"{got}")
+    for words, wanted in ((["--table", file + "x"], b"table: cannot be read\n"), (["--table", __file__], b"table: refused\n")):
+        got = ran.run(words, b"", program=player)
+        count.check(f"refused: {words}", got == (2, b"", wanted), f"{got}")
+
+
+def main(words: list[str]) -> None:
+    options = words_of(words)
+    ran.built()
+    with tempfile.TemporaryDirectory() as room:
+        fuzzer = fuzzing.Fuzzer(partial(cases.run, options.player), room)
+        fuzzer.count.check("the gate built case_player", options.player is not None)
+        if options.player and options.replay:
+            why = fuzzer.breaks(fuzzing.trial_in(options.replay))
+            fuzzer.count.check(options.replay, why is None, why or "")
+        elif options.player:
+            check_refusals(fuzzer.count, options.player, fuzzer.tables.files["traced"])
+            fuzzer.try_all(options.seed, options.cases)
+            fuzzer.check_floors()
+        fuzzer.count.end()
+
+
+main(sys.argv[1:])

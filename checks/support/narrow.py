@@ -1,0 +1,36 @@
+"""Runs the program on standard streams that are cut, short or broken."""
+import os
+import subprocess
+import tempfile
+
+from support import ran
+from support import refusals
+
+WHY = "it compiles what narrows the standard streams"
+# How long the program may take to end, in seconds.
+PATIENCE = 20
+
+
+class Narrowed:
+    """The library that narrows streams, compiled in a folder that goes with it."""
+
+    def __init__(self) -> None:
+        self.room = tempfile.TemporaryDirectory(prefix="narrow-")
+        self.library = refusals.compiled("narrow_streams", self.room.name)
+
+    def environment(self, **limits: object) -> dict[str, str]:
+        """The environment of a program with these limits, which are named as narrow_streams.c says, in lower case."""
+        return {**os.environ, "LD_PRELOAD": self.library, **{name.upper(): str(limit) for name, limit in limits.items()}}
+
+    def run(self, words: list[str], given: bytes, **limits: object) -> tuple[object, bytes, bytes]:
+        """The program's status and what it wrote to its two outputs. One that doesn't end in time is killed, and has a text for a status."""
+        with subprocess.Popen(
+            [ran.BUILT, *words], stdin=subprocess.PIPE, stdout=subprocess.PIPE, stderr=subprocess.PIPE, env=self.environment(**limits)
+        ) as process:
+            try:
+                output, errors = process.communicate(given, PATIENCE)
+                return process.returncode, output, errors
+            except subprocess.TimeoutExpired:
+                process.kill()
+                output, errors = process.communicate()
+                return f"no end after {PATIENCE} seconds", output, errors
