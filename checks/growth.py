@@ -1,5 +1,6 @@
 """The program's work grows with its input and no faster: twice the input takes at most 2.2 times the instructions. And no memory is
-asked for what is only promised: a head that says 16 MiB, with nothing behind it, makes no large request.
+asked for what is only promised: a head that says 16 MiB, with nothing behind it, makes no large request. Nor is any kept for what is
+over: a million runs of a method take as much as a thousand.
 
 Instructions are callgrind's, so that a busy machine changes nothing. What a size costs beside its start, the program's own
 beginning, is left out."""
@@ -16,6 +17,8 @@ from support import rows
 MOST = 2.2
 # A request for more bytes is a large one: the program reads in pieces of so many at most.
 LARGE = 65_536
+# How many bytes a run of any length may hold beside those of a short one.
+SPARE = 4_000_000
 
 
 def request(number):
@@ -63,7 +66,30 @@ def many_members(size):
     return rows.frames('{"jsonrpc":"2.0","method":"nope","params":{' + members + '},"id":1}')
 
 
-# name, how the input is made, its greater size, and the pieces it comes in
+def calls(size):
+    """Requests that make one call each, each replied to at once."""
+    return rows.frames(*sum(((rows.ask(it), rows.replied(f"{it}.1")) for it in range(1, size + 1)), ()))
+
+
+def open_calls(size):
+    """The same, replied to once all have come, the last first."""
+    return rows.frames(*map(rows.ask, range(1, size + 1)), *(rows.replied(f"{it}.1") for it in range(size, 0, -1)))
+
+
+def cancels(size):
+    """Requests that make one call each, and are then cancelled, the last first."""
+    return rows.frames(*map(rows.ask, range(1, size + 1)), *map(rows.cancel, range(size, 0, -1)))
+
+
+def never_replied(size):
+    """Requests that make one call each, and wait for its reply until the input is over."""
+    return rows.frames(*map(rows.ask, range(1, size + 1)))
+
+
+# what stands for the file of the table of methods
+TABLE = "TABLE"
+
+# name, how the input is made, its greater size, and the options it is played with
 INPUTS = [
     ("single requests", singles, 4_000, ()),
     ("single requests", singles, 2_000, ("--piece", "512")),
@@ -77,6 +103,12 @@ INPUTS = [
     ("one long string", long_text, 2_000_000, ()),
     ("one long string", long_text, 2_000_000, ("--piece", "512")),
     ("params of many members", many_members, 20_000, ()),
+    ("calls", calls, 2_000, ("--table", TABLE)),
+    ("open calls", open_calls, 2_000, ("--table", TABLE)),
+    ("open calls", open_calls, 2_000, ("--table", TABLE, "--lazy", "--last")),
+    ("calls without a reply", never_replied, 20_000, ("--table", TABLE)),
+    ("cancels", cancels, 2_000, ("--table", TABLE)),
+    ("cancels", cancels, 2_000, ("--table", TABLE, "--lazy")),
 ]
 
 
@@ -93,10 +125,11 @@ def instructions(words, given=b""):
     return int(found[1]) if found and ended.returncode == 0 else None
 
 
-def inputs():
-    """What is measured of the program: a label, the greater size, and what gives the instructions of a size."""
-    for name, make, size, piece in INPUTS:
-        yield " ".join([name, *piece]), size, lambda size, make=make, piece=piece: instructions([ran.BUILT, "play", *piece], make(size) if size else b"")
+def inputs(table):
+    """What is measured of the program, with a table in this file: a label, the greater size, and what gives the instructions of a size."""
+    for name, make, size, options in INPUTS:
+        words = [ran.BUILT, "play", *(table if it == TABLE else it for it in options)]
+        yield " ".join([name, *options]), size, lambda size, make=make, words=words: instructions(words, make(size) if size else b"")
 
 
 def orders(bench):
@@ -115,12 +148,12 @@ def check_growth(count, label, size, begun, half, whole):
     count.check(label, growth <= MOST, f"growth {growth:.2f}, at most {MOST}")
 
 
-def check_all(count):
+def check_all(count, table):
     """Counts the instructions of all sizes, as many side by side as there are processors, and compares them."""
     bench = ran.gates_program("peer_bench")
     count.check("the gate built peer_bench", bench is not None)
-    measured = [*inputs(), *(orders(bench) if bench else ())]
     with ThreadPoolExecutor(len(os.sched_getaffinity(0))) as pool:
+        measured = [*inputs(table), *(orders(bench) if bench else ())]
         counts = [[pool.submit(counted, it) for it in (0, size // 2, size)] for _, size, counted in measured]
         for (label, size, _), waits in zip(measured, counts):
             check_growth(count, label, size, *(it.result() for it in waits))
@@ -135,10 +168,34 @@ def check_promise(count):
     count.check("70,000 bytes that come are refused", came == (1, b"", b"failed: Memory\n", True), f"{came}")
 
 
+def check_finished(count, table):
+    """Compares the most that is held through a thousand runs of a method and through many. The program keeps what it writes until the
+    input is over, so it is told apart: notifications write nothing, and of answers twice their bytes are left out."""
+    play = [ran.BUILT, "play", "--table", table]
+    notice = '{"jsonrpc":"2.0","method":"add","params":[2,3]}'
+    thousand = rows.frames(rows.batch(*[notice] * 1_000))
+    requests = [notice.replace("}", ',"id":%d}' % it) for it in range(1, 1_000_001)]
+    answers = len(rows.frames(*(rows.answered("5", it) for it in range(1, 1_000_001))))
+    for name, few, more, written in (
+        ("1,000,000 notifications", thousand, thousand * 999, 0),
+        ("100,000 notifications, one by one", rows.frames(*[notice] * 1_000), rows.frames(*[notice] * 99_000), 0),
+        ("1,000,000 requests", rows.frames(*requests[:1_000]), rows.frames(*requests[1_000:]), answers),
+    ):
+        status, least, _ = refusals.memory_held(play, few)
+        then, most, _ = refusals.memory_held(play, few + more)
+        print(f"{name}: {most:,} bytes at most, {least:,} for the first 1,000 of them, {written:,} written", flush=True)
+        count.check(f"{name} leave nothing behind", (status, then) == (0, 0) and 0 < most <= least + 2 * written + SPARE, f"{least:,}, {most:,}")
+
+
 count = ran.Count()
 ran.built()
-if not ran.lacks("cc", refusals.WHY):
-    check_promise(count)
-if not ran.lacks("valgrind", "it counts the instructions"):
-    check_all(count)
+with tempfile.TemporaryDirectory() as room:
+    table = os.path.join(room, "table.toml")
+    with open(table, "w", encoding="utf-8") as it:
+        it.write(rows.METHODS)
+    if not ran.lacks("cc", refusals.WHY):
+        check_promise(count)
+        check_finished(count, table)
+    if not ran.lacks("valgrind", "it counts the instructions"):
+        check_all(count, table)
 count.end()

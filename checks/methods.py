@@ -1,23 +1,38 @@
-"""Takes each table out of the page on tables of methods, has the program judge it, and compares what it prints with the page."""
+"""Takes each table out of the page on tables of methods, has the program judge it and play the lines that stand below it, and compares
+what it prints with the page."""
 import os
-import re
 import tempfile
 
+from support import pages
 from support import ran
 
-count = ran.Count()
-ran.built()
-with open(os.path.join(ran.TOP, "docs", "methods.md"), encoding="utf-8") as page:
-    text = page.read()
 
-blocks = re.findall(r"^```([^\n]*)\n(.*?)^```$\n?", text, re.M | re.S)
-kinds = [it[0] for it in blocks]
-fences = len(re.findall(r"^\s*```", text, re.M))
-is_read = fences == 2 * len(blocks) and kinds == ["toml", "text"] * (len(blocks) // 2)
-count.check("each block of the page is a table, or what the one before it prints", is_read, f"{fences} fences round {kinds}")
-pairs = [(table, printed) for (_, table), (_, printed) in zip(blocks[::2], blocks[1::2])]
-count.check("there are at least six tables", len(pairs) >= 6, f"{len(pairs)}")
+class Table:
+    """A table of the page: its text, what `check` prints for it, and its plays: the words of each, the lines in and the lines out."""
 
+    def __init__(self, text):
+        self.text, self.printed, self.plays = text, None, []
+
+
+def tables_of(count):
+    """The tables of the page. A block `toml` is followed by one `text`, and then by any number of pairs `in` (with words of `play`) and
+    `out`."""
+    tables, before = [], ""
+    for mark, text in pages.blocks_of(count, "docs", "methods.md"):
+        kind, *words = mark.split() or [""]
+        follows = {"toml": ("", "text", "out"), "text": ("toml",), "in": ("text", "out"), "out": ("in",)}
+        count.check(f"a block {mark!r} of the page stands in its place", before in follows.get(kind, ()), f"behind {before!r}: {text!r}")
+        if kind == "toml":
+            tables.append(Table(text))
+        elif kind == "text":
+            tables[-1].printed = text
+        elif kind == "in":
+            tables[-1].plays.append([words, text, None])
+        elif kind == "out":
+            tables[-1].plays[-1][2] = text
+        before = kind
+    count.check("the last block of the page is an output", before in ("text", "out"))
+    return tables
 
 
 def full_table(last):
@@ -33,15 +48,35 @@ LARGE = [
     ("a fault at the last step of 16,384", full_table('kind = "nosuch"\n'), "table: Step, method 256, step 64\n"),
 ]
 
+
+def check_table(count, file, name, table, printed):
+    """Writes a table to a file, and has it judged; where it is refused it can't be played either."""
+    with open(file, "w", encoding="utf-8") as it:
+        it.write(table)
+    is_well = printed.startswith("ok: ")
+    wanted = (0, printed.encode(), b"") if is_well else (2, b"", printed.encode())
+    got = ran.run(["check", "--table", file])
+    count.check(name, got == wanted, f"{got}, and not {printed!r}")
+    if not is_well:
+        got = ran.run(["play", "--table", file])
+        count.check(f"{name}, played", got == wanted, f"{got}, and not {printed!r}")
+
+
+count = ran.Count()
+ran.built()
+tables = tables_of(count)
+# (a page of which nothing is read would pass)
+count.check("there are at least six tables and six plays", len(tables) >= 6 and sum(len(it.plays) for it in tables) >= 6)
+
 with tempfile.TemporaryDirectory() as room:
     file = os.path.join(room, "table.toml")
-    of_page = [(f"table {number} of the page", *pair) for number, pair in enumerate(pairs, 1)]
-    for name, table, printed in of_page + LARGE:
-        with open(file, "w", encoding="utf-8") as it:
-            it.write(table)
-        status, output, errors = ran.run(["check", "--table", file])
-        wanted = (0, printed.encode(), b"") if printed.startswith("ok: ") else (2, b"", printed.encode())
-        count.check(name, (status, output, errors) == wanted, f"{output!r} {errors!r}, and not {printed!r}")
+    for number, table in enumerate(tables, 1):
+        check_table(count, file, f"table {number} of the page", table.text, table.printed)
+        for words, given, output in table.plays:
+            for piece in ("1", "65536"):
+                pages.check_play(count, f"table {number} of the page", ["--table", file, *words, "--piece", piece], given, output)
+    for name, table, printed in LARGE:
+        check_table(count, file, name, table, printed)
 
     # What the file itself may do.
     missing = ran.run(["check", "--table", os.path.join(room, "none.toml")])

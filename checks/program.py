@@ -1,12 +1,29 @@
-"""Runs the program as a user does: the rows however they are cut, large inputs, lines, command lines, and devices that fail."""
+"""Runs the program as a user does: the rows however they are cut, with methods and without, large inputs, lines, command lines, tables
+that are refused, and devices that fail."""
 import os
+import socket
 import subprocess
+import tempfile
+import threading
 
 from support import ran
 from support import rows
 
 count = ran.Count()
 ran.built()
+ROOM = tempfile.TemporaryDirectory()
+
+
+def file_of(name, text):
+    """A file with this text, for the time that the checks run."""
+    path = os.path.join(ROOM.name, name)
+    with open(path, "wb") as it:
+        it.write(text if isinstance(text, bytes) else text.encode())
+    return path
+
+
+TABLES = {it: file_of(f"table{number}.toml", it) for number, it in enumerate((rows.METHODS, rows.OPENING, rows.EACH))}
+METHODS = TABLES[rows.METHODS]
 
 
 def expect(name, words, given, output, errors=b"", status=0, program=ran.BUILT):
@@ -22,6 +39,22 @@ for name, given, output, end in rows.ROWS:
     for piece in ("1", "7", "4095", "4096", "4097", "65536"):
         errors = f"input ended: {end}\n".encode() if end else b""
         expect(f"{name}, in pieces of {piece}", ["play", "--piece", piece], given, output, errors, 1 if end else 0)
+
+# Methods of a table, as frames in pieces and as lines.
+for name, table, ways, given, output in rows.PLAYS:
+    for way in ways:
+        words = ["play", "--table", TABLES[table], *way]
+        for piece in ("1", "7", "65536"):
+            expect(f"{name}, {way} in pieces of {piece}", [*words, "--piece", piece], rows.frames(*given), rows.frames(*output))
+        expect(f"{name}, {way} as lines", [*words, "--lines"], rows.lines(*given), rows.lines(*output))
+for name, given, output, end in rows.ROWS:
+    if b'"add"' not in given:
+        errors = f"input ended: {end}\n".encode() if end else b""
+        expect(f"{name}, with methods", ["play", f"--table={METHODS}", "--lazy", "--last"], given, output, errors, 1 if end else 0)
+cut = rows.frames(rows.ask(), rows.replied("1.1")) + b"x\r\n"
+expect("an answer before a fault", ["play", "--table", METHODS], cut, rows.frames(rows.called("1.1"), rows.answered("true")), b"input ended: BadHead\n", 1)
+cut = rows.frames(rows.ask()) + b"x\r\n" + rows.frames(rows.replied("1.1"))
+expect("a reply behind a fault", ["play", "--table", METHODS], cut, rows.frames(rows.called("1.1"), rows.NO_REPLY), b"input ended: BadHead\n", 1)
 
 # Large inputs: the greatest content, contents beyond 100,000 bytes, many frames, a large batch, a long string.
 greatest = b'"' + b"a" * 16_777_214 + b'"'
@@ -42,6 +75,21 @@ text = '{"jsonrpc":"2.0","method":"nope","id":1,"params":["' + "a" * 8_000_000 +
 expect("a string of 8 MB", ["play"], rows.frames(text), rows.frames(rows.NOT_FOUND))
 one_over = b"Content-Length: 16777217\r\n\r\n" + b"a" * 16_777_217
 expect("a content over the limit", ["play"], one_over, b"", b"input ended: TooLarge\n", 1)
+notices = rows.frames(rows.batch(*[rows.NOTICE] * 1_000)) * 1_000
+expect("1,000,000 calls", ["play"], notices, b"")
+full = notices + rows.frames(rows.REQUEST, "[]")
+expect("1,000,001 calls", ["play"], full, b"", b"input ended: Full\n", 1)
+asks, replies = [rows.ask(it) for it in numbers], [rows.replied(f"{it}.1") for it in numbers]
+calls, results = [rows.called(f"{it}.1") for it in numbers], [rows.answered("true", it) for it in numbers]
+words = ["play", "--lines", "--table", METHODS]
+expect("10,000 calls, each replied to at once", words, rows.lines(*sum(zip(asks, replies), ())), rows.lines(*sum(zip(calls, results), ())))
+expect("10,000 calls that are open at once", words, rows.lines(*asks, *replies), rows.lines(*calls, *results))
+expect("the same in reverse order", words, rows.lines(*asks, *replies[::-1]), rows.lines(*calls, *results))
+cancels = [rows.cancel(it) for it in numbers]
+withdrawals = [(rows.withdrawn(f"{it}.1"), rows.failed(-32800, "Request cancelled", it)) for it in numbers]
+expect("10,000 cancels", words, rows.lines(*asks, *cancels), rows.lines(*calls, *sum(withdrawals, ())))
+stopped = [rows.failed(-32800, "Request cancelled", it) for it in numbers]
+expect("10,000 cancels before the first turn", [*words, "--lazy"], rows.lines(*asks, *cancels), rows.lines(*stopped))
 
 # Lines: the last needs no LF, empty ones are passed over, and a CR is part of its line.
 answer, unreadable = f"{rows.NOT_FOUND}\n".encode(), f"{rows.UNREADABLE}\n".encode()
@@ -76,11 +124,73 @@ for words in (["--help"], ["play", "--help"], ["check", "--help"], ["--version"]
 status, output, errors = ran.run(["--help"])
 count.check("help tells the usage", b"Usage: rpc_tool" in output)
 status, output, errors = ran.run(["play", "--help"])
-count.check("help of play tells its options", b"--piece" in output and b"--lines" in output)
-for words in ([], ["frobnicate"], ["play", "--piece", "0"], ["play", "--piece", "65537"], ["play", "--nope"], ["play", "x"], ["check"]):
+for option in (b"--table <F>", b"--lazy", b"--last", b"--piece <N>", b"--lines"):
+    count.check(f"help of play tells {option}", option in output)
+REFUSED = [
+    [],
+    ["frobnicate"],
+    ["play", "--piece", "0"],
+    ["play", "--piece", "65537"],
+    ["play", "--nope"],
+    ["play", "x"],
+    ["play", "--table"],
+    ["play", "--lazy=1"],
+    ["play", "--table", METHODS, "--table", METHODS],
+    ["check"],
+    ["check", "--table", METHODS, "--lazy"],
+]
+for words in REFUSED:
     status, output, errors = ran.run(words, line)
     told = b"Usage: rpc_tool" in errors or errors.startswith(b"error: ")
     count.check(f"refused words {words}", status == 2 and output == b"" and told, f"{status}, {output!r}, {errors!r}")
+
+# Tables that aren't taken. The words are judged first, then the table, and then the input.
+CANT_READ = b"table: cannot be read\n"
+missing, broken = os.path.join(ROOM.name, "none.toml"), file_of("broken.toml", rows.METHODS + '[[method.step]]\nkind = "nosuch"\n')
+MIXED_UP = b"Content-Length: 1\nContent-Length: 1\n"
+for command in (["play"], ["play", "--lines", "--lazy"], ["check"]):
+    expect(f"{command}, a table that isn't there", [*command, "--table", missing], line, b"", CANT_READ, 2)
+    expect(f"{command}, a folder for a table", [*command, "--table", ROOM.name], line, b"", CANT_READ, 2)
+    expect(f"{command}, a table at fault", [*command, "--table", broken], MIXED_UP, b"", b"table: Step, method 6, step 2\n", 2)
+expect("the methods are counted", ["check", "--table", METHODS], b"", b"ok: 6 methods\n")
+one = file_of("one.toml", rows.METHODS[: rows.METHODS.index('[[method]]\nname = "ask"')])
+expect("the first of them alone", ["check", "--table", one], b"", b"ok: 1 methods\n")
+expect("an opening isn't counted", ["check", "--table", TABLES[rows.OPENING]], b"", b"ok: 0 methods\n")
+status, output, errors = ran.run(["play", "--table", missing, "--piece", "0"], line)
+count.check("words before the table", status == 2 and output == b"" and errors.startswith(b"error: "), f"{status}, {errors!r}")
+ended = subprocess.run([ran.BUILT, "play", "--table", broken], stdin=os.open("/", os.O_RDONLY), capture_output=True, timeout=60)
+count.check("the table before the input", (ended.returncode, ended.stderr) == (2, b"table: Step, method 6, step 2\n"), f"{ended}")
+
+
+def fed(words, packets, ours, its, **how):
+    """Runs the program, each read of which gives one packet of this many, and gives its status and what it wrote to its two outputs."""
+
+    def write():
+        try:
+            for _ in range(packets):
+                os.write(ours, b"\n")
+        except OSError:
+            pass  # (the program reads no more)
+        os.close(ours)
+
+    child = subprocess.Popen([ran.BUILT, *words], stdout=subprocess.PIPE, stderr=subprocess.PIPE, **how)
+    os.close(its)
+    writer = threading.Thread(target=write)
+    writer.start()
+    output, errors = child.communicate(timeout=120)
+    writer.join()
+    return child.returncode, output, errors
+
+
+# What doesn't end after 1,000,000 reads, of the input and of a table's file.
+for packets, wanted in ((999_999, (0, b"", b"")), (1_000_000, (1, b"", b"failed: Read\n"))):
+    ours, its = socket.socketpair(socket.AF_UNIX, socket.SOCK_SEQPACKET)
+    got = fed(["play", "--lines"], packets, ours.detach(), its.fileno(), stdin=its.detach())
+    count.check(f"an input of {packets} reads", got == wanted, f"{got}")
+for packets, wanted in ((999_999, (2, b"", b"table: Version, method 0, step 0\n")), (1_000_000, (2, b"", CANT_READ))):
+    its, ours = os.pipe2(os.O_DIRECT)
+    got = fed(["play", "--table", f"/dev/fd/{its}"], packets, ours, its, stdin=subprocess.DEVNULL, pass_fds=[its])
+    count.check(f"a table of {packets} reads", got == wanted, f"{got}")
 
 # Devices that fail. Of a failed read nothing is played; a failed write stands in place of how the input ended.
 WRITE = b"failed: Write\n"
@@ -89,7 +199,7 @@ with open("/dev/full", "wb") as full:
 count.check("a full device", (ended.returncode, ended.stderr) == (1, WRITE))
 ended = subprocess.run([ran.BUILT, "play"], stdin=os.open("/", os.O_RDONLY), capture_output=True, timeout=60)
 count.check("an input that can't be read", (ended.returncode, ended.stdout, ended.stderr) == (1, b"", b"failed: Read\n"))
-for words in (["play", "--lines"], ["play", "--lines", "--piece=5"]):
+for words in (["play", "--lines"], ["play", "--lines", "--piece=5"], ["play", "--lines", "--table", TABLES[rows.OPENING]]):
     got = ran.run_on_broken(words, line)
     count.check(f"a read that fails behind a line, {words}", got == (1, b"", b"failed: Read\n"), f"{got}")
 for room in (0, 1, 77):
@@ -101,6 +211,12 @@ got = ran.run_into(10, ["play", "--lines"], long)
 count.check("an output that fails before a content too long", got == (1, answer[:10], WRITE), f"{got}")
 got = ran.run_into(0, ["play"], rows.frames(rows.REQUEST) + b"Content-Length: 1\r\n")
 count.check("an output that fails where the input ended badly", got == (1, b"", WRITE), f"{got}")
+got = ran.run_into(13, ["check", "--table", METHODS])
+count.check("an output that takes all but the last byte of what check says", got == (1, b"ok: 6 methods", WRITE), f"{got}")
+called = rows.lines(rows.called("1.1"), rows.NO_REPLY)
+for room in (0, 62, 63, 100):
+    got = ran.run_into(room, ["play", "--lines", "--table", METHODS], rows.lines(rows.ask()))
+    count.check(f"an output that takes {room} bytes of a call and its answer", got == (1, called[:room], WRITE), f"{got}")
 for words in (["--help"], ["--version"]):
     got = ran.run_into(0, words)
     count.check(f"{words} into an output that takes nothing", got == (1, b"", WRITE), f"{got}")

@@ -1,48 +1,145 @@
-"""Refuses each request for memory in turn, one alone and then all from it on, until a run meets no refusal: what is written is
-then the row's bytes, or a prefix of them with `failed: Memory`."""
+"""Refuses each request for memory in turn, one alone and then all from it on, until a run meets no refusal: what is written is then the
+row's bytes, or a prefix of them with `failed: Memory`; where the table found none, nothing is written. So it is for `play`, for `serve`
+and for `check`; and tests that the gate built, run so, pass or name want of memory, and nothing else."""
+import os
+import tempfile
+from collections.abc import Callable
+
 from support import ran
 from support import refusals
 from support import rows
 
-count = ran.Count()
-ran.built()
-if ran.lacks("cc", refusals.WHY):
-    count.end()
-refusing = refusals.Refusals()
-
 # (the test runner's and the program's own requests are few hundreds; a run of them that doesn't end is a fault)
 MOST = 20_000
+WAYS = ("REFUSE_NTH", "REFUSE_FROM")
+NO_MEMORY = b"failed: Memory\n"
+NO_TABLE = b"table: Memory, method 0, step 0\n"
+
+# Tests that go on after a refusal, and so pass whichever request is refused: a decoder that is fed a piece again, a reader that is asked for
+# a content again, and a session that takes a content and writes what is due again, give the row's; a sink whose growth is refused fails as a
+# device and keeps what it had.
+GO_ON = (
+    "a_piece_is_taken_again_after_memory",
+    "a_content_is_read_again_after_memory",
+    "a_refused_growth_is_a_failure_of_the_sink",
+    "contents_are_taken_and_written_again_after_memory",
+)
+# Tests that end at a refusal: of templates, of the desk, of handlers and rehearsals, and of job slots.
+END = (
+    "templates_are_filled_and_missing_places_are_told_by_their_register",
+    "first_reply_is_kept_and_answers_wait_for_earlier_units",
+    "a_poll_waits_until_its_reply_is_heard",
+    "rehearsals_are_run_by_block_on",
+    "another_future_polls_an_awaiting_handler",
+    "a_job_comes_home_turned_once_and_its_slot_is_filled_again",
+)
+# How such a test names want of memory. (That a table is refused for nothing else is seen by `check`.)
+NAMED = ("AllocError", "AllocFailed { .. }", "Refused", "Kind(OutOfMemory)", '"a poll found no memory"', '"no table"', '"a table"')
+NAMING = [f"error: {it}\nthe test failed: its result gives status 1\n".encode() for it in NAMED]
+FAILED = 101
 
 
-def play(name, words, given, output, end):
-    for how in ("REFUSE_NTH", "REFUSE_FROM"):
-        for number in range(1, MOST):
-            status, wrote, said, was_refused = refusing.run([ran.BUILT, "play", *words], given, how, number)
-            whole = (1, output, f"input ended: {end}\n".encode()) if end else (0, output, b"")
-            well = (status, wrote, said) == whole
-            if was_refused:
-                well = well or (status == 1 and said == b"failed: Memory\n" and output.startswith(wrote))
-            count.check(f"{name}, {how} {number}", well, f"status {status}, {wrote[:200]!r}, {said[:200]!r}")
-            if not was_refused or not well:
-                break
-        else:
-            count.check(f"{name}, {how}", False, "no run met no refusal")
+class Refused:
+    """Runs that meet refusals, and what they are compared by."""
+
+    def __init__(self, count: ran.Count):
+        self.count, self.refusing = count, refusals.Refusals()
+
+    def each(self, name: str, words: list[str], given: bytes, is_well: Callable[[int, bytes, bytes, bool], bool], ways: tuple[str, ...] = WAYS) -> None:
+        """Runs a program until no request is refused, and looks at each run's status, its two outputs, and whether it met a refusal."""
+        for how in ways:
+            for number in range(1, MOST):
+                status, wrote, said, was_refused = self.refusing.run(words, given, how, number)
+                well = is_well(status, wrote, said, was_refused)
+                self.count.check(f"{name}, {how} {number}", well, f"status {status}, {wrote[-300:]!r}, {said[-300:]!r}")
+                if not was_refused or not well:
+                    break
+            else:
+                self.count.check(f"{name}, {how}", False, "no run met no refusal")
+
+    def peer(self, name: str, words: list[str], given: bytes, outputs: list[bytes], end: str = "") -> None:
+        """The program writes one of these outputs, or a front of one where memory is refused."""
+        whole = (1, f"input ended: {end}\n".encode()) if end else (0, b"")
+
+        def is_well(status: int, wrote: bytes, said: bytes, was_refused: bool) -> bool:
+            if (status, said) == whole and wrote in outputs:
+                return True
+            is_front = (status, said) == (1, NO_MEMORY) and any(it.startswith(wrote) for it in outputs)
+            return was_refused and (is_front or "--table" in words and (status, wrote, said) == (2, b"", NO_TABLE))
+
+        self.each(name, [ran.BUILT, *words], given, is_well)
+
+    def test(self, name: str, is_well: Callable[[int, bytes, bytes, bool], bool], ways: tuple[str, ...]) -> None:
+        """A test that the gate built."""
+        test = ran.test_named(name)
+        self.count.check(f"the gate built the test {name}", test is not None)
+        if test:
+            self.each(name, list(test), b"", is_well, ways)
 
 
-for name, given, output, end in rows.ROWS:
-    play(name, [], given, output, end)
-lines = (rows.REQUEST + "\n[1,2,3]\n").encode()
-play("two lines", ["--lines"], lines, f"{rows.NOT_FOUND}\n[{rows.INVALID},{rows.INVALID},{rows.INVALID}]\n".encode(), "")
+def goes_on(status: int, _wrote: bytes, _said: bytes, _was_refused: bool) -> bool:
+    return status == 0
 
-# Tests that the gate built, run with each request in turn refused: a decoder that is fed the same piece again after want of
-# memory gives the row's frames, and a sink whose growth is refused fails as a device and keeps what it had.
-for name in ("a_piece_is_taken_again_after_memory", "a_refused_growth_is_a_failure_of_the_sink"):
-    test = ran.test_named(name)
-    count.check(f"the gate built the test {name}", test is not None)
-    for number in range(1, MOST if test else 1):
-        status, wrote, said, was_refused = refusing.run(test, b"", "REFUSE_NTH", number)
-        count.check(f"{name}, REFUSE_NTH {number}", status == 0, f"status {status}, {wrote[-300:]!r}, {said[-300:]!r}")
-        if not was_refused or status:
-            break
 
-count.end()
+def ends_by_name(status: int, _wrote: bytes, said: bytes, was_refused: bool) -> bool:
+    return status == 0 or was_refused and status == FAILED and said in NAMING
+
+
+def played(refused: Refused, tables: dict[str, str]) -> None:
+    """Rows, and the methods of a table, by `play`."""
+    for name, given, output, end in rows.ROWS:
+        refused.peer(name, ["play"], given, [output], end)
+    lines = (rows.REQUEST + "\n[1,2,3]\n").encode()
+    answers = f"{rows.NOT_FOUND}\n[{rows.INVALID},{rows.INVALID},{rows.INVALID}]\n".encode()
+    refused.peer("two lines", ["play", "--lines"], lines, [answers])
+    for name, table, ways, given, output in rows.PLAYS:
+        for way in ways:
+            words = ["play", "--table", tables[table], *way]
+            refused.peer(f"{name}, {way}", words, rows.frames(*given), [rows.frames(*output)])
+
+
+def checked(refused: Refused, tables: dict[str, str]) -> None:
+    """Tables by `check`."""
+    for table, count in ((rows.METHODS, 6), (rows.OPENING, 0), (rows.EACH, 1)):
+        refused.peer(f"a table of {count} methods", ["check", "--table", tables[table]], b"", [b"ok: %d methods\n" % count])
+
+
+def served(refused: Refused, tables: dict[str, str]) -> None:
+    """Rows by `serve` with two workers. A cancel may find its handler parked, out or not turned yet."""
+    asked, cancelled = [rows.called("1.1"), rows.answered("true")], [rows.called("1.1"), rows.withdrawn("1.1"), rows.CANCELLED]
+    two = [rows.TWO_CALLS, rows.answered('["A","B"]', 1)]
+    streams = [
+        ("a call and its reply", rows.METHODS, [rows.ask(), rows.replied("1.1")], [asked]),
+        ("a cancel", rows.METHODS, [rows.ask(), rows.cancel(), rows.replied("1.1")], [cancelled, [cancelled[0], cancelled[2]], [cancelled[2]]]),
+        ("two calls", rows.METHODS, ['{"jsonrpc":"2.0","method":"two","id":1}', rows.batch(rows.replied("1.2", '"B"'), rows.replied("1.1", '"A"'))], [two]),
+        ("an opening", rows.OPENING, [], [[rows.HELLO]]),
+        ("an unknown method", None, [rows.REQUEST], [[rows.NOT_FOUND]]),
+    ]
+    for name, table, given, outputs in streams:
+        words = ["serve", "--workers", "2", *(["--table", tables[table]] if table else [])]
+        refused.peer(f"{name}, served", words, rows.frames(*given), [rows.frames(*it) for it in outputs])
+
+
+def main() -> None:
+    count = ran.Count()
+    ran.built()
+    if ran.lacks("cc", refusals.WHY):
+        count.end()
+    refused = Refused(count)
+    with tempfile.TemporaryDirectory() as room:
+        tables = {}
+        for table in (rows.METHODS, rows.OPENING, rows.EACH):
+            tables[table] = os.path.join(room, f"table{len(tables)}.toml")
+            with open(tables[table], "w", encoding="utf-8") as it:
+                it.write(table)
+        played(refused, tables)
+        checked(refused, tables)
+        served(refused, tables)
+    for name in GO_ON:
+        refused.test(name, goes_on, WAYS[:1])
+    for name in END:
+        refused.test(name, ends_by_name, WAYS)
+    count.end()
+
+
+main()

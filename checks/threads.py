@@ -1,4 +1,5 @@
-"""Runs the tests of job slots that start threads 50 times in a row: each ends by itself, and passes."""
+"""Runs the tests of job slots that start threads 50 times in a row: each ends by itself, and passes. And a server whose client waits for each
+answer before its next request: no wake-up is lost, however soon its threads go to sleep."""
 import subprocess
 
 from support import ran
@@ -16,4 +17,17 @@ for threaded in THREADED:
         count.check(f"{threaded}, run {turn}", status == 0, f"{status}")
         if status:
             break
+
+ROUNDS = 20_000
+bench = ran.gates_program("server_bench")
+count.check("the gate built server_bench", bench is not None)
+for workers in ("1", "4") if bench else ():
+    for yields in ("0", "5"):
+        words = ["--rounds", str(ROUNDS), "--workers", workers, "--yields", yields]
+        try:
+            ended = subprocess.run([bench, *words], capture_output=True, timeout=120)
+            told = (ended.returncode, ended.stdout)
+        except subprocess.TimeoutExpired:
+            told = "no end after 120 seconds"
+        count.check(f"server_bench {' '.join(words)}", told == (0, b"%d requests answered\n" % ROUNDS), f"{told}")
 count.end()

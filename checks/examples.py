@@ -1,0 +1,61 @@
+"""Plays each stream of examples/ with the table there, read as it comes, lazily, and with the last method first, and compares what is
+printed with the file beside the stream; and runs the commands of its page and of the first one."""
+import glob
+import os
+import subprocess
+import tempfile
+
+from support import pages
+from support import ran
+
+FOLDER = os.path.join(ran.TOP, "examples")
+TABLE = os.path.join(FOLDER, "toolbox.toml")
+# The ways to play, and the endings of their outputs: where there is none of a way's own, it is as for the first.
+WAYS = [([], ".out"), (["--lazy"], ".lazy.out"), (["--last"], ".last.out")]
+
+
+def text_of(file):
+    with open(file, encoding="utf-8") as it:
+        return it.read()
+
+
+def check_stream(count, name):
+    for words, ending in WAYS:
+        own = os.path.join(FOLDER, name + ending)
+        output = text_of(own if os.path.exists(own) else os.path.join(FOLDER, f"{name}.out"))
+        for piece in ("1", "7", "65536"):
+            pages.check_play(count, name, ["--table", TABLE, *words, "--piece", piece], text_of(os.path.join(FOLDER, f"{name}.in")), output)
+
+
+def check_page(count, *place):
+    """Runs each command of a page, and compares what it prints with the block below it. A block `toml` is the file `first.toml` of the
+    commands below."""
+    blocks = [it for it in pages.blocks_of(count, *place) if it[0]]
+    kinds = [mark for mark, _ in blocks if mark != "toml"]
+    count.check(f"each block of {place} is a command, or what it prints", kinds and kinds == ["sh", "out"] * (len(kinds) // 2), f"{kinds}")
+    with tempfile.NamedTemporaryFile("w", encoding="utf-8") as table:
+        for (mark, text), (_, printed) in zip(blocks, blocks[1:]):
+            if mark == "toml":
+                table.write(text)
+                table.flush()
+            elif mark == "sh":
+                command = text.replace("first.toml", table.name)
+                ended = subprocess.run(["sh", "-c", command], cwd=ran.TOP, capture_output=True, timeout=120, check=False)
+                # (a block ends with an LF, and frames need none)
+                output = ended.stdout.decode() + ("" if ended.stdout.endswith(b"\n") else "\n")
+                count.check(f"{place}: {text!r}", (ended.returncode, output) == (0, printed), f"{ended.returncode}, {output!r}, {ended.stderr!r}")
+
+
+count = ran.Count()
+ran.built()
+names = sorted(os.path.basename(it)[: -len(".in")] for it in glob.glob(f"{FOLDER}/*.in"))
+count.check("there are three streams at least", len(names) >= 3, f"{names}")
+for name in names:
+    check_stream(count, name)
+# (each output belongs to a stream and a way)
+known = {name + ending for name in names for _, ending in WAYS}
+strange = [it for it in os.listdir(FOLDER) if it.endswith(".out") and it not in known]
+count.check("each output is compared", not strange, f"{strange}")
+check_page(count, "examples", "README.md")
+check_page(count, "README.md")
+count.end()
