@@ -1,0 +1,74 @@
+"""What is measured: the baseline, our program, and a second one of ours where it is named; and how they are built."""
+import glob
+import os
+import shutil
+import subprocess
+import sys
+from typing import Iterator, List, NamedTuple, Optional, Tuple
+
+TOP = os.path.dirname(os.path.dirname(os.path.dirname(os.path.abspath(__file__))))
+sys.path.insert(0, os.path.join(TOP, "bin"))
+
+from tools import program, sources  # noqa: E402 (it stands in bin/)
+
+FOLDER = os.path.join(TOP, "bench", "baseline")
+BASELINE = os.path.join(FOLDER, "target", "release", "baseline")
+# What plays rounds with a server; it is built beside the baseline.
+CLIENT = os.path.join(FOLDER, "target", "release", "client")
+# The table of the methods that are built into the baseline.
+METHODS = ("--table", os.path.join(FOLDER, "methods.toml"))
+
+
+class Contender(NamedTuple):
+    """A program with its words, and its name in the tables."""
+
+    label: str
+    words: Tuple[str, ...]
+
+
+class Programs(NamedTuple):
+    """Our program, and another rpc_tool to compare with, if any."""
+
+    ours: str
+    before: Optional[str] = None
+
+    def named(self) -> Iterator[Tuple[str, str]]:
+        if self.before:
+            yield "before", self.before
+        yield "ours", self.ours
+
+    def players(self, has_methods: bool) -> List[Contender]:
+        """What plays an input, the baseline first."""
+        words = ("play", *(METHODS if has_methods else ()))
+        return [Contender("baseline", (BASELINE,)), *(Contender(name, (it, *words)) for name, it in self.named())]
+
+    def servers(self, numbers_of_workers: Tuple[int, ...]) -> List[Contender]:
+        """What serves, the baseline first."""
+        many = [(count, *it) for count in numbers_of_workers for it in self.named()]
+        return [Contender("baseline", (BASELINE,)), *(server(*it) for it in many)]
+
+
+def server(workers: int, name: str, program_file: str) -> Contender:
+    label = f"{name}, {workers} worker{'' if workers == 1 else 's'}"
+    return Contender(label, (program_file, "serve", *METHODS, "--workers", str(workers)))
+
+
+def lacking(counts: bool) -> List[str]:
+    """Debian's packages that have to be installed first."""
+    wanted = [] if glob.glob("/usr/share/cargo/registry/serde_json-1.*") else ["librust-serde-json-dev"]
+    wanted += [] if shutil.which("cargo") else ["cargo"]
+    wanted += [] if shutil.which("valgrind") or not counts else ["valgrind"]
+    return wanted
+
+
+def built(before: Optional[str], counts: bool) -> Programs:
+    """The programs, built where they aren't yet."""
+    wanted = lacking(counts)
+    if wanted:
+        sys.exit(f"bench/run: first apt-get install -y {' '.join(wanted)}")
+    subprocess.run([os.path.join(TOP, "bin", "rpc_tool"), "--version"], check=True, stdout=subprocess.DEVNULL)
+    subprocess.run(["cargo", "build", "--release", "--offline", "--quiet"], cwd=FOLDER, check=True)
+    ours = program.current(sources.stamp())
+    if ours is None:
+        sys.exit("bench/run: the program's sources changed while it was built")
+    return Programs(ours, before)

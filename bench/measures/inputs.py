@@ -1,0 +1,122 @@
+"""Inputs to play: entries, frames of them, and what each row of the table reads."""
+from typing import Callable, Iterable, Iterator, NamedTuple, Tuple
+
+Entry = Callable[[int], bytes]
+
+
+def frame(content: bytes) -> bytes:
+    return b"Content-Length: %d\r\n\r\n%s" % (len(content), content)
+
+
+def frames(entry: Entry, numbers: Iterable[int]) -> bytes:
+    return b"".join(frame(entry(it)) for it in numbers)
+
+
+def batch(entry: Entry, numbers: Iterable[int]) -> bytes:
+    return frame(b"[" + b",".join(map(entry, numbers)) + b"]")
+
+
+def request(number: int) -> bytes:
+    return b'{"jsonrpc":"2.0","method":"nope","id":%d}' % number
+
+
+def add(number: int) -> bytes:
+    return b'{"jsonrpc":"2.0","method":"add","params":[%d,1],"id":%d}' % (number, number)
+
+
+def ask(number: int, param: bytes = b'"x"') -> bytes:
+    return b'{"jsonrpc":"2.0","method":"ask","params":[%s],"id":%d}' % (param, number)
+
+
+def reply(number: int, result: bytes = b"true") -> bytes:
+    """The reply to the one call on behalf of the number-th call that came."""
+    return b'{"jsonrpc":"2.0","id":"%d.1","result":%s}' % (number, result)
+
+
+def hundreds(count: int) -> Iterator[range]:
+    return (range(first, min(first + 100, count + 1)) for first in range(1, count + 1, 100))
+
+
+def singles(count: int, entry: Entry = request) -> bytes:
+    return frames(entry, range(1, count + 1))
+
+
+def batches(count: int, entry: Entry = request) -> bytes:
+    return b"".join(batch(entry, it) for it in hundreds(count))
+
+
+def adds(count: int) -> bytes:
+    return singles(count, add)
+
+
+def batches_of_adds(count: int) -> bytes:
+    return batches(count, add)
+
+
+def calls_back(count: int) -> bytes:
+    """Each request is followed by the reply to its call."""
+    return b"".join(frame(ask(it)) + frame(reply(it)) for it in range(1, count + 1))
+
+
+def batches_of_calls_back(count: int) -> bytes:
+    return b"".join(batch(ask, it) + batch(reply, it) for it in hundreds(count))
+
+
+def long_text(count: int) -> bytes:
+    return frame(b'{"jsonrpc":"2.0","method":"nope","params":["' + b"a" * count + b'"],"id":1}')
+
+
+class Input(NamedTuple):
+    """A row of the table: how what it reads is made, and its size, which counts requests, or the bytes of one."""
+
+    name: str
+    make: Callable[[int], bytes]
+    size: int
+    has_methods: bool = False
+    is_one_request: bool = False
+
+    def requests(self, size: int) -> int:
+        return 1 if self.is_one_request else size
+
+
+INPUTS: Tuple[Input, ...] = (
+    Input("single requests", singles, 200_000),
+    Input("batches of 100", batches, 200_000),
+    Input("one param of 8 MB", long_text, 8_000_000, is_one_request=True),
+    Input("adds", adds, 200_000, has_methods=True),
+    Input("adds in batches", batches_of_adds, 200_000, has_methods=True),
+    Input("calls back", calls_back, 100_000, has_methods=True),
+    Input("the same in batches", batches_of_calls_back, 100_000, has_methods=True),
+)
+
+# Each method, replied to with a result, an error and not at all, in a batch and alone, and cancelled: it is compared,
+# and not measured.
+EACH_METHOD = b"".join(
+    map(
+        frame,
+        [
+            b'{"jsonrpc":"2.0","method":"note","params":["x"]}',
+            b'{"jsonrpc":"2.0","method":"note","id":1}',
+            b'[{"jsonrpc":"2.0","method":"add","params":[2,3],"id":2},'
+            b'{"jsonrpc":"2.0","method":"add","params":[2,"3"],"id":3}]',
+            b'[{"jsonrpc":"2.0","method":"two","id":4},{"jsonrpc":"2.0","method":"keep","id":5},'
+            b'{"jsonrpc":"2.0","method":"gate"},5]',
+            b'[{"jsonrpc":"2.0","id":"5.2","result":"B"},{"jsonrpc":"2.0","id":"5.1","result":"A"}]',
+            b'{"jsonrpc":"2.0","id":"6.1","error":{"code":5,"message":"x","data":[1]}}',
+            b'{"jsonrpc":"2.0","id":"7.1","result":true}',
+            b'{"jsonrpc":"2.0","method":"gate","id":6}',
+            b'{"jsonrpc":"2.0","id":"8.1","result":true}',
+            b'{"jsonrpc":"2.0","method":"gate","id":7}',
+            b'{"jsonrpc":"2.0","id":"9.1","result":1}',
+            b'{"jsonrpc":"2.0","method":"two","id":"a"}',
+            b'{"jsonrpc":"2.0","method":"two","id":"b"}',
+            b'{"jsonrpc":"2.0","id":"10.1","result":1}',
+            b'{"jsonrpc":"2.0","method":"$/cancelRequest","params":{"id":"a"}}',
+            b'{"jsonrpc":"2.0","id":"10.2","result":1}',
+            b'{"jsonrpc":"2.0","method":"ask","params":["x"],"id":8}',
+            b'{"jsonrpc":"2.0","method":"ask","params":["x"],"id":9}',
+            b'{"jsonrpc":"2.0","id":"14.1","result":1.5}',
+            b"{",
+        ],
+    )
+)

@@ -1,0 +1,104 @@
+"""What is played with a server: rounds, each of which sends something and waits for contents; and what has to come.
+
+The first request of each load isn't timed, so that the server's start isn't. So those that are timed have the numbers
+from FIRST on; the id of each is its number, and its call is therefore that of the same number."""
+from typing import List, NamedTuple
+
+from measures.inputs import Entry, add, ask, frame, frames, reply, request
+
+FIRST = 2
+
+
+class Round(NamedTuple):
+    """Bytes that are sent at once, after a pause of so many milliseconds, and how many contents are then waited for."""
+
+    sent: bytes
+    contents: int
+    pause: int = 0
+
+
+class Load(NamedTuple):
+    """Rounds, so many of which make up a trip, and what has to come: calls in any order, answers in theirs."""
+
+    rounds: List[Round]
+    rounds_of_trip: int
+    calls: List[bytes]
+    answers: List[bytes]
+
+
+def not_found(number: int) -> bytes:
+    return b'{"error":{"code":-32601,"message":"Method not found"},"id":%d,"jsonrpc":"2.0"}' % number
+
+
+def result(number: int, value: bytes = b"true") -> bytes:
+    return b'{"id":%d,"jsonrpc":"2.0","result":%s}' % (number, value)
+
+
+def added(number: int) -> bytes:
+    return result(number, b"%d" % (number + 1))
+
+
+def confirm(number: int, param: bytes = b'"x"') -> bytes:
+    return b'{"id":"%d.1","jsonrpc":"2.0","method":"confirm","params":[%s]}' % (number, param)
+
+
+def numbers(count: int) -> range:
+    return range(FIRST, FIRST + count)
+
+
+def load(rounds: List[Round], rounds_of_trip: int, calls: List[bytes], answers: List[bytes]) -> Load:
+    """A load behind its first request."""
+    return Load([Round(frame(request(1)), 1), *rounds], rounds_of_trip, calls, [not_found(1), *answers])
+
+
+def bulk(count: int, entry: Entry, answer: Entry) -> Load:
+    """All requests at once."""
+    return load([Round(frames(entry, numbers(count)), count)], 1, [], [*map(answer, numbers(count))])
+
+
+def unknown(count: int) -> Load:
+    return bulk(count, request, not_found)
+
+
+def adds(count: int) -> Load:
+    return bulk(count, add, added)
+
+
+def open_calls(count: int) -> Load:
+    """All requests at once; when all their calls are there, all replies, the last first."""
+    asked = Round(frames(ask, numbers(count)), count)
+    replied = Round(frames(reply, reversed(numbers(count))), count)
+    return load([asked, replied], 2, [*map(confirm, numbers(count))], [*map(result, numbers(count))])
+
+
+def pings(count: int, pause: int = 0) -> Load:
+    """Each request is sent once the one before it is answered."""
+    return load([Round(frame(add(it)), 1, pause) for it in numbers(count)], 1, [], [*map(added, numbers(count))])
+
+
+def late_pings(count: int) -> Load:
+    return pings(count, pause=5)
+
+
+def calls_back(count: int) -> Load:
+    """Each request's call is replied to, and its answer waited for."""
+    rounds = [Round(frame(it), 1) for number in numbers(count) for it in (ask(number), reply(number))]
+    return load(rounds, 2, [*map(confirm, numbers(count))], [*map(result, numbers(count))])
+
+
+def text_of(length: int) -> bytes:
+    return b'"%s"' % (b"a" * length)
+
+
+def long_reply(length: int) -> Load:
+    """One call back, whose reply is long."""
+    text = text_of(length)
+    rounds = [Round(frame(ask(FIRST)), 1), Round(frame(reply(FIRST, text)), 1)]
+    return load(rounds, 2, [confirm(FIRST)], [result(FIRST, text)])
+
+
+def long_param(length: int) -> Load:
+    """One call back, whose request has a long param, which is handed to the call and comes back in its reply."""
+    text = text_of(length)
+    rounds = [Round(frame(ask(FIRST, text)), 1), Round(frame(reply(FIRST, text)), 1)]
+    return load(rounds, 2, [confirm(FIRST, text)], [result(FIRST, text)])

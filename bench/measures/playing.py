@@ -1,0 +1,119 @@
+"""The table of `play`: each input read from a file, whole, and answered into nothing."""
+import os
+import re
+import subprocess
+import sys
+import tempfile
+from typing import Dict, List, NamedTuple
+
+from measures.contenders import Contender, Programs
+from measures.inputs import EACH_METHOD, INPUTS, Input
+
+# Instructions are counted at this part of the size.
+COUNTED = 10
+
+
+class Measured(NamedTuple):
+    """What one program took for one size: seconds, KiB, instructions, and the bytes that it read."""
+
+    seconds: float
+    peak: int
+    instructions: int
+    length: int
+
+
+def timed(players: List[Contender], file: str, runs: int) -> Dict[str, float]:
+    """The least processor time of several runs of each, in seconds; they run in turn."""
+    best: Dict[str, float] = {}
+    for _ in range(runs):
+        for player in players:
+            with open(file, "rb") as given:
+                child = subprocess.Popen(player.words, stdin=given, stdout=subprocess.DEVNULL)
+                _, child.returncode, used = os.wait4(child.pid, 0)
+            if child.returncode:
+                sys.exit(f"bench/run: {' '.join(player.words)} failed")
+            took = used.ru_utime + used.ru_stime
+            best[player.label] = min(took, best.get(player.label, took))
+    return best
+
+
+def peak_of(player: Contender, file: str) -> int:
+    """The peak memory of a run, in KiB. (What starts it counts too: some 8 MB.)"""
+    code = (
+        "import os, resource, sys\n"
+        "os.dup2(os.open(sys.argv[1], os.O_RDONLY), 0)\n"
+        "os.dup2(os.open('/dev/null', os.O_WRONLY), 3)\n"
+        "child = os.posix_spawn(sys.argv[2], sys.argv[2:], {}, file_actions=[(os.POSIX_SPAWN_DUP2, 3, 1)])\n"
+        "os.waitpid(child, 0)\n"
+        "print(resource.getrusage(resource.RUSAGE_CHILDREN).ru_maxrss)\n"
+    )
+    words = [sys.executable, "-I", "-S", "-c", code, file, *player.words]
+    return int(subprocess.run(words, capture_output=True, check=True).stdout)
+
+
+def instructions(player: Contender, given: bytes) -> int:
+    """How many instructions a run takes, by callgrind."""
+    with tempfile.TemporaryDirectory() as room:
+        words = ["valgrind", "--tool=callgrind", f"--callgrind-out-file={room}/out", *player.words]
+        ended = subprocess.run(words, input=given, stdout=subprocess.DEVNULL, stderr=subprocess.PIPE, check=True)
+    told = re.search(rb"Collected : (\d+)", ended.stderr)
+    if told is None:
+        sys.exit(f"bench/run: callgrind counts no instructions of {' '.join(player.words)}")
+    return int(told[1])
+
+
+def output_of(player: Contender, file: str) -> bytes:
+    with open(file, "rb") as given:
+        return subprocess.run(player.words, stdin=given, capture_output=True, check=True).stdout
+
+
+def compare(name: str, players: List[Contender], file: str) -> None:
+    """Ends the bench where the programs' answers aren't the same."""
+    outputs = {output_of(it, file) for it in players}
+    if len(outputs) > 1 or b"" in outputs:
+        sys.exit(f"bench/run: the answers to {name} differ from the baseline's")
+
+
+def measured(row: Input, size: int, players: List[Contender], runs: int, counts: bool) -> Dict[str, Measured]:
+    given = row.make(size)
+    with tempfile.NamedTemporaryFile() as file:
+        file.write(given)
+        file.flush()
+        compare(f"{row.name} ({size})", players, file.name)
+        seconds = timed(players, file.name, runs)
+        peaks = {it.label: peak_of(it, file.name) for it in players}
+    few = row.make(size // COUNTED)
+    counted = {it.label: instructions(it, few) if counts else 0 for it in players}
+    return {it.label: Measured(seconds[it.label], peaks[it.label], counted[it.label], len(given)) for it in players}
+
+
+def show(row: Input, size: int, seen: Dict[str, Measured], half: Dict[str, Measured]) -> None:
+    """Prints the lines of one size; `half` has the figures of half the size, and none for the first one."""
+    for label, it in seen.items():
+        ratio = seen["baseline"].seconds / it.seconds
+        counted = row.requests(size // COUNTED)
+        each = it.instructions / counted if counted else 0
+        growth = f"{it.instructions / half[label].instructions:7.2f}" if half and it.instructions else " " * 7
+        rate = row.requests(size) / it.seconds
+        megabytes = it.length / it.seconds / 1e6
+        figures = f"{rate:>10,.0f} {megabytes:>8.1f} {ratio:>6.2f} {each:>11,.0f} {growth} {it.peak:>9,}"
+        print(f"{row.name:20} {size:>9} {label:9} {figures}", flush=True)
+
+
+def compare_each_method(programs: Programs) -> None:
+    with tempfile.NamedTemporaryFile() as file:
+        file.write(EACH_METHOD)
+        file.flush()
+        compare("each method", programs.players(has_methods=True), file.name)
+
+
+def table(programs: Programs, small: int, runs: int, counts: bool) -> None:
+    compare_each_method(programs)
+    head = f"{'req/s':>10} {'MB/s':>8} {'ratio':>6} {'instr/req':>11} {'growth':>7} {'peak KiB':>9}"
+    print(f"{'input':20} {'size':>9} {'program':9} {head}")
+    for row in INPUTS:
+        players, half = programs.players(row.has_methods), {}
+        for size in (row.size // small // 2, row.size // small):
+            seen = measured(row, size, players, runs, counts)
+            show(row, size, seen, half)
+            half = seen

@@ -1,0 +1,97 @@
+"""The tables of `serve`: loads in bulk, round trips, and a server that has nothing to do."""
+import os
+import tempfile
+from typing import Callable, Dict, List, NamedTuple
+
+from measures import loads, rounds
+from measures.contenders import Contender, Programs
+from measures.rounds import Played
+
+WORKERS = (1, 4)
+
+
+class Row(NamedTuple):
+    """A row of a table, how its load is made, and its size."""
+
+    name: str
+    make: Callable[[int], loads.Load]
+    size: int
+
+
+BULKS = (
+    Row("unknown methods", loads.unknown, 200_000),
+    Row("adds", loads.adds, 200_000),
+    Row("open calls", loads.open_calls, 20_000),
+)
+TRIPS = (
+    Row("a request", loads.pings, 5_000),
+    Row("one after 5 ms", loads.late_pings, 200),
+    Row("a call back", loads.calls_back, 5_000),
+)
+LONG = (
+    Row("a reply of 8 MB", loads.long_reply, 8_000_000),
+    Row("a param of 8 MB", loads.long_param, 8_000_000),
+)
+
+
+def played(row: Row, size: int, servers: List[Contender], runs: int) -> Dict[str, List[Played]]:
+    """What several runs of each took; they run in turn."""
+    load = row.make(size)
+    seen: Dict[str, List[Played]] = {it.label: [] for it in servers}
+    with tempfile.TemporaryDirectory() as room:
+        file = os.path.join(room, "rounds")
+        rounds.write(load, file)
+        for _ in range(runs):
+            for server in servers:
+                seen[server.label].append(rounds.play(f"{row.name} ({size})", load, server, file))
+    return seen
+
+
+def show_bulk(row: Row, size: int, seen: Dict[str, List[Played]], half: Dict[str, List[Played]]) -> None:
+    """Prints the lines of one size; `half` has what half the size took, and nothing for the first one."""
+    least = {label: min(it.trips[0] for it in many) for label, many in seen.items()}
+    for label, many in seen.items():
+        used = min(it.used for it in many) / size * 1e6
+        growth = f"{least[label] / min(it.trips[0] for it in half[label]):7.2f}" if half else " " * 7
+        rate, ratio = size / least[label], least["baseline"] / least[label]
+        figures = f"{rate:>10,.0f} {ratio:>6.2f} {used:>10.1f} {growth} {max(it.peak for it in many):>9,}"
+        print(f"{row.name:20} {size:>9} {label:17} {figures}", flush=True)
+
+
+def bulks(servers: List[Contender], small: int, runs: int) -> None:
+    head = f"{'req/s':>10} {'ratio':>6} {'cpu us':>10} {'growth':>7} {'peak KiB':>9}"
+    print(f"{'sent at once':20} {'size':>9} {'program':17} {head}")
+    for row in BULKS:
+        half: Dict[str, List[Played]] = {}
+        for size in (row.size // small // 2, row.size // small):
+            seen = played(row, size, servers, runs)
+            show_bulk(row, size, seen, half)
+            half = seen
+
+
+def at_share(sorted_times: List[float], hundredths: int) -> float:
+    return sorted_times[(len(sorted_times) - 1) * hundredths // 100]
+
+
+def show_trips(row: Row, seen: Dict[str, List[Played]]) -> None:
+    times = {label: sorted(trip for it in many for trip in it.trips) for label, many in seen.items()}
+    for label, many in seen.items():
+        median, late = (at_share(times[label], it) for it in (50, 99))
+        ratio, peak = at_share(times["baseline"], 50) / median, max(it.peak for it in many)
+        used = sum(it.used for it in many) / len(times[label])
+        figures = f"{median * 1e6:>10,.1f} {ratio:>6.2f} {late * 1e6:>10,.1f} {used * 1e6:>10,.1f} {peak:>9,}"
+        print(f"{row.name:20} {len(times[label]):>9} {label:17} {figures}", flush=True)
+
+
+def trips(servers: List[Contender], small: int, runs: int) -> None:
+    head = f"{'median us':>10} {'ratio':>6} {'99th us':>10} {'cpu us':>10} {'peak KiB':>9}"
+    print(f"{'there and back':20} {'trips':>9} {'program':17} {head}")
+    for row in (*TRIPS, *LONG):
+        show_trips(row, played(row, max(2, row.size // small), servers, runs))
+
+
+def table(programs: Programs, small: int, runs: int) -> None:
+    servers = programs.servers(WORKERS)
+    bulks(servers, small, runs)
+    print()
+    trips(servers, small, runs)
