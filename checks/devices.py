@@ -113,6 +113,15 @@ def end_of(client: Client) -> tuple[object, bytes]:
     return status, client.process.stderr.read()
 
 
+def end_after(it: Client, goes_on: bool) -> tuple[object, bytes]:
+    """How a server ends that reads once more: more input, or its end."""
+    if goes_on:
+        it.send(rows.replied("1.1"))
+    else:
+        it.close_input()
+    return end_of(it)
+
+
 def after_a_failed_write(check: Check, workers: int, goes_on: bool) -> None:
     """The workers end at once. The reader is in the middle of a read: it ends as more comes, or as the input ends."""
     words = [*check.serve[1:-1], str(workers)]
@@ -120,11 +129,7 @@ def after_a_failed_write(check: Check, workers: int, goes_on: bool) -> None:
         check.count.check(f"{workers} workers, a reader and a clerk", threads_become(it, workers + 2), f"{it.threads()}")
         it.send(rows.ask())
         check.count.check(f"{workers} workers end after a failed write", threads_become(it, 2), f"{it.threads()}")
-        if goes_on:
-            it.send(rows.replied("1.1"))
-        else:
-            it.close_input()
-        got = end_of(it)
+        got = end_after(it, goes_on)
         check.count.check(f"{workers} workers, a failed write, and {'more input' if goes_on else 'no more input'}", got == (1, WRITE), f"{got}")
 
 
@@ -136,11 +141,7 @@ def after_a_frame_fault(check: Check, workers: int, goes_on: bool) -> None:
         got = [it.receive(narrow.PATIENCE) for _ in range(2)]
         check.count.check("what came before a fault is answered", got == [rows.called("1.1"), error(7, -32000, "No reply")], f"{got}")
         check.count.check(f"{workers} workers end after a fault", threads_become(it, 2), f"{it.threads()}")
-        if goes_on:
-            it.send(rows.replied("1.1"))
-        else:
-            it.close_input()
-        got = end_of(it)
+        got = end_after(it, goes_on)
         check.count.check(f"{workers} workers, a fault, and {'more input' if goes_on else 'no more input'}", got == (1, b"input ended: BadHead\n"), f"{got}")
 
 
