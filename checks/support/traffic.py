@@ -49,6 +49,7 @@ class Entry:
     said: list[Said]
     is_hopeless: bool = False
     is_cancelled: bool = False
+    is_held: bool = False  # whether its second reply isn't to come yet
     replied: set[int] = field(default_factory=set)
     replied_before_cancel: frozenset[int] = frozenset()
 
@@ -79,6 +80,30 @@ class Traffic:
         least = self.number + calls
         while self.number < least and len(self.open) < most:
             self.send_one()
+
+    def send_most(self, now: float, calls: int) -> None:
+        """Sends so many requests that wait for two replies each: the first comes soon, and the second once all wait, to the last of
+        them first, so that all are open at once, and all their answers wait."""
+        self.now = now
+        for _ in range(calls):
+            self.number += 1
+            self.serial += 1
+            params, said = [2**40, self.serial], [Said(value=[1, {"a": []}]) for _ in range(2)]
+            answer, messages = planned(self.number, self.serial, "two", params, said)
+            entry = Entry(self.number, self.serial, answer, collections.deque(messages), said, is_held=True)
+            self.open[entry.number] = entry
+            self.send_unit(request(entry.id, "two", params), [entry], is_batch=False)
+        self.counts["single"] += calls
+
+    def is_loaded(self) -> bool:
+        """Whether all that is open waits for its second reply."""
+        return all(not it.messages for it in self.open.values())
+
+    def release_all(self) -> None:
+        """Has the second replies come."""
+        for entry in reversed([*self.open.values()]):
+            entry.is_held = False
+            self.reply(entry, 2)
 
     def send_one(self) -> None:
         kind = self.chance.choices(("single", "batch", "broken", "faulty", "stray", "lone"), (70, 12, 2, 4, 4, 1))[0]
@@ -239,7 +264,8 @@ class Traffic:
             del self.open[entry.number]
         self.counts["calls back"] += 1
         for turn in range(1, len(entry.said) + 1):
-            if turn not in entry.replied and not (entry.is_hopeless and turn == len(entry.said)):
+            is_last = turn == len(entry.said)
+            if turn not in entry.replied and not (is_last and (entry.is_hopeless or entry.is_held)):
                 self.plan(self.delay(), "reply", entry, turn)
 
     def delay(self) -> float:
