@@ -155,6 +155,34 @@ def check_cancels():
     count.check("refused: another pick cancels another", broken(lambda: laws.check_eager(coming, told_hit, told_missed)) is not None)
 
 
+def check_eager_runs():
+    gone = error(2, -32800, "Request cancelled")
+    came = [ask(1, 1), ask(2, 2), reply("2.1", 2), cancel(2), reply("1.1", 1)]
+    before = [ask(1, 1), ask(2, 2), cancel(2), reply("2.1", 2), reply("1.1", 1)]
+    calls, first, second = [called(1), called(2)], answer(1, "reply-1"), answer(2, "reply-2")
+    plain = told([*came[:3], note("none", 0), came[4]], [*calls, first, second])[1]
+    for name, contents, wrote, is_well in (
+        ("a cancel of what is finished and waits", came, [*calls, first, second], True),
+        ("what is finished is cancelled", came, [*calls, first, gone], False),
+        ("a cancel of what isn't finished", before, [*calls, rows.withdrawn("2.1"), first, gone], True),
+        ("what isn't finished isn't cancelled", before, [*calls, first, second], False),
+    ):
+        why = broken(lambda: laws.check_cancelled_eagerly(*told(contents, wrote), plain))
+        count.check(f"{'accepted' if is_well else 'refused'}: {name}", (why is None) == is_well, why or "")
+
+    came = [ask(1, 1), batch(reply("1.1", 1), ask(2, 2)), reply("2.1", 2), ask(3, 3), cancel(3)]
+    gone, withdrawn = error(3, -32800, "Request cancelled"), rows.withdrawn("3.1")
+    second, last = batch(second), [called(3), withdrawn, gone]
+    for name, wrote, is_well in (
+        ("what a content brings about comes with it", [called(1), first, called(2), second, *last], True),
+        ("in any order", [called(1), called(2), first, second, *last], True),
+        ("an answer behind a later call", [called(1), called(2), first, called(3), second, withdrawn, gone], False),
+        ("a call before an earlier answer", [called(1), called(2), called(3), first, second, withdrawn, gone], False),
+    ):
+        why = broken(lambda: laws.check_timely(*told(came, wrote)))
+        count.check(f"{'accepted' if is_well else 'refused'}: {name}", (why is None) == is_well, why or "")
+
+
 def check_notices():
     came = [note("note", 1).replace("}", ',"id":1}'), note("note", 2)]
     done = '{"id":1,"jsonrpc":"2.0","result":null}'
@@ -191,6 +219,6 @@ def check_plays():
 
 
 count = ran.Count()
-for it in (check_one_run, check_units, check_reports, check_cancels, check_notices, check_readings, check_plays):
+for it in (check_one_run, check_units, check_reports, check_cancels, check_eager_runs, check_notices, check_readings, check_plays):
     it()
 count.end()

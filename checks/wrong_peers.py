@@ -12,22 +12,13 @@ RIGHT = 300
 SEED = 3
 
 
-def found_after(fuzzer, most):
-    """How many streams it takes until one breaks a law, and which; none where none of so many does."""
-    for number in range(most):
-        why = next(why for _, why in fuzzer.outcomes([fuzzer.made(SEED, number)]))
-        if why:
-            return number + 1, why
-    return None, ""
-
-
 count = ran.Count()
 with tempfile.TemporaryDirectory() as room:
     right = fuzzing.Fuzzer(partial(plain_player.run, plain_player.Peer), room)
-    after, law = found_after(right, RIGHT)
-    count.check(f"nothing is wrong with the plain peer in {RIGHT} streams", after is None, f"{after}: {law}")
+    found = right.first_broken(SEED, RIGHT)
+    count.check(f"nothing is wrong with the plain peer in {RIGHT} streams", found is None, f"{found}")
     for kind in plain_player.WRONG:
-        after, law = found_after(fuzzing.Fuzzer(partial(plain_player.run, kind), room), MOST)
-        count.check(f"{kind.__name__} is found", after is not None, f"not in {MOST:,} streams")
-        print(f"found after {after:,} streams: {kind.__doc__} {law[:160]}" if after else kind.__doc__, flush=True)
+        found = fuzzing.Fuzzer(partial(plain_player.run, kind), room).first_broken(SEED, MOST, batch=1)
+        count.check(f"{kind.__name__} is found", found is not None, f"not in {MOST:,} streams")
+        print(f"found after {found.after:,} streams: {kind.__doc__} {found.law[:160]}" if found else kind.__doc__, flush=True)
 count.end()

@@ -4,6 +4,7 @@ import os
 import random
 import tomllib
 from collections import Counter
+from dataclasses import dataclass
 from typing import Any, Callable, Iterator, Optional, Sequence
 
 from support import grammar
@@ -19,8 +20,8 @@ Player = Callable[[str, Sequence[Case], float], list[Ran]]
 
 # So many streams are run at once.
 BATCH = 200
-# So many seconds a batch has, and a stream by itself.
-TOGETHER, ALONE = 300, 20
+# So many seconds a stream has, and so many more each further one of a batch.
+ALONE, MORE = 20, 1.5
 # Every so many streams the built program serves one.
 SHARE = 10
 FOLDER = os.path.join(ran.TOP, "out", "fuzz")
@@ -79,6 +80,9 @@ class Judge:
         for served, how in zip(found[8:11], ("serve 1", "serve 4", "serve 4, cut")):
             self.judge_one(coming, plain, served, how)
         laws.check_lazy(coming, told["lazy"])
+        laws.check_cancelled_eagerly(coming, told["eager"], plain)
+        for way in ("eager", "last", "picked"):
+            laws.check_timely(coming, told[way])
         for way in ("last", "picked"):
             laws.check_eager(coming, told[way], told["eager"])
         self.count(coming, told["eager"], found[0])
@@ -111,9 +115,20 @@ class Judge:
         self.seen["replies that were used"] += laws.check_replies(coming, told)
 
 
+@dataclass(frozen=True)
+class Found:
+    """A stream that breaks a law, and after how many streams it was found."""
+
+    after: int
+    trial: Trial
+    law: str
+
+
 class Fuzzer:
-    def __init__(self, player: Player, room: str):
-        self.player, self.tables = player, Tables(room)
+    """Tries streams with a player, and some of them with the built program too, unless it is to be left out."""
+
+    def __init__(self, player: Player, room: str, has_program: bool = True):
+        self.player, self.tables, self.has_program = player, Tables(room), has_program
         self.judge = Judge(self.tables)
         self.count = ran.Count()
         self.failures = 0
@@ -139,7 +154,7 @@ class Fuzzer:
         to_run = [it.to_run() for it in group]
         try:
             cases = [it for them in to_run for it in them]
-            found = iter(self.player(self.tables.files[table], cases, ALONE if len(group) == 1 else TOGETHER))
+            found = iter(self.player(self.tables.files[table], cases, ALONE + MORE * (len(group) - 1)))
             return [[next(found) for _ in them] for them in to_run]
         except ValueError as fault:
             if len(group) == 1:
@@ -164,14 +179,29 @@ class Fuzzer:
     def breaks(self, trial: Trial) -> Optional[str]:
         """What a trial breaks that is run by itself, thrice, since servers may be lucky, and served by the program too."""
         seen = Counter(self.judge.seen)
-        found = (why for _ in range(3) for _, why in self.outcomes([trial]) if why)
-        why = next(found, None) or self.served(trial, 0) or self.served(trial, 1)
+        why = next((why for _ in range(3) for _, why in self.outcomes([trial]) if why), None)
+        if why is None and self.has_program:
+            why = self.served(trial, 0) or self.served(trial, 1)
         self.judge.seen = seen
         return why
 
+    def shrunk(self, trial: Trial) -> Trial:
+        """A trial that fails, as small as it goes."""
+        return shrinking.shrunk(trial, lambda it: self.breaks(it) is not None)
+
+    def first_broken(self, seed: int, most: int, batch: int = BATCH) -> Optional[Found]:
+        """The first of so many streams that breaks a law."""
+        for begin in range(0, most, batch):
+            trials = [self.made(seed, number) for number in range(begin, min(begin + batch, most))]
+            after = {id(trial): begin + at + 1 for at, trial in enumerate(trials)}
+            found = [Found(after[id(trial)], trial, why) for trial, why in self.outcomes(trials) if why]
+            if found:
+                return min(found, key=lambda it: it.after)
+        return None
+
     def tell(self, trial: Trial, name: str, why: str) -> None:
         """Writes a trial that failed, as small as it goes."""
-        small = shrinking.shrunk(trial, lambda it: self.breaks(it) is not None)
+        small = self.shrunk(trial)
         os.makedirs(FOLDER, exist_ok=True)
         file = os.path.join(FOLDER, f"{name}.json")
         with open(file, "w", encoding="utf-8") as it:

@@ -44,8 +44,10 @@ class Coming:
     named: dict[int, Entry] = field(default_factory=dict)  # of the requests among them, the first cancel that names each
     firsts: dict[tuple[int, int], Entry] = field(default_factory=dict)  # the first reply to each call, behind the call's own call
     senders: dict[str, int] = field(default_factory=dict)  # by the token of its params, where one call alone has it
+    contents: list[int] = field(default_factory=list)  # by the place of an entry: which content it stands in
 
     def __post_init__(self) -> None:
+        self.contents = [at for at, unit in enumerate(self.stream.units) for _ in unit.entries]
         calls = self.stream.calls
         self.running = {it.number: it for it in calls if self.is_run(it)}
         if self.table.has_opening:
@@ -79,6 +81,16 @@ class Coming:
     def answered(self, unit: Unit) -> list[Entry]:
         """The entries of a unit that have an answer."""
         return [it for it in unit.entries if it.kind in ("unreadable", "invalid") or it.is_request]
+
+    def content_of(self, entry: Optional[Entry]) -> int:
+        """Which content an entry stands in. The opening comes with the first, and what never comes behind all of them."""
+        return self.contents[entry.place] if entry else len(self.stream.units)
+
+    def ready(self, number: int, turns: int) -> int:
+        """The content with which all is there that a handler waits for that has made so many calls."""
+        entry = self.running[number]
+        replies = [self.content_of(self.firsts.get((number, turn))) for turn in range(1, turns + 1)]
+        return max([self.content_of(entry) if entry else 0, *replies])
 
 
 @dataclass
@@ -291,6 +303,48 @@ def check_eager(coming: Coming, told: Told, other: Told) -> None:
     for number in told.cancelled & {*coming.named}:
         wanted = unanswered(coming, told, number, told.awaited[number])
         require(told.withdrawn.get(number, []) == wanted, f"{told.withdrawn.get(number)} of {number} are withdrawn, and not {wanted}")
+
+
+def check_cancelled_eagerly(coming: Coming, told: Told, plain: Told) -> None:
+    """Where each content is worked on before the next comes, a cancel reaches each request that it names, but those that were finished
+    with an earlier content."""
+    for number, cancel in coming.named.items():
+        is_late = coming.ready(number, plain.turns[number]) < coming.content_of(cancel)
+        require(told.is_cancelled(number) != is_late, f"{number} is{' finished, and' if is_late else ' not finished, and not'} cancelled")
+
+
+def due_items(coming: Coming, told: Told) -> Iterator[tuple[int, Item]]:
+    """Each item that was written and whose sender is known, with the content that brings it about."""
+    units = iter([it for it in coming.stream.units if coming.answered(it)])
+    turns, answered = Counter[int](), 0
+    for item in told.items:
+        if item.kind == "answers":
+            answered = max(answered, *(answer_due(coming, told, it) for it in coming.answered(next(units))))
+            yield answered, item
+            continue
+        number = sender_of(coming, item)
+        if item.kind == "withdrawal":
+            yield coming.content_of(coming.named[number]), item
+        elif number is not None:
+            yield coming.ready(number, turns[number]), item
+            turns[number] += len(item.keys)
+
+
+def answer_due(coming: Coming, told: Told, entry: Entry) -> int:
+    """The content with which an entry's answer can be made."""
+    if coming.fixed(entry) is not None:
+        return coming.content_of(entry)
+    if told.is_cancelled(entry.number) and entry.number in coming.named:
+        return coming.content_of(coming.named[entry.number])
+    return coming.ready(entry.number, told.turns[entry.number])
+
+
+def check_timely(coming: Coming, told: Told) -> None:
+    """Where each content is worked on before the next comes, all that it brings about is written before what a later one does."""
+    reached = 0
+    for due, item in due_items(coming, told):
+        require(due >= reached, f"{item.text} could be written with content {due + 1}, and stands behind what came of content {reached + 1}")
+        reached = due
 
 
 def counts_of(ran: Ran) -> tuple[str, int, int, int, int, int]:

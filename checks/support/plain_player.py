@@ -163,6 +163,40 @@ class SpeaksLate(Peer):
         super().write()
 
 
+class CancelsTheFinished(Peer):
+    """A cancel reaches requests too that are finished, as long as their answers wait for those before them."""
+
+    def __init__(self, table: str, case: Case):
+        super().__init__(table, case)
+        self.finished: list[model.Handler] = []
+
+    def finish(self, number: int, **ending: Any) -> None:
+        self.finished.append(self.handlers[number])
+        super().finish(number, **ending)
+
+    def cancel(self, named: Any) -> None:
+        super().cancel(named)
+        for it in self.finished:
+            if any(it.unit is unit for unit in self.units) and reading.is_same_id(it.request, named):
+                it.unit.answers[it.place] = model.answer(it.request, error=model.CANCELLED)
+
+
+class SparesTheParked(Peer):
+    """A cancel doesn't reach a request that has called the other side and waits."""
+
+    def is_reached(self, number: int, named: Any) -> bool:
+        return not self.handlers[number].waits and super().is_reached(number, named)
+
+
+class AnswersAtTheEnd(Peer):
+    """Answers go out once the input is over."""
+
+    def write(self) -> None:
+        held, self.units = ([], self.units) if self.is_over else (self.units, [])
+        super().write()
+        self.units += held
+
+
 WRONG = (
     HearsTwice,
     HearsTheLast,
@@ -174,4 +208,7 @@ WRONG = (
     TakesTextsForNumbers,
     LosesFramesAtCuts,
     SpeaksLate,
+    CancelsTheFinished,
+    SparesTheParked,
+    AnswersAtTheEnd,
 )
