@@ -150,13 +150,13 @@ def files_below(folder: str) -> list[str]:
     return sorted(os.path.relpath(it, folder) for it in found)
 
 
-def read_bodies(sources: Sources) -> tuple[list[Body], list[str]]:
-    """The bodies of a crate, and what is wrong with those that can't be tried."""
-    folder = f"{sources.folder}/wrong-bodies"
+def read_bodies(sources: Sources, folder: str = "") -> tuple[list[Body], list[str]]:
+    """The bodies of a crate that stand in a folder, its own where none is named, and what is wrong with those that can't be tried."""
+    folder = folder or f"{sources.folder}/wrong-bodies"
     bodies: list[Body] = []
     unfit: list[str] = []
     for path in files_below(folder):
-        where = f"crates/{sources.crate}/wrong-bodies/{path}"
+        where = f"{os.path.relpath(folder, f'{sources.folder}/../..')}/{path}"
         try:
             with open(f"{folder}/{path}", "rb") as it:
                 tables = tomllib.load(it)
@@ -173,5 +173,5 @@ def read_bodies(sources: Sources) -> tuple[list[Body], list[str]]:
                 except (Unfit, TypeError, AttributeError) as error:
                     unfit.append(f"{where}: {table.get('name', 'a body without a name')}: {error}")
     names = [it.name for it in bodies]
-    unfit += [f"crates/{sources.crate}/wrong-bodies: two bodies are named {it}" for it in {*names} if names.count(it) > 1]
+    unfit += [f"{folder}: two bodies are named {it}" for it in {*names} if names.count(it) > 1]
     return bodies, unfit
