@@ -31,6 +31,11 @@ def expect(name, words, given, output, errors=b"", status=0, program=ran.BUILT):
     count.check(name, got == (status, output, errors), f"status {got[0]}, {got[1][:300]!r}, {got[2][:300]!r}")
 
 
+# Two calls in one content; entries that are no calls and a request, and their answers; and a reply that stands behind a call too many.
+NOTICE_TWICE = rows.batch(rows.NOTICE, rows.NOTICE)
+NO_CALLS = rows.frames(rows.batch(rows.INVALID, rows.INVALID), rows.NOT_FOUND, rows.UNREADABLE, rows.INVALID)
+REPLIED_LATE = rows.frames(rows.ask(), rows.REQUEST, rows.replied("1.1"))
+
 # The first use of the README, through the very command.
 line = (rows.REQUEST + "\n").encode()
 expect("the first line", ["play", "--lines"], line, (rows.NOT_FOUND + "\n").encode(), program=ran.PROGRAM)
@@ -91,6 +96,34 @@ expect("10,000 cancels", words, rows.lines(*asks, *cancels), rows.lines(*calls, 
 stopped = [rows.failed(-32800, "Request cancelled", it) for it in numbers]
 expect("10,000 cancels before the first turn", [*words, "--lazy"], rows.lines(*asks, *cancels), rows.lines(*stopped))
 
+# Lower limits. REQUEST has 40 bytes. What is left out has no effect, and nothing behind it is read.
+two, both = rows.frames(rows.REQUEST, rows.REQUEST), rows.frames(rows.NOT_FOUND, rows.NOT_FOUND)
+one, asked = rows.frames(rows.NOT_FOUND), rows.frames(rows.ask(), rows.replied("1.1"))
+LIMITED = [
+    ("a content of the limit", ["--content", "40"], two, both, ""),
+    ("a content over the limit", ["--content", "39"], two, b"", "TooLarge"),
+    ("a content over the limit behind one of it", ["--content=40"], two + rows.frames(rows.REQUEST + " ", rows.REQUEST), both, "TooLarge"),
+    ("a head that promises a byte too much", ["--content", "40"], rows.frames(rows.REQUEST) + b"Content-Length: 41\r\n", one, "TooLarge"),
+    ("a content of one byte", ["--content", "1"], rows.frames("1", "[]"), rows.frames(rows.INVALID), "TooLarge"),
+    ("as many calls as may come", ["--calls", "2"], two, both, ""),
+    ("a call more", ["--calls", "1"], two, one, "Full"),
+    ("a batch with a call too many", ["--calls", "2"], rows.frames(rows.REQUEST, rows.batch(rows.REQUEST, rows.REQUEST), rows.REQUEST), one, "Full"),
+    ("a batch of the last calls", ["--calls", "2"], rows.frames(NOTICE_TWICE, rows.REQUEST), b"", "Full"),
+    ("entries that are no calls", ["--calls", "1"], rows.frames("[1,1]", rows.REQUEST, "{", "1"), NO_CALLS, ""),
+    ("a cancel is a call", ["--calls", "1"], rows.frames(rows.cancel(1), rows.REQUEST), b"", "Full"),
+    ("a reply is none", ["--calls", "1", "--table", METHODS], asked, rows.frames(rows.called("1.1"), rows.answered("true")), ""),
+    ("a reply behind the end", ["--calls", "1", "--table", METHODS], REPLIED_LATE, rows.frames(rows.called("1.1"), rows.NO_REPLY), "Full"),
+    ("both limits", ["--calls", "1", "--content", "40"], two, one, "Full"),
+    ("the standard limits", ["--calls", "1000000", "--content", "16777216"], two, both, ""),
+]
+for name, words, given, output, end in LIMITED:
+    for command in (["play"], ["play", "--piece", "1"], ["play", "--lazy", "--piece", "7"], ["serve"], ["serve", "--workers", "1"]):
+        expect(f"{name}, {command}", [*command, *words], given, output, f"input ended: {end}\n".encode() if end else b"", 1 if end else 0)
+expect("a line over the limit", ["play", "--lines", "--content", "39"], line, b"", b"input ended: TooLarge\n", 1)
+expect("a line of the limit", ["play", "--lines", "--content", "40"], line, (rows.NOT_FOUND + "\n").encode())
+expect("notices over the limit of calls", ["play", "--calls", "999999"], notices, b"", b"input ended: Full\n", 1)
+expect("a content over a limit near the standard one", ["play", "--content", "16777215"], rows.frame(greatest), b"", b"input ended: TooLarge\n", 1)
+
 # Lines: the last needs no LF, empty ones are passed over, and a CR is part of its line.
 answer, unreadable = f"{rows.NOT_FOUND}\n".encode(), f"{rows.UNREADABLE}\n".encode()
 LINES = [
@@ -123,9 +156,27 @@ for words in (["--help"], ["play", "--help"], ["check", "--help"], ["--version"]
     count.check(f"{words}", status == 0 and b"rpc_tool" in output and errors == b"", f"{status}, {errors!r}")
 status, output, errors = ran.run(["--help"])
 count.check("help tells the usage", b"Usage: rpc_tool" in output)
-status, output, errors = ran.run(["play", "--help"])
-for option in (b"--table <F>", b"--lazy", b"--last", b"--piece <N>", b"--lines"):
-    count.check(f"help of play tells {option}", option in output)
+OPTIONS = {
+    "play": (b"--table <F>", b"--lazy", b"--last", b"--piece <N>", b"--lines", b"--content <BYTES>", b"--calls <N>"),
+    "serve": (b"--table <F>", b"--workers <N>", b"--content <BYTES>", b"--calls <N>"),
+}
+for command, options in OPTIONS.items():
+    status, output, errors = ran.run([command, "--help"])
+    for option in options:
+        count.check(f"help of {command} tells {option}", status == 0 and option in output, f"{output!r}")
+REFUSED_LIMITS = (
+    ["--content", "0"],
+    ["--content", "16777217"],
+    ["--content", "-1"],
+    ["--content", "4294967297"],
+    ["--content", "1k"],
+    ["--content"],
+    ["--content=5", "--content=5"],
+    ["--calls", "0"],
+    ["--calls", "1000001"],
+    ["--calls", "x"],
+    ["--calls"],
+)
 REFUSED = [
     [],
     ["frobnicate"],
@@ -138,6 +189,8 @@ REFUSED = [
     ["play", "--table", METHODS, "--table", METHODS],
     ["check"],
     ["check", "--table", METHODS, "--lazy"],
+    ["check", "--table", METHODS, "--content", "5"],
+    *([command, *words] for command in ("play", "serve") for words in REFUSED_LIMITS),
 ]
 for words in REFUSED:
     status, output, errors = ran.run(words, line)

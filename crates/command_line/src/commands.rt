@@ -30,7 +30,9 @@ fn serve<'a>(alloc: Global) -> Result<Command<'a>, AllocError> {
     Command::new(alloc, "serve")
         .about("Serve what comes on standard input, and write calls and answers as they come about")
         .arg(table)?
-        .arg(workers)
+        .arg(workers)?
+        .arg(content_option(alloc))?
+        .arg(calls_option(alloc))
 }
 
 fn play<'a>(alloc: Global) -> Result<Command<'a>, AllocError> {
@@ -67,7 +69,9 @@ fn play<'a>(alloc: Global) -> Result<Command<'a>, AllocError> {
         .arg(lazy)?
         .arg(last)?
         .arg(piece)?
-        .arg(lines)
+        .arg(lines)?
+        .arg(content_option(alloc))?
+        .arg(calls_option(alloc))
 }
 
 fn check<'a>(alloc: Global) -> Result<Command<'a>, AllocError> {
@@ -84,6 +88,26 @@ fn table_option<'a>(alloc: Global, help: &'a str) -> Arg<'a> {
         .value_name("F")
         .help(help)
         .action(ArgAction::Set)
+}
+
+/// The option `--content BYTES`, a limit.
+fn content_option<'a>(alloc: Global) -> Arg<'a> {
+    Arg::new(alloc, "content")
+        .long("content")
+        .value_name("BYTES")
+        .help("End the input at a content of more than BYTES bytes, 1 to 16777216")
+        .value_parser(value_parser!(u32).range(1..=16_777_216))
+        .default_value("16777216")
+}
+
+/// The option `--calls N`, a limit.
+fn calls_option<'a>(alloc: Global) -> Arg<'a> {
+    Arg::new(alloc, "calls")
+        .long("calls")
+        .value_name("N")
+        .help("End the input at a content with which more than N calls came, 1 to 1000000")
+        .value_parser(value_parser!(u32).range(1..=1_000_000))
+        .default_value("1000000")
 }
 
 /// An option without a value.

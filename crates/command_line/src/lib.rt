@@ -6,4 +6,4 @@ mod reading;
 mod subcommand;
 
 pub use reading::read;
-pub use subcommand::{PlayOptions, ServeOptions, Subcommand};
+pub use subcommand::{LimitOptions, PlayOptions, ServeOptions, Subcommand};

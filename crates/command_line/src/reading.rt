@@ -1,6 +1,6 @@
 //! The words of a command line, read.
 use crate::commands::program;
-use crate::subcommand::{PlayOptions, ServeOptions, Subcommand};
+use crate::subcommand::{LimitOptions, PlayOptions, ServeOptions, Subcommand};
 use clap::error::ErrorKind;
 use clap::{ArgMatches, Error};
 use std::alloc::Global;
@@ -10,6 +10,12 @@ const GREATEST_PIECE: u32 = 65_536;
 
 /// How many workers run methods where no other number was asked for.
 const USUAL_WORKERS: u32 = 4;
+
+/// The greatest content in bytes, and the greatest number of calls, which also stand where none are asked for.
+const GREATEST_LIMITS: LimitOptions = LimitOptions {
+    content: 16_777_216,
+    calls: 1_000_000,
+};
 
 /// Reads the words of a command line, of which the first is the program's name. An `Err` has the text
 /// for the user: help and the version too, whose status is 0.
@@ -34,6 +40,7 @@ fn serve_options<'a>(matches: &ArgMatches<'a>) -> ServeOptions<'a> {
     ServeOptions {
         table: matches.get_str("table"),
         workers: matches.get_one::<u32>("workers").unwrap_or(USUAL_WORKERS),
+        limits: limit_options(matches),
     }
 }
 
@@ -44,5 +51,17 @@ fn play_options<'a>(matches: &ArgMatches<'a>) -> PlayOptions<'a> {
         last: matches.get_flag("last"),
         piece: matches.get_one::<u32>("piece").unwrap_or(GREATEST_PIECE),
         lines: matches.get_flag("lines"),
+        limits: limit_options(matches),
+    }
+}
+
+fn limit_options(matches: &ArgMatches<'_>) -> LimitOptions {
+    LimitOptions {
+        content: matches
+            .get_one::<u32>("content")
+            .unwrap_or(GREATEST_LIMITS.content),
+        calls: matches
+            .get_one::<u32>("calls")
+            .unwrap_or(GREATEST_LIMITS.calls),
     }
 }

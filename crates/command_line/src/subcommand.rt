@@ -11,6 +11,15 @@ pub enum Subcommand<'a> {
     Check { table: &'a str },
 }
 
+/// How much of its input the program takes.
+#[derive(Clone, Copy, Debug, PartialEq, Eq)]
+pub struct LimitOptions {
+    /// How many bytes a content may have, from 1 to 16,777,216.
+    pub content: u32,
+    /// How many calls may come, from 1 to 1,000,000.
+    pub calls: u32,
+}
+
 /// How `serve` runs methods.
 #[derive(Clone, Copy, Debug, PartialEq, Eq)]
 pub struct ServeOptions<'a> {
@@ -18,6 +27,7 @@ pub struct ServeOptions<'a> {
     pub table: Option<&'a str>,
     /// How many threads run methods, from 1 to 64.
     pub workers: u32,
+    pub limits: LimitOptions,
 }
 
 /// How `play` reads its input, runs methods and writes its output.
@@ -33,4 +43,5 @@ pub struct PlayOptions<'a> {
     pub piece: u32,
     /// Whether each line of the input is one content, and each content written is one line.
     pub lines: bool,
+    pub limits: LimitOptions,
 }

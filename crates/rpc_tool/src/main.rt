@@ -2,6 +2,7 @@
 #![tactic(auto)]
 
 mod input;
+mod limits;
 mod output;
 mod pieces;
 mod playing;

@@ -21,13 +21,14 @@ impl<'a> Pieces<'a> {
     pub fn new(
         alloc: Global,
         table: &'a Table,
+        limits: Limits,
         schedule: &'a Schedule,
         size: usize,
     ) -> Result<Pieces<'a>, AllocError>
         requires { 0 < size }
     {
         let sink = MemSink::new(alloc, None);
-        match Player::new(alloc, table, Limits::standard(), schedule, sink) {
+        match Player::new(alloc, table, limits, schedule, sink) {
             Ok(player) => Ok(Pieces {
                 player,
                 last: Vec::new(alloc),

@@ -2,6 +2,7 @@
 ghost use Rattle.std.specs.Prelude.{◌<◌};
 
 use crate::input::InputStream;
+use crate::limits::limits_of;
 use crate::output::{write_frames, write_lines};
 use crate::pieces::Pieces;
 use crate::reading::read_all;
@@ -40,7 +41,8 @@ fn played<I: Read + Drop>(
     mut input: I,
 ) -> Result<(Vec<u8>, Report), Failure> {
     let schedule = schedule_of(options);
-    let pieces = Pieces::new(alloc, table, &schedule, size_of(options))?;
+    let limits = limits_of(options.limits)?;
+    let pieces = Pieces::new(alloc, table, limits, &schedule, size_of(options))?;
     let mut intake = if options.lines {
         InputStream::of_lines(alloc, pieces)
     } else {

@@ -1,10 +1,11 @@
 //! The command `serve`: the input is served as it comes, by several threads.
+use crate::limits::limits_of;
 use crate::run_failure::RunFailure;
 use crate::table_file::table_in;
 use command_line::ServeOptions;
 use lsp_frames::{StdSink, StdSource};
 use program_edge::Failure;
-use rpc_peer::{Close, Limits, ServeFault, serve};
+use rpc_peer::{Close, ServeFault, serve};
 use std::io::{Read, Write};
 use std::rt::Files;
 use std::sync::Wait;
@@ -23,12 +24,13 @@ where
     W: Write,
 {
     let table = table_in(rt, options.table)?;
+    let limits = limits_of(options.limits)?;
     let (source, sink) = (StdSource::new(input), StdSink::new(output));
     match serve(
         rt,
         rt.alloc(),
         &table,
-        Limits::standard(),
+        limits,
         options.workers,
         source,
         sink,
