@@ -32,9 +32,6 @@ pub fn read(alloc: Global, words: &[String]) -> Result<Bench, Error> {
             finishing: finishing(options),
             units: options.get_one::<u32>("units").unwrap_or(0),
         }),
-        Some(("read", options)) => Bench::Timed(Task::Read {
-            texts: options.get_one::<u32>("texts").unwrap_or(0),
-        }),
         _ => Bench::Little,
     })
 }
@@ -70,8 +67,7 @@ fn program<'a>(alloc: Global) -> Result<Command<'a>, AllocError> {
         )
         .subcommand(handoff(alloc, "slots", slots)?)?
         .subcommand(handoff(alloc, "queue", queue)?)?
-        .subcommand(desk(alloc)?)?
-        .subcommand(reading(alloc)?)
+        .subcommand(desk(alloc)?)
 }
 
 fn handoff<'a>(alloc: Global, name: &'a str, about: &'a str) -> Result<Command<'a>, AllocError> {
@@ -122,18 +118,4 @@ fn desk<'a>(alloc: Global) -> Result<Command<'a>, AllocError> {
         .about("Open units of one call each, finish them in an order, and release their answers")
         .arg(order)?
         .arg(units)
-}
-
-fn reading<'a>(alloc: Global) -> Result<Command<'a>, AllocError> {
-    let texts = Arg::new(alloc, "texts")
-        .long("texts")
-        .value_name("N")
-        .help("How many texts there are, 0 to 1000000000")
-        .value_parser(value_parser!(u32).range(0..=1_000_000_000))
-        .default_value("100000");
-    Command::new(alloc, "read")
-        .about(
-            "Read texts at random as messages, by their tokens and by their values, and compare the units",
-        )
-        .arg(texts)
 }

@@ -1,7 +1,6 @@
 //! The program `peer_bench`: the work of the libraries that have no program of their own, done at size.
 #![tactic(auto)]
 
-mod chance;
 mod command_line;
 mod crew;
 mod desk_run;
@@ -10,13 +9,10 @@ mod homecomings;
 mod job;
 mod program;
 mod queue_handoff;
-mod random_text;
-mod reading_run;
 mod slots_handoff;
 mod stopwatch;
 mod tally;
 mod task;
-mod value_reading;
 mod work;
 
 use program_edge::{read_words, tell_end};

@@ -50,13 +50,10 @@ where
         let task = Task::Desk { finishing, units };
         tell(output, task, done(rt, task)?)?;
     }
-    let task = Task::Read { texts: 2_000 };
-    tell(output, task, done(rt, task)?)?;
     written(output.flush())
 }
 
-/// Does the work, and gives how many jobs came home turned once, how many answers were released, or how
-/// many texts were read alike.
+/// Does the work, and gives how many jobs came home turned once, or how many answers were released.
 fn done<R>(rt: &R, task: Task) -> Result<usize, Failure>
 where
     R: Threads + Wait + Sync + AllocGlobal,
@@ -64,7 +61,7 @@ where
     Ok(task.begin(rt.alloc())?.run(rt)?.count())
 }
 
-/// Says what became of each job, unit or text.
+/// Says what became of each job or unit.
 fn tell<W: Write>(output: &mut W, task: Task, count: usize) -> Result<(), Failure> {
     let (name, outcome) = (task.name(), task.outcome());
     written(writeln!(output, "{name}: {count} {outcome}"))

@@ -14,8 +14,6 @@ pub enum Task {
     Queue { crew: Crew, jobs: u32 },
     /// So many units of one call each, or a batch of so many, through the desk.
     Desk { finishing: Finishing, units: u32 },
-    /// So many texts, each read in two ways.
-    Read { texts: u32 },
 }
 
 impl Task {
@@ -33,7 +31,6 @@ impl Task {
                 homecomings: Homecomings::new(alloc, jobs)?,
             },
             Task::Desk { finishing, units } => Work::Desk { finishing, units },
-            Task::Read { texts } => Work::Read { texts },
         })
     }
 
@@ -50,16 +47,14 @@ impl Task {
                 Finishing::Behind => "desk behind",
                 Finishing::Batch => "desk batch",
             },
-            Task::Read { .. } => "read",
         }
     }
 
-    /// What became of each job, unit or text.
+    /// What became of each job or unit.
     pub fn outcome(self) -> &'static str {
         match self {
             Task::Slots { .. } | Task::Queue { .. } => "turned",
             Task::Desk { .. } => "released",
-            Task::Read { .. } => "alike",
         }
     }
 }

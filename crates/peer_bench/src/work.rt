@@ -3,7 +3,6 @@ use crate::crew::Crew;
 use crate::desk_run::{Finishing, run_desk};
 use crate::homecomings::Homecomings;
 use crate::queue_handoff::through_queues;
-use crate::reading_run::run_reading;
 use crate::slots_handoff::through_slots;
 use program_edge::Failure;
 use std::sync::Wait;
@@ -29,10 +28,6 @@ pub enum Work {
         finishing: Finishing,
         units: u32,
     },
-    /// So many texts, each read in two ways.
-    Read {
-        texts: u32,
-    },
 }
 
 /// Work that was done.
@@ -40,7 +35,7 @@ pub enum Work {
 pub enum Done {
     /// How often each job came home turned once.
     Jobs(Homecomings),
-    /// How many answers were released, or how many texts were read alike.
+    /// How many answers were released.
     Units(usize),
 }
 
@@ -62,14 +57,12 @@ impl Work {
                 homecomings,
             } => Done::Jobs(through_queues(rt, rt.alloc(), crew, jobs, homecomings)?),
             Work::Desk { finishing, units } => Done::Units(run_desk(rt.alloc(), finishing, units)?),
-            Work::Read { texts } => Done::Units(run_reading(rt.alloc(), texts)?),
         })
     }
 }
 
 impl Done {
-    /// How many jobs came home turned once and only once, how many answers were released, or how many texts were read
-    /// alike.
+    /// How many jobs came home turned once and only once, or how many answers were released.
     pub fn count(&self) -> usize {
         match self {
             Done::Jobs(homecomings) => homecomings.once(),

@@ -1,4 +1,4 @@
-//! The work of reading: each text in two ways, which give the same unit.
+//! Texts at random, each read in two ways, which give the same unit.
 use crate::chance::Chance;
 use crate::random_text::next_text;
 use crate::value_reading::read_by_value;
@@ -9,7 +9,7 @@ use rpc_messages::{Unit, UnitReader};
 use std::alloc::Global;
 
 /// Reads so many texts, and gives how many were read as the same unit in both ways.
-pub fn run_reading(alloc: Global, texts: u32) -> Result<usize, Failure> {
+pub fn count_alike(alloc: Global, texts: u32) -> Result<usize, Failure> {
     let mut reader = UnitReader::new(alloc);
     let mut chance = Chance::new();
     let mut alike = 0usize;
