@@ -1,6 +1,7 @@
-"""Runs the bench program on sizes that are no multiple of anything: each job comes home once, each unit is released, and its time is told.
-What a desk took while much was open it gives back. And bench/run runs on small sizes, where what it measures can be built: each answer of
-the player and of the server is the one that it has to be."""
+"""Runs the bench programs on sizes that are no multiple of anything: each job comes home once, each unit is released, and its time is told;
+what reads and writes alone answers what the player answers, and asks for little memory. What a desk took while much was open it gives back.
+And bench/run runs on small sizes, where what it measures can be built: each answer of the player and of the server is the one that it has to
+be."""
 import os
 import re
 import subprocess
@@ -8,6 +9,7 @@ import sys
 
 from support import ran
 from support import refusals
+from support import rows
 
 sys.path.insert(0, os.path.join(ran.TOP, "bench"))
 
@@ -20,10 +22,17 @@ ROWS = [
     *("unknown methods", "open calls", "a request", "one after 5 ms", "a call back"),
     *("a reply of 8 MB", "a param of 8 MB"),
 ]
+# The same of the table of reading and writing alone.
+ROWS_READ = ("single requests", "batches of 100", "one param of 8 MB")
+
+# A request with small params and its answer ask for memory so often at most, where nothing but reading and writing is done.
+MOST_REQUESTS = 8
 
 count = ran.Count()
 BENCH = ran.gates_program("peer_bench")
 count.check("the gate built peer_bench", BENCH is not None)
+READING = ran.gates_program("reading_bench")
+count.check("the gate built reading_bench", READING is not None)
 
 
 def check_work(words, name, number, outcome):
@@ -45,9 +54,6 @@ def check_all():
             # (the first unit of the one is never finished, and the other is one unit)
             released = {"behind": max(0, units - 1), "batch": min(1, units)}.get(order, units)
             check_work(["desk", "--order", order, f"--units={units}"], f"desk {order}", released, "released")
-    # (read by tokens and by values, each text gives the same unit)
-    for texts in (0, 1, 100_000):
-        check_work(["read", f"--texts={texts}"], "read", texts, "alike")
     for words in (["--help"], ["desk", "--help"], ["--version"]):
         status, output, errors = ran.run(words, program=BENCH)
         count.check(f"{words}", status == 0 and b"peer_bench" in output and errors == b"", f"{status}, {errors!r}")
@@ -78,23 +84,75 @@ def check_memory():
     count.check("a number that is over keeps little behind an open one", status == 0 and last <= 10_000 * 32, f"{status}, {last:,} bytes")
 
 
+def check_reading():
+    """Frames are answered as the player answers them without methods, however they end; and texts at random are read alike in two ways."""
+    for name, given, output, end in rows.ROWS:
+        errors = f"input ended: {end}\n".encode() if end else b""
+        got = ran.run(["answer"], given, program=READING)
+        count.check(f"answered alone: {name}", got == (1 if end else 0, output, errors), f"{got}")
+    for texts in (0, 1, 100_000):
+        got = ran.run(["compare", f"--texts={texts}"], program=READING)
+        count.check(f"{texts} texts", got == (0, b"compare: %d alike\n" % texts, b""), f"{got}")
+    for words in (["--help"], ["compare", "--help"], ["--version"]):
+        status, output, errors = ran.run(words, program=READING)
+        count.check(f"{words}", status == 0 and b"reading_bench" in output and errors == b"", f"{status}, {errors!r}")
+    for words in (["frobnicate"], ["compare", "--texts", "1000000001"], ["answer", "more"]):
+        status, output, errors = ran.run(words, program=READING)
+        count.check(f"refused words {words}", status == 2 and output == b"" and errors.startswith(b"error: "), f"{status}, {errors!r}")
+    answers = rows.frames(rows.NOT_FOUND)
+    for room in (0, 1, len(answers) - 1):
+        got = ran.run_into(room, ["answer"], rows.frames(rows.REQUEST), program=READING)
+        count.check(f"an output that takes {room} bytes of an answer", got == (1, answers[:room], b"failed: Write\n"), f"{got}")
+    got = ran.run_on_broken(["answer"], rows.frames(rows.REQUEST), program=READING)
+    count.check("an input that breaks off", got == (1, answers, b"failed: Read\n"), f"{got}")
+
+
+def requests_each(params):
+    """How often reading a request with these params, and writing its answer, asks for memory: the second thousand of them."""
+    made = []
+    for size in (1_000, 2_000):
+        requests = ('{"jsonrpc":"2.0","method":"nope","params":%s,"id":%d}' % (params, it) for it in range(1, size + 1))
+        status, number = refusals.requests_for_memory([READING, "answer"], rows.frames(*requests))
+        count.check(f"{size} requests with params {params} are answered", status == 0, f"{status}")
+        made.append(number)
+    return (made[1] - made[0]) / 1_000
+
+
+def check_requests():
+    """Few requests for memory are made for a request; and where its params have more parts there are more, so they are counted."""
+    for params in ("[2,3]", '{"a":1}', '["x"]'):
+        each = requests_each(params)
+        print(f"a request with params {params}: {each:.2f} requests for memory", flush=True)
+        count.check(f"few requests for memory with params {params}", 0 < each <= MOST_REQUESTS, f"{each:.2f}, at most {MOST_REQUESTS}")
+    strings = "[" + ",".join(['"x"'] * 10) + "]"
+    count.check("ten strings take ten requests for memory", requests_each(strings) >= 10)
+
+
 def check_run():
     """All that bench/run measures of the player and the server, on small sizes."""
     wanted = contenders.lacking(counts=False)
     if wanted:
         print(f"SKIPPED: bench/run on small sizes, which wants {' '.join(wanted)}", flush=True)
         return
-    words = [os.path.join(ran.TOP, "bench", "run"), "--quick", "--small", "1000", "--runs", "1"]
+    words = [os.path.join(ran.TOP, "bench", "run"), "--quick", "--small", "1000", "--runs", "1", "--reading", READING]
     ended = subprocess.run(words, capture_output=True, text=True, timeout=600, check=False)
     count.check("bench/run on small sizes", ended.returncode == 0, f"{ended.stdout[-500:]} {ended.stderr[-1000:]}")
     for name in ROWS:
         lines = re.findall(rf"^{name} +\d+ (baseline|ours)\b", ended.stdout, re.M)
         count.check(f"bench/run's row: {name}", {*lines} == {"baseline", "ours"}, f"it has {lines}")
+    for name in ROWS_READ:
+        lines = re.findall(rf"^{name} +\d+ reading\b", ended.stdout, re.M)
+        count.check(f"bench/run's row of reading and writing alone: {name}", len(lines) == 2, f"it has {lines}")
+    count.check("bench/run says where ours is behind", "behind the baseline at the largest size" in ended.stdout)
 
 
 if BENCH:
     check_all()
-    if not ran.lacks("cc", refusals.WHY):
-        check_memory()
-check_run()
+if READING:
+    check_reading()
+if BENCH and READING and not ran.lacks("cc", refusals.WHY):
+    check_memory()
+    check_requests()
+if READING:
+    check_run()
 count.end()

@@ -1,4 +1,5 @@
-"""What is measured: the baseline, our program, and a second one of ours where it is named; and how they are built."""
+"""What is measured: the baseline, our program, a second one of ours where it is named, and the program that reads and writes alone; and how
+they are built."""
 import glob
 import os
 import shutil
@@ -17,6 +18,8 @@ BASELINE = os.path.join(FOLDER, "target", "release", "baseline")
 CLIENT = os.path.join(FOLDER, "target", "release", "client")
 # The table of the methods that are built into the baseline.
 METHODS = ("--table", os.path.join(FOLDER, "methods.toml"))
+# Reads and writes, and does nothing else.
+READING = os.path.join(TOP, "crates", "reading_bench", "out", "reading_bench")
 
 
 class Contender(NamedTuple):
@@ -27,9 +30,10 @@ class Contender(NamedTuple):
 
 
 class Programs(NamedTuple):
-    """Our program, and another rpc_tool to compare with, if any."""
+    """Our program, what reads and writes alone, and another rpc_tool to compare with, if any."""
 
     ours: str
+    reading: str
     before: Optional[str] = None
 
     def named(self) -> Iterator[Tuple[str, str]]:
@@ -41,6 +45,10 @@ class Programs(NamedTuple):
         """What plays an input, the baseline first."""
         words = ("play", *(METHODS if has_methods else ()))
         return [Contender("baseline", (BASELINE,)), *(Contender(name, (it, *words)) for name, it in self.named())]
+
+    def readers(self) -> List[Contender]:
+        """What answers an input without methods, and keeps nothing of it, beside the baseline, which is first."""
+        return [Contender("baseline", (BASELINE,)), Contender("reading", (self.reading, "answer"))]
 
     def servers(self, numbers_of_workers: Tuple[int, ...]) -> List[Contender]:
         """What serves, the baseline first."""
@@ -61,8 +69,8 @@ def lacking(counts: bool) -> List[str]:
     return wanted
 
 
-def built(before: Optional[str], counts: bool) -> Programs:
-    """The programs, built where they aren't yet."""
+def built(before: Optional[str], reading: Optional[str], counts: bool) -> Programs:
+    """The programs, built where they aren't yet. A `reading_bench` that is named is taken as it is."""
     wanted = lacking(counts)
     if wanted:
         sys.exit(f"bench/run: first apt-get install -y {' '.join(wanted)}")
@@ -71,4 +79,13 @@ def built(before: Optional[str], counts: bool) -> Programs:
     ours = program.current(sources.stamp())
     if ours is None:
         sys.exit("bench/run: the program's sources changed while it was built")
-    return Programs(ours, before)
+    return Programs(ours, reading or built_reading(), before)
+
+
+def built_reading() -> str:
+    """The program that reads and writes alone, proved and built over what earlier checks kept."""
+    words = ["rt", "run", "--", "--version"]
+    ended = subprocess.run(words, cwd=os.path.dirname(os.path.dirname(READING)), capture_output=True, text=True, check=False)
+    if ended.returncode:
+        sys.exit(f"bench/run: reading_bench isn't proved or doesn't build:\n{ended.stderr[-2000:]}")
+    return READING

@@ -67,11 +67,13 @@ def long_text(count: int) -> bytes:
 
 
 class Input(NamedTuple):
-    """A row of the table: how what it reads is made, and its size, which counts requests, or the bytes of one."""
+    """A row of the table: how what it reads is made, its size, which counts requests, or the bytes of one, and what ours does that the baseline
+    doesn't, where it takes longer."""
 
     name: str
     make: Callable[[int], bytes]
     size: int
+    why: str
     has_methods: bool = False
     is_one_request: bool = False
 
@@ -79,15 +81,21 @@ class Input(NamedTuple):
         return 1 if self.is_one_request else size
 
 
+DESK = "each request has a place at the desk and a stage in the session, and its call is shared by both"
+SCRATCH = "the kit's reader clears a scratch as long as the content, and the baseline has none"
+STEPS = "a method is steps of a table, run by a handler that is parked, turned and taken back; the baseline calls a function"
+
 INPUTS: Tuple[Input, ...] = (
-    Input("single requests", singles, 200_000),
-    Input("batches of 100", batches, 200_000),
-    Input("one param of 8 MB", long_text, 8_000_000, is_one_request=True),
-    Input("adds", adds, 200_000, has_methods=True),
-    Input("adds in batches", batches_of_adds, 200_000, has_methods=True),
-    Input("calls back", calls_back, 100_000, has_methods=True),
-    Input("the same in batches", batches_of_calls_back, 100_000, has_methods=True),
+    Input("single requests", singles, 200_000, DESK),
+    Input("batches of 100", batches, 200_000, DESK),
+    Input("one param of 8 MB", long_text, 8_000_000, SCRATCH, is_one_request=True),
+    Input("adds", adds, 200_000, STEPS, has_methods=True),
+    Input("adds in batches", batches_of_adds, 200_000, STEPS, has_methods=True),
+    Input("calls back", calls_back, 100_000, STEPS, has_methods=True),
+    Input("the same in batches", batches_of_calls_back, 100_000, STEPS, has_methods=True),
 )
+# What is read and answered alone.
+READ: Tuple[Input, ...] = tuple(it for it in INPUTS if not it.has_methods)
 
 # Each method, replied to with a result, an error and not at all, in a batch and alone, and cancelled: it is compared,
 # and not measured.

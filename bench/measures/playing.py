@@ -1,4 +1,4 @@
-"""The table of `play`: each input read from a file, whole, and answered into nothing."""
+"""The tables of `play` and of reading and writing alone: each input read from a file, whole, and answered into nothing."""
 import os
 import re
 import subprocess
@@ -6,8 +6,9 @@ import sys
 import tempfile
 from typing import Dict, List, NamedTuple
 
+from measures.behind import Behind
 from measures.contenders import Contender, Programs
-from measures.inputs import EACH_METHOD, INPUTS, Input
+from measures.inputs import EACH_METHOD, INPUTS, READ, Input
 
 # Instructions are counted at this part of the size.
 COUNTED = 10
@@ -107,13 +108,30 @@ def compare_each_method(programs: Programs) -> None:
         compare("each method", programs.players(has_methods=True), file.name)
 
 
-def table(programs: Programs, small: int, runs: int, counts: bool) -> None:
-    compare_each_method(programs)
+def show_head(title: str) -> None:
     head = f"{'req/s':>10} {'MB/s':>8} {'ratio':>6} {'instr/req':>11} {'growth':>7} {'peak KiB':>9}"
-    print(f"{'input':20} {'size':>9} {'program':9} {head}")
+    print(f"{title:20} {'size':>9} {'program':9} {head}")
+
+
+def show_row(row: Input, players: List[Contender], small: int, runs: int, counts: bool, behind: Behind) -> None:
+    """Measures and prints half of a row's size, and all of it."""
+    half: Dict[str, Measured] = {}
+    for size in (row.size // small // 2, row.size // small):
+        seen = measured(row, size, players, runs, counts)
+        show(row, size, seen, half)
+        half = seen
+    behind.note(row.name, row.why, {label: it.seconds for label, it in half.items()})
+
+
+def table(programs: Programs, small: int, runs: int, counts: bool, behind: Behind) -> None:
+    compare_each_method(programs)
+    show_head("input")
     for row in INPUTS:
-        players, half = programs.players(row.has_methods), {}
-        for size in (row.size // small // 2, row.size // small):
-            seen = measured(row, size, players, runs, counts)
-            show(row, size, seen, half)
-            half = seen
+        show_row(row, programs.players(row.has_methods), small, runs, counts, behind)
+
+
+def reading_table(programs: Programs, small: int, runs: int, counts: bool, behind: Behind) -> None:
+    """What reading and writing take alone, with no desk and no session."""
+    show_head("read and answered")
+    for row in READ:
+        show_row(row, programs.readers(), small, runs, counts, behind)

@@ -4,33 +4,38 @@ import tempfile
 from typing import Callable, Dict, List, NamedTuple
 
 from measures import loads, rounds
+from measures.behind import Behind
 from measures.contenders import Contender, Programs
+from measures.inputs import SCRATCH
 from measures.rounds import Played
 
 WORKERS = (1, 4)
 
 
 class Row(NamedTuple):
-    """A row of a table, how its load is made, and its size."""
+    """A row of a table, how its load is made, its size, and what ours does that the baseline doesn't, where it takes longer."""
 
     name: str
     make: Callable[[int], loads.Load]
     size: int
+    why: str
 
 
+STEPS = "a job goes to a worker and comes home, while the clerk reads, opens, finishes and writes; the baseline calls a function"
+HAND_OVERS = "a request goes through three threads, and through the clerk's twice"
 BULKS = (
-    Row("unknown methods", loads.unknown, 200_000),
-    Row("adds", loads.adds, 200_000),
-    Row("open calls", loads.open_calls, 20_000),
+    Row("unknown methods", loads.unknown, 200_000, "each piece goes from the reader's thread to the clerk's, and each request to the desk and the session"),
+    Row("adds", loads.adds, 200_000, STEPS),
+    Row("open calls", loads.open_calls, 20_000, STEPS),
 )
 TRIPS = (
-    Row("a request", loads.pings, 5_000),
-    Row("one after 5 ms", loads.late_pings, 200),
-    Row("a call back", loads.calls_back, 5_000),
+    Row("a request", loads.pings, 5_000, HAND_OVERS),
+    Row("one after 5 ms", loads.late_pings, 200, "three threads are woken one after the other, and the baseline's one thread once"),
+    Row("a call back", loads.calls_back, 5_000, HAND_OVERS),
 )
 LONG = (
-    Row("a reply of 8 MB", loads.long_reply, 8_000_000),
-    Row("a param of 8 MB", loads.long_param, 8_000_000),
+    Row("a reply of 8 MB", loads.long_reply, 8_000_000, SCRATCH),
+    Row("a param of 8 MB", loads.long_param, 8_000_000, f"{SCRATCH}; and a method's call takes copies of the param"),
 )
 
 
@@ -58,7 +63,7 @@ def show_bulk(row: Row, size: int, seen: Dict[str, List[Played]], half: Dict[str
         print(f"{row.name:20} {size:>9} {label:17} {figures}", flush=True)
 
 
-def bulks(servers: List[Contender], small: int, runs: int) -> None:
+def bulks(servers: List[Contender], small: int, runs: int, behind: Behind) -> None:
     head = f"{'req/s':>10} {'ratio':>6} {'cpu us':>10} {'growth':>7} {'peak KiB':>9}"
     print(f"{'sent at once':20} {'size':>9} {'program':17} {head}")
     for row in BULKS:
@@ -67,14 +72,20 @@ def bulks(servers: List[Contender], small: int, runs: int) -> None:
             seen = played(row, size, servers, runs)
             show_bulk(row, size, seen, half)
             half = seen
+        behind.note(row.name, row.why, {label: min(it.trips[0] for it in many) for label, many in half.items()})
 
 
 def at_share(sorted_times: List[float], hundredths: int) -> float:
     return sorted_times[(len(sorted_times) - 1) * hundredths // 100]
 
 
+def times_of(seen: Dict[str, List[Played]]) -> Dict[str, List[float]]:
+    """The times of all trips, the shortest first."""
+    return {label: sorted(trip for it in many for trip in it.trips) for label, many in seen.items()}
+
+
 def show_trips(row: Row, seen: Dict[str, List[Played]]) -> None:
-    times = {label: sorted(trip for it in many for trip in it.trips) for label, many in seen.items()}
+    times = times_of(seen)
     for label, many in seen.items():
         median, late = (at_share(times[label], it) for it in (50, 99))
         ratio, peak = at_share(times["baseline"], 50) / median, max(it.peak for it in many)
@@ -83,15 +94,17 @@ def show_trips(row: Row, seen: Dict[str, List[Played]]) -> None:
         print(f"{row.name:20} {len(times[label]):>9} {label:17} {figures}", flush=True)
 
 
-def trips(servers: List[Contender], small: int, runs: int) -> None:
+def trips(servers: List[Contender], small: int, runs: int, behind: Behind) -> None:
     head = f"{'median us':>10} {'ratio':>6} {'99th us':>10} {'cpu us':>10} {'peak KiB':>9}"
     print(f"{'there and back':20} {'trips':>9} {'program':17} {head}")
     for row in (*TRIPS, *LONG):
-        show_trips(row, played(row, max(2, row.size // small), servers, runs))
+        seen = played(row, max(2, row.size // small), servers, runs)
+        show_trips(row, seen)
+        behind.note(row.name, row.why, {label: at_share(times, 50) for label, times in times_of(seen).items()})
 
 
-def table(programs: Programs, small: int, runs: int) -> None:
+def table(programs: Programs, small: int, runs: int, behind: Behind) -> None:
     servers = programs.servers(WORKERS)
-    bulks(servers, small, runs)
+    bulks(servers, small, runs, behind)
     print()
-    trips(servers, small, runs)
+    trips(servers, small, runs, behind)

@@ -19,15 +19,43 @@ def compiled(name, room):
     return library
 
 
+class Held:
+    """What a program holds that runs with `how`, of the arguments of Popen. With `lose` it loses 24 bytes behind each so many requests."""
+
+    def __init__(self, lose=0):
+        self.told = tempfile.TemporaryFile()
+        self.told.write(bytes(40))
+        self.told.flush()
+        self.room = tempfile.TemporaryDirectory(prefix="held-")
+        env = {**os.environ, "LD_PRELOAD": compiled("count_malloc", self.room.name), "HELD_TELL": str(self.told.fileno())}
+        self.how = {"env": {**env, **({"HELD_LOSE": str(lose)} if lose else {})}, "pass_fds": [self.told.fileno()]}
+
+    def numbers(self):
+        """The most bytes that it held so far, those that it held behind its last request, those that it holds now, and how many requests for
+        memory it has made."""
+        return struct.unpack("QQQQ", os.pread(self.told.fileno(), 32, 0))
+
+    def trim(self):
+        """Has it give all memory that is free back to the system, before it next asks for some."""
+        os.pwrite(self.told.fileno(), struct.pack("Q", 1), 32)
+
+
+def counted(words, given):
+    """Runs a program: its status, and the numbers behind its last request."""
+    held = Held()
+    ended = subprocess.run(words, input=given, capture_output=True, timeout=600, check=False, **held.how)
+    return ended.returncode, *held.numbers()
+
+
 def memory_held(words, given=b""):
-    """Runs a program of one thread: its status, the most bytes that it held, and the bytes that it held behind its last request."""
-    with tempfile.TemporaryDirectory(prefix="held-") as room, tempfile.TemporaryFile() as told:
-        told.write(bytes(16))
-        told.flush()
-        env = {**os.environ, "LD_PRELOAD": compiled("count_malloc", room), "HELD_TELL": str(told.fileno())}
-        ended = subprocess.run(words, input=given, capture_output=True, timeout=600, env=env, pass_fds=[told.fileno()], check=False)
-        told.seek(0)
-        return ended.returncode, *struct.unpack("QQ", told.read())
+    """Runs a program: its status, the most bytes that it held, and the bytes that it held behind its last request."""
+    return counted(words, given)[:3]
+
+
+def requests_for_memory(words, given=b""):
+    """Runs a program: its status, and how often it asked for memory."""
+    status, *_, requests = counted(words, given)
+    return status, requests
 
 
 class Refusals:
