@@ -5,7 +5,7 @@ A wrong body is a change of a function's text after which a promise no longer ho
 wrong bodies of different functions are tried at once, in rounds, in copies of the crate over what its proof kept: each changed
 function must fall for a reason of its own, and every other is proved, or falls only because it calls one of those. What hurts more
 than that is tried singly. Control: that proof is one of the crate with its right bodies, which are written differently, and with a
-comment in each other function that has bodies.
+comment in each other function that has bodies. Beside a gate (--gate) it stands on what the gate has proved and kept.
 
 For each wrong body a line says how it was refused: by which clauses or goals, or only because an answer by hand no longer fits
 (which says less: a right body could be refused so too). One that is proved is a failure, and so is one that doesn't compile, whose
@@ -33,8 +33,9 @@ def arguments() -> argparse.Namespace:
     parser.add_argument("names", nargs="*", metavar="NAME", help="a crate, a body, or CRATE/BODY; none: all bodies of all crates")
     parser.add_argument("--stands", action="store_true", help="only look whether each old text stands once, in the function that is named, and whether docs/proofs.md names bodies that there are; proves nothing")
     parser.add_argument("--kept", action="store_true", help="use what is kept in crates/*/out where the crate is proved there, and prove the others")
+    parser.add_argument("--gate", default="", metavar="FOLDER", help="take libraries and kept work from a gate that runs beside, as it hands them on there (bin/test does so)")
     parser.add_argument("--jobs", type=int, metavar="N", default=default_jobs(), help="checks side by side (default: %(default)s), each with up to 2.5 GB")
-    parser.add_argument("--minutes", type=float, metavar="M", default=30, help="the most that one check may take (default: %(default)s)")
+    parser.add_argument("--minutes", type=float, metavar="M", default=120, help="the most that one check may take (default: %(default)s)")
     parser.add_argument("--logs", metavar="FOLDER", help="keep the output of each check there")
     return parser.parse_args()
 
@@ -148,7 +149,7 @@ def attempt(crates: list[Crate], given: argparse.Namespace) -> float:
     with tempfile.TemporaryDirectory(prefix="wrong-bodies-") as folder:
         for it in (signal.SIGTERM, signal.SIGINT, signal.SIGHUP):
             signal.signal(it, lambda *_: interrupted(folder))
-        trees = Trees(TOP, folder, {it.name: it.control(it.right) for it in crates}, given.minutes * 60)
+        trees = Trees(TOP, folder, {it.name: it.control(it.right) for it in crates}, given.minutes * 60, given.gate)
         if given.kept:
             kept = [it for it in trees.needed if trees.take_kept(it)]
             say(f"== kept work of: {', '.join(kept) or 'no crate'}")

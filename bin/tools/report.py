@@ -51,8 +51,9 @@ class Report:
         self.skipped.append(text)
         self.say(f"{SKIPPED}{text}")
 
-    def run(self, part, is_shown_at_once=True, started=None):
-        """Runs a part, and gives whether all of it passed. What it prints is shown line by line, or whole once it has ended."""
+    def run(self, part, is_shown_at_once=True, started=None, heard=None):
+        """Runs a part, and gives whether all of it passed. What it prints is shown line by line, or whole once it has ended; `started` is told
+        its process, and `heard` each line."""
         begun, lines = time.monotonic(), []
         if is_shown_at_once:
             self.say(part.name)
@@ -62,6 +63,8 @@ class Report:
                 started(process.pid)
             for line in process.stdout:
                 lines.append(line)
+                if heard:
+                    heard(line)
                 if is_shown_at_once:
                     with self.printing:
                         sys.stdout.write(line)

@@ -31,26 +31,31 @@ def is_below(process, top, parents):
     return False
 
 
-def part_of(process):
-    """Which part of the gate a process is: a crate's proof, its tests or its must-fail edits; or None."""
+def check_of(process):
+    """The words of a process that checks a crate, and the name of the folder that it runs in; or None."""
     words = words_of(process)
     if not words or os.path.basename(words[0]) != "rattle" or "--crate-name" not in words[:-1]:
         return None
-    crate = words[words.index("--crate-name") + 1]
     try:
-        folder = os.path.basename(os.readlink(f"/proc/{process}/cwd"))
+        return words, os.path.basename(os.readlink(f"/proc/{process}/cwd"))
     except OSError:
         return None
+
+
+def part_of(words, folder):
+    """Which part of the gate a check is: a crate's proof, its tests or its must-fail edits."""
+    crate = words[words.index("--crate-name") + 1]
     kind = "must-fail edits" if folder.startswith("rt-edit-") else "tests" if "--test" in words else "proof"
     return f"the gate: {crate}, {kind}"
 
 
 class Watch(threading.Thread):
-    """Looks at what a process has started until it is told to end, and counts the seconds in which each part of the gate was at work."""
+    """Looks at what a process has started until it is told to end, and counts the seconds in which each part of the gate was at work.
+    Each check that is at work is told to `seen`."""
 
-    def __init__(self, process):
+    def __init__(self, process, seen):
         super().__init__(daemon=True)
-        self.top, self.seconds, self.is_over = str(process), {}, threading.Event()
+        self.top, self.seen, self.seconds, self.is_over = str(process), seen, {}, threading.Event()
         self.start()
 
     def run(self):
@@ -63,8 +68,10 @@ class Watch(threading.Thread):
 
     def at_work(self):
         parents = {it: parent_of(it) for it in os.listdir("/proc") if it.isdigit()}
-        found = {part_of(it) for it in parents if is_below(it, self.top, parents)}
-        return found - {None}
+        found = [check_of(it) for it in parents if is_below(it, self.top, parents)]
+        for it in filter(None, found):
+            self.seen(*it)
+        return {part_of(*it) for it in found if it}
 
     def end(self):
         self.is_over.set()

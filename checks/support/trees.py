@@ -11,7 +11,10 @@ import time
 from dataclasses import dataclass
 from typing import Iterator
 
+from support import prover
+
 PARTS = ("src", "specs", "proofs")
+KEPT = "out/incremental"
 RUNNING: set[int] = set()  # the commands that run, by their process ids
 
 
@@ -29,7 +32,7 @@ class Ran:
 def run(words: list[str], folder: str, limit: float) -> Ran:
     """Runs a command to its end, or for at most `limit` seconds."""
     with tempfile.TemporaryFile("w+", errors="replace") as out:
-        how = {"cwd": folder, "stdin": subprocess.DEVNULL, "stdout": out, "stderr": subprocess.STDOUT}
+        how = {"cwd": folder, "stdin": subprocess.DEVNULL, "stdout": out, "stderr": subprocess.STDOUT, "process_group": 0}
         started = subprocess.Popen(words, **how)
         began, is_late, pid = time.monotonic(), False, 0
         RUNNING.add(started.pid)
@@ -38,12 +41,11 @@ def run(words: list[str], folder: str, limit: float) -> Ran:
                 pid, status, used = os.wait4(started.pid, os.WNOHANG)
                 if not pid and time.monotonic() - began > limit and not is_late:
                     is_late = True
-                    # (what rt has started ends with it)
-                    os.kill(started.pid, signal.SIGKILL)
+                    kill(started.pid)
                 time.sleep(0 if pid else 0.1)
         finally:
             if not pid:
-                os.kill(started.pid, signal.SIGKILL)
+                kill(started.pid)
                 os.waitpid(started.pid, 0)
             RUNNING.discard(started.pid)
             started.returncode = 0
@@ -51,11 +53,16 @@ def run(words: list[str], folder: str, limit: float) -> Ran:
         return Ran(os.waitstatus_to_exitcode(status), out.read(), used.ru_utime + used.ru_stime, time.monotonic() - began, is_late)
 
 
+def kill(process: int) -> None:
+    """Ends a command that `run` started, and what it has started in turn."""
+    with contextlib.suppress(OSError):
+        os.killpg(process, signal.SIGKILL)
+
+
 def stop_all() -> None:
-    """Ends each command that runs, and with it all that it started."""
+    """Ends each command that runs."""
     for pid in [*RUNNING]:
-        with contextlib.suppress(OSError):
-            os.kill(pid, signal.SIGKILL)
+        kill(pid)
 
 
 def name_in(line: str) -> str:
@@ -63,34 +70,46 @@ def name_in(line: str) -> str:
     return (line.partition("#")[0].partition(":")[0].split() or [""])[0]
 
 
-def crates_in(root: str) -> dict[str, list[str]]:
-    """The crates that crates.txt lists, each with those of them that it stands on directly."""
+def named_in(root: str) -> dict[str, list[str]]:
+    """The crates that crates.txt lists, each with the libraries that it names, its own and the kit's."""
     with open(f"{root}/crates.txt", encoding="utf-8") as it:
         lines = it.read().split("\n")
-    found = {name_in(it): it.partition("#")[0].partition(":")[2].split() for it in lines if name_in(it)}
-    return {name: [it for it in deps if it in found] for name, deps in found.items()}
+    return {name_in(it): it.partition("#")[0].partition(":")[2].split() for it in lines if name_in(it)}
+
+
+def crates_in(root: str) -> dict[str, list[str]]:
+    """The crates that crates.txt lists, each with those of them that it stands on directly."""
+    found = named_in(root)
+    return {name: [it for it in libraries if it in found] for name, libraries in found.items()}
 
 
 class Trees:
-    """Copies of the crates that are needed, as they are and as they are proved: each in a folder of its own with the crates below it, since
-    two runs of rt in one folder would wait for one another. A crate is proved with the texts that are given for it in place of its own."""
+    """Copies of the crates that are needed, as they are and as they are proved, and the libraries of those that others stand on.
 
-    def __init__(self, root: str, folder: str, texts: dict[str, dict[str, str]], limit: float) -> None:
-        self.root, self.folder, self.limit = root, folder, limit
-        direct = crates_in(root)
+    Where a gate runs beside, its libraries are taken as it hands them on, and what its must-fail edits' checks kept. Else each crate is proved
+    and built in a folder of its own with the crates below it, since two runs of rt in one folder would wait for one another. A crate is proved
+    with the texts that are given for it in place of its own."""
+
+    def __init__(self, root: str, folder: str, texts: dict[str, dict[str, str]], limit: float, gate: str) -> None:
+        self.root, self.folder, self.texts, self.limit, self.gate = root, folder, texts, limit, gate
+        self.named, self.direct = named_in(root), crates_in(root)
         self.below: dict[str, list[str]] = {}
-        for name in direct:
-            self.add_below(name, direct)
-        needed = {*texts, *(it for name in texts for it in self.below[name])}
+        for name in self.direct:
+            self.add_below(name)
+        needed = {*texts} if gate else {*texts, *(it for name in texts for it in self.below[name])}
         self.needed = [it for it in self.below if it in needed]
         self.lines = {it: lines_below(f"{root}/crates/{it}/src") for it in self.needed}
+        self.libraries: dict[str, str] = {}  # the folders with the libraries that there are
+        self.unproved: set[str] = set()  # the crates that turned out not to be proved
+        self.awaited = {it for it in self.needed if gate and self.has_kept_edits(it)}  # those whose proof the gate keeps
         for name in self.needed:
             for part in PARTS:
                 copy_folder(f"{root}/crates/{name}/{part}", f"{self.plain(name)}/{part}")
         for name in self.needed:
-            for it in (*self.below[name], name):
+            together = [name] if gate else [*self.below[name], name]
+            for it in together:
                 self.put_sources(it, f"{self.home(name)}/crates/{it}", texts.get(it, {}))
-            self.put_files(self.home(name), [*self.below[name], name])
+            self.put_files(self.home(name), together)
 
     def plain(self, name: str) -> str:
         """The folder with a crate as it is."""
@@ -117,11 +136,11 @@ class Trees:
         if os.path.isfile(f"{self.root}/HANDLES"):
             shutil.copyfile(f"{self.root}/HANDLES", f"{top}/HANDLES")
 
-    def add_below(self, name: str, direct: dict[str, list[str]]) -> None:
+    def add_below(self, name: str) -> None:
         if name not in self.below:
-            for it in direct[name]:
-                self.add_below(it, direct)
-            self.below[name] = [*dict.fromkeys(it for dep in direct[name] for it in (*self.below[dep], dep))]
+            for it in self.direct[name]:
+                self.add_below(it)
+            self.below[name] = [*dict.fromkeys(it for dep in self.direct[name] for it in (*self.below[dep], dep))]
 
     def behind(self, name: str) -> int:
         """How long the longest way is from a crate up to one on which nothing stands, in lines."""
@@ -143,33 +162,66 @@ class Trees:
             shutil.rmtree(to, ignore_errors=True)
         return False
 
+    def take_handed(self) -> None:
+        """Takes what the gate has handed on since; once it is over, what it hasn't proved counts as not proved."""
+        is_over = os.path.isfile(f"{self.gate}/over") or not os.path.isdir(self.gate)
+        for name in self.direct:
+            if os.path.isdir(f"{self.gate}/{name}/rlib"):
+                self.libraries[name] = f"{self.gate}/{name}/rlib"
+            elif is_over:
+                self.unproved.add(name)
+            if is_over or os.path.isdir(f"{self.gate}/{name}/{KEPT}"):
+                self.awaited.discard(name)
+
+    def is_ready(self, name: str) -> bool:
+        """Whether a crate can be proved now: the libraries below it are there, and nothing else that a gate will hand on."""
+        return name not in self.awaited and all(it in self.libraries for it in self.below[name])
+
+    def is_lost(self, name: str) -> bool:
+        """Whether a crate below is not proved, so that this one never can be."""
+        return any(it in self.unproved for it in self.below[name])
+
+    def has_kept_edits(self, name: str) -> bool:
+        """Whether the gate keeps the crate's proof, for the second of its must-fail edits."""
+        folder = f"{self.root}/crates/{name}/must-fail"
+        return os.path.isdir(folder) and sum(it.endswith(".edit") for it in os.listdir(folder)) > 1
+
     def prove(self, name: str, jobs: int) -> Ran:
-        """Proves a crate, and builds it where others stand on it. The crates below must be proved already."""
-        above = [it for it in self.needed if name in self.below[it]]
+        """Proves a crate, and builds it where others stand on it and no gate does. It must be ready."""
         home = f"{self.home(name)}/crates/{name}"
+        if self.gate:
+            copy_folder(f"{self.gate}/{name}/{KEPT}", f"{home}/{KEPT}", is_linked=True)
+            return run(self.words(name, home, jobs), home, self.limit)
+        above = [it for it in self.needed if name in self.below[it]]
         is_library = above or os.path.isfile(f"{home}/out/rlib/stamp")
         ran = run(["rt", "lib" if is_library else "check", "--jobs", str(jobs)], home, self.limit)
-        if not ran.status:
+        if ran.status:
+            self.unproved.add(name)
+        else:
             for it in above:
                 copy_folder(f"{home}/out/rlib", f"{self.home(it)}/crates/{name}/out/rlib", is_linked=True)
+            self.libraries[name] = f"{home}/out/rlib"
         return ran
+
+    def words(self, name: str, folder: str, jobs: int) -> list[str]:
+        """The words of a check of a crate that lies in a folder."""
+        of_kit = [it for it in self.named[name] if it not in self.named]
+        root = "src/main.rt" if os.path.isfile(f"{folder}/src/main.rt") else "src/lib.rt"
+        return prover.check(name, of_kit, self.direct[name], {it: self.libraries[it] for it in self.below[name]}, root, jobs)
 
     @contextlib.contextmanager
     def room(self, name: str, texts: dict[str, str]) -> Iterator[str]:
-        """A copy of a crate with these texts, of what its proof kept, and of the crates below it: its folder. It is gone afterwards."""
-        with tempfile.TemporaryDirectory(prefix=f"{name}-", dir=self.folder) as top:
-            for it in self.below[name]:
-                for part in (*PARTS, "out/rlib"):
-                    copy_folder(f"{self.home(name)}/crates/{it}/{part}", f"{top}/crates/{it}/{part}", is_linked=True)
-            self.put_sources(name, f"{top}/crates/{name}", texts)
-            copy_folder(f"{self.home(name)}/crates/{name}/out/incremental", f"{top}/crates/{name}/out/incremental")
-            self.put_files(top, [name, *self.below[name]])
-            yield f"{top}/crates/{name}"
+        """A copy of a crate with these texts, and of what its proof kept: its folder. It is gone afterwards."""
+        with tempfile.TemporaryDirectory(prefix=f"{name}-", dir=self.folder) as folder:
+            self.put_sources(name, folder, texts)
+            # (the prover puts a new file in the place of one that it changes, so links are as good as copies)
+            copy_folder(f"{self.home(name)}/crates/{name}/{KEPT}", f"{folder}/{KEPT}", is_linked=True)
+            yield folder
 
     def check(self, name: str, texts: dict[str, str], jobs: int) -> Ran:
         """Checks a crate with these texts in place of its own, over what its proof kept."""
         with self.room(name, texts) as folder:
-            return run(["rt", "check", "--jobs", str(jobs)], folder, self.limit)
+            return run(self.words(name, folder, jobs), folder, self.limit)
 
 
 def lines_below(folder: str) -> int:

@@ -1,5 +1,6 @@
 """One run over crates: the proof of each with its right bodies, and the rounds of its wrong bodies over it, several checks side by side."""
 import os
+import time
 from concurrent.futures import FIRST_COMPLETED, Future, ThreadPoolExecutor, wait
 from dataclasses import dataclass, field
 from functools import partial
@@ -12,8 +13,8 @@ from support.trees import Ran, Trees
 from support.verdicts import Output, read_output
 
 
-# How many processors one check can use.
-MOST_JOBS = 4
+# How many processors one check can use, and after how many seconds a gate beside is looked at again.
+MOST_JOBS, LOOK = 4, 1.0
 
 
 def say(text: str) -> None:
@@ -85,13 +86,11 @@ class Turn:
 class Trial:
     """One run over the crates: the proof of each, which is its control too, and then its rounds, up to `jobs` side by side.
 
-    Threads only run checks; what these say is judged as they end, in one place."""
+    Threads only run checks; what these say is judged as they end, in one place. Where a gate runs beside, crates wait for what it hands on."""
 
     def __init__(self, crates: list[Crate], trees: Trees, jobs: int, logs: str) -> None:
         self.crates = {it.name: it for it in crates}
         self.trees, self.jobs, self.logs = trees, jobs, logs
-        self.proved: set[str] = set()
-        self.lost: set[str] = set()
         self.unproved = list(trees.needed)
         self.waiting: list[Turn] = []
         self.running: dict["Future[Ran]", tuple[int, Callable[[Ran], None]]] = {}
@@ -99,8 +98,10 @@ class Trial:
 
     def run(self) -> None:
         with ThreadPoolExecutor(self.jobs) as pool:
-            while self.start(pool):
-                for it in wait(self.running, return_when=FIRST_COMPLETED).done:
+            while self.start(pool) or self.unproved:
+                if not self.running:
+                    time.sleep(LOOK)
+                for it in wait(self.running, LOOK, FIRST_COMPLETED).done:
                     ran = it.result()
                     self.seconds += ran.seconds
                     self.running.pop(it)[1](ran)
@@ -110,11 +111,12 @@ class Trial:
 
     def start(self, pool: ThreadPoolExecutor) -> bool:
         """Starts what can be started, proofs first, those first for which most is waiting; says whether anything runs."""
-        for name in self.unproved[:]:
-            if any(it in self.lost for it in self.trees.below[name]):
-                self.unproved.remove(name)
-                self.lose(name, "a crate below it is not proved")
-        ready = [it for it in self.unproved if all(below in self.proved for below in self.trees.below[it])]
+        if self.trees.gate:
+            self.trees.take_handed()
+        for name in [it for it in self.unproved if self.trees.is_lost(it)]:
+            self.unproved.remove(name)
+            self.lose(name, "a crate below it is not proved")
+        ready = [it for it in self.unproved if self.trees.is_ready(it)]
         ready.sort(key=self.trees.behind, reverse=True)
         for at, name in enumerate(ready):
             if self.idle() > 0:
@@ -123,8 +125,8 @@ class Trial:
                 future = pool.submit(self.trees.prove, name, jobs)
                 self.running[future] = jobs, partial(self.after_proof, name)
         self.waiting.sort(key=lambda it: it.cost * self.trees.lines[it.crate.name], reverse=True)
-        # (as long as proofs are to come, they find a processor free)
-        kept_free = 1 if self.unproved and self.jobs > 1 else 0
+        # (as long as proofs are to come that others wait for, they find a processor free)
+        kept_free = 1 if self.unproved and self.jobs > 1 and not self.trees.gate else 0
         while self.waiting and self.idle() > kept_free:
             # (at the end the long ones share the processors that nothing else waits for)
             jobs = 1 if self.unproved else min(MOST_JOBS, max(1, self.idle() // len(self.waiting)))
@@ -134,7 +136,6 @@ class Trial:
         return bool(self.running)
 
     def lose(self, name: str, why: str) -> None:
-        self.lost.add(name)
         if name in self.crates:
             self.crates[name].failures.append(f"{name}: nothing was tried: {why}")
 
@@ -155,9 +156,8 @@ class Trial:
             self.judge_proof(crate, ran)
         if ran.status:
             errors = [it for it in ran.output.split("\n") if it.startswith(("error", "rt:")) or "not proved" in it]
-            self.lose(name, f"the crate itself{what} is not proved: {' | '.join(errors[:3])[:400]}")
-        else:
-            self.proved.add(name)
+            late = [f"stopped after {ran.wall / 60:.0f} minutes, the most that a check may take (--minutes)"] if ran.is_late else []
+            self.lose(name, f"the crate itself{what} is not proved: {' | '.join([*late, *errors][:3])[:400]}")
 
     def judge_proof(self, crate: Crate, ran: Ran) -> None:
         output = read_output(ran.output)
