@@ -138,6 +138,8 @@ with subprocess.Popen([ran.BUILT, "serve"], stdin=subprocess.PIPE, stdout=subpro
     process.stdin.close()
     same("a closed output", ended(process), (1, b"failed: Write\n"))
 
+# (what a shell starts behind an & ignores interrupts, and so does what that starts)
+signal.signal(signal.SIGINT, signal.SIG_DFL)
 with Client(["--workers", "8"]) as it:
     it.send(UNKNOWN)
     it.receive()
