@@ -91,7 +91,7 @@ class Trees:
     with the texts that are given for it in place of its own."""
 
     def __init__(self, root: str, folder: str, texts: dict[str, dict[str, str]], limit: float, gate: str) -> None:
-        self.root, self.folder, self.texts, self.limit, self.gate = root, folder, texts, limit, gate
+        self.root, self.folder, self.limit, self.gate = root, folder, limit, gate
         self.named, self.direct = named_in(root), crates_in(root)
         self.below: dict[str, list[str]] = {}
         for name in self.direct:

@@ -120,7 +120,8 @@ class Trial:
         ready.sort(key=self.trees.behind, reverse=True)
         for at, name in enumerate(ready):
             if self.idle() > 0:
-                jobs = max(1, self.idle() // (len(ready) - at))
+                # (several jobs take more of the processors, for which a gate beside has work)
+                jobs = 1 if self.trees.gate else max(1, self.idle() // (len(ready) - at))
                 self.unproved.remove(name)
                 future = pool.submit(self.trees.prove, name, jobs)
                 self.running[future] = jobs, partial(self.after_proof, name)
