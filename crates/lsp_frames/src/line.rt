@@ -8,14 +8,14 @@ use crate::field::{field_of, is_named, length_of};
 use crate::frame::FrameFault;
 
 /// What the lines of a head have said so far.
-#[derive(Clone, Copy, Debug, PartialEq, Eq)]
+#[derive(Clone, Copy, Debug)]
 pub(crate) struct Fields {
     pub(crate) content_length: Option<u32>,
     pub(crate) foreign: bool,
 }
 
 /// What a line says once its LF has come.
-#[derive(Clone, Copy, Debug, PartialEq, Eq)]
+#[derive(Clone, Copy)]
 pub(crate) enum Line {
     /// The head goes on, with these fields.
     More(Fields),
