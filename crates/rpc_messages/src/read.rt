@@ -130,8 +130,17 @@ fn entry_from(
     }
 }
 
-fn read_message(alloc: Global, envelope: Envelope<'_>) -> Result<Entry, AllocError>
+fn read_message(alloc: Global, mut envelope: Envelope<'_>) -> Result<Entry, AllocError>
     ensures { IfOk result (λ e. entry_seen e ≡ message_in (envelope_view envelope.entry)) }
+{
+    let entry = take_message(alloc, &mut envelope);
+    drop(envelope);
+    entry
+}
+
+/// The message of an envelope, whose members it takes.
+fn take_message(alloc: Global, envelope: &mut Envelope<'_>) -> Result<Entry, AllocError>
+    ensures { IfOk result (λ e. entry_seen e ≡ message_in (envelope_view envelope.old)) }
 {
     if envelope.method.is_some() {
         call::read_call(alloc, envelope)

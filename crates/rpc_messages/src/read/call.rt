@@ -21,9 +21,9 @@ use std::alloc::{AllocError, Global};
 use std::sync::Arc;
 
 /// An object with a member `method`: a call, or an invalid entry.
-pub(super) fn read_call(alloc: Global, envelope: Envelope<'_>) -> Result<Entry, AllocError>
+pub(super) fn read_call(alloc: Global, envelope: &mut Envelope<'_>) -> Result<Entry, AllocError>
     ensures { IfOk result
-        (λ e. entry_seen e ≡ call_or_invalid (call_in (envelope_view envelope.entry))) }
+        (λ e. entry_seen e ≡ call_or_invalid (call_in (envelope_view envelope.old))) }
 {
     let Some((id, method, params)) = read_parts(alloc, envelope)? else {
         return Ok(Entry::Invalid);
@@ -41,28 +41,21 @@ pub(super) fn read_call(alloc: Global, envelope: Envelope<'_>) -> Result<Entry, 
 /// The id, the method and the params of a call.
 fn read_parts(
     alloc: Global,
-    envelope: Envelope<'_>,
+    envelope: &mut Envelope<'_>,
 ) -> Result<Option<(Option<Id>, Text, Params)>, AllocError>
     ensures { IfOk result (λ parts. option_map (λ p. call_with p.0 p.1 p.2) parts
-        ≡ call_in (envelope_view envelope.entry)) }
+        ≡ call_in (envelope_view envelope.old)) }
 {
-    let Envelope {
-        version,
-        method,
-        params,
-        id,
-        ..
-    } = envelope;
-    if !is_version_2(&version) {
+    if !is_version_2(&envelope.version) {
         return Ok(None);
     }
-    let Some(method) = read_method(alloc, method)? else {
+    let Some(method) = read_method(alloc, envelope.method.take())? else {
         return Ok(None);
     };
-    let Some(params) = read_params(params) else {
+    let Some(params) = read_params(envelope.params.take()) else {
         return Ok(None);
     };
-    let Some(id) = read_call_id(alloc, id)? else {
+    let Some(id) = read_call_id(alloc, envelope.id.take())? else {
         return Ok(None);
     };
     Ok(Some((id, method, params)))

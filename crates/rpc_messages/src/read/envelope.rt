@@ -41,11 +41,35 @@ pub(super) fn read_envelope<'a>(
         (members (value depth) (length reader.old) reader.old) ≡ None }
 {
     let mut envelope = empty();
-    'members: while let Some(name) = reader.next_key()? {
-        let member = read_piece(alloc, reader, depth)?;
-        keep(&mut envelope, name, member);
+    if let Err(fault) = read_members(alloc, reader, depth, &mut envelope) {
+        drop(envelope);
+        return Err(fault);
     }
     Ok(envelope)
+}
+
+/// Reads the members into an envelope that is empty so far.
+fn read_members<'a>(
+    alloc: Global,
+    reader: &mut Reader<'a>,
+    depth: usize,
+    envelope: &mut Envelope<'a>,
+) -> Result<(), ReadFault>
+    requires { envelope_view envelope.old ≡ envelope_of no_members }
+    ensures ok { OnOk result ((ms : Members)
+        × (converted (λ js. of_members js no_members)
+        (members (value depth) (length reader.old) reader.old) ≡ Some (ms, reader.new))
+        × (envelope_view envelope.new ≡ envelope_of ms)) }
+    ensures shorter { OnOk result (length reader.new < length reader.old) }
+    ensures refused { result ≡ Err Refused
+        → converted (λ js. of_members js no_members)
+        (members (value depth) (length reader.old) reader.old) ≡ None }
+{
+    'members: while let Some(name) = reader.next_key()? {
+        let member = read_piece(alloc, reader, depth)?;
+        keep(envelope, name, member);
+    }
+    Ok(())
 }
 
 fn empty<'a>() -> Envelope<'a>
@@ -67,16 +91,24 @@ fn keep<'a>(envelope: &mut Envelope<'a>, name: &str, member: Piece<'a>)
         ≡ with_member name.now (piece_view member.entry) (envelope_view envelope.old) }
 {
     if name == "jsonrpc" {
-        envelope.version = Some(member);
+        put(&mut envelope.version, member);
     } else if name == "method" {
-        envelope.method = Some(member);
+        put(&mut envelope.method, member);
     } else if name == "params" {
-        envelope.params = Some(member);
+        put(&mut envelope.params, member);
     } else if name == "id" {
-        envelope.id = Some(member);
+        put(&mut envelope.id, member);
     } else if name == "result" {
-        envelope.result = Some(member);
+        put(&mut envelope.result, member);
     } else if name == "error" {
-        envelope.error = Some(member);
+        put(&mut envelope.error, member);
+    } else {
+        drop(member);
     }
+}
+
+fn put<'a>(place: &mut Option<Piece<'a>>, member: Piece<'a>)
+    ensures { place.new ≡ Some member.entry }
+{
+    *place = Some(member);
 }

@@ -21,11 +21,11 @@ use serde_json::Value;
 use std::alloc::{AllocError, Global};
 
 /// An object with a member `result` or `error` and none `method`.
-pub(super) fn read_reply(alloc: Global, envelope: Envelope<'_>) -> Result<Entry, AllocError>
-    ensures { let e = envelope_view envelope.entry in
+pub(super) fn read_reply(alloc: Global, envelope: &mut Envelope<'_>) -> Result<Entry, AllocError>
+    ensures { let e = envelope_view envelope.old in
         IfOk result (λ entry. entry_seen entry ≡ reply_or_stray (reply_key e) (reply_in e)) }
 {
-    let Some((number, turn)) = key(&envelope) else {
+    let Some((number, turn)) = key(envelope) else {
         return Ok(Entry::Stray);
     };
     Ok(Entry::Reply {
@@ -41,20 +41,14 @@ fn key(envelope: &Envelope<'_>) -> Option<(u32, u32)>
     read_key(envelope.id.as_ref()?.as_str()?)
 }
 
-fn read_outcome(alloc: Global, envelope: Envelope<'_>) -> Result<Reply, AllocError>
-    ensures { IfOk result (λ reply. reply ≡ reply_in (envelope_view envelope.entry)) }
+fn read_outcome(alloc: Global, envelope: &mut Envelope<'_>) -> Result<Reply, AllocError>
+    ensures { IfOk result (λ reply. reply ≡ reply_in (envelope_view envelope.old)) }
 {
-    let Envelope {
-        version,
-        result,
-        error,
-        ..
-    } = envelope;
-    if !is_version_2(&version) {
+    if !is_version_2(&envelope.version) {
         return Ok(Reply::Standard(Standard::InvalidReply));
     }
-    let error = not_null(owned(alloc, error)?);
-    let answer = owned(alloc, result)?;
+    let error = not_null(owned(alloc, envelope.error.take())?);
+    let answer = owned(alloc, envelope.result.take())?;
     Ok(outcome(error, answer).unwrap_or(Reply::Standard(Standard::InvalidReply)))
 }
 

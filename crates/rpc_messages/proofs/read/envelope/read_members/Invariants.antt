@@ -4,7 +4,7 @@ use Rattle.serde_json.specs.Data.{Members, no_members}
 use Rattle.serde_json.specs.Read.{of_members, converted}
 use Rattle.rpc_messages.specs.Envelope.{envelope_of}
 use Rattle.rpc_messages.specs.Held.{envelope_view}
-use Rattle.rpc_messages.proofs.read.envelope.read_envelope.Given as goal
+use Rattle.rpc_messages.proofs.read.envelope.read_members.Given as goal
 
 abbrev pub invariant-members : goal.invariant-members
 invariant-members l =

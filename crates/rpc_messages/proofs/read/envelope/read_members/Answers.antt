@@ -6,10 +6,10 @@ use Rattle.json_reading.proofs.Reading.{member_read, member_refused, key_refused
 use Rattle.serde_json.specs.Data.{no_members, put}
 use Rattle.rpc_messages.specs.Held.{with_member}
 use Rattle.rpc_messages.proofs.Envelopes.{envelope_of-put}
-use Rattle.rpc_messages.proofs.read.envelope.read_envelope.Goals as goal
+use Rattle.rpc_messages.proofs.read.envelope.read_members.Goals as goal
 
 pub members-init : goal.members-init
-members-init c = (length c.args.reader.now, no_members, omega arith, refl, c.empty-envelope.ensures, omega arith)
+members-init c = (length c.args.reader.now, no_members, omega arith, refl, c.requires, omega arith)
 
 pub returns-in_err-name-clause-refused : goal.returns-in_err-name-clause-refused
 returns-in_err-name-clause-refused c refused =
