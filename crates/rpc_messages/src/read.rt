@@ -34,10 +34,11 @@ pub(crate) fn read_text(alloc: Global, text: &str, scratch: &mut Scratch) -> Res
 {
     let mut reader = Reader::new(text, scratch)?;
     let unit = read_whole(alloc, &mut reader)?;
-    match reader.next() {
-        Some(_) => Err(ReadFault::Refused),
-        None => Ok(unit),
+    if reader.next().is_some() {
+        drop(unit);
+        return Err(ReadFault::Refused);
     }
+    Ok(unit)
 }
 
 fn read_whole(alloc: Global, reader: &mut Reader<'_>) -> Result<Unit, ReadFault>

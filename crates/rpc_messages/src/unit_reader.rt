@@ -51,6 +51,8 @@ impl UnitReader {
         let unit = read_text(self.alloc, text, &mut scratch);
         if content.len() <= KEPT_ROOM {
             self.scratch = Some(scratch);
+        } else {
+            drop(scratch);
         }
         match unit {
             Ok(unit) => Ok(unit),

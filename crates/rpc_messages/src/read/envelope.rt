@@ -90,20 +90,14 @@ fn keep<'a>(envelope: &mut Envelope<'a>, name: &str, member: Piece<'a>)
     ensures { envelope_view envelope.new
         ≡ with_member name.now (piece_view member.entry) (envelope_view envelope.old) }
 {
-    if name == "jsonrpc" {
-        put(&mut envelope.version, member);
-    } else if name == "method" {
-        put(&mut envelope.method, member);
-    } else if name == "params" {
-        put(&mut envelope.params, member);
-    } else if name == "id" {
-        put(&mut envelope.id, member);
-    } else if name == "result" {
-        put(&mut envelope.result, member);
-    } else if name == "error" {
-        put(&mut envelope.error, member);
-    } else {
-        drop(member);
+    match name {
+        "jsonrpc" => put(&mut envelope.version, member),
+        "method" => put(&mut envelope.method, member),
+        "params" => put(&mut envelope.params, member),
+        "id" => put(&mut envelope.id, member),
+        "result" => put(&mut envelope.result, member),
+        "error" => put(&mut envelope.error, member),
+        _ => drop(member),
     }
 }
 
