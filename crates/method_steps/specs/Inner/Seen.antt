@@ -7,6 +7,8 @@ use Rattle.method_steps.specs.declared.read.parts.Parts.{Parts}
 use Rattle.method_steps.specs.declared.read.parts.Parts.TheVariants as parts
 use Rattle.method_steps.specs.declared.step.ListedCall.{ListedCall}
 use Rattle.method_steps.specs.declared.step.Step.TheVariants as step
+use Rattle.toml.specs.Data.{Items}
+use Rattle.method_steps.specs.Judged.{last_fault}
 use Rattle.method_steps.specs.Steps.{Step}
 
 abbrev pub seen_call : Call → ListedCall
@@ -27,6 +29,14 @@ seen (parts.Fail code message) = step.Fail code message.now
 -- the fault is that of a rule of registers that is broken, or tells of memory
 abbrev pub Breaks : Bool → FaultKind → Type 0
 Breaks kept f = f ≢ fault.Memory → (kept ≡ false) × (f ≡ fault.Register)
+
+-- the step is the one that is said, which keeps the rules of registers and codes after the steps before it
+abbrev pub IsMade : Items → Step → Step → Type 0
+IsMade earlier said made = (made ≡ said) × (last_fault earlier said ≡ None)
+
+-- the fault is that of such a rule that is broken, or tells of memory
+abbrev pub IsRefused : Items → Step → FaultKind → Type 0
+IsRefused earlier said f = f ≢ fault.Memory → last_fault earlier said ≡ Some f
 
 -- of a template, whether it is at most so many levels deep; none where it is no template
 abbrev pub within_if : Bool → ℕ → ℕ → Option Bool

@@ -2,7 +2,7 @@
 
 ghost use Rattle.std.specs.Prelude.{◌≡◌, option_map};
 ghost use Rattle.toml.specs.View.{view, table_view};
-ghost use Rattle.method_steps.specs.Fields.{template_at, count_at, on_error_in, on_error_at, step_in};
+ghost use Rattle.method_steps.specs.Fields.{template_at, count_at, on_error_in, on_error_at, said_by, step_in};
 ghost use Rattle.method_steps.specs.Limits.{is_count, is_step_within};
 ghost use Rattle.method_steps.specs.Inner.Seen.{seen};
 
@@ -65,43 +65,85 @@ pub(crate) fn parts_of<'a>(kind: Kind, step: &'a Table) -> Option<Parts<'a>>
         return None;
     }
     match kind {
-        Kind::Set => Some(Parts::Set {
-            to: text_at(step, "to")?,
-            value: source_at(step, "value")?,
-        }),
-        Kind::Add => Some(Parts::Add {
-            to: text_at(step, "to")?,
-            left: source_at(step, "left")?,
-            right: source_at(step, "right")?,
-        }),
-        Kind::Skip => Some(Parts::Skip {
-            left: source_at(step, "left")?,
-            right: source_at(step, "right")?,
-            count: count_at(step)?,
-        }),
-        Kind::Call => Some(Parts::Call {
-            to: text_at(step, "to")?,
-            call: Call::of(step)?,
-            on_error: on_error_at(step)?,
-        }),
-        Kind::Calls => Some(Parts::Calls {
-            to: text_at(step, "to")?,
-            list: CallList::of(member(step, "list")?)?,
-            on_error: on_error_at(step)?,
-        }),
-        Kind::Each => Some(Parts::Each {
-            to: text_at(step, "to")?,
-            over: source_at(step, "over")?,
-            method: text_at(step, "method")?,
-            on_error: on_error_at(step)?,
-        }),
-        Kind::Notify => Some(Parts::Notify(Call::of(step)?)),
-        Kind::Answer => Some(Parts::Answer(source_at(step, "value")?)),
-        Kind::Fail => Some(Parts::Fail {
-            code: integer_at(step, "code")?,
-            message: text_at(step, "message")?,
-        }),
+        Kind::Set => set_of(step),
+        Kind::Add => add_of(step),
+        Kind::Skip => skip_of(step),
+        Kind::Call => call_of(step),
+        Kind::Calls => calls_of(step),
+        Kind::Each => each_of(step),
+        Kind::Notify => Call::of(step).map(Parts::Notify),
+        Kind::Answer => source_at(step, "value").map(Parts::Answer),
+        Kind::Fail => fail_of(step),
     }
+}
+
+fn set_of(step: &Table) -> Option<Parts<'_>>
+    ensures { option_map seen result ≡ said_by Kind.Set (table_view step.now) }
+{
+    Some(Parts::Set {
+        to: text_at(step, "to")?,
+        value: source_at(step, "value")?,
+    })
+}
+
+fn add_of(step: &Table) -> Option<Parts<'_>>
+    ensures { option_map seen result ≡ said_by Kind.Add (table_view step.now) }
+{
+    Some(Parts::Add {
+        to: text_at(step, "to")?,
+        left: source_at(step, "left")?,
+        right: source_at(step, "right")?,
+    })
+}
+
+fn skip_of(step: &Table) -> Option<Parts<'_>>
+    ensures { option_map seen result ≡ said_by Kind.Skip (table_view step.now) }
+{
+    Some(Parts::Skip {
+        left: source_at(step, "left")?,
+        right: source_at(step, "right")?,
+        count: count_at(step)?,
+    })
+}
+
+fn call_of(step: &Table) -> Option<Parts<'_>>
+    ensures { option_map seen result ≡ said_by Kind.Call (table_view step.now) }
+{
+    Some(Parts::Call {
+        to: text_at(step, "to")?,
+        call: Call::of(step)?,
+        on_error: on_error_at(step)?,
+    })
+}
+
+fn calls_of(step: &Table) -> Option<Parts<'_>>
+    ensures { option_map seen result ≡ said_by Kind.Calls (table_view step.now) }
+{
+    Some(Parts::Calls {
+        to: text_at(step, "to")?,
+        list: CallList::of(member(step, "list")?)?,
+        on_error: on_error_at(step)?,
+    })
+}
+
+fn each_of(step: &Table) -> Option<Parts<'_>>
+    ensures { option_map seen result ≡ said_by Kind.Each (table_view step.now) }
+{
+    Some(Parts::Each {
+        to: text_at(step, "to")?,
+        over: source_at(step, "over")?,
+        method: text_at(step, "method")?,
+        on_error: on_error_at(step)?,
+    })
+}
+
+fn fail_of(step: &Table) -> Option<Parts<'_>>
+    ensures { option_map seen result ≡ said_by Kind.Fail (table_view step.now) }
+{
+    Some(Parts::Fail {
+        code: integer_at(step, "code")?,
+        message: text_at(step, "message")?,
+    })
 }
 
 fn source_at<'a>(step: &'a Table, name: &str) -> Option<Source<'a>>
