@@ -235,17 +235,14 @@ pub noted : (s between after : Core) (n : ℕ) (first last : Stage) → between 
 noted s between after n first last p q =
     q ∙ ap (λ (c : Core). with_stage c n last) p ∙ ap (λ l. record s { stages = l }) (set-again s.stages n first last)
 
-pub noted-idle : (s between after : Core) (n : ℕ) (h : HandlerState) (so_far result : ℕ) (messages : List Message) → between ≡ with_stage s n Failed
-    → after ≡ with_stage between n (Idle h result) → Idle h so_far ≡ stage_at s n → result ≡ max so_far (length messages) → messages ≡ h.messages
-    → after ≡ with_stage s n (written_stage (stage_at s n))
-noted-idle s between after n h so_far result messages p q is size same =
-    noted s between after n Failed (Idle h result) p q
-    ∙ ap (λ k. with_stage s n (Idle h k)) (size ∙ ap (λ l. max so_far (length l)) same)
-    ∙ ap (λ st. with_stage s n (written_stage st)) is
-
-pub noted-over : (s between after : Core) (n : ℕ) (h : HandlerState) (so_far : ℕ) → between ≡ with_stage s n Failed
-    → after ≡ with_stage between n Gone → Over h so_far ≡ stage_at s n → after ≡ with_stage s n (written_stage (stage_at s n))
-noted-over s between after n h so_far p q is = noted s between after n Failed Gone p q ∙ ap (λ st. with_stage s n (written_stage st)) is
+-- a number that fits its stage fits it once all is written
+pub written-fits : (desk : State) (n : ℕ) (stage : Stage) → StageFits desk n stage → StageFits desk n (written_stage stage)
+written-fits desk n Gone fits = tt
+written-fits desk n (Faulty error) fits = fits
+written-fits desk n (Idle h so_far) fits = fits
+written-fits desk n (Out so_far) fits = fits
+written-fits desk n (Over h so_far) fits = tt
+written-fits desk n Failed fits = tt
 
 pub done-noted : (core : Core) → slice_get (unwritten_numbers core) 0 ≡ None → ((n : ℕ) → StageFits core.desk n (stage_at core n)) → map written_stage core.stages ≡ core.stages
 done-noted core none fits =

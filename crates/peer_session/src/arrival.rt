@@ -21,7 +21,7 @@ use std::alloc::{AllocError, Global};
 use std::sync::Arc;
 
 /// What the desk and the stages keep of a unit.
-#[derive(Debug, Drop)]
+#[derive(Drop)]
 pub(crate) struct Arrival {
     pub(crate) shape: Shape,
     pub(crate) stages: Vec<Option<Box<Stage>>>,

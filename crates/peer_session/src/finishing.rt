@@ -22,6 +22,7 @@ fn over_or_gone(handler: Handler, written: usize) -> Stage
     if is_more_than(written, &handler) {
         Stage::Over(handler, written)
     } else {
+        drop(handler);
         Stage::Gone
     }
 }
@@ -39,7 +40,10 @@ pub(crate) fn take_idle(runs: &mut Runs, number: u32) -> Option<(Handler, usize)
     };
     match runs.replace(number, Stage::Failed) {
         Stage::Idle(handler, written) => Some((handler, written)),
-        _ => None,
+        other => {
+            drop(other);
+            None
+        }
     }
 }
 

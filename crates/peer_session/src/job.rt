@@ -2,6 +2,7 @@ ghost use Rattle.std.specs.Prelude.{◌≡◌, None};
 
 use handler_future::{Handler, Outcome};
 use job_slots::Turns;
+use std::mem;
 
 /// A handler that is out for a turn.
 #[derive(Debug, Drop)]
@@ -33,7 +34,8 @@ impl Turns for Job {
 
     /// One poll.
     fn turn(&mut self) {
-        self.outcome = self.handler.advance();
+        let outcome = self.handler.advance();
+        drop(mem::replace(&mut self.outcome, outcome));
         self.polls = self.polls.saturating_add(1);
     }
 }

@@ -1,19 +1,42 @@
-//! The entries of a unit, in their order.
+//! A unit is taken: its calls get numbers, and its entries are passed in their order.
 
 ghost use Rattle.rpc_messages.specs.declared.key.TheConstants.{MOST_NUMBERS};
-ghost use Rattle.std.specs.Prelude.{◌≡◌, ◌≤◌, ◌+◌, map};
+ghost use Rattle.std.specs.Prelude.{◌≡◌, ◌≤◌, ◌+◌, OnOk, OnErr, length, map};
 ghost use Rattle.rpc_messages.specs.Entry.{entry_seen};
 ghost use Rattle.rpc_messages.specs.Numbering.{numbers_in, numbers_of, unit_numbers, entries_in};
 ghost use Rattle.rpc_messages.specs.Unit.{unit_seen};
 ghost use Rattle.session_state.specs.Finishing.{fault_passed, Cancels};
-ghost use Rattle.session_state.specs.Taking.{PassesEntry, PassesEntries};
+ghost use Rattle.session_state.specs.Taking.{PassesEntry, PassesEntries, Takes};
 
 use crate::finishing::{cancel_requests, pass_fault};
 use crate::runs::Runs;
+use method_steps::Table;
 use rpc_messages::{Call, Entry, Unit, cancel_target};
+use std::alloc::{AllocError, Global};
+
+/// Opens a unit, and goes through its entries.
+pub(crate) fn take_unit(
+    runs: &mut Runs,
+    alloc: Global,
+    table: &Table,
+    unit: Unit,
+) -> Result<(), AllocError>
+    requires { length runs.old.stages + unit_numbers (unit_seen unit) ≤ MOST_NUMBERS + 1 }
+    ensures ok { OnOk result (Takes table.now runs.old (unit_seen unit) runs.new) }
+    ensures err { OnErr result (runs.new ≡ runs.old) }
+{
+    let first = runs.next_number();
+    if let Err(error) = runs.open(alloc, table, &unit) {
+        drop(unit);
+        return Err(error);
+    }
+    pass_unit(runs, first, unit);
+    runs.shrink();
+    Ok(())
+}
 
 /// Goes through the entries of a unit whose first call has the number `first`. Takes no memory.
-pub(crate) fn pass_unit(runs: &mut Runs, first: u32, unit: Unit)
+fn pass_unit(runs: &mut Runs, first: u32, unit: Unit)
     requires { first + unit_numbers (unit_seen unit) ≤ MOST_NUMBERS + 1 }
     ensures { PassesEntries runs.old first (entries_in (unit_seen unit)) runs.new }
 {
@@ -53,6 +76,8 @@ fn pass_entry(runs: &mut Runs, number: u32, entry: Entry) -> u32
         } => {
             if of < number {
                 runs.put_reply(of, turn, reply);
+            } else {
+                drop(reply);
             }
             number
         }

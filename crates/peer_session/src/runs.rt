@@ -36,7 +36,7 @@ const END: u32 = MOST_NUMBERS + 1;
 /// The desk and the stage of each number, and which numbers are ready and which have something to
 /// write. Both sets have room for each number that isn't gone, so that no change of a stage takes
 /// memory.
-#[derive(Debug, Drop)]
+#[derive(Drop)]
 pub(crate) struct Runs {
     desk: Desk,
     stages: Stages,
@@ -74,8 +74,8 @@ impl Runs {
                 unwritten: NumberSet::new(alloc),
             }),
             Some(handler) => Ok(Runs {
-                desk: Desk::with_opening(alloc, table.opening_most())?,
                 stages: Stages::with_opening(alloc, handler)?,
+                desk: Desk::with_opening(alloc, table.opening_most())?,
                 ready: set_with_zero(alloc)?,
                 unwritten: set_with_room(alloc)?,
             }),

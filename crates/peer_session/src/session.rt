@@ -1,18 +1,16 @@
 //! One session of a peer.
 
-ghost use Rattle.rpc_messages.specs.declared.key.TheConstants.{MOST_NUMBERS};
-ghost use Rattle.std.specs.Prelude.{◌≡◌, ◌↔◌, ◌≤◌, ◌+◌, ℕ, IsTrue, IfOk, IfSome, OnOk, OnErr, is_none, length, take, option_map, None, true, false, ◌-◌, ◌^◌, min, if◌then◌else◌};
+ghost use Rattle.std.specs.Prelude.{◌≡◌, ◌↔◌, ◌≤◌, ◌+◌, ℕ, IsTrue, IfOk, IfSome, OnErr, is_none, length, take, option_map, None, true, false, ◌-◌, ◌^◌, min, if◌then◌else◌};
 ghost use Rattle.std.specs.Io.KnownBytes.{Appends};
-ghost use Rattle.rpc_messages.specs.Numbering.{unit_numbers};
-ghost use Rattle.rpc_messages.specs.Unit.{unit_of, unit_seen};
+ghost use Rattle.rpc_messages.specs.Unit.{unit_of};
 ghost use Rattle.session_state.specs.Turning.{ready};
-ghost use Rattle.peer_session.specs.Events.{ended, TakesAll, TakesUnit, LeavesAt, picked, with_job_back, DrainsTo, CountsDrain};
+ghost use Rattle.peer_session.specs.Events.{ended, TakesUnit, LeavesAt, picked, with_job_back, DrainsTo, CountsDrain};
 ghost use Rattle.peer_session.specs.SessionState.{SessionState, IsDone, new_session, report_of};
 
 use crate::arrival::numbers_of;
 use crate::drain_fault::DrainFault;
 use crate::job::Job;
-use crate::passing::pass_unit;
+use crate::passing::take_unit;
 use crate::runs::Runs;
 use crate::taken::Taken;
 use crate::turning::{come_back, leave};
@@ -21,7 +19,7 @@ use handler_future::Outcome;
 use lsp_frames::{Frame, Sink, put_all};
 use method_steps::Table;
 use peer_limits::{Close, Limits, Report};
-use rpc_messages::{Unit, UnitReader};
+use rpc_messages::UnitReader;
 use std::alloc::{AllocError, Global};
 
 /// So much room for output is kept from one drain to the next, in bytes.
@@ -118,24 +116,12 @@ impl<'a> Session<'a> {
             .numbers
             .saturating_sub(self.runs.next_number() - 1);
         if numbers_of(&unit) > left as usize {
+            drop(unit);
             self.end(Close::Full);
             return Ok(Taken::Full);
         }
-        self.take_unit(unit)?;
+        take_unit(&mut self.runs, self.alloc, self.table, unit)?;
         Ok(Taken::Taken)
-    }
-
-    fn take_unit(&mut self, unit: Unit) -> Result<(), AllocError>
-        requires { length (view self.old).core.stages + unit_numbers (unit_seen unit)
-            ≤ MOST_NUMBERS + 1 }
-        ensures ok { OnOk result (TakesAll (view self.old) (unit_seen unit) (view self.new)) }
-        ensures err { OnErr result (view self.new ≡ view self.old) }
-    {
-        let first = self.runs.next_number();
-        self.runs.open(self.alloc, self.table, &unit)?;
-        pass_unit(&mut self.runs, first, unit);
-        self.runs.shrink();
-        Ok(())
     }
 
     /// The input is over: no further content or reply comes. After an end it changes nothing.

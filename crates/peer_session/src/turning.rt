@@ -28,12 +28,17 @@ pub(crate) fn come_back(runs: &mut Runs, handler: Handler, outcome: Option<Outco
 {
     let number = handler.number();
     let Some(Stage::Out(written)) = runs.stage(number) else {
+        drop(handler);
+        drop(outcome);
         return;
     };
     let written = *written;
     match outcome {
         Some(Outcome::Answer(answer)) => finish(runs, handler, written, answer),
-        Some(Outcome::Failed) => drop(runs.replace(number, Stage::Failed)),
+        Some(Outcome::Failed) => {
+            drop(runs.replace(number, Stage::Failed));
+            drop(handler);
+        }
         None => {
             if runs.is_marked(number) {
                 cancel(runs, handler, written);

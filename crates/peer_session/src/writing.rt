@@ -16,6 +16,7 @@ use lsp_frames::put_frame;
 use rpc_messages::{put_call, put_calls, put_notice, put_withdrawal};
 use session_stages::Stage;
 use std::alloc::{AllocError, Global};
+use std::mem;
 
 /// How many messages and answers were put.
 #[derive(Clone, Copy)]
@@ -214,14 +215,18 @@ fn note_number(runs: &mut Runs, number: u32)
     ensures { runs.new ≡ with_stage runs.old number (written_stage (stage_at runs.old number)) }
 {
     runs.stages_fit();
-    match runs.replace(number, Stage::Failed) {
-        Stage::Idle(handler, so_far) => {
-            let messages = handler.messages().len();
-            runs.replace(number, Stage::Idle(handler, so_far.max(messages)));
-        }
-        Stage::Over(..) => {
-            runs.replace(number, Stage::Gone);
-        }
-        _ => unreachable!(),
+    let mut stage = runs.replace(number, Stage::Failed);
+    note_stage(&mut stage);
+    drop(runs.replace(number, stage));
+}
+
+/// All that a number in this stage has sent is written.
+fn note_stage(stage: &mut Stage)
+    ensures { stage.new ≡ written_stage stage.old }
+{
+    match stage {
+        Stage::Idle(handler, so_far) => *so_far = (*so_far).max(handler.messages().len()),
+        Stage::Over(..) => drop(mem::replace(stage, Stage::Gone)),
+        _ => {}
     }
 }

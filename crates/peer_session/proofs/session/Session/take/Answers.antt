@@ -5,7 +5,7 @@ use Rattle.rpc_messages.specs.Numbering.{unit_numbers}
 use Rattle.rpc_messages.specs.Unit.{unit_seen}
 use Rattle.peer_session.specs.Events.{fits_in, TakesAll}
 use Rattle.peer_session.specs.Session.{view}
-use Rattle.peer_session.specs.SessionState.{numbers_left}
+use Rattle.peer_session.specs.SessionState.{numbers_left, with_core}
 use Rattle.peer_session.proofs.Ended.{nat_le-yes, nat_le-no}
 use Rattle.peer_session.proofs.session.Session.take.Goals as goal
 
@@ -21,7 +21,7 @@ returns-in_err-unit-clause-err c = at-error c.from_residual.result refl
 
 pub returns-in_err-take_unit-clause-err : goal.returns-in_err-take_unit-clause-err
 unfolding view
-returns-in_err-take_unit-clause-err c = at-error c.from_residual-in_err-take_unit.result c.in_err-take_unit.ensures.err
+returns-in_err-take_unit-clause-err c = at-error c.from_residual-in_err-take_unit.result (ap (with_core (view c.args.self.now)) c.in_err-take_unit.ensures.err)
 
 pub returns-then-numbers_of-left-clause-ok : goal.returns-then-numbers_of-left-clause-ok
 unfolding view
@@ -54,5 +54,5 @@ returns-clause-ok c =
     c.saturating_sub-left.ensures ∙ ap (λ n. c.args.self.now.limits.numbers - (n - 1)) c.next_number.ensures.next in
     let fits = subst (λ n. unit_numbers (unit_seen c.in_ok-unit.unit) ≤ n) left (subst (λ n. n ≤ c.saturating_sub-left.result) c.numbers_of.ensures c.if-numbers_of-left.false) in (
       ap (λ u. fits_in (view c.args.self.now) u) (sym c.in_ok-unit.ensures) ∙ nat_le-yes (unit_numbers (unit_seen c.in_ok-unit.unit)) (numbers_left (view c.args.self.now)) fits,
-      subst (λ u. TakesAll (view c.args.self.now) u (view c.take_unit.new.self)) c.in_ok-unit.ensures c.in_ok-take_unit.ensures.ok,
+      subst (λ u. TakesAll (view c.args.self.now) u (with_core (view c.args.self.now) c.take_unit.new.runs)) c.in_ok-unit.ensures (c.take_unit.new.runs, c.in_ok-take_unit.ensures.ok, refl),
     )
