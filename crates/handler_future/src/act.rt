@@ -1,8 +1,9 @@
 //! What a step does with the registers as they stand, its replies left aside.
 
-ghost use Rattle.std.specs.Prelude.{◌≡◌, ◌+ℤ◌, IfOk};
-ghost use Rattle.handler_future.specs.Act.{act_of, act_or_error, template_value, sum_of, number_of, integer_in, are_alike, outgoing_of, array_or_object, outgoings_of, act_of_calls};
-ghost use Rattle.handler_future.specs.Inner.Fault.{Gives, GivesItems};
+ghost use Rattle.std.specs.Prelude.{◌≡◌, ◌+ℤ◌, IfOk, Ok, None, if◌then◌else◌};
+ghost use Rattle.handler_future.specs.Act.{act_of, act_or_error, template_value, sum_of, number_of, integer_in, are_alike, outgoing_of, array_or_object, outgoings_of, calls_for_each, act_of_calls};
+ghost use Rattle.handler_future.specs.Inner.Fault.{Gives};
+ghost use Rattle.handler_future.specs.Results.{and_then};
 
 use crate::each::calls_for_each;
 use crate::fault::StepFault;
@@ -43,36 +44,78 @@ fn try_decide(alloc: Global, step: &Step, registers: &Registers) -> Result<Act, 
     ensures { Gives (act_or_error registers.now step.now) result }
 {
     match step {
-        Step::Set { value, .. } => Ok(Act::Put(template_value(alloc, value, registers)?)),
-        Step::Add { left, right, .. } => Ok(Act::Put(sum(alloc, left, right, registers)?)),
-        Step::Skip { left, right, count } => if are_alike(alloc, left, right, registers)? {
-            Ok(Act::Skip(*count))
-        } else {
-            Ok(Act::Skip(0))
-        },
+        Step::Set { value, .. } => template_value(alloc, value, registers).map(Act::Put),
+        Step::Add { left, right, .. } => sum(alloc, left, right, registers).map(Act::Put),
+        Step::Skip { left, right, count } => skip(alloc, left, right, *count, registers),
         Step::Call { method, params, .. } => {
-            Ok(Act::Call(outgoing(alloc, method, params, registers)?))
+            outgoing(alloc, method, params, registers).map(Act::Call)
         }
         Step::Calls { list, .. } => {
-            let calls = all_outgoing(alloc, list.as_slice(), registers)?;
-            Ok(Act::Calls(Items::from(calls)))
+            all_outgoing(alloc, list.as_slice(), registers).map(Act::Calls)
         }
-        Step::Each { over, method, .. } => {
-            let over = template_value(alloc, over, registers)?;
-            Ok(act_of_calls(alloc, calls_for_each(alloc, method, &over)?))
-        }
+        Step::Each { over, method, .. } => act_for_each(alloc, over, method, registers),
         Step::Notify { method, params } => {
-            Ok(Act::Notify(outgoing(alloc, method, params, registers)?))
+            outgoing(alloc, method, params, registers).map(Act::Notify)
         }
-        Step::Answer { value } => Ok(Act::End(Reply::Done(template_value(
-            alloc, value, registers,
-        )?))),
-        Step::Fail { code, message } => Ok(Act::End(Reply::Error(ErrorValue {
-            code: *code,
-            message: message.clone()?,
-            extra: None,
-        }))),
+        Step::Answer { value } => answer(alloc, value, registers),
+        Step::Fail { code, message } => failure(*code, message),
     }
+}
+
+/// Passes over so many steps where the templates' values are alike, and over none where they aren't.
+fn skip(
+    alloc: Global,
+    left: &Template,
+    right: &Template,
+    count: u32,
+    registers: &Registers,
+) -> Result<Act, StepFault>
+    ensures { Gives (and_then (are_alike registers.now left.now right.now)
+        (λ alike. Ok (Act.Skip (if alike then count else 0)))) result }
+{
+    if are_alike(alloc, left, right, registers)? {
+        Ok(Act::Skip(count))
+    } else {
+        Ok(Act::Skip(0))
+    }
+}
+
+/// Makes one call of the method for each element of the template's value.
+fn act_for_each(
+    alloc: Global,
+    over: &Template,
+    method: &Text,
+    registers: &Registers,
+) -> Result<Act, StepFault>
+    ensures { Gives (and_then (template_value registers.now over.now) (λ over.
+        and_then (calls_for_each method.now over) (λ calls. Ok (act_of_calls calls)))) result }
+{
+    let over = template_value(alloc, over, registers)?;
+    let calls = calls_for_each(alloc, method, &over);
+    drop(over);
+    Ok(act_of_calls(alloc, calls?))
+}
+
+/// Ends the method with the template's value.
+fn answer(alloc: Global, value: &Template, registers: &Registers) -> Result<Act, StepFault>
+    ensures { Gives (and_then (template_value registers.now value.now)
+        (λ value. Ok (Act.End (Reply.Done value)))) result }
+{
+    let value = template_value(alloc, value, registers)?;
+    Ok(Act::End(Reply::Done(value)))
+}
+
+/// Ends the method with an error of its own.
+fn failure(code: i64, message: &Text) -> Result<Act, StepFault>
+    ensures { Gives (Ok (Act.End (Reply.Error
+        (record { code = code; message = message.now; extra = None })))) result }
+{
+    let message = message.clone()?;
+    Ok(Act::End(Reply::Error(ErrorValue {
+        code,
+        message,
+        extra: None,
+    })))
 }
 
 fn template_value(
@@ -101,8 +144,18 @@ fn sum(
 {
     let left = template_value(alloc, left, registers)?;
     let right = template_value(alloc, right, registers)?;
-    let left = integer(&left)?;
-    let right = integer(&right)?;
+    let sum = sum_of_values(&left, &right);
+    drop(left);
+    drop(right);
+    sum
+}
+
+fn sum_of_values(left: &Json, right: &Json) -> Result<Json, StepFault>
+    ensures { Gives (and_then (integer_in left.now) (λ left.
+        and_then (integer_in right.now) (λ right. number_of (left +ℤ right)))) result }
+{
+    let left = integer(left)?;
+    let right = integer(right)?;
     sum_in_range(left, right)
 }
 
@@ -135,7 +188,10 @@ fn are_alike(
 {
     let left = template_value(alloc, left, registers)?;
     let right = template_value(alloc, right, registers)?;
-    Ok(left.has_text_of(alloc, &right)?)
+    let alike = left.has_text_of(alloc, &right);
+    drop(left);
+    drop(right);
+    Ok(alike?)
 }
 
 /// A call or notification with these params, which are an array or an object.
@@ -164,6 +220,7 @@ fn array_or_object(value: Json) -> Result<Json, StepFault>
     if is_structured {
         Ok(value)
     } else {
+        drop(value);
         Err(StepFault::Ended(Standard::InternalError))
     }
 }
@@ -172,15 +229,15 @@ fn all_outgoing(
     alloc: Global,
     list: &[ListedCall],
     registers: &Registers,
-) -> Result<Vec<Outgoing>, StepFault>
-    ensures { GivesItems (outgoings_of registers.now list.now) result }
+) -> Result<Items<Outgoing>, StepFault>
+    ensures { Gives (outgoings_of registers.now list.now) result }
 {
     let mut calls = Vec::with_capacity(alloc, list.len())?;
     for listed in list {
         let call = outgoing(alloc, &listed.method, &listed.params, registers)?;
         calls.push_reserved(call);
     }
-    Ok(calls)
+    Ok(Items::from(calls))
 }
 
 /// Makes the calls. For none there is no message, and the register gets an empty array at once.

@@ -147,7 +147,7 @@ fn notify(course: &mut Course, outgoing: Outgoing) -> Result<Progress, AllocErro
     Ok(Progress::Going)
 }
 
-/// Makes so many calls, and the room for their replies.
+/// Makes so many calls.
 fn ask(course: &mut Course, message: Message, calls: u32) -> Result<Progress, AllocError>
     requires turns { course.old.turn + calls ≤ MOST_TURNS + 1 }
     requires no_waits { course.old.waits.items ≡ [] }
@@ -156,13 +156,27 @@ fn ask(course: &mut Course, message: Message, calls: u32) -> Result<Progress, Al
     ensures err { OnErr result (seen course.new ≡ seen course.old) }
     ensures room { OnOk result (HasRoom course.new) }
 {
-    course.heard.reserve(calls as usize)?;
-    course.waits.reserve(calls as usize)?;
+    if let Err(refused) = make_room(course, calls) {
+        drop(message);
+        return Err(refused);
+    }
     course.messages.push(message)?;
     push_turns(&mut course.waits, course.turn, calls);
     course.asked = calls;
     course.heard_before = course.heard.len();
     Ok(Progress::Waiting)
+}
+
+/// Makes room for so many turns to await, and for their replies.
+fn make_room(course: &mut Course, calls: u32) -> Result<(), AllocError>
+    ensures same { seen course.new ≡ seen course.old }
+    ensures heard { OnOk result
+        (vec_len course.new.heard + calls ≤ vec_capacity course.new.heard) }
+    ensures waits { OnOk result
+        (vec_len course.new.waits + calls ≤ vec_capacity course.new.waits) }
+{
+    course.heard.reserve(calls as usize)?;
+    course.waits.reserve(calls as usize)
 }
 
 /// Awaits so many turns from this one on, for which there is room.

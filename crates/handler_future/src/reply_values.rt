@@ -1,6 +1,6 @@
 //! What a register holds of the replies to a step's calls.
 
-ghost use Rattle.std.specs.Prelude.{◌≡◌, ◌+◌, ◌≤◌, ◌<◌, IfOk, option_copied};
+ghost use Rattle.std.specs.Prelude.{◌≡◌, ◌+◌, ◌≤◌, ◌<◌, IfOk, Ok, option_copied};
 ghost use Rattle.rpc_messages.specs.declared.key.TheConstants.{MOST_TURNS};
 ghost use Rattle.handler_future.specs.Evaluation.{replies_from};
 ghost use Rattle.handler_future.specs.Front.{heard_replies, find_heard};
@@ -42,13 +42,34 @@ fn kept_value(
 ) -> Result<Result<Json, Reply>, AllocError>
     ensures { IfOk result (λ value. value ≡ kept_reply on_error reply.now) }
 {
-    match (on_error, reply) {
-        (OnError::Fail, Reply::Done(value)) => Ok(Ok(value.clone()?)),
-        (OnError::Fail, error) => Ok(Err(error.clone()?)),
-        (OnError::Keep, Reply::Done(value)) => Ok(Ok(kept_result(alloc, value)?)),
-        (OnError::Keep, Reply::Error(error)) => Ok(Ok(kept_error(alloc, error)?)),
-        (OnError::Keep, Reply::Standard(standard)) => {
-            Ok(Ok(kept_error(alloc, &standard.to_error(alloc)?)?))
+    match on_error {
+        OnError::Fail => result_or_error(reply),
+        OnError::Keep => kept_object(alloc, reply).map(Ok),
+    }
+}
+
+/// The value of a reply that is a result, or else the reply as it is.
+fn result_or_error(reply: &Reply) -> Result<Result<Json, Reply>, AllocError>
+    ensures { IfOk result (λ value. value ≡ kept_reply OnError.Fail reply.now) }
+{
+    match reply {
+        Reply::Done(value) => value.clone().map(Ok),
+        error => error.clone().map(Err),
+    }
+}
+
+/// The object that tells a reply's result or its error.
+fn kept_object(alloc: Global, reply: &Reply) -> Result<Json, AllocError>
+    ensures { IfOk result (λ object. Ok object ≡ kept_reply OnError.Keep reply.now) }
+{
+    match reply {
+        Reply::Done(value) => kept_result(alloc, value),
+        Reply::Error(error) => kept_error(alloc, error),
+        Reply::Standard(standard) => {
+            let error = standard.to_error(alloc)?;
+            let object = kept_error(alloc, &error);
+            drop(error);
+            object
         }
     }
 }
@@ -56,23 +77,21 @@ fn kept_value(
 fn kept_result(alloc: Global, value: &Json) -> Result<Json, AllocError>
     ensures { IfOk result (λ object. object ≡ kept_result value.now) }
 {
-    Ok(
-        JsonObject::new(alloc)
-            .with(alloc, "ok", Json::boolean(true))?
-            .with(alloc, "result", value.clone()?)?
-            .finish(),
-    )
+    let value = value.clone()?;
+    JsonObject::new(alloc)
+        .with(alloc, "result", value)?
+        .with(alloc, "ok", Json::boolean(true))
+        .map(JsonObject::finish)
 }
 
 fn kept_error(alloc: Global, error: &ErrorValue) -> Result<Json, AllocError>
     ensures { IfOk result (λ object. object ≡ kept_error error.now) }
 {
-    Ok(
-        JsonObject::new(alloc)
-            .with(alloc, "error", error.to_json(alloc)?)?
-            .with(alloc, "ok", Json::boolean(false))?
-            .finish(),
-    )
+    let error = error.to_json(alloc)?;
+    JsonObject::new(alloc)
+        .with(alloc, "error", error)?
+        .with(alloc, "ok", Json::boolean(false))
+        .map(JsonObject::finish)
 }
 
 /// What a batch of calls leaves: the values of its replies in the order of their turns, or the first error reply.
