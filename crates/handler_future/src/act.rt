@@ -13,7 +13,7 @@ use rpc_messages::{ErrorValue, Outgoing, Reply, Standard};
 use std::alloc::{AllocError, Global};
 
 /// What one step does.
-#[derive(Debug, Drop)]
+#[derive(Drop)]
 pub(crate) enum Act {
     /// Puts the value into the step's register.
     Put(Json),

@@ -41,7 +41,7 @@ pub(crate) struct CourseOf<R, M, H> {
 pub(crate) type Course = CourseOf<Registers, Vec<Message>, Vec<(u32, Reply)>>;
 
 /// What a course has come to.
-#[derive(Debug, Drop)]
+#[derive(Drop)]
 pub(crate) enum Progress {
     Going,
     Waiting,

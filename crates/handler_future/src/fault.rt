@@ -2,7 +2,7 @@ use rpc_messages::Standard;
 use std::alloc::AllocError;
 
 /// Why a step has no value.
-#[derive(Debug, Clone, Copy, PartialEq, Eq)]
+#[derive(Clone, Copy)]
 pub(crate) enum StepFault {
     /// The method ends with this error.
     Ended(Standard),
