@@ -8,7 +8,7 @@ ghost use Rattle.rpc_messages.specs.Numbering.{numbers_in, numbers_of as numbers
 ghost use Rattle.rpc_messages.specs.Unit.{unit_seen};
 ghost use Rattle.peer_output.specs.Work.{call_work};
 ghost use Rattle.session_stages.specs.Stages.{stage_in};
-ghost use Rattle.session_state.specs.Taking.{place_of_entry, places_of_entries, shape_of_unit, stage_for, entry_stages, stages_for};
+ghost use Rattle.session_state.specs.Taking.{place_of_entry, places_of_entries, shape_of_unit, stage_for, stages_for};
 
 use crate::work::{Work, most_of, work_of};
 use answer_desk::{Kind, Place, Shape};
@@ -18,6 +18,7 @@ use method_steps::Table;
 use rpc_messages::{Call, Entry, Unit};
 use session_stages::Stage;
 use std::alloc::{AllocError, Global};
+use std::slice;
 use std::sync::Arc;
 
 /// What the desk and the stages keep of a unit.
@@ -27,15 +28,22 @@ pub(crate) struct Arrival {
     pub(crate) stages: Vec<Option<Box<Stage>>>,
 }
 
+/// The unit's entries, in their order.
+fn entries_of(unit: &Unit) -> &[Entry]
+    ensures { map entry_seen result.now ≡ entries_in (unit_seen unit.now) }
+{
+    match unit {
+        Unit::Unreadable => &[],
+        Unit::Single(entry) => slice::from_ref(entry),
+        Unit::Batch(entries) => entries.as_slice(),
+    }
+}
+
 /// How many numbers the unit's calls take.
 pub(crate) fn numbers_of(unit: &Unit) -> usize
     ensures { result ≡ unit_numbers (unit_seen unit.now) }
 {
-    match unit {
-        Unit::Unreadable => 0,
-        Unit::Single(entry) => usize::from(is_call(entry)),
-        Unit::Batch(entries) => calls_among(entries.as_slice()),
-    }
+    calls_among(entries_of(unit))
 }
 
 fn calls_among(entries: &[Entry]) -> usize
@@ -70,29 +78,18 @@ impl Arrival {
             (λ arrival. map stage_in arrival.stages.items ≡ stages_for table.now first
             (entries_in (unit_seen unit.now))) }
     {
-        match unit {
-            Unit::Unreadable => Ok(Arrival {
-                shape: Shape {
-                    kind: Kind::Single,
-                    places: Items::from(vec![in alloc; Place::Unreadable]?),
-                },
-                stages: Vec::new(alloc),
-            }),
-            Unit::Single(entry) => Ok(Arrival {
-                shape: Shape {
-                    kind: Kind::Single,
-                    places: Items::from(vec![in alloc; place_of(table, entry)?]?),
-                },
-                stages: stages_of_entry(alloc, table, first, entry)?,
-            }),
-            Unit::Batch(entries) => Ok(Arrival {
-                shape: Shape {
-                    kind: Kind::Batch,
-                    places: Items::from(places_of(alloc, table, entries.as_slice())?),
-                },
-                stages: stages_of(alloc, table, first, entries.as_slice())?,
-            }),
-        }
+        let entries = entries_of(unit);
+        let (kind, places) = match unit {
+            Unit::Unreadable => (Kind::Single, vec![in alloc; Place::Unreadable]?),
+            Unit::Single(_) => (Kind::Single, places_of(alloc, table, entries)?),
+            Unit::Batch(_) => (Kind::Batch, places_of(alloc, table, entries)?),
+        };
+        let stages = stages_of(alloc, table, first, entries)?;
+        let places = Items::from(places);
+        Ok(Arrival {
+            shape: Shape { kind, places },
+            stages,
+        })
     }
 }
 
@@ -120,24 +117,6 @@ fn place_of(table: &Table, entry: &Entry) -> Result<Place, AllocError>
     }
 }
 
-fn stages_of_entry(
-    alloc: Global,
-    table: &Table,
-    number: u32,
-    entry: &Entry,
-) -> Result<Vec<Option<Box<Stage>>>, AllocError>
-    requires first { 1 ≤ number }
-    requires room { number + numbers_of_entry (entry_seen entry.now) ≤ MOST_NUMBERS + 1 }
-    ensures { IfOk result (λ stages. map stage_in stages.items ≡ entry_stages table.now number
-        (entry_seen entry.now)) }
-{
-    let mut stages = Vec::new(alloc);
-    if let Entry::Call(call) = entry {
-        stages.push(stage_for(alloc, table, number, call)?.boxed(alloc)?)?;
-    }
-    Ok(stages)
-}
-
 fn stages_of(
     alloc: Global,
     table: &Table,
@@ -153,7 +132,7 @@ fn stages_of(
     let mut number = first;
     for entry in entries {
         if let Entry::Call(call) = entry {
-            stages.push(stage_for(alloc, table, number, call)?.boxed(alloc)?)?;
+            stages.push(stage_for(alloc, table, number, call)?)?;
             number += 1;
         }
     }
@@ -166,16 +145,16 @@ fn stage_for(
     table: &Table,
     number: u32,
     call: &Arc<Call>,
-) -> Result<Stage, AllocError>
+) -> Result<Option<Box<Stage>>, AllocError>
     requires { (1 ≤ number) × (number ≤ MOST_NUMBERS) }
-    ensures { IfOk result (λ stage. stage
+    ensures { IfOk result (λ place. stage_in place
         ≡ stage_for number (call_work table.now (arc_value call.now))) }
 {
     match work_of(table, call) {
-        Work::Fault(error) => Ok(Stage::Faulty(error)),
+        Work::Fault(error) => Stage::Faulty(error).boxed(alloc),
         Work::Run(method) => {
             let handler = Handler::new(alloc, table, method, number, Arc::try_clone(call)?)?;
-            Ok(Stage::Idle(handler, 0))
+            Stage::Idle(handler, 0).boxed(alloc)
         }
     }
 }

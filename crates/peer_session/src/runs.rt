@@ -16,7 +16,7 @@ ghost use Rattle.session_state.specs.Taking.{opened};
 ghost use Rattle.session_state.specs.Turning.{start, closed, ready, is_ready_stage};
 ghost use Rattle.peer_session.specs.Inner.Runs.{StageFits, is_idle, is_live, has_unwritten, is_more_than, unwritten_numbers};
 
-use crate::arrival::Arrival;
+use crate::arrival::{Arrival, numbers_of};
 use crate::hearing::is_ready;
 use answer_desk::Desk;
 use handler_future::Handler;
@@ -75,9 +75,9 @@ impl Runs {
             }),
             Some(handler) => Ok(Runs {
                 stages: Stages::with_opening(alloc, handler)?,
-                desk: Desk::with_opening(alloc, table.opening_most())?,
                 ready: set_with_zero(alloc)?,
                 unwritten: set_with_room(alloc)?,
+                desk: Desk::with_opening(alloc, table.opening_most())?,
             }),
         }
     }
@@ -157,11 +157,11 @@ impl Runs {
         ensures err { OnErr result (self.new ≡ self.old) }
     {
         let first = self.stages.len();
-        let Arrival { shape, stages } = Arrival::make(alloc, table, first, unit)?;
-        let end = first + stages.len() as u32;
+        let end = first + numbers_of(unit) as u32;
         let lowest = self.stages.first();
         make_room(&mut self.ready, lowest, end)?;
         make_room(&mut self.unwritten, lowest, end)?;
+        let Arrival { shape, stages } = Arrival::make(alloc, table, first, unit)?;
         self.stages.append(stages)?;
         if let Err(error) = self.desk.open_unit(shape) {
             self.stages.truncate(first);

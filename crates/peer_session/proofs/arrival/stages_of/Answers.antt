@@ -9,7 +9,7 @@ use Rattle.session_stages.specs.Stages.{stage_in}
 use Rattle.session_state.specs.Taking.{stage_for, entry_stages, stages_for}
 use Rattle.peer_session.proofs.Arriving.{map-take_next, numbers_in-push, call_number-fits, stages-push, numbers_of-other, stages-other}
 use Rattle.peer_session.proofs.arrival.stages_of.Goals as goal
-use Rattle.peer_session.proofs.arrival.stages_of.Goals.{in-Call+in_ok-stage_for+in_ok-boxed+in_ok-push, in_default}
+use Rattle.peer_session.proofs.arrival.stages_of.Goals.{in-Call+in_ok-stage_for+in_ok-push, in_default}
 
 pub stage_for-requires : goal.stage_for-requires
 stage_for-requires c =
@@ -35,12 +35,12 @@ loop-entry-preserved c =
     let total : numbers_in (map entry_seen (take (c.loop-entry.entry-index + 1) c.args.entries.now)) ≡ numbers_in before + numbers_of seen =
     ap numbers_in next ∙ numbers_in-push before seen in
     elim c.match-entry.branch [
-      | in-Call+in_ok-stage_for+in_ok-boxed+in_ok-push w ↦ (
+      | in-Call+in_ok-stage_for+in_ok-push w ↦ (
         ap (λ stages. map stage_in stages.items) w.stages-is
             ∙ ap (map stage_in) w.in_ok-push.ensures.items
-            ∙ map_push stage_in c.loop-entry.stages.items w.in_ok-boxed.field-0
-            ∙ ap (λ stages. stages ++ stage_in w.in_ok-boxed.field-0 ∷ []) c.loop-entry.invariant.0
-            ∙ ap (λ stage. stages_for table first before ++ stage ∷ []) (w.in_ok-boxed.ensures ∙ w.in_ok-stage_for.ensures)
+            ∙ map_push stage_in c.loop-entry.stages.items w.in_ok-stage_for.field-0
+            ∙ ap (λ stages. stages ++ stage_in w.in_ok-stage_for.field-0 ∷ []) c.loop-entry.invariant.0
+            ∙ ap (λ stage. stages_for table first before ++ stage ∷ []) w.in_ok-stage_for.ensures
             ∙ ap (λ n. stages_for table first before ++ stage_for n (call_work table (arc_value w.in-Call.call)) ∷ []) c.loop-entry.invariant.1
             ∙ ap (λ e. stages_for table first before ++ entry_stages table (first + numbers_in before) (entry_seen e)) (sym w.in-Call.is)
             ∙ sym more,

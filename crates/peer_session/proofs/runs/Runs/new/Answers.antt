@@ -14,8 +14,8 @@ invariant_of-result-in-Some c =
     (AreRuns-started h c.opening_most.result r.field-0 u.field-0 (number-zero steps h is) (no-waits steps h is) (no-messages steps h is)
     r.ensures.room r.ensures.zero r.ensures.others u.ensures.room u.ensures.none)
 
-pub returns-in_ok-set_with_room-in-Some : goal.returns-in_ok-set_with_room-in-Some
-returns-in_ok-set_with_room-in-Some c =
+pub returns-in_ok-with_opening-in-Some-2 : goal.returns-in_ok-with_opening-in-Some-2
+returns-in_ok-with_opening-in-Some-2 c =
     let steps = c.args.table.now.opening in
     let h = c.in-Some.handler in
     let is : Some h ≡ opening_state steps = sym c.in-Some.is ∙ c.in_ok-opening.ensures in

@@ -15,24 +15,19 @@ use Rattle.peer_session.proofs.Opening.{arrived-many, numbers-many, AreRuns-room
 use Rattle.peer_session.proofs.runs.Runs.open.Goals as goal
 
 pub overflow_cast-end : goal.overflow_cast-end
-overflow_cast-end c =
-    let many = arrived-many stage_in c.args.table.now c.len-first.result (entries_in (unit_seen c.args.unit.now)) c.in_ok-shape.field-0.stages.items c.in_ok-shape.ensures.stages in
-    omega (arith, many, c.requires, ap (λ core. length core.stages) c.self.view_is, c.len.ensures)
+overflow_cast-end c = omega (arith, c.requires, ap (λ core. length core.stages) c.self.view_is, c.numbers_of.ensures)
 
 pub overflow_add-end : goal.overflow_add-end
-overflow_add-end c =
-    let many = arrived-many stage_in c.args.table.now c.len-first.result (entries_in (unit_seen c.args.unit.now)) c.in_ok-shape.field-0.stages.items c.in_ok-shape.ensures.stages in
-    omega (arith, many, c.requires, ap (λ core. length core.stages) c.self.view_is, c.len.ensures, c.len-first.ensures.len)
+overflow_add-end c = omega (arith, c.requires, ap (λ core. length core.stages) c.self.view_is, c.numbers_of.ensures, c.len-first.ensures.len)
 
 pub make_room-requires-clause-most : goal.make_room-requires-clause-most
-make_room-requires-clause-most c =
-    let many = arrived-many stage_in c.args.table.now c.len-first.result (entries_in (unit_seen c.args.unit.now)) c.in_ok-shape.field-0.stages.items c.in_ok-shape.ensures.stages in
-    omega (arith, many, c.requires, ap (λ core. length core.stages) c.self.view_is, c.len.ensures, c.len-first.ensures.len)
+make_room-requires-clause-most c = omega (arith, c.requires, ap (λ core. length core.stages) c.self.view_is, c.numbers_of.ensures, c.len-first.ensures.len)
 
 pub make_room-requires-2-clause-most : goal.make_room-requires-2-clause-most
-make_room-requires-2-clause-most c =
-    let many = arrived-many stage_in c.args.table.now c.len-first.result (entries_in (unit_seen c.args.unit.now)) c.in_ok-shape.field-0.stages.items c.in_ok-shape.ensures.stages in
-    omega (arith, many, c.requires, ap (λ core. length core.stages) c.self.view_is, c.len.ensures, c.len-first.ensures.len)
+make_room-requires-2-clause-most c = omega (arith, c.requires, ap (λ core. length core.stages) c.self.view_is, c.numbers_of.ensures, c.len-first.ensures.len)
+
+pub make-requires-clause-room : goal.make-requires-clause-room
+make-requires-clause-room c = omega (arith, c.requires, ap (λ core. length core.stages) c.self.view_is, c.len-first.ensures.len)
 
 pub append-requires : goal.append-requires
 append-requires c =
@@ -51,6 +46,16 @@ invariant_of-self-in_err-make_room-2 c =
     (λ k here. let h = given-here c.self.inside.stages c.first-lowest.result k c.first-lowest.ensures.gone here in (
       c.in_ok-make_room.ensures.room k h.0 (omega (arith, h.1, c.len-first.ensures.len)),
       subst (λ (s : Marked). HasRoom s k) (sym c.in_err-make_room-2.ensures.err) (c.self.invariant.room k here).1,
+    ))
+    c.self.invariant
+
+pub invariant_of-self-in_err-shape : goal.invariant_of-self-in_err-shape
+invariant_of-self-in_err-shape c =
+    AreRuns-roomed (record { desk = desk_view c.self.inside.desk; stages = c.self.inside.stages }) c.self.inside.ready c.self.inside.unwritten c.make_room.new.set c.make_room-2.new.set
+    c.make_room.ensures.same c.make_room-2.ensures.same
+    (λ k here. let h = given-here c.self.inside.stages c.first-lowest.result k c.first-lowest.ensures.gone here in (
+      c.in_ok-make_room.ensures.room k h.0 (omega (arith, h.1, c.len-first.ensures.len)),
+      c.in_ok-make_room-2.ensures.room k h.0 (omega (arith, h.1, c.len-first.ensures.len)),
     ))
     c.self.invariant
 
@@ -92,7 +97,6 @@ invariant_of-self-2 c =
     let u = unit_seen c.args.unit.now in
     let table = c.args.table.now in
     let items = c.in_ok-shape.field-0.stages.items in
-    let many = arrived-many stage_in table c.len-first.result (entries_in u) items c.in_ok-shape.ensures.stages in
     let same = opened-same table (desk_view c.self.inside.desk) (desk_view c.open_unit.new.self) c.self.inside.stages c.append.new.self (map stage_in items) u c.in_ok-shape.field-0.shape c.len-first.result
     c.in_default.ensures.ok c.in_ok-shape.ensures.shape c.in_ok-append.ensures.ok c.in_ok-shape.ensures.stages c.len-first.ensures.len in
     let roomed = AreRuns-roomed before c.self.inside.ready c.self.inside.unwritten c.make_room.new.set c.make_room-2.new.set
@@ -105,11 +109,11 @@ invariant_of-self-2 c =
     subst (λ (core : Core). AreRuns core c.mark_ready.new.set c.make_room-2.new.set) (sym same)
     (AreRuns-opened table before u c.make_room.new.set c.mark_ready.new.set c.make_room-2.new.set c.first-lowest.result c.first-lowest.ensures.within c.first-lowest.ensures.gone
     (λ k low high. (
-      c.mark_ready.ensures.room k (c.in_ok-make_room.ensures.room k low (omega (arith, high, many, c.len.ensures, c.len-first.ensures.len))),
-      c.in_ok-make_room-2.ensures.room k low (omega (arith, high, many, c.len.ensures, c.len-first.ensures.len)),
+      c.mark_ready.ensures.room k (c.in_ok-make_room.ensures.room k low (omega (arith, high, c.numbers_of.ensures, c.len-first.ensures.len))),
+      c.in_ok-make_room-2.ensures.room k low (omega (arith, high, c.numbers_of.ensures, c.len-first.ensures.len)),
     ))
     (λ k low high. subst (λ (core : Core). is_in c.mark_ready.new.set k ≡ is_ready_stage core.desk (stage_at core k)) same
-    (c.mark_ready.ensures.within k (omega (arith, low, c.len-first.ensures.len)) (omega (arith, high, many, c.len.ensures, c.len-first.ensures.len))))
+    (c.mark_ready.ensures.within k (omega (arith, low, c.len-first.ensures.len)) (omega (arith, high, c.numbers_of.ensures, c.len-first.ensures.len))))
     (λ k lt. c.mark_ready.ensures.below k (omega (arith, lt, c.len-first.ensures.len)))
-    (λ k le. c.mark_ready.ensures.beyond k (omega (arith, le, many, c.len.ensures, c.len-first.ensures.len)))
+    (λ k le. c.mark_ready.ensures.beyond k (omega (arith, le, c.numbers_of.ensures, c.len-first.ensures.len)))
     roomed)
