@@ -4,7 +4,9 @@ import os
 import random
 import tomllib
 from collections import Counter
+from concurrent.futures import ProcessPoolExecutor
 from dataclasses import dataclass
+from functools import partial
 from typing import Any, Callable, Iterator, Optional, Sequence
 
 from support import grammar
@@ -209,19 +211,29 @@ class Fuzzer:
         again = f"python3 checks/fuzz.py --replay {os.path.relpath(file, ran.TOP)}"
         self.count.check(f"{name} (with {small.table}, {again})", False, f"{self.breaks(small) or why}; the stream is {list(small.parts)}")
 
+    def tried(self, seed: int, numbers: range) -> tuple[list[tuple[Trial, str, Optional[str]]], Counter[str]]:
+        """The trials of these numbers, each with its name and with the law that it breaks, if it breaks one; and what came about."""
+        self.judge.seen = Counter()
+        trials = {number: self.made(seed, number) for number in numbers}
+        names = {id(trial): f"seed-{seed}-case-{number}" for number, trial in trials.items()}
+        found = [(trial, names[id(trial)], why) for trial, why in self.outcomes([*trials.values()])]
+        for number, trial in trials.items():
+            if number % SHARE == 0:
+                found.append((trial, names[id(trial)], self.served(trial, number // SHARE)))
+        return found, self.judge.seen
+
     def try_all(self, seed: int, number_of_cases: int) -> None:
-        for first in range(0, number_of_cases, BATCH):
-            numbers = range(first, min(first + BATCH, number_of_cases))
-            trials = {number: self.made(seed, number) for number in numbers}
-            names = {id(trial): f"seed-{seed}-case-{number}" for number, trial in trials.items()}
-            for trial, why in self.outcomes([*trials.values()]):
-                self.take(trial, names[id(trial)], why)
-            for number, trial in trials.items():
-                if number % SHARE == 0:
-                    self.take(trial, names[id(trial)], self.served(trial, number // SHARE))
-            if self.failures >= MOST_FAILURES:
-                print(f"{first + len(numbers):,} streams, and no more after {self.failures} failures", flush=True)
-                return
+        """Tries so many streams, as many batches at once as there are processors."""
+        batches = [range(first, min(first + BATCH, number_of_cases)) for first in range(0, number_of_cases, BATCH)]
+        with ProcessPoolExecutor(len(os.sched_getaffinity(0))) as pool:
+            for numbers, (found, seen) in zip(batches, pool.map(partial(self.tried, seed), batches)):
+                self.judge.seen.update(seen)
+                for trial, name, why in found:
+                    self.take(trial, name, why)
+                if self.failures >= MOST_FAILURES:
+                    print(f"{numbers.stop:,} streams, and no more after {self.failures} failures", flush=True)
+                    pool.shutdown(cancel_futures=True)
+                    return
 
     def take(self, trial: Trial, name: str, why: Optional[str]) -> None:
         if why is None:
