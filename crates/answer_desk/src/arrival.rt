@@ -10,7 +10,7 @@ use std::alloc::{AllocError, Global};
 use std::collections::VecDeque;
 
 /// What a unit that arrives brings: what is kept for each of its calls, and what is due to each of its entries.
-#[derive(Debug, Drop)]
+#[derive(Drop)]
 pub struct Arrival {
     pub calls: Vec<Option<Box<Kept>>>,
     pub dues: Vec<Due>,

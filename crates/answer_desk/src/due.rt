@@ -1,5 +1,5 @@
 /// What an entry of a waiting unit is answered with.
-#[derive(Clone, Copy, Debug)]
+#[derive(Clone, Copy)]
 pub enum Due {
     ParseError,
     InvalidRequest,

@@ -17,7 +17,7 @@ use std::alloc::{AllocError, Global};
 use std::collections::VecDeque;
 
 /// The longest front of whole units: how many they are, and how many parts of the unit behind them are finished.
-#[derive(Clone, Copy, Debug)]
+#[derive(Clone, Copy)]
 pub struct Front {
     pub count: usize,
     pub finished_parts: usize,

@@ -6,7 +6,7 @@ use std::alloc::{AllocError, Global};
 use std::mem;
 
 /// What stands for a number that is open or answered. It stands on the heap, with the room for its answer.
-#[derive(Debug, Drop)]
+#[derive(Drop)]
 pub enum Kept {
     Open(Number),
     /// A finished request whose unit isn't released yet.

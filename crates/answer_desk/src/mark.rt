@@ -1,5 +1,5 @@
 /// What cancels have done to an open number (LSP 3.17, cancellation support).
-#[derive(Clone, Copy, Debug, PartialEq, Eq)]
+#[derive(Clone, Copy, PartialEq, Eq)]
 pub enum Mark {
     /// No cancel has reached it.
     Unmarked,

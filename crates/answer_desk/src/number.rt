@@ -7,7 +7,7 @@ use std::alloc::{AllocError, Global};
 
 /// What the desk keeps of a number while it is open: the id of a request, and none for a notification; what cancels
 /// have done to it; the replies to its own calls.
-#[derive(Debug, Drop)]
+#[derive(Drop)]
 pub struct Number {
     pub id: Option<Id>,
     pub mark: Mark,

@@ -27,7 +27,7 @@ use std::mem;
 
 /// What stands for each number, seen by contracts as a list from number 0 on, with nothing for a number that is over. Only
 /// a window of them is kept: it begins at the first number that is open or whose answer waits for its release.
-#[derive(Debug, Drop)]
+#[derive(Drop)]
 pub struct Numbers {
     first: u32,
     window: VecDeque<Option<Box<Kept>>>,

@@ -11,7 +11,7 @@ use std::marker::Model;
 use std::mem;
 
 /// The replies to the calls of one number, with room for each of its turns, seen by contracts as the list of its slots.
-#[derive(Debug, Drop)]
+#[derive(Drop)]
 pub struct Replies {
     slots: Vec<Slot>,
 }

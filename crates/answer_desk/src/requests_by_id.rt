@@ -11,7 +11,7 @@ use std::alloc::{AllocError, Global};
 use std::collections::{BTreeMap, BTreeSet};
 
 /// The numbers of requests, by their ids.
-#[derive(Debug, Drop)]
+#[derive(Drop)]
 pub struct RequestsById {
     alloc: Global,
     numbers: BTreeMap<Id, BTreeSet<u32>>,

@@ -1,7 +1,7 @@
 use rpc_messages::Reply;
 
 /// The room for the reply of one turn.
-#[derive(Debug, Drop)]
+#[derive(Drop)]
 pub enum Slot {
     /// No reply has come.
     Empty,

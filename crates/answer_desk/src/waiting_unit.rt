@@ -3,7 +3,7 @@ use json_values::Items;
 use rpc_messages::Kind;
 
 /// A unit whose answer isn't released yet.
-#[derive(Debug, Drop)]
+#[derive(Drop)]
 pub struct WaitingUnit {
     pub kind: Kind,
     pub dues: Items<Due>,

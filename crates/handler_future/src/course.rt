@@ -22,7 +22,7 @@ use std::alloc::{AllocError, Global};
 
 /// Where a method stands. Its deep parts are parameters, so that whether it may go to another thread is asked of each part
 /// by itself.
-#[derive(Debug, Drop)]
+#[derive(Drop)]
 pub(crate) struct CourseOf<R, M, H> {
     /// How many steps are behind.
     pub(crate) place: usize,

@@ -2,7 +2,7 @@ use json_values::Items;
 use rpc_messages::Outgoing;
 
 /// What a handler sends to the other side.
-#[derive(Debug, Drop)]
+#[derive(Drop)]
 pub enum Message {
     /// The call of this turn.
     Call(u32, Outgoing),

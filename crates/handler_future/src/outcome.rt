@@ -1,7 +1,7 @@
 use rpc_messages::Reply;
 
 /// How a handler ended.
-#[derive(Debug, Drop)]
+#[derive(Drop)]
 pub enum Outcome {
     /// With the answer to its request.
     Answer(Reply),

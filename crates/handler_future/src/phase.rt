@@ -1,5 +1,5 @@
 /// Where a handler stands.
-#[derive(Clone, Copy, Debug)]
+#[derive(Clone, Copy)]
 pub(crate) enum Phase {
     /// It waits for replies, or for its next poll.
     UnderWay,

@@ -8,7 +8,7 @@ use crate::field::{field_of, is_named, length_of};
 use crate::frame::FrameFault;
 
 /// What the lines of a head have said so far.
-#[derive(Clone, Copy, Debug)]
+#[derive(Clone, Copy)]
 pub(crate) struct Fields {
     pub(crate) content_length: Option<u32>,
     pub(crate) foreign: bool,

@@ -14,7 +14,7 @@ use std::alloc::{AllocError, Global};
 use std::mem;
 
 /// How far a head was read.
-#[derive(Clone, Copy, Debug)]
+#[derive(Clone, Copy)]
 pub(crate) struct Place {
     /// What its whole lines have said.
     pub(crate) fields: Fields,
@@ -23,7 +23,7 @@ pub(crate) struct Place {
 }
 
 /// What the bytes that come next belong to.
-#[derive(Clone, Copy, Debug)]
+#[derive(Clone, Copy)]
 pub(crate) enum Stage {
     /// A line of a head.
     Head(Place),
@@ -50,7 +50,7 @@ pub(crate) struct Front<'a> {
 }
 
 /// A line or a content, and the bytes that have come of it.
-#[derive(Debug, Drop)]
+#[derive(Drop)]
 pub(crate) struct Partial {
     pub(crate) stage: Stage,
     pub(crate) held: Vec<u8>,

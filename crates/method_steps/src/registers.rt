@@ -10,7 +10,7 @@ use std::collections::BTreeMap;
 use std::marker::Model;
 
 /// A map from names to values, seen by contracts as the members of a JSON object, in the byte order of their names.
-#[derive(Debug, Drop)]
+#[derive(Drop)]
 pub struct Registers {
     values: BTreeMap<String, Json>,
     alloc: Global,

@@ -21,7 +21,7 @@ use std::marker::Model;
 use std::sync::Arc;
 
 /// A method: its name, and its steps, which handlers share.
-#[derive(Debug, Drop)]
+#[derive(Drop)]
 pub(crate) struct Method {
     pub(crate) name: Text,
     pub(crate) steps: Arc<Vec<Step>>,
@@ -29,13 +29,26 @@ pub(crate) struct Method {
 
 /// The methods of a server and its opening, the steps that run as it starts. Seen by contracts as the opening's steps and the
 /// list of the methods' names and steps.
-#[derive(Debug, Drop)]
 pub struct Table {
     /// Where it has steps.
     opening: Option<Arc<Vec<Step>>>,
     methods: Vec<Method>,
     /// The place in `methods` of each name.
     places: BTreeMap<String, u32>,
+}
+
+// Written out, so that whoever drops one makes a call, and knows nothing of what is in it.
+impl Drop for Table {
+    fn drop(self) {
+        let Table {
+            opening,
+            methods,
+            places,
+        } = self;
+        drop(opening);
+        drop(methods);
+        drop(places);
+    }
 }
 
 impl Model for Table {

@@ -6,13 +6,13 @@ use std::marker::Model;
 
 /// A value with places to be filled.
 #[cycle(template)]
-#[derive(Debug, Drop)]
+#[derive(Drop)]
 pub struct Template {
     pub form: Form,
 }
 
 #[cycle(template)]
-#[derive(Debug, Drop)]
+#[derive(Drop)]
 pub enum Form {
     /// A value that stands for itself.
     Plain(Json),

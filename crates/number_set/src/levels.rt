@@ -67,7 +67,7 @@ pub fn count_one_less(levels: &mut [Vec<u32>], place: usize)
 }
 
 /// A place, and how many marks are left to go over from it on.
-#[derive(Clone, Copy, Debug)]
+#[derive(Clone, Copy)]
 pub struct Found {
     pub place: usize,
     pub left: u32,

@@ -8,7 +8,7 @@ use std::alloc::{AllocError, Global};
 use std::marker::Model;
 
 /// Some of the numbers that there is room for, which are those from a first one up to an end.
-#[derive(Debug, Drop)]
+#[derive(Drop)]
 pub struct NumberSet {
     alloc: Global,
     /// The least number that there is room for.

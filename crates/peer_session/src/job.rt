@@ -5,7 +5,7 @@ use job_slots::Turns;
 use std::mem;
 
 /// A handler that is out for a turn.
-#[derive(Debug, Drop)]
+#[derive(Drop)]
 pub struct Job {
     pub handler: Handler,
     /// What its last poll answered; none before the first, and where it was Pending.

@@ -27,7 +27,6 @@ const KEPT_ROOM: usize = 65_536;
 
 /// A session of a peer: it takes contents, hands handlers out and takes them back, and writes what
 /// is due.
-#[derive(Drop)]
 pub struct Session<'a> {
     alloc: Global,
     table: &'a Table,
@@ -44,6 +43,28 @@ pub struct Session<'a> {
     is_broken: bool,
     /// Whether a handler has found no memory.
     has_failed: bool,
+}
+
+// Written out, so that whoever drops one makes a call, and knows nothing of what is in it.
+impl Drop for Session<'_> {
+    fn drop(self) {
+        let Session {
+            alloc: _,
+            table: _,
+            limits: _,
+            reader,
+            runs,
+            output,
+            close: _,
+            written: _,
+            polls: _,
+            is_broken: _,
+            has_failed: _,
+        } = self;
+        drop(reader);
+        drop(runs);
+        drop(output);
+    }
 }
 
 impl<'a> Session<'a> {

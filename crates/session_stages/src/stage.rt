@@ -3,7 +3,7 @@ use rpc_messages::Standard;
 use std::alloc::{AllocError, Global};
 
 /// The stage of a number.
-#[derive(Debug, Drop)]
+#[derive(Drop)]
 pub enum Stage {
     /// Nothing is left to do or to write: it was never given, or it is over.
     Gone,

@@ -9,7 +9,7 @@ use crate::read::version::Version;
 use toml::Table;
 
 /// What a table of the document is there for.
-#[derive(Clone, Copy, Debug, PartialEq, Eq)]
+#[derive(Clone, Copy, PartialEq, Eq)]
 pub enum Entry {
     Document(Version),
     Method,

@@ -9,7 +9,7 @@ use crate::read::version::Version;
 use toml::Table;
 
 /// A kind of steps, by the word that its `kind` is.
-#[derive(Clone, Copy, Debug, PartialEq, Eq)]
+#[derive(Clone, Copy, PartialEq, Eq)]
 pub enum Kind {
     Set,
     Add,

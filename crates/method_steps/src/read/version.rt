@@ -8,7 +8,7 @@ use crate::read::lookup::integer_at;
 use toml::Table;
 
 /// A version of tables: the second also has an opening, and steps of the kind `each`.
-#[derive(Clone, Copy, Debug, PartialEq, Eq)]
+#[derive(Clone, Copy, PartialEq, Eq)]
 pub enum Version {
     One,
     Two,
