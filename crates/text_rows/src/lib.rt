@@ -4,6 +4,8 @@
 #[cfg(test)]
 mod items;
 #[cfg(test)]
+mod parts;
+#[cfg(test)]
 mod reading;
 #[cfg(test)]
 mod tables;

@@ -19,8 +19,14 @@ pub fn unit(alloc: Global, content: &[u8], foreign: bool) -> Result<Unit, AllocE
     read_unit(alloc, &frame)
 }
 
-/// What `Debug` shows of it.
+/// What `Debug` shows of the unit.
+fn shown_unit(alloc: Global, unit: Unit) -> Result<String, AllocError> {
+    let shown = format!(in alloc; "{unit:?}");
+    drop(unit);
+    shown
+}
+
+/// What `Debug` shows of the unit that a content is read as.
 fn shown(alloc: Global, content: &[u8], foreign: bool) -> Result<String, AllocError> {
-    let unit = unit(alloc, content, foreign)?;
-    format!(in alloc; "{unit:?}")
+    shown_unit(alloc, unit(alloc, content, foreign)?)
 }

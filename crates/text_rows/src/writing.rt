@@ -8,28 +8,32 @@ use json_values::{Json, Text};
 use rpc_messages::Outgoing;
 use serde_json::Value;
 use std::alloc::{AllocError, Global};
-use std::process::Abort;
 use std::test::Fail;
 
 fn json(alloc: Global, text: &str) -> Result<Json, Fail> {
     Ok(Json::new(Value::from_str(alloc, text)?).ok_or("a fraction")?)
 }
 
-/// A message without params.
-fn bare(alloc: Global, method: &str) -> Result<Outgoing, AllocError> {
-    Ok(Outgoing {
-        method: Text::copy_of(alloc, method)?,
-        params: None,
-    })
+fn message(alloc: Global, method: &str, params: Option<Json>) -> Result<Outgoing, AllocError> {
+    match Text::copy_of(alloc, method) {
+        Ok(method) => Ok(Outgoing { method, params }),
+        Err(refused) => {
+            drop(params);
+            Err(refused)
+        }
+    }
 }
 
-fn outgoing(alloc: Global, method: &str, params: &str) -> Result<Outgoing, Fail> {
-    let mut outgoing = bare(alloc, method)?;
-    outgoing.params = Some(json(alloc, params)?);
-    Ok(outgoing)
+/// A message with these params, where some are given.
+fn outgoing(alloc: Global, method: &str, params: Option<&str>) -> Result<Outgoing, Fail> {
+    let params = match params {
+        Some(text) => json(alloc, text).map(Some),
+        None => Ok(None),
+    };
+    Ok(message(alloc, method, params?)?)
 }
 
-/// Compares a text that was written.
-fn same(rt: &impl Abort, found: &[u8], want: &str) {
-    assert!(rt; found == want.as_bytes(), "{want}");
+/// Whether a text that was written is that one.
+fn is_same(written: Result<Vec<u8>, AllocError>, want: &str) -> Result<bool, AllocError> {
+    Ok(written?.as_slice() == want.as_bytes())
 }

@@ -1,18 +1,12 @@
 //! Calls: the targets of cancels, and calls that go to other threads.
 
 use super::unit;
+use json_values::Text;
 use rpc_messages::{Call, Entry, Unit, cancel_target};
-use std::alloc::Global;
+use std::alloc::{AllocError, Global};
 use std::sync::Arc;
 use std::test::Fail;
 use std::thread;
-
-fn call(alloc: Global, content: &str) -> Result<Arc<Call, Global>, Fail> {
-    match unit(alloc, content.as_bytes(), false)? {
-        Unit::Single(Entry::Call(call)) => Ok(call),
-        _ => Err(Fail::from("no call")),
-    }
-}
 
 /// Calls, and what `Debug` shows of their targets: a cancel names a whole number or a text, and a request or another method is
 /// no cancel.
@@ -33,12 +27,26 @@ const TARGETS: &str =
 {"jsonrpc":"2.0","method":"$/cancelrequest","params":{"id":7}} => None
 {"jsonrpc":"2.0","method":"$/cancelRequest"} => None"#;
 
+/// What `Debug` shows of the target of the call that a unit is.
+fn shown_target(alloc: Global, unit: &Unit) -> Result<String, AllocError> {
+    match unit {
+        Unit::Single(Entry::Call(call)) => {
+            let target = cancel_target(call);
+            format!(in alloc; "{target:?}")
+        }
+        _ => String::from_str(alloc, "no call"),
+    }
+}
+
 /// Whether the call of a line has its target.
-fn has_target(alloc: Global, line: &str) -> Result<bool, Fail> {
-    let (content, wanted) = line.split_once(" => ").ok_or("a line without ` => `")?;
-    let call = call(alloc, content)?;
-    let target = cancel_target(&call);
-    Ok(format!(in alloc; "{target:?}")?.as_str() == wanted)
+fn has_target(alloc: Global, line: &str) -> Result<bool, AllocError> {
+    let Some((content, wanted)) = line.split_once(" => ") else {
+        return Ok(false);
+    };
+    let unit = unit(alloc, content.as_bytes(), false)?;
+    let shown = shown_target(alloc, &unit);
+    drop(unit);
+    Ok(shown?.as_str() == wanted)
 }
 
 #[test]
@@ -51,12 +59,35 @@ fn cancels_have_targets(rt: HostRuntime) -> Result<(), Fail> {
 
 const CALL: &str = r#"{"jsonrpc":"2.0","method":"f","id":1}"#;
 
+/// The call that a unit is, shared with it.
+fn shared_call(unit: &Unit) -> Result<Arc<Call, Global>, Fail> {
+    match unit {
+        Unit::Single(Entry::Call(call)) => Ok(Arc::try_clone(call)?),
+        _ => Err(Fail::from("no call")),
+    }
+}
+
+/// The only owner of a call.
+fn read_call(alloc: Global) -> Result<Arc<Call, Global>, Fail> {
+    let unit = unit(alloc, CALL.as_bytes(), false)?;
+    let call = shared_call(&unit);
+    drop(unit);
+    call
+}
+
+/// What `Debug` shows of an entry.
+fn shown_entry(alloc: Global, entry: Entry) -> Result<String, AllocError> {
+    let shown = format!(in alloc; "{entry:?}");
+    drop(entry);
+    shown
+}
+
 #[test]
 fn a_shared_call_is_read_by_another_thread(rt: HostRuntime) -> Result<(), Fail> {
     let alloc = rt.alloc();
-    let call = call(alloc, CALL)?;
+    let call = read_call(alloc)?;
     let shared = Entry::Call(Arc::try_clone(&call)?);
-    let child = thread::spawn(&rt, move || format!(in alloc; "{shared:?}"))?;
+    let child = thread::spawn(&rt, move || shown_entry(alloc, shared))?;
     assert!(rt;
         child.join(&rt)?.as_str()
             == r#"Call(Call { id: Some(Unsigned(1)), method: "f", params: Omitted, target: None })"#
@@ -65,12 +96,18 @@ fn a_shared_call_is_read_by_another_thread(rt: HostRuntime) -> Result<(), Fail> 
     Ok(())
 }
 
+/// The method of a call that has no other owner.
+fn method_of(call: Arc<Call, Global>) -> Option<Text> {
+    match Arc::try_unwrap(call) {
+        Ok(alone) => Some(alone.method),
+        Err(_) => None,
+    }
+}
+
 #[test]
 fn a_call_moves_to_another_thread(rt: HostRuntime) -> Result<(), Fail> {
-    let Ok(alone) = Arc::try_unwrap(call(rt.alloc(), CALL)?) else {
-        return Err(Fail::from("still shared"));
-    };
-    let child = thread::spawn(&rt, move || alone.method)?;
-    assert!(rt; child.join(&rt).as_str() == "f");
+    let call = read_call(rt.alloc())?;
+    let child = thread::spawn(&rt, move || method_of(call))?;
+    assert!(rt; child.join(&rt).is_some_and(|method| method.as_str() == "f"));
     Ok(())
 }

@@ -1,11 +1,9 @@
 //! Contents that are long, or no texts of one line.
 
 use super::shown;
+use crate::parts::{Part, joined};
 use std::alloc::{AllocError, Global};
 use std::test::Fail;
-
-/// Bytes, and how many times they stand there.
-type Part = (&'static [u8], usize);
 
 /// A content, whether it is in a frame of another charset, and what `Debug` shows of its unit.
 struct Row {
@@ -102,17 +100,6 @@ const ROWS: &[Row] = &[
         shown: UNREADABLE,
     },
 ];
-
-/// The bytes of the parts.
-fn joined(alloc: Global, parts: &[Part]) -> Result<Vec<u8>, AllocError> {
-    let mut all = Vec::new(alloc);
-    for (bytes, times) in parts {
-        for _ in 0..*times {
-            all.extend_from_slice(bytes)?;
-        }
-    }
-    Ok(all)
-}
 
 fn is_read(alloc: Global, row: &Row) -> Result<bool, AllocError> {
     let content = joined(alloc, row.content)?;

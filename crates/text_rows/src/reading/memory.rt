@@ -1,5 +1,6 @@
 //! Contents whose reading was refused memory.
 
+use super::shown_unit;
 use json_values::Items;
 use lsp_frames::Frame;
 use rpc_messages::UnitReader;
@@ -71,13 +72,12 @@ fn is_read_at_last(alloc: Global, reader: &mut UnitReader, row: &Row) -> bool {
 fn is_read(alloc: Global, reader: &mut UnitReader, row: &Row) -> Result<bool, AllocError> {
     let content = with_letters(alloc, row.front, row.letters, row.back)?;
     let frame = Frame {
-        content: Items::from(content),
+        content: Items::from(content.into_bytes()),
         foreign: false,
     };
-    let unit = reader.read(&frame)?;
-    let shown = format!(in alloc; "{unit:?}")?;
+    let shown = shown_unit(alloc, reader.read(&frame)?)?;
     let wanted = with_letters(alloc, row.shown_front, row.letters, row.shown_back)?;
-    Ok(shown.as_bytes() == wanted.as_slice())
+    Ok(shown == wanted)
 }
 
 fn with_letters(
@@ -85,12 +85,7 @@ fn with_letters(
     front: &str,
     letters: usize,
     back: &str,
-) -> Result<Vec<u8>, AllocError> {
-    let mut all = Vec::new(alloc);
-    all.extend_from_slice(front.as_bytes())?;
-    for _ in 0..letters {
-        all.push(b'a')?;
-    }
-    all.extend_from_slice(back.as_bytes())?;
-    Ok(all)
+) -> Result<String, AllocError> {
+    let letters = "a".repeat(alloc, letters)?;
+    [front, letters.as_str(), back].concat(alloc)
 }

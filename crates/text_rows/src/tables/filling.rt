@@ -1,7 +1,6 @@
 //! Templates and registers.
-use super::{between, table_of};
 use json_values::{Json, JsonArray, Text};
-use method_steps::{FillFault, Registers, Step, Template, fill};
+use method_steps::{FaultKind, FillFault, Registers, Step, Table, Template, fill};
 use std::alloc::{AllocError, Global};
 use std::test::Fail;
 
@@ -43,25 +42,54 @@ fn one_text(alloc: Global) -> Result<Json, AllocError> {
     Ok(params.finish())
 }
 
-/// Whether the template is filled with a value of this text, or has none for this reason.
-fn gives(alloc: Global, template: &Template, want: &str) -> Result<bool, AllocError> {
-    let registers = Registers::new(alloc, one_text(alloc)?)?;
-    match fill(alloc, template, &registers) {
-        Ok(value) => Ok(value.to_text(alloc)?.as_str() == want),
-        Err(FillFault::Params) => Ok(want == "no such params"),
-        Err(FillFault::Missing) => Ok(want == "missing"),
+/// The registers of a run with the params `["x"]`.
+fn registers_of_one(alloc: Global) -> Result<Registers, AllocError> {
+    Registers::new(alloc, one_text(alloc)?)
+}
+
+/// The text of what filling gave, or why it gave nothing.
+fn shown(alloc: Global, filled: &Result<Json, FillFault>) -> Result<String, AllocError> {
+    match filled {
+        Ok(value) => value.to_text(alloc).map(Text::into_string),
+        Err(FillFault::Params) => String::from_str(alloc, "no such params"),
+        Err(FillFault::Missing) => String::from_str(alloc, "missing"),
         Err(FillFault::Memory) => Err(AllocError),
     }
 }
 
+/// Whether the template is filled with a value of this text, or has none for this reason.
+fn gives(alloc: Global, template: &Template, want: &str) -> Result<bool, AllocError> {
+    let registers = registers_of_one(alloc)?;
+    let filled = fill(alloc, template, &registers);
+    drop(registers);
+    let shown = shown(alloc, &filled);
+    drop(filled);
+    Ok(shown?.as_str() == want)
+}
+
+/// Whether the first `answer` of the only method of a table gives that.
+fn answers(alloc: Global, table: &Table, want: &str) -> Result<bool, AllocError> {
+    match table.steps(0) {
+        Some(steps) => match first_answer(steps.as_slice()) {
+            Some(template) => gives(alloc, template, want),
+            None => Ok(false),
+        },
+        None => Ok(false),
+    }
+}
+
 /// Whether the first `answer` of the only method of these steps gives that.
-fn answers(alloc: Global, steps: &str, want: &str) -> Result<bool, Fail> {
+fn is_filled(alloc: Global, steps: &str, want: &str) -> Result<bool, AllocError> {
     let before = "version = 1\n[[method]]\nname = \"m\"\nstep = [";
-    let text = between(alloc, before, steps, "]\n")?;
-    let table = table_of(alloc, text.as_str())?;
-    let steps = table.steps(0).ok_or("no method")?;
-    let template = first_answer(steps.as_slice()).ok_or("no answer")?;
-    Ok(gives(alloc, template, want)?)
+    let text = [before, steps, "]\n"].concat(alloc)?;
+    let table = Table::read(alloc, text.as_bytes());
+    let is_filled = match &table {
+        Ok(table) => answers(alloc, table, want),
+        Err(fault) if fault.kind == FaultKind::Memory => Err(AllocError),
+        Err(_) => Ok(false),
+    };
+    drop(table);
+    is_filled
 }
 
 #[test]
@@ -69,7 +97,7 @@ fn templates_are_filled_and_missing_places_are_told_by_their_register(
     rt: HostRuntime,
 ) -> Result<(), Fail> {
     for (steps, want) in ROWS {
-        assert!(rt; answers(rt.alloc(), steps, want)?, "{steps}");
+        assert!(rt; is_filled(rt.alloc(), steps, want)?, "{steps}");
     }
     Ok(())
 }
@@ -82,11 +110,30 @@ fn set_twice(alloc: Global) -> Result<Registers, AllocError> {
     Ok(registers)
 }
 
+fn is_two(alloc: Global, value: Option<&Json>) -> Result<bool, AllocError> {
+    match value {
+        Some(value) => Ok(value.to_text(alloc)?.as_str() == "2"),
+        None => Ok(false),
+    }
+}
+
+/// Whether `r` is 2, `params` are set and `s` isn't.
+fn has_newest(alloc: Global, registers: &Registers) -> Result<bool, AllocError> {
+    if registers.get("params").is_none() || registers.get("s").is_some() {
+        return Ok(false);
+    }
+    is_two(alloc, registers.get("r"))
+}
+
+fn is_newest_kept(alloc: Global) -> Result<bool, AllocError> {
+    let registers = set_twice(alloc)?;
+    let is_kept = has_newest(alloc, &registers);
+    drop(registers);
+    is_kept
+}
+
 #[test]
 fn registers_keep_the_newest_value(rt: HostRuntime) -> Result<(), Fail> {
-    let registers = set_twice(rt.alloc())?;
-    let value = registers.get("r").ok_or("r")?;
-    assert!(rt; value.to_text(rt.alloc())?.as_str() == "2");
-    assert!(rt; registers.get("params").is_some() && registers.get("s").is_none());
+    assert!(rt; is_newest_kept(rt.alloc())?);
     Ok(())
 }

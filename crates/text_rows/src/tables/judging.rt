@@ -1,40 +1,93 @@
 //! Rows of tables, and what a reading of each tells.
 
-use super::{between, rows, tells};
+use super::{rows, tells};
 use std::alloc::{AllocError, Global};
 use std::process::Abort;
-use std::test::Fail;
 
-/// Where rows of steps stand: the text before them, and what the words say there of their method and of how many methods
-/// there are.
+/// Where rows stand: the texts before and after them, and what the words say there of their method and of how many
+/// methods there are.
 struct Home {
+    name: &'static str,
     before: &'static str,
+    after: &'static str,
     method: &'static str,
     methods: &'static str,
 }
 
-/// In the only method of a table of version 1.
+/// Rows that are whole documents.
+const ALONE: Home = Home {
+    name: "alone",
+    before: "",
+    after: "\n",
+    method: " ",
+    methods: "",
+};
+
+const BEHIND_VERSION_1: Home = Home {
+    name: "behind version 1",
+    before: "version = 1\n",
+    after: "\n",
+    method: " ",
+    methods: "",
+};
+
+const BEHIND_VERSION_2: Home = Home {
+    name: "behind version 2",
+    before: "version = 2\n",
+    after: "\n",
+    method: " ",
+    methods: "",
+};
+
+/// Rows of steps, in the only method of a table of version 1.
 const METHOD: Home = Home {
+    name: "in a method of version 1",
     before: "version = 1\n[[method]]\nname = \"m\"\nstep = [",
+    after: "]\n",
     method: " 1 ",
     methods: ": 1",
 };
 
 /// The same in version 2.
 const METHOD_OF_2: Home = Home {
+    name: "in a method of version 2",
     before: "version = 2\n[[method]]\nname = \"m\"\nstep = [",
+    after: "]\n",
     method: " 1 ",
     methods: ": 1",
 };
 
-/// In the opening.
+/// Rows of steps, in the opening.
 const OPENING: Home = Home {
+    name: "in the opening",
     before: "version = 2\nopening = [",
+    after: "]\n",
     method: " 0 ",
     methods: ": 0",
 };
 
-/// The words of a row of steps that stands there.
+/// Wherever steps stand.
+const EVERYWHERE: &[Home] = &[METHOD, METHOD_OF_2, OPENING];
+
+/// The text of a row in its home. In the row a `;` stands for a line's end.
+fn text_of(alloc: Global, home: &Home, text: &str) -> Result<String, AllocError> {
+    let mut all = String::from_str(alloc, home.before)?;
+    for c in text.chars() {
+        all.push(if c == ';' { '\n' } else { c })?;
+    }
+    all.push_str(home.after)?;
+    Ok(all)
+}
+
+/// A text between two others.
+fn between(alloc: Global, before: &str, text: &str, after: &str) -> Result<String, AllocError> {
+    let mut all = String::from_str(alloc, before)?;
+    all.push_str(text)?;
+    all.push_str(after)?;
+    Ok(all)
+}
+
+/// The words of a row in its home.
 fn words_at(alloc: Global, home: &Home, words: &str) -> Result<String, AllocError> {
     match words.split_once(' ') {
         Some((kind, step)) => between(alloc, kind, home.method, step),
@@ -42,88 +95,70 @@ fn words_at(alloc: Global, home: &Home, words: &str) -> Result<String, AllocErro
     }
 }
 
-/// The words and the text of a row, `WORDS <- TEXT`.
-fn row_of(line: &str) -> Result<(&str, &str), Fail> {
-    Ok(line.split_once(" <- ").ok_or("a row has an arrow")?)
+/// Whether the row `WORDS <- TEXT` tells its words in that home.
+fn is_judged(alloc: Global, home: &Home, row: &str) -> Result<bool, AllocError> {
+    let Some((words, text)) = row.split_once(" <- ") else {
+        return Ok(false);
+    };
+    let text = text_of(alloc, home, text)?;
+    let words = words_at(alloc, home, words)?;
+    tells(alloc, text.as_bytes(), words.as_str())
 }
 
-/// A row's text between two others. In it a `;` stands for a line's end.
-fn text_of(alloc: Global, before: &str, text: &str, after: &str) -> Result<String, AllocError> {
-    let mut all = String::from_str(alloc, before)?;
-    for c in text.chars() {
-        all.push(if c == ';' { '\n' } else { c })?;
-    }
-    all.push_str(after)?;
-    Ok(all)
-}
-
-/// Reads the document of each row, after a text.
-fn compare(rt: &impl Abort, alloc: Global, rows: &str, before: &str) -> Result<(), Fail> {
-    for line in rows.trim().lines() {
-        let (words, rest) = row_of(line)?;
-        let text = text_of(alloc, before, rest, "\n")?;
-        tells(rt, alloc, text.as_str(), words)?;
+/// Reads each row in that home.
+fn compare_at(rt: &impl Abort, alloc: Global, rows: &str, home: &Home) -> Result<(), AllocError> {
+    for row in rows.trim().lines() {
+        assert!(rt; is_judged(alloc, home, row)?, "{}: {row}", home.name);
     }
     Ok(())
 }
 
-/// Reads the steps of each row, in that place.
-fn compare_steps(rt: &impl Abort, alloc: Global, rows: &str, home: &Home) -> Result<(), Fail> {
-    for line in rows.trim().lines() {
-        let (words, steps) = row_of(line)?;
-        let text = text_of(alloc, home.before, steps, "]\n")?;
-        let words = words_at(alloc, home, words)?;
-        tells(rt, alloc, text.as_str(), words.as_str())?;
+/// Reads each row in each of these homes.
+fn compare(rt: &impl Abort, alloc: Global, rows: &str, homes: &[Home]) -> Result<(), AllocError> {
+    for home in homes {
+        compare_at(rt, alloc, rows, home)?;
     }
     Ok(())
 }
 
-/// Reads the steps of each row wherever steps stand.
-fn compare_everywhere(rt: &impl Abort, alloc: Global, rows: &str) -> Result<(), Fail> {
-    compare_steps(rt, alloc, rows, &METHOD)?;
-    compare_steps(rt, alloc, rows, &METHOD_OF_2)?;
-    compare_steps(rt, alloc, rows, &OPENING)
+#[test]
+fn documents_are_judged_in_order(rt: HostRuntime) -> Result<(), AllocError> {
+    compare(&rt, rt.alloc(), rows::DOCUMENTS, &[ALONE])
 }
 
 #[test]
-fn documents_are_judged_in_order(rt: HostRuntime) -> Result<(), Fail> {
-    compare(&rt, rt.alloc(), rows::DOCUMENTS, "")
+fn methods_are_judged_in_order(rt: HostRuntime) -> Result<(), AllocError> {
+    let homes = &[BEHIND_VERSION_1, BEHIND_VERSION_2];
+    compare(&rt, rt.alloc(), rows::METHODS, homes)
 }
 
 #[test]
-fn methods_are_judged_in_order(rt: HostRuntime) -> Result<(), Fail> {
-    compare(&rt, rt.alloc(), rows::METHODS, "version = 1\n")?;
-    compare(&rt, rt.alloc(), rows::METHODS, "version = 2\n")
+fn openings_are_judged_before_methods(rt: HostRuntime) -> Result<(), AllocError> {
+    compare(&rt, rt.alloc(), rows::OPENINGS, &[BEHIND_VERSION_2])
 }
 
 #[test]
-fn openings_are_judged_before_methods(rt: HostRuntime) -> Result<(), Fail> {
-    compare(&rt, rt.alloc(), rows::OPENINGS, "version = 2\n")
+fn steps_with_wrong_fields_are_refused(rt: HostRuntime) -> Result<(), AllocError> {
+    compare(&rt, rt.alloc(), rows::FIELDS, EVERYWHERE)
 }
 
 #[test]
-fn steps_with_wrong_fields_are_refused(rt: HostRuntime) -> Result<(), Fail> {
-    compare_everywhere(&rt, rt.alloc(), rows::FIELDS)
+fn steps_past_their_limits_are_refused(rt: HostRuntime) -> Result<(), AllocError> {
+    compare(&rt, rt.alloc(), rows::LIMITS, EVERYWHERE)
 }
 
 #[test]
-fn steps_past_their_limits_are_refused(rt: HostRuntime) -> Result<(), Fail> {
-    compare_everywhere(&rt, rt.alloc(), rows::LIMITS)
+fn registers_and_references_are_judged(rt: HostRuntime) -> Result<(), AllocError> {
+    compare(&rt, rt.alloc(), rows::REGISTERS, EVERYWHERE)
 }
 
 #[test]
-fn registers_and_references_are_judged(rt: HostRuntime) -> Result<(), Fail> {
-    compare_everywhere(&rt, rt.alloc(), rows::REGISTERS)
+fn reserved_codes_are_refused(rt: HostRuntime) -> Result<(), AllocError> {
+    compare(&rt, rt.alloc(), rows::CODES, EVERYWHERE)
 }
 
 #[test]
-fn reserved_codes_are_refused(rt: HostRuntime) -> Result<(), Fail> {
-    compare_everywhere(&rt, rt.alloc(), rows::CODES)
-}
-
-#[test]
-fn each_stands_in_version_2_alone(rt: HostRuntime) -> Result<(), Fail> {
-    compare_steps(&rt, rt.alloc(), rows::EACH, &METHOD_OF_2)?;
-    compare_steps(&rt, rt.alloc(), rows::EACH, &OPENING)?;
-    compare_steps(&rt, rt.alloc(), rows::NO_EACH, &METHOD)
+fn each_stands_in_version_2_alone(rt: HostRuntime) -> Result<(), AllocError> {
+    compare(&rt, rt.alloc(), rows::EACH, &[METHOD_OF_2, OPENING])?;
+    compare(&rt, rt.alloc(), rows::NO_EACH, &[METHOD])
 }

@@ -1,136 +1,175 @@
 //! What a table keeps of what it was read from.
-use super::{rows, table_of, tells};
-use method_steps::{OnError, Step, Table};
+use super::rows;
+use method_steps::{Step, Table, TableFault};
+use std::alloc::{AllocError, Global};
+use std::sync::Arc;
 use std::test::Fail;
 
-/// Names, and the methods that they find.
-const NAMES: &[(&str, Option<u32>)] = &[
-    ("add", Some(0)),
-    ("keep", Some(4)),
-    ("note", Some(5)),
-    ("nope", None),
+/// A table's text, and what the table has. The empty table is read from none.
+struct Row {
+    name: &'static str,
+    text: Option<&'static str>,
+    methods: u32,
+    /// Names, and the methods that they find.
+    found: &'static [(&'static str, Option<u32>)],
+    /// Methods, and how many calls each makes at most.
+    calls: &'static [(u32, u32)],
+    /// How many calls the opening makes at most.
+    opening_calls: u32,
+    /// What `Debug` shows of its steps.
+    opening: &'static str,
+    /// Methods, and what `Debug` shows of their steps.
+    steps: &'static [(u32, &'static str)],
+}
+
+const ROWS: &[Row] = &[
+    Row {
+        name: "six methods are found by name, and fields of steps are kept",
+        text: Some(rows::SIX),
+        methods: 6,
+        found: &[
+            ("add", Some(0)),
+            ("keep", Some(4)),
+            ("note", Some(5)),
+            ("nope", None),
+        ],
+        calls: &[(0, 0), (1, 1), (2, 2), (3, 1), (4, 1), (5, 0), (6, 0)],
+        opening_calls: 0,
+        opening: "None",
+        steps: &[
+            (
+                3,
+                r#"Some([Call { to: "r", method: "confirm", params: None, on_error: Fail }, Skip { left: Template { form: Place { name: "r", pointer: "" } }, right: Template { form: Plain(true) }, count: 1 }, Fail { code: 7, message: "no" }, Answer { value: Template { form: Plain("yes") } }])"#,
+            ),
+            (
+                4,
+                r#"Some([Call { to: "r", method: "confirm", params: None, on_error: Keep }, Answer { value: Template { form: Place { name: "r", pointer: "" } } }])"#,
+            ),
+            (6, "None"),
+        ],
+    },
+    Row {
+        name: "one method is read",
+        text: Some(rows::ONE),
+        methods: 1,
+        found: &[("add", Some(0))],
+        calls: &[(0, 0)],
+        opening_calls: 0,
+        opening: "None",
+        steps: &[],
+    },
+    Row {
+        name: "an opening is no method",
+        text: Some(rows::HELLO),
+        methods: 0,
+        found: &[],
+        calls: &[(0, 0)],
+        opening_calls: 1,
+        opening: r#"Some([Call { to: "r", method: "hello", params: None, on_error: Fail }, Notify { method: "ready", params: Some(Template { form: List([Template { form: Place { name: "r", pointer: "" } }]) }) }])"#,
+        steps: &[],
+    },
+    Row {
+        name: "no steps are no opening",
+        text: Some("version = 2\nopening = []\n"),
+        methods: 0,
+        found: &[],
+        calls: &[],
+        opening_calls: 0,
+        opening: "None",
+        steps: &[],
+    },
+    Row {
+        name: "each counts as sixteen calls",
+        text: Some(rows::ALL),
+        methods: 1,
+        found: &[],
+        calls: &[(0, 16)],
+        opening_calls: 17,
+        opening: r#"Some([Call { to: "r", method: "names", params: None, on_error: Fail }, Each { to: "s", over: Template { form: Place { name: "r", pointer: "" } }, method: "g", on_error: Keep }])"#,
+        steps: &[(
+            0,
+            r#"Some([Each { to: "r", over: Template { form: Place { name: "params", pointer: "" } }, method: "f", on_error: Fail }, Answer { value: Template { form: Place { name: "r", pointer: "" } } }])"#,
+        )],
+    },
+    Row {
+        name: "a table without methods has none",
+        text: None,
+        methods: 0,
+        found: &[("", None)],
+        calls: &[(0, 0)],
+        opening_calls: 0,
+        opening: "None",
+        steps: &[],
+    },
 ];
 
-/// Methods, and how many calls each makes at most.
-const CALLS: &[(u32, u32)] = &[(0, 0), (1, 1), (2, 2), (3, 1), (4, 1), (5, 0), (6, 0)];
-
-#[test]
-fn six_methods_are_found_by_name(rt: HostRuntime) -> Result<(), Fail> {
-    let table = table_of(rt.alloc(), rows::SIX)?;
-    assert!(rt; table.len() == 6 && table.steps(6).is_none());
-    for (name, method) in NAMES {
-        assert!(rt; table.find(name) == *method, "{name}");
-    }
-    for (method, calls) in CALLS {
-        assert!(rt; table.calls_most(*method) == *calls, "{method}");
-    }
-    Ok(())
-}
-
-#[test]
-fn one_method_is_read(rt: HostRuntime) -> Result<(), Fail> {
-    Ok(tells(&rt, rt.alloc(), rows::ONE, "ok: 1")?)
-}
-
-#[test]
-fn a_table_without_methods_has_none(rt: HostRuntime) {
-    let table = Table::empty(rt.alloc());
-    assert!(rt; table.len() == 0 && table.find("").is_none() && table.calls_most(0) == 0);
-    assert!(rt; table.opening_steps().is_none() && table.opening_most() == 0);
-}
-
-/// Whether these are a call of `hello`, whose reply goes to `r`, and a notification `ready`.
-fn are_hello(steps: &[Step]) -> bool {
-    match steps {
-        [
-            Step::Call { to, method, .. },
-            Step::Notify { method: notice, .. },
-        ] => to.as_str() == "r" && method.as_str() == "hello" && notice.as_str() == "ready",
-        _ => false,
-    }
-}
-
-#[test]
-fn an_opening_is_no_method(rt: HostRuntime) -> Result<(), Fail> {
-    let table = table_of(rt.alloc(), rows::HELLO)?;
-    assert!(rt; table.len() == 0 && table.calls_most(0) == 0 && table.opening_most() == 1);
-    assert!(rt; are_hello(table.opening_steps().ok_or("opening")?.as_slice()));
-    Ok(())
-}
-
-#[test]
-fn no_steps_are_no_opening(rt: HostRuntime) -> Result<(), Fail> {
-    let table = table_of(rt.alloc(), "version = 2\nopening = []\n")?;
-    assert!(rt; table.opening_steps().is_none() && table.opening_most() == 0);
-    Ok(())
-}
-
-/// Whether these are a call of `f` for each element, whose replies go to `r` and whose errors end it, and an answer.
-fn are_all(steps: &[Step]) -> bool {
-    match steps {
-        [
-            Step::Each {
-                to,
-                over: _,
-                method,
-                on_error,
-            },
-            Step::Answer { value: _ },
-        ] => to.as_str() == "r" && method.as_str() == "f" && *on_error == OnError::Fail,
-        _ => false,
-    }
-}
-
-#[test]
-fn each_counts_as_sixteen_calls(rt: HostRuntime) -> Result<(), Fail> {
-    let table = table_of(rt.alloc(), rows::ALL)?;
-    assert!(rt; table.len() == 1 && table.calls_most(0) == 16 && table.opening_most() == 17);
-    assert!(rt; are_all(table.steps(0).ok_or("all")?.as_slice()));
-    Ok(())
-}
-
-/// Whether these are a call of `confirm` without params, whose reply or error goes to `r`, and an answer.
-fn are_keep(steps: &[Step]) -> bool {
-    match steps {
-        [
-            Step::Call {
-                to,
-                method,
-                params,
-                on_error,
-            },
-            Step::Answer { value: _ },
-        ] => {
-            to.as_str() == "r"
-                && method.as_str() == "confirm"
-                && params.is_none()
-                && *on_error == OnError::Keep
+fn has_numbers(table: &Table, row: &Row) -> bool {
+    for (method, calls) in row.calls {
+        if table.calls_most(*method) != *calls {
+            return false;
         }
-        _ => false,
+    }
+    table.len() == row.methods && table.opening_most() == row.opening_calls
+}
+
+fn has_names(table: &Table, row: &Row) -> bool {
+    for (name, method) in row.found {
+        if table.find(name) != *method {
+            return false;
+        }
+    }
+    true
+}
+
+/// Whether `Debug` shows so of the steps.
+fn are_shown(
+    alloc: Global,
+    steps: Option<&Arc<Vec<Step>>>,
+    want: &str,
+) -> Result<bool, AllocError> {
+    let shown = format!(in alloc; "{steps:?}")?;
+    Ok(shown.as_str() == want)
+}
+
+fn has_steps(alloc: Global, table: &Table, row: &Row) -> Result<bool, AllocError> {
+    for (method, want) in row.steps {
+        if !are_shown(alloc, table.steps(*method), want)? {
+            return Ok(false);
+        }
+    }
+    are_shown(alloc, table.opening_steps(), row.opening)
+}
+
+/// Whether the table has all that its row says.
+fn has_all(alloc: Global, table: &Table, row: &Row) -> Result<bool, AllocError> {
+    if has_numbers(table, row) && has_names(table, row) {
+        has_steps(alloc, table, row)
+    } else {
+        Ok(false)
     }
 }
 
-/// Whether these are four steps, of which the second skips one and the third fails with 7 and `no`.
-fn are_gate(steps: &[Step]) -> bool {
-    match steps {
-        [
-            _,
-            Step::Skip {
-                left: _,
-                right: _,
-                count,
-            },
-            Step::Fail { code, message },
-            _,
-        ] => *count == 1 && *code == 7 && message.as_str() == "no",
-        _ => false,
+fn read(alloc: Global, text: Option<&str>) -> Result<Table, TableFault> {
+    match text {
+        Some(text) => Table::read(alloc, text.as_bytes()),
+        None => Ok(Table::empty(alloc)),
     }
+}
+
+fn is_kept(alloc: Global, row: &Row) -> Result<bool, AllocError> {
+    let table = read(alloc, row.text);
+    let is_kept = match &table {
+        Ok(table) => has_all(alloc, table, row),
+        Err(_) => Ok(false),
+    };
+    drop(table);
+    is_kept
 }
 
 #[test]
-fn fields_of_steps_are_kept(rt: HostRuntime) -> Result<(), Fail> {
-    let table = table_of(rt.alloc(), rows::SIX)?;
-    assert!(rt; are_keep(table.steps(4).ok_or("keep")?.as_slice()));
-    assert!(rt; are_gate(table.steps(3).ok_or("gate")?.as_slice()));
+fn a_table_keeps_what_it_was_read_from(rt: HostRuntime) -> Result<(), Fail> {
+    for row in ROWS {
+        assert!(rt; is_kept(rt.alloc(), row)?, "{}", row.name);
+    }
     Ok(())
 }

@@ -1,5 +1,5 @@
-use super::same;
 use rpc_messages::{call_key, read_key};
+use std::alloc::{AllocError, Global};
 use std::test::Fail;
 
 const KEYS: &[(&str, (u32, u32))] = &[
@@ -8,11 +8,16 @@ const KEYS: &[(&str, (u32, u32))] = &[
     ("1000000.1024", (1_000_000, 1_024)),
 ];
 
+/// Whether that text is the key of the call, and nothing else is read from it.
+fn is_key(alloc: Global, text: &str, (number, turn): (u32, u32)) -> Result<bool, AllocError> {
+    let key = call_key(alloc, number, turn)?;
+    Ok(key.as_str() == text && read_key(text) == Some((number, turn)))
+}
+
 #[test]
 fn keys_are_two_decimals_with_a_dot_between(rt: HostRuntime) -> Result<(), Fail> {
-    for (text, (number, turn)) in KEYS {
-        same(&rt, call_key(rt.alloc(), *number, *turn)?.as_bytes(), text);
-        assert!(rt; read_key(text) == Some((*number, *turn)), "{text}");
+    for (text, call) in KEYS {
+        assert!(rt; is_key(rt.alloc(), text, *call)?, "{text}");
     }
     Ok(())
 }

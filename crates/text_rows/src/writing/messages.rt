@@ -1,6 +1,7 @@
 //! The texts of calls, notices and withdrawals.
 
-use super::{bare, outgoing, same};
+use super::answers::{INVALID_REQUEST, ONE_INVALID, PARSE_ERROR};
+use super::{is_same, message, outgoing};
 use json_values::Json;
 use rpc_messages::{
     Id, Outgoing, Reply, call_text, calls_text, notice_text, put_answer, put_call, put_calls,
@@ -13,73 +14,76 @@ const CONFIRM: &str = r#"{"id":"1.1","jsonrpc":"2.0","method":"confirm","params"
 
 const LOG: &str = r#"{"jsonrpc":"2.0","method":"log","params":["x"]}"#;
 
-#[test]
-fn a_call_has_params_where_given(rt: HostRuntime) -> Result<(), Fail> {
-    let confirm = call_text(
-        rt.alloc(),
-        1,
-        1,
-        &outgoing(rt.alloc(), "confirm", r#"["x"]"#)?,
-    )?;
-    same(&rt, confirm.as_slice(), CONFIRM);
-    assert!(rt; CONFIRM.len() == 62);
-    let bare = call_text(rt.alloc(), 1, 1, &bare(rt.alloc(), "confirm")?)?;
-    same(
-        &rt,
-        bare.as_slice(),
-        r#"{"id":"1.1","jsonrpc":"2.0","method":"confirm"}"#,
-    );
-    Ok(())
+/// A call `1.1` or a notice, and its text.
+struct Row {
+    is_call: bool,
+    method: &'static str,
+    params: Option<&'static str>,
+    text: &'static str,
+}
+
+const ROWS: &[Row] = &[
+    Row {
+        is_call: true,
+        method: "confirm",
+        params: Some(r#"["x"]"#),
+        text: CONFIRM,
+    },
+    Row {
+        is_call: true,
+        method: "confirm",
+        params: None,
+        text: r#"{"id":"1.1","jsonrpc":"2.0","method":"confirm"}"#,
+    },
+    Row {
+        is_call: false,
+        method: "log",
+        params: Some(r#"["x"]"#),
+        text: LOG,
+    },
+];
+
+fn is_written(alloc: Global, row: &Row) -> Result<bool, Fail> {
+    let message = outgoing(alloc, row.method, row.params)?;
+    let written = if row.is_call {
+        call_text(alloc, 1, 1, &message)
+    } else {
+        notice_text(alloc, &message)
+    };
+    drop(message);
+    Ok(is_same(written, row.text)?)
 }
 
 #[test]
-fn a_notice_has_params_where_given(rt: HostRuntime) -> Result<(), Fail> {
-    let notice = notice_text(rt.alloc(), &outgoing(rt.alloc(), "log", r#"["x"]"#)?)?;
-    same(&rt, notice.as_slice(), LOG);
-    assert!(rt; LOG.len() == 47);
-    Ok(())
-}
-
-fn two(alloc: Global, first: Outgoing, second: Outgoing) -> Result<Vec<Outgoing>, AllocError> {
-    Ok(vec![in alloc; first, second]?)
-}
-
-const TURNS: &str =
-    r#"[{"id":"1.1","jsonrpc":"2.0","method":"a"},{"id":"1.2","jsonrpc":"2.0","method":"b"}]"#;
-
-#[test]
-fn turns_of_a_batch_of_calls_count_up(rt: HostRuntime) -> Result<(), Fail> {
-    let calls = two(rt.alloc(), bare(rt.alloc(), "a")?, bare(rt.alloc(), "b")?)?;
-    assert!(rt; calls.len() == 2 && TURNS.len() == 85);
-    let text = calls_text(rt.alloc(), 1, 1, calls.as_slice())?;
-    same(&rt, text.as_slice(), TURNS);
+fn calls_and_notices_have_params_where_given(rt: HostRuntime) -> Result<(), Fail> {
+    for row in ROWS {
+        assert!(rt; is_written(rt.alloc(), row)?, "{}", row.text);
+    }
     Ok(())
 }
 
 const WITHDRAWAL: &str = r#"{"jsonrpc":"2.0","method":"$/cancelRequest","params":{"id":"1.1"}}"#;
 
+/// Calls, and the texts of their withdrawals.
+const WITHDRAWALS: &[((u32, u32), &str)] = &[
+    ((1, 1), WITHDRAWAL),
+    (
+        (1_000_000, 1_024),
+        r#"{"jsonrpc":"2.0","method":"$/cancelRequest","params":{"id":"1000000.1024"}}"#,
+    ),
+];
+
 #[test]
 fn a_withdrawal_names_its_call(rt: HostRuntime) -> Result<(), Fail> {
-    same(&rt, withdraw_text(rt.alloc(), 1, 1)?.as_slice(), WITHDRAWAL);
-    assert!(rt; WITHDRAWAL.len() == 66);
-    same(
-        &rt,
-        withdraw_text(rt.alloc(), 1_000_000, 1_024)?.as_slice(),
-        r#"{"jsonrpc":"2.0","method":"$/cancelRequest","params":{"id":"1000000.1024"}}"#,
-    );
+    for ((number, turn), text) in WITHDRAWALS {
+        let written = withdraw_text(rt.alloc(), *number, *turn);
+        assert!(rt; is_same(written, text)?, "{text}");
+    }
     Ok(())
 }
 
-/// Puts an answer, and calls of these two, behind the bytes.
-fn put_all(alloc: Global, bytes: &mut Vec<u8>, calls: &[Outgoing]) -> Result<(), AllocError> {
-    put_answer(alloc, bytes, &Id::Null, &Reply::Done(Json::null()))?;
-    if let [first, second] = calls {
-        put_call(alloc, bytes, 0, 7, second)?;
-        put_calls(alloc, bytes, 12, 3, calls)?;
-        put_notice(alloc, bytes, first)?;
-    }
-    put_withdrawal(bytes, 2, 1)
-}
+const TURNS: &str =
+    r#"[{"id":"1.1","jsonrpc":"2.0","method":"a"},{"id":"1.2","jsonrpc":"2.0","method":"b"}]"#;
 
 const BEHIND_OTHERS: &str = concat!(
     "before ",
@@ -91,12 +95,87 @@ const BEHIND_OTHERS: &str = concat!(
     r#"{"jsonrpc":"2.0","method":"$/cancelRequest","params":{"id":"2.1"}}"#,
 );
 
+/// A message, and a bare message `b`.
+fn with_b(alloc: Global, first: Outgoing) -> Result<Vec<Outgoing>, AllocError> {
+    let mut two = Vec::new(alloc);
+    two.push(first)?;
+    two.push(message(alloc, "b", None)?)?;
+    Ok(two)
+}
+
+/// Whether these, which are two, have their text as a batch of calls from `1.1` on.
+fn are_turns(alloc: Global, calls: &[Outgoing]) -> Result<bool, AllocError> {
+    if calls.len() != 2 {
+        return Ok(false);
+    }
+    is_same(calls_text(alloc, 1, 1, calls), TURNS)
+}
+
+fn count_up(alloc: Global) -> Result<bool, AllocError> {
+    let calls = with_b(alloc, message(alloc, "a", None)?)?;
+    let are_turns = are_turns(alloc, calls.as_slice());
+    drop(calls);
+    are_turns
+}
+
+#[test]
+fn turns_of_a_batch_of_calls_count_up(rt: HostRuntime) -> Result<(), Fail> {
+    assert!(rt; count_up(rt.alloc())?);
+    Ok(())
+}
+
+fn put_null(alloc: Global, bytes: &mut Vec<u8>) -> Result<(), AllocError> {
+    let reply = Reply::Done(Json::null());
+    let put = put_answer(alloc, bytes, &Id::Null, &reply);
+    drop(reply);
+    put
+}
+
+/// Puts an answer, and calls of these two, behind the bytes.
+fn put_all(alloc: Global, bytes: &mut Vec<u8>, calls: &[Outgoing]) -> Result<(), AllocError> {
+    put_null(alloc, bytes)?;
+    if let [first, second] = calls {
+        put_call(alloc, bytes, 0, 7, second)?;
+        put_calls(alloc, bytes, 12, 3, calls)?;
+        put_notice(alloc, bytes, first)?;
+    }
+    put_withdrawal(bytes, 2, 1)
+}
+
+/// All that is put behind other bytes.
+fn behind_others(alloc: Global, calls: &[Outgoing]) -> Result<Vec<u8>, AllocError> {
+    let mut bytes = Vec::from_slice(alloc, b"before ")?;
+    put_all(alloc, &mut bytes, calls)?;
+    Ok(bytes)
+}
+
+fn go_behind(alloc: Global) -> Result<bool, Fail> {
+    let calls = with_b(alloc, outgoing(alloc, "a\"", Some(r#"{"k":[1]}"#))?)?;
+    let bytes = behind_others(alloc, calls.as_slice());
+    drop(calls);
+    Ok(is_same(bytes, BEHIND_OTHERS)?)
+}
+
 #[test]
 fn texts_go_behind_other_bytes(rt: HostRuntime) -> Result<(), Fail> {
-    let first = outgoing(rt.alloc(), "a\"", r#"{"k":[1]}"#)?;
-    let calls = two(rt.alloc(), first, bare(rt.alloc(), "b")?)?;
-    let mut bytes = Vec::from_slice(rt.alloc(), b"before ")?;
-    put_all(rt.alloc(), &mut bytes, calls.as_slice())?;
-    same(&rt, bytes.as_slice(), BEHIND_OTHERS);
+    assert!(rt; go_behind(rt.alloc())?);
     Ok(())
+}
+
+/// Texts, and how long they are.
+const LENGTHS: &[(&str, usize)] = &[
+    (PARSE_ERROR, 75),
+    (INVALID_REQUEST, 79),
+    (ONE_INVALID, 81),
+    (CONFIRM, 62),
+    (LOG, 47),
+    (TURNS, 85),
+    (WITHDRAWAL, 66),
+];
+
+#[test]
+fn texts_have_their_lengths(rt: HostRuntime) {
+    for (text, length) in LENGTHS {
+        assert!(rt; text.len() == *length, "{text}");
+    }
 }

@@ -1,26 +1,25 @@
-use super::{json, same};
+use super::json;
 use json_values::{Json, JsonArray, JsonObject, Negative, Text};
 use rpc_messages::Id;
 use serde_json::Value;
 use std::alloc::{AllocError, Global};
+use std::process::Abort;
 use std::test::Fail;
 
-const FRACTIONS: &[&str] = &[
-    "1.5",
-    "1.0",
-    "1e2",
-    "-0",
-    "18446744073709551616",
-    "[[0,{\"a\":[1.5]}]]",
-    "{\"a\":1,\"b\":2.5}",
-];
-
-const WHOLE: &[&str] = &[
-    "0",
-    "-9223372036854775808",
-    "18446744073709551615",
-    "[1,{\"a\":\"1.5\"},[]]",
-    "true",
+/// Values, and whether they have no fraction.
+const VALUES: &[(&str, bool)] = &[
+    ("1.5", false),
+    ("1.0", false),
+    ("1e2", false),
+    ("-0", false),
+    ("18446744073709551616", false),
+    ("[[0,{\"a\":[1.5]}]]", false),
+    ("{\"a\":1,\"b\":2.5}", false),
+    ("0", true),
+    ("-9223372036854775808", true),
+    ("18446744073709551615", true),
+    ("[1,{\"a\":\"1.5\"},[]]", true),
+    ("true", true),
 ];
 
 fn is_whole(alloc: Global, text: &str) -> Result<bool, Fail> {
@@ -29,77 +28,183 @@ fn is_whole(alloc: Global, text: &str) -> Result<bool, Fail> {
 
 #[test]
 fn values_with_a_fraction_are_refused(rt: HostRuntime) -> Result<(), Fail> {
-    for text in FRACTIONS {
-        assert!(rt; !is_whole(rt.alloc(), text)?, "{text}");
-    }
-    for text in WHOLE {
-        assert!(rt; is_whole(rt.alloc(), text)?, "{text}");
+    for (text, want) in VALUES {
+        assert!(rt; is_whole(rt.alloc(), text)? == *want, "{text}");
     }
     Ok(())
 }
 
-fn array(alloc: Global) -> Result<Json, AllocError> {
-    let mut array = JsonArray::new(alloc);
+fn put_elements(array: &mut JsonArray) -> Result<(), AllocError> {
     array.push(Json::null())?;
     array.push(Json::boolean(false))?;
     array.push(Json::unsigned(2))?;
-    array.push(Json::integer(-3))?;
+    array.push(Json::integer(-3))
+}
+
+fn array(alloc: Global) -> Result<Json, AllocError> {
+    let mut array = JsonArray::new(alloc);
+    put_elements(&mut array)?;
     Ok(array.finish())
 }
 
+fn put_text(alloc: Global, object: &mut JsonObject) -> Result<(), AllocError> {
+    let name = Text::copy_of(alloc, "a")?;
+    let text = Text::copy_of(alloc, "t")?;
+    object.insert(name, Json::string(text))
+}
+
 fn object(alloc: Global) -> Result<Json, AllocError> {
-    let text = Json::string(Text::copy_of(alloc, "t")?);
     let mut object = JsonObject::new(alloc).with(alloc, "b", array(alloc)?)?;
-    object.insert(Text::copy_of(alloc, "a")?, text)?;
+    put_text(alloc, &mut object)?;
     Ok(object.finish())
 }
 
 const OBJECT: &str = r#"{"a":"t","b":[null,false,2,-3]}"#;
 
-#[test]
-fn built_values_have_their_text(rt: HostRuntime) -> Result<(), Fail> {
-    let value = object(rt.alloc())?;
-    same(&rt, value.to_text(rt.alloc())?.as_str().as_bytes(), OBJECT);
-    same(&rt, value.clone()?.to_bytes(rt.alloc())?.as_slice(), OBJECT);
-    assert!(rt; value.as_value().is_object());
-    assert!(rt; value.into_value().is_object());
-    Ok(())
+fn has_bytes(alloc: Global, value: Json) -> Result<bool, AllocError> {
+    let bytes = value.to_bytes(alloc);
+    drop(value);
+    Ok(bytes?.as_slice() == OBJECT.as_bytes())
 }
 
-fn leads_to(alloc: Global, value: &Json, path: &str, other: &str) -> Result<bool, Fail> {
-    match value.pointer(path)? {
-        Some(place) => Ok(place.has_text_of(alloc, &json(alloc, other)?)?),
-        None => Ok(false),
+/// Whether the object and its copy have their text.
+fn are_written(alloc: Global, value: &Json) -> Result<bool, AllocError> {
+    if !value.as_value().is_object() || !has_bytes(alloc, value.clone()?)? {
+        return Ok(false);
+    }
+    Ok(value.to_text(alloc)?.as_str() == OBJECT)
+}
+
+fn is_object(value: Json) -> bool {
+    let value = value.into_value();
+    let is_object = value.is_object();
+    drop(value);
+    is_object
+}
+
+fn is_built(alloc: Global) -> Result<bool, AllocError> {
+    let value = object(alloc)?;
+    let are_written = are_written(alloc, &value);
+    if is_object(value) {
+        are_written
+    } else {
+        Ok(false)
     }
 }
 
 #[test]
-fn pointers_lead_into_values(rt: HostRuntime) -> Result<(), Fail> {
-    let text = "{\"a/b\":[7,[8]]}";
-    let value = json(rt.alloc(), text)?;
-    assert!(rt; leads_to(rt.alloc(), &value, "/a~1b/1", " [ 8 ] ")?);
-    assert!(rt; !leads_to(rt.alloc(), &value, "/a~1b/1", text)?);
-    assert!(rt; value.pointer("/a~1b/2")?.is_none());
+fn built_values_have_their_text(rt: HostRuntime) -> Result<(), Fail> {
+    assert!(rt; is_built(rt.alloc())?);
     Ok(())
+}
+
+const POINTED: &str = "{\"a/b\":[7,[8]]}";
+
+/// Paths into it, other texts, and whether what the path leads to has that text; none where it leads nowhere.
+const PATHS: &[(&str, &str, Option<bool>)] = &[
+    ("/a~1b/1", " [ 8 ] ", Some(true)),
+    ("/a~1b/1", POINTED, Some(false)),
+    ("/a~1b/2", POINTED, None),
+];
+
+fn has_text(alloc: Global, place: &Option<Json>, other: &Json) -> Result<Option<bool>, AllocError> {
+    match place {
+        Some(place) => place.has_text_of(alloc, other).map(Some),
+        None => Ok(None),
+    }
+}
+
+/// Whether the value's place has the text of another value.
+fn compared(alloc: Global, value: &Json, path: &str, other: &Json) -> Result<Option<bool>, Fail> {
+    let place = value.pointer(path)?;
+    let has_text = has_text(alloc, &place, other);
+    drop(place);
+    Ok(has_text?)
+}
+
+fn leads_to(alloc: Global, value: &Json, path: &str, other: &str) -> Result<Option<bool>, Fail> {
+    let other = json(alloc, other)?;
+    let compared = compared(alloc, value, path, &other);
+    drop(other);
+    compared
+}
+
+/// Follows each path.
+fn follow(rt: &impl Abort, alloc: Global, value: &Json) -> Result<(), Fail> {
+    for (path, other, want) in PATHS {
+        assert!(rt; leads_to(alloc, value, path, other)? == *want, "{path}");
+    }
+    Ok(())
+}
+
+#[test]
+fn pointers_lead_into_values(rt: HostRuntime) -> Result<(), Fail> {
+    let value = json(rt.alloc(), POINTED)?;
+    let followed = follow(&rt, rt.alloc(), &value);
+    drop(value);
+    followed
 }
 
 fn text_id(alloc: Global, text: &str) -> Result<Id, AllocError> {
     Ok(Id::Text(Text::copy_of(alloc, text)?))
 }
 
+/// Whether the id differs from that number, which is dropped.
+fn differs(id: &Id, number: Id) -> bool {
+    let differs = *id != number;
+    drop(number);
+    differs
+}
+
+fn is_above(id: &Id, lower: Id) -> bool {
+    let is_above = lower < *id;
+    drop(lower);
+    is_above
+}
+
+fn is_same_as(id: &Id, copy: Id) -> bool {
+    let is_same = *id == copy;
+    drop(copy);
+    is_same
+}
+
+/// Whether the text is equal to its copy, and neither to its number nor to null.
+fn is_by_value(seven: &Id) -> Result<bool, AllocError> {
+    let is_same = is_same_as(seven, seven.clone()?);
+    Ok(is_same && differs(seven, Id::Unsigned(7)) && is_above(seven, Id::Null))
+}
+
+fn are_by_value(alloc: Global) -> Result<bool, AllocError> {
+    let seven = text_id(alloc, "7")?;
+    let is_by_value = is_by_value(&seven);
+    drop(seven);
+    is_by_value
+}
+
+/// Whether a number below 0 is no number above, and 0 isn't below.
+fn are_below() -> bool {
+    match Negative::new(-7) {
+        Some(below) => {
+            let differs = differs(&Id::Signed(below), Id::Unsigned(7));
+            differs && below.get() == -7 && Negative::new(0).is_none()
+        }
+        None => false,
+    }
+}
+
 #[test]
 fn ids_are_equal_by_value(rt: HostRuntime) -> Result<(), Fail> {
-    let seven = text_id(rt.alloc(), "7")?;
-    let below = Negative::new(-7).ok_or("not below 0")?;
-    assert!(rt; seven == seven.clone()? && seven != Id::Unsigned(7) && Id::Null < seven);
-    assert!(rt; Id::Signed(below) != Id::Unsigned(7));
-    assert!(rt; below.get() == -7 && Negative::new(0).is_none());
+    assert!(rt; are_below() && are_by_value(rt.alloc())?);
     Ok(())
+}
+
+fn is_its_string(alloc: Global, string: &str) -> Result<bool, AllocError> {
+    let text = Text::from(String::from_str(alloc, string)?);
+    Ok(text.into_string().as_str() == string)
 }
 
 #[test]
 fn a_text_is_its_string(rt: HostRuntime) -> Result<(), Fail> {
-    let text = Text::from(String::from_str(rt.alloc(), "7")?);
-    same(&rt, text.into_string().as_bytes(), "7");
+    assert!(rt; is_its_string(rt.alloc(), "7")?);
     Ok(())
 }
