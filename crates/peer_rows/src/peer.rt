@@ -44,7 +44,7 @@ impl cuts::Row for Case<'_> {
             return Ok(false);
         };
         let (bytes, report) = played(alloc, self.table, limits, pieces)?;
-        Ok(report == self.wanted() && is_made_of(bytes.as_slice(), self.row.output))
+        Ok(report == self.wanted() && cuts::is_made_of(bytes.as_slice(), self.row.output))
     }
 }
 
@@ -68,10 +68,7 @@ fn played(
     limits: Limits,
     pieces: &[&[u8]],
 ) -> Result<(Vec<u8>, Report), AllocError> {
-    let mut owned = Vec::new(alloc);
-    for piece in pieces {
-        owned.push(piece.to_vec(alloc)?)?;
-    }
+    let owned = cuts::owned(alloc, pieces)?;
     let schedule = Schedule {
         lazy: false,
         picks: Picks::First,
@@ -80,18 +77,6 @@ fn played(
         Ok(played) => Ok(played),
         Err(PlayFault::Memory) => Err(AllocError),
     }
-}
-
-/// Whether these are the texts, one behind the other.
-fn is_made_of(bytes: &[u8], texts: &[&str]) -> bool {
-    let mut rest = bytes;
-    for text in texts {
-        match rest.strip_prefix(text.as_bytes()) {
-            Some(behind) => rest = behind,
-            None => return false,
-        }
-    }
-    rest.is_empty()
 }
 
 /// Each row, in which no method of the table runs.
@@ -112,18 +97,30 @@ fn each_is_answered(
     Ok(())
 }
 
+/// The same by a peer without methods.
+fn each_is_answered_by_an_empty_table(
+    rt: &impl Abort,
+    alloc: Global,
+    rows: &[Row],
+) -> Result<(), AllocError> {
+    let table = Table::empty(alloc);
+    let answered = each_is_answered(rt, alloc, &table, rows);
+    drop(table);
+    answered
+}
+
 /// The same by a peer without methods, and by one whose methods nobody asks for.
 fn each_is_answered_alike(rt: &impl Abort, alloc: Global, rows: &[Row]) -> Result<(), Fail> {
-    each_is_answered(rt, alloc, &Table::empty(alloc), rows)?;
+    each_is_answered_by_an_empty_table(rt, alloc, rows)?;
     let table = crate::plays::methods(alloc)?;
-    each_is_answered(rt, alloc, &table, rows)?;
-    Ok(())
+    let answered = each_is_answered(rt, alloc, &table, rows);
+    drop(table);
+    Ok(answered?)
 }
 
 #[test]
 fn messages_are_answered(rt: HostRuntime) -> Result<(), Fail> {
-    let table = Table::empty(rt.alloc());
-    Ok(each_is_answered(&rt, rt.alloc(), &table, rows::MESSAGES)?)
+    Ok(each_is_answered_by_an_empty_table(&rt, rt.alloc(), rows::MESSAGES)?)
 }
 
 #[test]
@@ -141,18 +138,24 @@ fn contents_numbers_and_depths_have_limits(rt: HostRuntime) -> Result<(), Fail> 
     each_is_answered_alike(&rt, rt.alloc(), rows::LIMITS)
 }
 
-#[test]
-fn methods_run_however_their_input_is_cut(rt: HostRuntime) -> Result<(), Fail> {
-    let table = crate::plays::methods(rt.alloc())?;
+fn each_runs(rt: &impl Abort, alloc: Global, table: &Table) -> Result<(), AllocError> {
     for (row, runs) in methods::ROWS {
         let case = Case {
             row,
-            table: &table,
+            table,
             runs: *runs,
         };
-        assert!(rt; cuts::holds_however_cut(rt.alloc(), &case)?, "{}", row.name);
+        assert!(rt; cuts::holds_however_cut(alloc, &case)?, "{}", row.name);
     }
     Ok(())
+}
+
+#[test]
+fn methods_run_however_their_input_is_cut(rt: HostRuntime) -> Result<(), Fail> {
+    let table = crate::plays::methods(rt.alloc())?;
+    let ran = each_runs(&rt, rt.alloc(), &table);
+    drop(table);
+    Ok(ran?)
 }
 
 #[test]
@@ -163,12 +166,30 @@ fn limits_are_at_most_the_standard_ones(rt: HostRuntime) {
     assert!(rt; Limits::new(content, numbers) == Some(Limits::standard()));
 }
 
+/// Whether a piece of many frames is answered with as many.
+fn are_answered(alloc: Global, table: &Table) -> Result<bool, AllocError> {
+    let piece = joined(alloc, &[(rows::ASKED, 100_000)])?;
+    let (bytes, report) = played(alloc, table, Limits::standard(), &[piece.as_slice()])?;
+    Ok(report.answers == 100_000 && is_repeated(bytes.as_slice(), rows::NOT_FOUND, 100_000))
+}
+
+/// Whether these are so many times the text.
+fn is_repeated(bytes: &[u8], text: &str, times: usize) -> bool {
+    let mut rest = bytes;
+    for _ in 0..times {
+        match rest.strip_prefix(text.as_bytes()) {
+            Some(behind) => rest = behind,
+            None => return false,
+        }
+    }
+    rest.is_empty()
+}
+
 #[test]
 fn many_frames_in_one_piece_are_answered(rt: HostRuntime) -> Result<(), Fail> {
-    let piece = joined(rt.alloc(), &[(rows::ASKED, 100_000)])?;
-    let wanted = joined(rt.alloc(), &[(rows::NOT_FOUND, 100_000)])?;
     let table = Table::empty(rt.alloc());
-    let (bytes, report) = played(rt.alloc(), &table, Limits::standard(), &[piece.as_slice()])?;
-    assert!(rt; report.answers == 100_000 && bytes == wanted);
+    let are_answered = are_answered(rt.alloc(), &table);
+    drop(table);
+    assert!(rt; are_answered?);
     Ok(())
 }

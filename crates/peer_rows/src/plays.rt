@@ -10,8 +10,9 @@ mod memory;
 mod plain;
 mod version_2;
 
+use crate::cuts;
 use json_values::Items;
-use lsp_frames::put_frame;
+use lsp_frames::{Frame, put_frame};
 use method_steps::Table;
 use peer_limits::{Close, Limits, Report};
 use peer_player::{Picks, Schedule, play};
@@ -120,7 +121,7 @@ kind = "answer"
 value = "$r"
 "#;
 
-fn table(alloc: Global, text: &str) -> Result<Table, Fail> {
+pub(crate) fn table(alloc: Global, text: &str) -> Result<Table, Fail> {
     Ok(Table::read(alloc, text.as_bytes()).ok().ok_or("no table")?)
 }
 
@@ -154,19 +155,16 @@ fn framed(alloc: Global, lines: &str, mark: &str) -> Result<Vec<u8>, AllocError>
     Ok(bytes)
 }
 
-/// The bytes in pieces of one byte each.
-fn bytewise(alloc: Global, bytes: &[u8]) -> Result<Vec<Vec<u8>>, AllocError> {
-    let mut pieces = Vec::new(alloc);
-    for piece in bytes.chunks(1) {
-        pieces.push(piece.to_vec(alloc)?)?;
-    }
-    Ok(pieces)
+/// A content as it comes in.
+fn frame(alloc: Global, content: &str) -> Result<Frame, AllocError> {
+    Ok(Frame {
+        content: Items::from(content.as_bytes().to_vec(alloc)?),
+        foreign: false,
+    })
 }
 
 fn whole(alloc: Global, bytes: &[u8]) -> Result<Vec<Vec<u8>>, AllocError> {
-    let mut pieces = Vec::new(alloc);
-    pieces.push(bytes.to_vec(alloc)?)?;
-    Ok(pieces)
+    cuts::owned(alloc, &[bytes])
 }
 
 /// What is played for an input that comes in these pieces.
@@ -178,11 +176,35 @@ fn played_in_pieces(
     way: &str,
 ) -> Result<(Vec<u8>, Report), Fail> {
     let schedule = schedule(alloc, way)?;
-    Ok(
-        play(alloc, table, limits, pieces, &schedule)
-            .ok()
-            .ok_or("no memory")?,
-    )
+    let played = play(alloc, table, limits, pieces, &schedule).ok();
+    drop(schedule);
+    Ok(played.ok_or("no memory")?)
+}
+
+fn played_whole(
+    alloc: Global,
+    table: &Table,
+    limits: Limits,
+    input: &[u8],
+    way: &str,
+) -> Result<(Vec<u8>, Report), Fail> {
+    let pieces = whole(alloc, input)?;
+    let played = played_in_pieces(alloc, table, limits, pieces.as_slice(), way);
+    drop(pieces);
+    played
+}
+
+fn played_bytewise(
+    alloc: Global,
+    table: &Table,
+    limits: Limits,
+    input: &[u8],
+    way: &str,
+) -> Result<(Vec<u8>, Report), Fail> {
+    let pieces = cuts::bytewise(alloc, input)?;
+    let played = played_in_pieces(alloc, table, limits, pieces.as_slice(), way);
+    drop(pieces);
+    played
 }
 
 /// What is played for an input, which is the same where it comes whole and where it comes byte by byte.
@@ -192,10 +214,9 @@ fn played(
     input: &[u8],
     way: &str,
 ) -> Result<(Vec<u8>, Report), Fail> {
-    let (whole, bytes) = (whole(alloc, input)?, bytewise(alloc, input)?);
     let limits = Limits::standard();
-    let found = played_in_pieces(alloc, table, limits, whole.as_slice(), way)?;
-    if found != played_in_pieces(alloc, table, limits, bytes.as_slice(), way)? {
+    let found = played_whole(alloc, table, limits, input, way)?;
+    if found != played_bytewise(alloc, table, limits, input, way)? {
         return Err("byte by byte it plays otherwise")?;
     }
     Ok(found)
@@ -220,19 +241,35 @@ fn is_row(lines: &str) -> bool {
     true
 }
 
+/// Whether these counts are those of each line that has some.
+fn are_counted(lines: &str, counts: &str) -> bool {
+    for line in lines.lines() {
+        if let Some(wanted) = line.strip_prefix("= ")
+            && wanted != counts
+        {
+            return false;
+        }
+    }
+    true
+}
+
+fn is_told(alloc: Global, lines: &str, report: &Report) -> Result<bool, AllocError> {
+    let counts = told(alloc, report)?;
+    Ok(report.end == Close::Clean && are_counted(lines, counts.as_str()))
+}
+
+fn is_framed(alloc: Global, lines: &str, bytes: &[u8]) -> Result<bool, AllocError> {
+    let wanted = framed(alloc, lines, "> ")?;
+    Ok(bytes == wanted.as_slice())
+}
+
 /// Whether a row, by one schedule, gives what its lines say.
 fn is_played(alloc: Global, table: &Table, lines: &str, way: &str) -> Result<bool, Fail> {
     let input = framed(alloc, lines, "< ")?;
-    let (bytes, report) = played(alloc, table, input.as_slice(), way)?;
-    let counts = told(alloc, &report)?;
-    for line in lines.lines() {
-        if let Some(wanted) = line.strip_prefix("= ")
-            && wanted != counts.as_str()
-        {
-            return Ok(false);
-        }
-    }
-    Ok(report.end == Close::Clean && bytes == framed(alloc, lines, "> ")?)
+    let played = played(alloc, table, input.as_slice(), way);
+    drop(input);
+    let (bytes, report) = played?;
+    Ok(is_told(alloc, lines, &report)? && is_framed(alloc, lines, bytes.as_slice())?)
 }
 
 /// Plays a row by each of its schedules. Its first line is its name, and the names of these.
@@ -246,11 +283,17 @@ fn compare(rt: &impl Abort, alloc: Global, table: &Table, row: &str) -> Result<(
     Ok(())
 }
 
-/// Plays rows, which have an empty line between them.
-fn compare_all(rt: &impl Abort, alloc: Global, text: &str, rows: &str) -> Result<(), Fail> {
-    let table = table(alloc, text)?;
+fn compare_each(rt: &impl Abort, alloc: Global, table: &Table, rows: &str) -> Result<(), Fail> {
     for row in rows.split("\n\n") {
-        compare(rt, alloc, &table, row)?;
+        compare(rt, alloc, table, row)?;
     }
     Ok(())
+}
+
+/// Plays rows, which have an empty line between them, by the methods of a text.
+fn compare_all(rt: &impl Abort, alloc: Global, text: &str, rows: &str) -> Result<(), Fail> {
+    let table = table(alloc, text)?;
+    let compared = compare_each(rt, alloc, &table, rows);
+    drop(table);
+    compared
 }

@@ -6,16 +6,17 @@ mod doubles;
 mod rows;
 mod while_open;
 
-use lsp_frames::{MemSink, MemSource, put_frame};
+use crate::cuts;
+use lsp_frames::{MemSink, MemSource};
 use method_steps::Table;
-use peer_limits::{Limits, Report};
+use peer_limits::{Close, Limits, Report};
 use peer_server::{ServeFault, serve};
 use std::alloc::{AllocError, Global};
 use std::sync::Wait;
 use std::test::Fail;
 use std::thread::Threads;
 
-/// Methods that add, that call the other side and answer its reply, and that make two calls at once.
+/// Methods that add, and that call the other side and answer its reply.
 const METHODS: &str = r#"version = 1
 
 [[method]]
@@ -41,78 +42,147 @@ kind = "answer"
 value = "$r"
 "#;
 
-const ASK: &str = r#"{"jsonrpc":"2.0","method":"ask","params":["x"],"id":7}"#;
+const ASK: &str = concat!(
+    "Content-Length: 54\r\n\r\n",
+    r#"{"jsonrpc":"2.0","method":"ask","params":["x"],"id":7}"#
+);
 
 /// What `ask` calls, as the first of the stream.
-const CONFIRM: &str = r#"{"id":"1.1","jsonrpc":"2.0","method":"confirm","params":["x"]}"#;
+const CONFIRM: &str = concat!(
+    "Content-Length: 62\r\n\r\n",
+    r#"{"id":"1.1","jsonrpc":"2.0","method":"confirm","params":["x"]}"#
+);
 
-const REPLY: &str = r#"{"jsonrpc":"2.0","id":"1.1","result":true}"#;
+const REPLY: &str = concat!(
+    "Content-Length: 42\r\n\r\n",
+    r#"{"jsonrpc":"2.0","id":"1.1","result":true}"#
+);
 
-const CONFIRMED: &str = r#"{"id":7,"jsonrpc":"2.0","result":true}"#;
+const CONFIRMED: &str = concat!(
+    "Content-Length: 38\r\n\r\n",
+    r#"{"id":7,"jsonrpc":"2.0","result":true}"#
+);
 
-const NO_REPLY: &str = r#"{"error":{"code":-32000,"message":"No reply"},"id":7,"jsonrpc":"2.0"}"#;
+const NO_REPLY: &str = concat!(
+    "Content-Length: 69\r\n\r\n",
+    r#"{"error":{"code":-32000,"message":"No reply"},"id":7,"jsonrpc":"2.0"}"#
+);
 
-const UNKNOWN: &str = r#"{"jsonrpc":"2.0","method":"nope","id":1}"#;
+const UNKNOWN: &str = concat!(
+    "Content-Length: 40\r\n\r\n",
+    r#"{"jsonrpc":"2.0","method":"nope","id":1}"#
+);
 
-const NOT_FOUND: &str =
-    r#"{"error":{"code":-32601,"message":"Method not found"},"id":1,"jsonrpc":"2.0"}"#;
+const NOT_FOUND: &str = concat!(
+    "Content-Length: 77\r\n\r\n",
+    r#"{"error":{"code":-32601,"message":"Method not found"},"id":1,"jsonrpc":"2.0"}"#
+);
 
-fn table(alloc: Global, text: &str) -> Result<Table, Fail> {
-    Ok(Table::read(alloc, text.as_bytes()).ok().ok_or("no table")?)
+/// What a server is given: its methods, its workers, the frames that come, and where its devices fail.
+#[derive(Clone, Copy)]
+struct Given<'a> {
+    methods: &'a str,
+    workers: u32,
+    frames: &'a [&'a str],
+    is_cut: bool,
+    /// The call at which the source fails.
+    fault_at: Option<u32>,
+    /// So many bytes the sink takes.
+    stop: Option<u64>,
 }
 
-/// The frames of contents.
-fn framed(alloc: Global, contents: &[&str]) -> Result<Vec<u8>, AllocError> {
-    let mut bytes = Vec::new(alloc);
-    for content in contents {
-        put_frame(&mut bytes, content.as_bytes())?;
-    }
-    Ok(bytes)
-}
-
-/// The bytes as one piece.
-fn whole(alloc: Global, bytes: &[u8]) -> Result<Vec<Vec<u8>>, AllocError> {
-    let mut pieces = Vec::new(alloc);
-    pieces.push(bytes.to_vec(alloc)?)?;
-    Ok(pieces)
-}
-
-/// The bytes in pieces of one byte each.
-fn bytewise(alloc: Global, bytes: &[u8]) -> Result<Vec<Vec<u8>>, AllocError> {
-    let mut pieces = Vec::new(alloc);
-    for piece in bytes.chunks(1) {
-        pieces.push(piece.to_vec(alloc)?)?;
-    }
-    Ok(pieces)
-}
-
-/// How a server ended, and its sink.
+/// How a server ended, and what it wrote.
 #[derive(Drop)]
 struct Ended {
     outcome: Result<Report, ServeFault>,
-    sink: MemSink,
+    written: Vec<u8>,
 }
 
-/// Serves pieces into a sink.
-fn served<R: Threads + Wait + Sync>(
-    rt: &R,
-    alloc: Global,
-    methods: &str,
-    workers: u32,
-    source: MemSource,
-    sink: MemSink,
-) -> Result<Ended, Fail> {
-    let table = table(alloc, methods)?;
-    Ok(
-        match serve(rt, alloc, &table, Limits::standard(), workers, source, sink) {
-            Ok((report, sink)) => Ended {
-                outcome: Ok(report),
+impl Ended {
+    /// Whether this was the end of the input, or why it wasn't served.
+    fn has_outcome(&self, outcome: Result<Close, ServeFault>) -> bool {
+        match (&self.outcome, outcome) {
+            (Ok(report), Ok(end)) => report.end == end,
+            (Err(fault), Err(wanted)) => *fault == wanted,
+            _ => false,
+        }
+    }
+
+    fn has_written(&self, texts: &[&str]) -> bool {
+        cuts::is_made_of(self.written.as_slice(), texts)
+    }
+}
+
+impl Given<'_> {
+    /// Frames that come whole to so many workers, whose devices don't fail.
+    fn whole<'a>(methods: &'a str, workers: u32, frames: &'a [&'a str]) -> Given<'a> {
+        Given {
+            methods,
+            workers,
+            frames,
+            is_cut: false,
+            fault_at: None,
+            stop: None,
+        }
+    }
+
+    /// Whether a server ends so, and writes these texts.
+    fn gives<R: Threads + Wait + Sync>(
+        &self,
+        rt: &R,
+        alloc: Global,
+        outcome: Result<Close, ServeFault>,
+        texts: &[&str],
+    ) -> Result<bool, Fail> {
+        let ended = self.served(rt, alloc)?;
+        Ok(ended.has_outcome(outcome) && ended.has_written(texts))
+    }
+
+    /// What a server makes of it.
+    fn served<R: Threads + Wait + Sync>(&self, rt: &R, alloc: Global) -> Result<Ended, Fail> {
+        let table = crate::plays::table(alloc, self.methods)?;
+        let ended = self.served_by(rt, alloc, &table);
+        drop(table);
+        Ok(ended?)
+    }
+
+    fn served_by<R: Threads + Wait + Sync>(
+        &self,
+        rt: &R,
+        alloc: Global,
+        table: &Table,
+    ) -> Result<Ended, AllocError> {
+        let source = MemSource::new(self.pieces(alloc)?, self.fault_at);
+        let sink = MemSink::new(alloc, self.stop);
+        Ok(
+            match serve(
+                rt,
+                alloc,
+                table,
+                Limits::standard(),
+                self.workers,
+                source,
                 sink,
+            ) {
+                Ok((report, sink)) => Ended {
+                    outcome: Ok(report),
+                    written: sink.into_vec(),
+                },
+                Err((fault, sink)) => Ended {
+                    outcome: Err(fault),
+                    written: sink.into_vec(),
+                },
             },
-            Err((fault, sink)) => Ended {
-                outcome: Err(fault),
-                sink,
-            },
-        },
-    )
+        )
+    }
+
+    /// The frames as one piece, or byte by byte.
+    fn pieces(&self, alloc: Global) -> Result<Vec<Vec<u8>>, AllocError> {
+        let stream = cuts::texts(alloc, self.frames)?;
+        if self.is_cut {
+            cuts::bytewise(alloc, stream.as_slice())
+        } else {
+            cuts::owned(alloc, &[stream.as_slice()])
+        }
+    }
 }

@@ -1,16 +1,13 @@
 //! Pieces in order, and a fault at a call.
 
 use super::gives;
+use crate::cuts;
 use lsp_frames::{IoFault, MemSource};
 use std::alloc::{AllocError, Global};
 use std::test::Fail;
 
 fn source(alloc: Global, pieces: &[&[u8]], fault_at: Option<u32>) -> Result<MemSource, AllocError> {
-    let mut made = Vec::new(alloc);
-    for piece in pieces {
-        made.push(Vec::from_slice(alloc, piece)?)?;
-    }
-    Ok(MemSource::new(made, fault_at))
+    Ok(MemSource::new(cuts::owned(alloc, pieces)?, fault_at))
 }
 
 #[test]

@@ -1,12 +1,13 @@
 //! What a drain hands on: the sink of a session is flushed once where a drain has written something, and else not.
 
-use super::{METHODS, table};
-use json_values::Items;
-use lsp_frames::{Frame, StdSink};
+use super::{METHODS, frame, table};
+use lsp_frames::StdSink;
+use method_steps::Table;
 use peer_limits::Limits;
 use peer_session::Session;
 use std::alloc::{AllocError, Global};
 use std::io::{self, Write};
+use std::process::Abort;
 use std::test::Fail;
 
 /// Takes all bytes, and counts them and its flushes.
@@ -28,31 +29,25 @@ impl Write for Counter {
     }
 }
 
-fn frame(alloc: Global, content: &str) -> Result<Frame, AllocError> {
-    Ok(Frame {
-        content: Items::from(content.as_bytes().to_vec(alloc)?),
-        foreign: false,
-    })
-}
-
-/// Has the session take a content, if it is open, and writes what is due.
-fn drained(
-    alloc: Global,
-    session: &mut Session<'_>,
-    content: &str,
-    counter: &mut Counter,
-) -> Result<(), Fail> {
+/// Has the session take a content, if it is open.
+fn take(alloc: Global, session: &mut Session<'_>, content: &str) -> Result<(), AllocError> {
+    let frame = frame(alloc, content)?;
     if session.is_open() {
-        session.take(&frame(alloc, content)?)?;
+        session.take(&frame)?;
     }
-    drain(session, counter)
+    Ok(())
 }
 
-fn drain(session: &mut Session<'_>, counter: &mut Counter) -> Result<(), Fail> {
-    match session.drain(&mut StdSink::new(counter)) {
-        Ok(()) => Ok(()),
-        Err(_) => Err("a drain failed")?,
-    }
+/// Whether the counter has so many bytes and flushes once the session has written what is due.
+fn is_drained(
+    session: &mut Session<'_>,
+    counter: &mut Counter,
+    bytes: usize,
+    flushes: u32,
+) -> bool {
+    session.drain(&mut StdSink::new(&mut *counter)).is_ok()
+        && counter.bytes == bytes
+        && counter.flushes == flushes
 }
 
 /// A session's contents, and how many bytes and flushes its counter has after the drain behind each.
@@ -67,22 +62,38 @@ const DRAINS: &[(&str, usize, u32)] = &[
     ),
 ];
 
-#[test]
-fn a_drain_flushes_what_it_has_written(rt: HostRuntime) -> Result<(), Fail> {
-    let table = table(rt.alloc(), METHODS)?;
-    let mut session = Session::new(rt.alloc(), &table, Limits::standard())?;
+/// Each content and its drain, and a drain behind the last.
+fn each_is_drained(
+    rt: &impl Abort,
+    alloc: Global,
+    session: &mut Session<'_>,
+) -> Result<(), AllocError> {
     let mut counter = Counter {
         bytes: 0,
         flushes: 0,
     };
     for (content, bytes, flushes) in DRAINS {
-        drained(rt.alloc(), &mut session, content, &mut counter)?;
+        take(alloc, session, content)?;
         assert!(rt;
-            counter.bytes == *bytes && counter.flushes == *flushes,
+            is_drained(session, &mut counter, *bytes, *flushes),
             "{content}"
         );
     }
-    drain(&mut session, &mut counter)?;
-    assert!(rt; counter.bytes == 279 && counter.flushes == 2);
+    assert!(rt; is_drained(session, &mut counter, 279, 2));
     Ok(())
+}
+
+fn by_a_session(rt: &impl Abort, alloc: Global, table: &Table) -> Result<(), AllocError> {
+    let mut session = Session::new(alloc, table, Limits::standard())?;
+    let done = each_is_drained(rt, alloc, &mut session);
+    drop(session);
+    done
+}
+
+#[test]
+fn a_drain_flushes_what_it_has_written(rt: HostRuntime) -> Result<(), Fail> {
+    let table = table(rt.alloc(), METHODS)?;
+    let done = by_a_session(&rt, rt.alloc(), &table);
+    drop(table);
+    Ok(done?)
 }

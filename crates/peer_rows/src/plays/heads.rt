@@ -1,9 +1,11 @@
 //! Heads, and ends of the input that aren't clean.
 
-use super::{METHODS, framed, played, played_in_pieces, table, whole};
+use super::{METHODS, framed, played, played_whole, table};
+use crate::cuts;
 use lsp_frames::FrameFault;
+use method_steps::Table;
 use peer_limits::{Close, Limits};
-use std::alloc::{AllocError, Global};
+use std::alloc::Global;
 use std::process::Abort;
 use std::test::Fail;
 
@@ -68,42 +70,49 @@ const ROWS: &[Row] = &[
     },
 ];
 
-fn input(alloc: Global, row: &Row) -> Result<Vec<u8>, AllocError> {
-    let mut input = Vec::new(alloc);
-    for part in [row.before, REQUEST, row.behind] {
-        input.extend_from_slice(part.as_bytes())?;
-    }
-    Ok(input)
+/// Whether the row's input, whole and byte by byte, is answered and ends as the row says.
+fn is_played(alloc: Global, table: &Table, row: &Row) -> Result<bool, Fail> {
+    let input = cuts::texts(alloc, &[row.before, REQUEST, row.behind])?;
+    let played = played(alloc, table, input.as_slice(), "eager");
+    drop(input);
+    let (bytes, report) = played?;
+    Ok(bytes.as_slice() == row.output.as_bytes() && report.end == row.end)
 }
 
-/// Whether the row's input, whole and byte by byte, is answered and ends as the row says.
-fn is_played(alloc: Global, row: &Row) -> Result<bool, Fail> {
-    let input = input(alloc, row)?;
-    let table = table(alloc, METHODS)?;
-    let (bytes, report) = played(alloc, &table, input.as_slice(), "eager")?;
-    Ok(bytes.as_slice() == row.output.as_bytes() && report.end == row.end)
+fn each_is_played(rt: &impl Abort, alloc: Global, table: &Table) -> Result<(), Fail> {
+    for row in ROWS {
+        assert!(rt; is_played(alloc, table, row)?, "{}", row.before);
+    }
+    Ok(())
 }
 
 #[test]
 fn heads_and_ends(rt: HostRuntime) -> Result<(), Fail> {
-    for row in ROWS {
-        assert!(rt; is_played(rt.alloc(), row)?, "{}", row.before);
-    }
-    Ok(())
+    let table = table(rt.alloc(), METHODS)?;
+    let played = each_is_played(&rt, rt.alloc(), &table);
+    drop(table);
+    played
 }
 
 const FULL: &str = r#"< {"jsonrpc":"2.0","method":"nope","id":1}
 < [{"jsonrpc":"2.0","method":"nope","id":1},{"jsonrpc":"2.0","method":"nope","id":1}]
 < {"jsonrpc":"2.0","method":"nope","id":1}"#;
 
+fn is_full(alloc: Global, table: &Table, limits: Limits) -> Result<bool, Fail> {
+    let input = framed(alloc, FULL, "< ")?;
+    let played = played_whole(alloc, table, limits, input.as_slice(), "eager");
+    drop(input);
+    let (bytes, report) = played?;
+    Ok(bytes.as_slice() == ANSWER.as_bytes() && report.end == Close::Full && report.numbers == 1)
+}
+
 /// A content that needs too many numbers is left out whole, and nothing behind it is taken.
 #[test]
 fn a_full_count_of_numbers(rt: HostRuntime) -> Result<(), Fail> {
     let limits = Limits::new(16_777_216, 2).ok_or("no limits")?;
-    let pieces = whole(rt.alloc(), framed(rt.alloc(), FULL, "< ")?.as_slice())?;
     let table = table(rt.alloc(), METHODS)?;
-    let (bytes, report) = played_in_pieces(rt.alloc(), &table, limits, pieces.as_slice(), "eager")?;
-    assert!(rt; bytes.as_slice() == ANSWER.as_bytes());
-    assert!(rt; report.end == Close::Full && report.numbers == 1);
+    let is_full = is_full(rt.alloc(), &table, limits);
+    drop(table);
+    assert!(rt; is_full?);
     Ok(())
 }

@@ -1,6 +1,6 @@
 //! Replies without end, and values that nest as deep as they may.
 
-use super::{METHODS, framed, played_in_pieces, table, whole};
+use super::{METHODS, framed, is_framed, played_whole, table};
 use lsp_frames::put_frame;
 use peer_limits::Limits;
 use std::alloc::{AllocError, Global};
@@ -20,15 +20,18 @@ fn stream(alloc: Global, row: &str, turns: [&str; 2]) -> Result<Vec<u8>, AllocEr
 /// Whether an eager peer answers this input, of one call, with what the row says.
 fn is_answered(alloc: Global, row: &str, input: &[u8]) -> Result<bool, Fail> {
     let table = table(alloc, METHODS)?;
-    let pieces = whole(alloc, input)?;
-    let (bytes, report) = played_in_pieces(
-        alloc,
-        &table,
-        Limits::standard(),
-        pieces.as_slice(),
-        "eager",
-    )?;
-    Ok(report.numbers == 1 && bytes.as_slice() == framed(alloc, row, "> ")?.as_slice())
+    let played = played_whole(alloc, &table, Limits::standard(), input, "eager");
+    drop(table);
+    let (bytes, report) = played?;
+    Ok(report.numbers == 1 && is_framed(alloc, row, bytes.as_slice())?)
+}
+
+/// The same of a stream that begins with the contents of the row, and then has two others in turn.
+fn is_answered_in_turns(alloc: Global, row: &str, turns: [&str; 2]) -> Result<bool, Fail> {
+    let input = stream(alloc, row, turns)?;
+    let is_answered = is_answered(alloc, row, input.as_slice());
+    drop(input);
+    is_answered
 }
 
 /// A call with its reply.
@@ -40,8 +43,7 @@ const REPLIED: &str = r#"< {"jsonrpc":"2.0","method":"ask","params":["x"],"id":7
 #[test]
 fn ten_thousand_second_replies(rt: HostRuntime) -> Result<(), Fail> {
     let no = r#"{"jsonrpc":"2.0","id":"1.1","result":false}"#;
-    let input = stream(rt.alloc(), REPLIED, [no, no])?;
-    assert!(rt; is_answered(rt.alloc(), REPLIED, input.as_slice())?);
+    assert!(rt; is_answered_in_turns(rt.alloc(), REPLIED, [no, no])?);
     Ok(())
 }
 
@@ -54,8 +56,7 @@ const UNREPLIED: &str = r#"< {"jsonrpc":"2.0","method":"ask","params":["x"],"id"
 fn ten_thousand_replies_to_no_call(rt: HostRuntime) -> Result<(), Fail> {
     let turn = r#"{"jsonrpc":"2.0","id":"1.2","result":1}"#;
     let number = r#"{"jsonrpc":"2.0","id":"2.1","result":1}"#;
-    let input = stream(rt.alloc(), UNREPLIED, [turn, number])?;
-    assert!(rt; is_answered(rt.alloc(), UNREPLIED, input.as_slice())?);
+    assert!(rt; is_answered_in_turns(rt.alloc(), UNREPLIED, [turn, number])?);
     Ok(())
 }
 
@@ -86,13 +87,21 @@ fn nested(alloc: Global, row: &str) -> Result<String, AllocError> {
     Ok(text)
 }
 
+/// Whether the row, whose answer is of 288 bytes, is answered.
+fn is_answered_deeply(alloc: Global, row: &str) -> Result<bool, Fail> {
+    let input = framed(alloc, row, "< ")?;
+    let is_answered = is_answered(alloc, row, input.as_slice());
+    drop(input);
+    let length = row.lines().last().map(str::len);
+    Ok(is_answered? && length == Some("> ".len() + 288))
+}
+
 /// A reply that nests as deep as a content may goes out in a batch, which nests deeper.
 #[test]
 fn a_deep_reply_in_a_batch(rt: HostRuntime) -> Result<(), Fail> {
     let row = nested(rt.alloc(), DEEP)?;
-    let answer = row.lines().last().ok_or("no answer")?;
-    assert!(rt; answer.len() == "> ".len() + 288);
-    let input = framed(rt.alloc(), row.as_str(), "< ")?;
-    assert!(rt; is_answered(rt.alloc(), row.as_str(), input.as_slice())?);
+    let is_answered = is_answered_deeply(rt.alloc(), row.as_str());
+    drop(row);
+    assert!(rt; is_answered?);
     Ok(())
 }

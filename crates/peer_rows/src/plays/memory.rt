@@ -1,9 +1,8 @@
 //! Contents that are taken again, and bytes that are written again, after want of memory.
 
-use super::{METHODS, framed};
+use super::{METHODS, frame, framed};
 use handler_future::Outcome;
 use job_slots::Turns;
-use json_values::Items;
 use lsp_frames::{Frame, StdSink};
 use method_steps::Table;
 use peer_limits::{Close, Limits};
@@ -99,11 +98,8 @@ fn session_at_last(alloc: Global, table: &Table) -> Option<Session<'_>> {
 
 fn frame_at_last(alloc: Global, content: &str) -> Option<Frame> {
     for _ in 0..TRIES {
-        if let Ok(bytes) = content.as_bytes().to_vec(alloc) {
-            return Some(Frame {
-                content: Items::from(bytes),
-                foreign: false,
-            });
+        if let Ok(frame) = frame(alloc, content) {
+            return Some(frame);
         }
     }
     None
@@ -163,9 +159,15 @@ fn content_went(
     content: &str,
     written: &mut Compared<'_>,
 ) -> Went {
-    match frame_at_last(alloc, content) {
-        Some(frame) if is_taken(session, &frame) => settled(session, written),
-        _ => Went::NoFurther,
+    let Some(frame) = frame_at_last(alloc, content) else {
+        return Went::NoFurther;
+    };
+    let is_taken = is_taken(session, &frame);
+    drop(frame);
+    if is_taken {
+        settled(session, written)
+    } else {
+        Went::NoFurther
     }
 }
 
@@ -182,6 +184,29 @@ fn stream_went(alloc: Global, session: &mut Session<'_>, written: &mut Compared<
     settled(session, written)
 }
 
+/// Whether the stream goes as it should, so far as its handlers find memory.
+fn is_written(alloc: Global, session: &mut Session<'_>, wanted: &[u8]) -> bool {
+    let mut written = Compared {
+        wanted,
+        differs: false,
+    };
+    let went = stream_went(alloc, session, &mut written);
+    !written.differs
+        && match went {
+            Went::Whole => written.wanted.is_empty() && session.is_done(),
+            Went::ToAFailedHandler => true,
+            Went::NoFurther => false,
+        }
+}
+
+/// The same of a new session, where there is memory for one.
+fn is_written_by_a_session(alloc: Global, table: &Table, wanted: &[u8]) -> Option<bool> {
+    let mut session = session_at_last(alloc, table)?;
+    let is_written = is_written(alloc, &mut session, wanted);
+    drop(session);
+    Some(is_written)
+}
+
 /// A content that found no memory is taken again, and what found none to be written is written again: then all comes as if there
 /// had been memory at once. `bin/test` runs this test with each request for memory refused in turn.
 #[test]
@@ -189,13 +214,8 @@ fn contents_are_taken_and_written_again_after_memory(rt: HostRuntime) {
     let alloc = rt.alloc();
     let table = table_at_last(alloc).expect(&rt, "a table");
     let wanted = wanted_at_last(alloc).expect(&rt, "what is wanted");
-    let mut session = session_at_last(alloc, &table).expect(&rt, "a session");
-    let mut written = Compared {
-        wanted: wanted.as_slice(),
-        differs: false,
-    };
-    let went = stream_went(alloc, &mut session, &mut written);
-    assert!(rt; !written.differs);
-    assert!(rt; went != Went::NoFurther);
-    assert!(rt; went == Went::ToAFailedHandler || written.wanted.is_empty() && session.is_done());
+    let is_written = is_written_by_a_session(alloc, &table, wanted.as_slice());
+    drop(wanted);
+    drop(table);
+    assert!(rt; is_written.expect(&rt, "a session"));
 }

@@ -1,89 +1,109 @@
 //! Devices that fail, at each place.
 
-use super::{
-    ASK, CONFIRM, CONFIRMED, METHODS, NO_REPLY, NOT_FOUND, REPLY, UNKNOWN, bytewise, framed,
-    served, whole,
-};
-use lsp_frames::{MemSink, MemSource};
+use super::{ASK, CONFIRM, CONFIRMED, Given, METHODS, NO_REPLY, NOT_FOUND, REPLY, UNKNOWN};
+use crate::cuts;
 use peer_limits::Close;
 use peer_server::ServeFault;
-use std::alloc::AllocGlobal;
+use std::alloc::{AllocGlobal, Global};
 use std::process::Abort;
+use std::sync::Wait;
 use std::test::Fail;
+use std::thread::Threads;
+
+/// Whether a server whose sink stops after so many bytes writes these, and ends as it should.
+fn is_stopped<R: Threads + Wait + Sync>(rt: &R, alloc: Global, stop: usize) -> Result<bool, Fail> {
+    let given = Given {
+        stop: Some(stop as u64),
+        ..Given::whole(METHODS, 2, &[ASK, REPLY])
+    };
+    let ended = given.served(rt, alloc)?;
+    let outcome = match stop {
+        144 => Ok(Close::Clean),
+        _ => Err(ServeFault::Write),
+    };
+    Ok(
+        ended.has_outcome(outcome)
+            && ended.written.len() == stop
+            && cuts::is_front_of(ended.written.as_slice(), &[CONFIRM, CONFIRMED]),
+    )
+}
 
 #[test]
 fn a_sink_may_stop_at_each_byte(rt: HostRuntime) -> Result<(), Fail> {
-    let input = framed(rt.alloc(), &[ASK, REPLY])?;
-    let wanted = framed(rt.alloc(), &[CONFIRM, CONFIRMED])?;
-    assert!(rt; wanted.len() == 144);
-    for stop in 0..=wanted.len() {
-        let source = MemSource::new(whole(rt.alloc(), input.as_slice())?, None);
-        let sink = MemSink::new(rt.alloc(), Some(stop as u64));
-        let ended = served(&rt, rt.alloc(), METHODS, 2, source, sink)?;
-        if stop < wanted.len() {
-            assert!(rt; matches!(ended.outcome, Err(ServeFault::Write)));
-        } else {
-            assert!(rt; ended.outcome.is_ok());
-        }
-        assert!(rt; ended.sink.bytes() == &wanted[..stop]);
+    assert!(rt; CONFIRM.len() + CONFIRMED.len() == 144);
+    for stop in 0..=144 {
+        assert!(rt; is_stopped(&rt, rt.alloc(), stop)?, "after {stop} bytes");
     }
     Ok(())
+}
+
+/// Whether a server whose source fails at this call of those that give a byte each writes and tells what it should.
+fn is_cut_off<R: Threads + Wait + Sync>(
+    rt: &R,
+    alloc: Global,
+    fault_at: u32,
+) -> Result<bool, Fail> {
+    let given = Given {
+        is_cut: true,
+        fault_at: Some(fault_at),
+        ..Given::whole(METHODS, 2, &[ASK, REPLY])
+    };
+    match fault_at {
+        1..=76 => given.gives(rt, alloc, Ok(Close::Read), &[]),
+        77..=140 => given.gives(rt, alloc, Ok(Close::Read), &[CONFIRM, NO_REPLY]),
+        141 => given.gives(rt, alloc, Ok(Close::Read), &[CONFIRM, CONFIRMED]),
+        _ => given.gives(rt, alloc, Ok(Close::Clean), &[CONFIRM, CONFIRMED]),
+    }
 }
 
 #[test]
 fn a_source_may_fail_at_each_byte(rt: HostRuntime) -> Result<(), Fail> {
-    let input = framed(rt.alloc(), &[ASK, REPLY])?;
-    assert!(rt; input.len() == 140);
-    let unheard = framed(rt.alloc(), &[CONFIRM, NO_REPLY])?;
-    let answered = framed(rt.alloc(), &[CONFIRM, CONFIRMED])?;
+    assert!(rt; ASK.len() + REPLY.len() == 140);
     for fault_at in 1..=142 {
-        let source = MemSource::new(bytewise(rt.alloc(), input.as_slice())?, Some(fault_at));
-        let ended = served(
-            &rt,
-            rt.alloc(),
-            METHODS,
-            2,
-            source,
-            MemSink::new(rt.alloc(), None),
-        )?;
-        let (wanted, end) = match fault_at {
-            1..=76 => (&b""[..], Close::Read),
-            77..=140 => (unheard.as_slice(), Close::Read),
-            141 => (answered.as_slice(), Close::Read),
-            _ => (answered.as_slice(), Close::Clean),
-        };
-        assert!(rt; ended.sink.bytes() == wanted);
-        assert!(rt; matches!(ended.outcome, Ok(report) if report.end == end));
+        assert!(rt;
+            is_cut_off(&rt, rt.alloc(), fault_at)?,
+            "at call {fault_at}"
+        );
     }
     Ok(())
 }
 
+/// The devices of a server without methods, how it ends, and what is written.
+const SHORT: &[(
+    &str,
+    Option<u32>,
+    Option<u64>,
+    Result<Close, ServeFault>,
+    &str,
+)] = &[
+    (
+        "a short answer is cut",
+        None,
+        Some(30),
+        Err(ServeFault::Write),
+        "Content-Length: 77\r\n\r\n{\"error\"",
+    ),
+    (
+        "a failed read is told",
+        Some(2),
+        None,
+        Ok(Close::Read),
+        NOT_FOUND,
+    ),
+];
+
 #[test]
 fn a_short_answer_is_cut_and_a_failed_read_is_told(rt: HostRuntime) -> Result<(), Fail> {
-    let input = framed(rt.alloc(), &[UNKNOWN])?;
-    let wanted = framed(rt.alloc(), &[NOT_FOUND])?;
-    let source = MemSource::new(whole(rt.alloc(), input.as_slice())?, None);
-    let ended = served(
-        &rt,
-        rt.alloc(),
-        "version = 1",
-        4,
-        source,
-        MemSink::new(rt.alloc(), Some(30)),
-    )?;
-    assert!(rt; matches!(ended.outcome, Err(ServeFault::Write)));
-    assert!(rt; ended.sink.bytes() == &b"Content-Length: 77\r\n\r\n{\"error\""[..]);
-
-    let source = MemSource::new(whole(rt.alloc(), input.as_slice())?, Some(2));
-    let ended = served(
-        &rt,
-        rt.alloc(),
-        "version = 1",
-        4,
-        source,
-        MemSink::new(rt.alloc(), None),
-    )?;
-    assert!(rt; matches!(ended.outcome, Ok(report) if report.end == Close::Read));
-    assert!(rt; ended.sink.bytes() == wanted.as_slice());
+    for (name, fault_at, stop, outcome, output) in SHORT {
+        let given = Given {
+            fault_at: *fault_at,
+            stop: *stop,
+            ..Given::whole("version = 1", 4, &[UNKNOWN])
+        };
+        assert!(rt;
+            given.gives(&rt, rt.alloc(), *outcome, &[*output])?,
+            "{name}"
+        );
+    }
     Ok(())
 }

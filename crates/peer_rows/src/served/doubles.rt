@@ -10,11 +10,11 @@ use std::thread;
 /// So often a double looks for what it waits for.
 pub(super) const PATIENCE: u32 = 1_000_000;
 
-/// Bytes that come once so many were written.
+/// A text that comes once so many were written.
 #[derive(Clone, Copy)]
 pub(super) struct Coming<'a> {
     pub(super) behind: u64,
-    pub(super) bytes: &'a [u8],
+    pub(super) text: &'a str,
 }
 
 /// A source whose pieces come one after another, each once the sink has taken enough; where that never is, the input ends.
@@ -39,8 +39,9 @@ impl Source for WaitingSource<'_> {
         for _ in 0..PATIENCE {
             if self.taken.load(SeqCst) >= coming.behind {
                 self.at = self.at.saturating_add(1);
-                let count = coming.bytes.len().min(room.len());
-                room[..count].copy_from_slice(&coming.bytes[..count]);
+                let bytes = coming.text.as_bytes();
+                let count = bytes.len().min(room.len());
+                room[..count].copy_from_slice(&bytes[..count]);
                 return Ok(count);
             }
             thread::yield_now();

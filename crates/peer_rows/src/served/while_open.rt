@@ -1,8 +1,10 @@
 //! Calls and answers go out while the input is open.
 
 use super::doubles::{Coming, CountingSink, WaitingSource};
-use super::{ASK, CONFIRM, CONFIRMED, METHODS, NOT_FOUND, REPLY, UNKNOWN, framed, table};
+use super::{ASK, CONFIRM, CONFIRMED, METHODS, NOT_FOUND, REPLY, UNKNOWN};
+use crate::cuts;
 use lsp_frames::MemSink;
+use method_steps::Table;
 use peer_limits::Limits;
 use peer_server::serve;
 use std::alloc::{AllocGlobal, Global};
@@ -25,75 +27,84 @@ method = "ready"
 params = ["$r"]
 "#;
 
-/// What a server writes for pieces that wait for it.
-fn written<R: Threads + Wait + Sync>(
-    rt: &R,
-    alloc: Global,
-    methods: &str,
-    pieces: &[Coming<'_>],
-) -> Result<Vec<u8>, Fail> {
-    let table = table(alloc, methods)?;
-    let taken = AtomicU64::new(0);
-    let source = WaitingSource {
-        pieces,
-        at: 0,
-        taken: &taken,
-    };
-    let sink = CountingSink {
-        sink: MemSink::new(alloc, None),
-        taken: &taken,
-    };
-    match serve(rt, alloc, &table, Limits::standard(), 2, source, sink) {
-        Ok((_, CountingSink { sink, taken: _ })) => Ok(sink.into_vec()),
-        Err(_) => Err("no memory or a failed write")?,
+/// Pieces that wait for a server, and what it writes for them.
+struct Row {
+    methods: &'static str,
+    pieces: &'static [Coming<'static>],
+    output: &'static [&'static str],
+}
+
+impl Row {
+    fn compare<R: Threads + Wait + Sync + Abort>(&self, rt: &R, alloc: Global) -> Result<(), Fail> {
+        let table = crate::plays::table(alloc, self.methods)?;
+        let is_written = self.is_written(rt, alloc, &table);
+        drop(table);
+        assert!(rt; is_written);
+        Ok(())
+    }
+
+    fn is_written<R: Threads + Wait + Sync>(&self, rt: &R, alloc: Global, table: &Table) -> bool {
+        let taken = AtomicU64::new(0);
+        let source = WaitingSource {
+            pieces: self.pieces,
+            at: 0,
+            taken: &taken,
+        };
+        let sink = CountingSink {
+            sink: MemSink::new(alloc, None),
+            taken: &taken,
+        };
+        match serve(rt, alloc, table, Limits::standard(), 2, source, sink) {
+            Ok((_, sink)) => cuts::is_made_of(sink.sink.bytes(), self.output),
+            Err(_) => false,
+        }
     }
 }
+
+const CALLED_BACK: Row = Row {
+    methods: METHODS,
+    pieces: &[
+        Coming {
+            behind: 0,
+            text: ASK,
+        },
+        Coming {
+            behind: 84,
+            text: REPLY,
+        },
+        Coming {
+            behind: 144,
+            text: UNKNOWN,
+        },
+    ],
+    output: &[CONFIRM, CONFIRMED, NOT_FOUND],
+};
 
 #[test]
 fn a_call_goes_out_before_its_reply_and_its_answer_before_the_next_request(
     rt: HostRuntime,
 ) -> Result<(), Fail> {
-    let alloc = rt.alloc();
-    let (ask, reply, unknown) = (
-        framed(alloc, &[ASK])?,
-        framed(alloc, &[REPLY])?,
-        framed(alloc, &[UNKNOWN])?,
-    );
-    let pieces = [
-        Coming {
-            behind: 0,
-            bytes: ask.as_slice(),
-        },
-        Coming {
-            behind: 84,
-            bytes: reply.as_slice(),
-        },
-        Coming {
-            behind: 144,
-            bytes: unknown.as_slice(),
-        },
-    ];
-    let found = written(&rt, alloc, METHODS, &pieces)?;
-    assert!(rt; found.as_slice() == framed(alloc, &[CONFIRM, CONFIRMED, NOT_FOUND])?.as_slice());
-    Ok(())
+    CALLED_BACK.compare(&rt, rt.alloc())
 }
+
+const GREETED: Row = Row {
+    methods: GREETING,
+    pieces: &[Coming {
+        behind: 67,
+        text: concat!(
+            "Content-Length: 42\r\n\r\n",
+            r#"{"jsonrpc":"2.0","id":"0.1","result":true}"#
+        ),
+    }],
+    output: &[
+        "Content-Length: 45\r\n\r\n",
+        r#"{"id":"0.1","jsonrpc":"2.0","method":"hello"}"#,
+        "Content-Length: 50\r\n\r\n",
+        r#"{"jsonrpc":"2.0","method":"ready","params":[true]}"#,
+    ],
+};
 
 #[test]
 fn an_opening_calls_before_anything_came(rt: HostRuntime) -> Result<(), Fail> {
-    let alloc = rt.alloc();
-    let reply = framed(alloc, &[r#"{"jsonrpc":"2.0","id":"0.1","result":true}"#])?;
-    let pieces = [Coming {
-        behind: 67,
-        bytes: reply.as_slice(),
-    }];
-    let found = written(&rt, alloc, GREETING, &pieces)?;
-    let wanted = framed(
-        alloc,
-        &[
-            r#"{"id":"0.1","jsonrpc":"2.0","method":"hello"}"#,
-            r#"{"jsonrpc":"2.0","method":"ready","params":[true]}"#,
-        ],
-    )?;
-    assert!(rt; found.as_slice() == wanted.as_slice());
-    Ok(())
+    GREETED.compare(&rt, rt.alloc())
 }
