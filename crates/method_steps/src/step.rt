@@ -14,7 +14,7 @@ pub enum OnError {
 }
 
 /// One call of a batch of calls.
-#[derive(Drop)]
+#[derive(Debug, Drop)]
 pub struct ListedCall {
     pub method: Text,
     pub params: Option<Template>,
@@ -22,7 +22,7 @@ pub struct ListedCall {
 
 /// One step of a method. Its parts are parameters, of which one choice is used, so that whether a step may go to another
 /// thread is asked of each part by itself.
-#[derive(Drop)]
+#[derive(Debug, Drop)]
 pub enum Step<T = Template, L = Items<ListedCall>> {
     /// Puts the value into the register.
     Set {

@@ -6,13 +6,13 @@ use std::marker::Model;
 
 /// A value with places to be filled.
 #[cycle(template)]
-#[derive(Drop)]
+#[derive(Debug, Drop)]
 pub struct Template {
     pub form: Form,
 }
 
 #[cycle(template)]
-#[derive(Drop)]
+#[derive(Debug, Drop)]
 pub enum Form {
     /// A value that stands for itself.
     Plain(Json),
