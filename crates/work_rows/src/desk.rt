@@ -3,8 +3,8 @@ mod acts;
 mod large;
 
 use acts::Act::{
-    self, Close, Empty, Finish, Has, Mark, Marked, NoneMarked, Open, OpenNumber, Put, Release,
-    Requests, Take, TakeMarked,
+    self, Batch, Close, Empty, Finish, FinishAll, Frames, Has, Mark, Marked, NoneMarked, Open,
+    OpenNumber, Put, Release, ReleaseBytes, Requests, Take, TakeMarked,
 };
 use acts::Entry::{Invalid, Notification, Request, Silent, Unreadable};
 use acts::Name::{Null, Number, Text};
@@ -46,9 +46,15 @@ fn are_texts(texts: &Items<Items<u8>>, want: &[&str]) -> bool {
     true
 }
 
+fn played_at(rt: &impl Abort, alloc: Global, mut desk: Desk, acts: &[Act]) -> Result<(), Fail> {
+    let played = acts::play(rt, alloc, &mut desk, acts);
+    drop(desk);
+    played
+}
+
 /// The acts at a new desk.
 fn played(rt: &impl Abort, alloc: Global, acts: &[Act]) -> Result<(), Fail> {
-    acts::play(rt, alloc, &mut Desk::new(alloc), acts)
+    played_at(rt, alloc, Desk::new(alloc), acts)
 }
 
 const FIRST_REPLY: &[Act] = &[
@@ -209,19 +215,32 @@ fn is_marked_again(desk: &mut Desk, number: u32) -> bool {
     before.is_none() && (number % 2 != 0 || desk.take_marked() == Some(number))
 }
 
+/// A request of the id 7 is marked again, is answered, and nothing is left of it.
+fn comes_and_goes(
+    rt: &impl Abort,
+    alloc: Global,
+    desk: &mut Desk,
+    number: u32,
+) -> Result<bool, Fail> {
+    acts::requests(rt, alloc, desk, 7, 1)?;
+    let is_marked = is_marked_again(desk, number);
+    finish(rt, desk, number, Json::null());
+    Ok(is_marked && desk.take_marked().is_none() && desk.release()?.len() == 1)
+}
+
+fn come_and_go(rt: &impl Abort, alloc: Global, desk: &mut Desk) -> Result<(), Fail> {
+    for number in 1..100 {
+        assert!(rt; comes_and_goes(rt, alloc, desk, number)?, "{number}");
+    }
+    Ok(())
+}
+
 #[test]
 fn id_that_is_used_again_is_marked_again(rt: HostRuntime) -> Result<(), Fail> {
     let mut desk = Desk::new(rt.alloc());
-    for number in 1..100 {
-        acts::requests(&rt, rt.alloc(), &mut desk, 7, 1)?;
-        assert!(rt; is_marked_again(&mut desk, number), "{number}");
-        finish(&rt, &mut desk, number, Json::null());
-        assert!(rt;
-            desk.take_marked().is_none() && desk.release()?.len() == 1,
-            "{number}"
-        );
-    }
-    Ok(())
+    let come = come_and_go(&rt, rt.alloc(), &mut desk);
+    drop(desk);
+    come
 }
 
 const TEXTS: &[Act] = &[
@@ -277,33 +296,29 @@ const OPENING: &[Act] = &[
 #[test]
 fn opening_is_open_before_any_call_and_no_unit_waits_for_it(rt: HostRuntime) -> Result<(), Fail> {
     played(&rt, rt.alloc(), NO_OPENING)?;
-    let mut desk = Desk::with_opening(rt.alloc(), 2)?;
-    acts::play(&rt, rt.alloc(), &mut desk, OPENING)
+    played_at(&rt, rt.alloc(), Desk::with_opening(rt.alloc(), 2)?, OPENING)
 }
 
-const TWO_ANSWERS: &[Act] = &[
-    Open(Kind::Single, &[Notification(0)], 1),
-    Requests(7, 2),
-    Finish(2, Said::True),
-    Finish(3, Said::True),
-];
-
-const FRAMES: &str = concat!(
+const FRAMED: &str = concat!(
     "before",
     "Content-Length: 38\r\n\r\n{\"id\":7,\"jsonrpc\":\"2.0\",\"result\":true}",
     "Content-Length: 38\r\n\r\n{\"id\":7,\"jsonrpc\":\"2.0\",\"result\":true}",
 );
 
+const FRAMES: &[Act] = &[
+    Frames(0, "before"),
+    Open(Kind::Single, &[Notification(0)], 1),
+    Requests(7, 2),
+    Finish(2, Said::True),
+    Finish(3, Said::True),
+    Frames(2, FRAMED),
+    Empty(true),
+    Frames(0, "before"),
+];
+
 #[test]
 fn frames_stand_behind_the_bytes_and_notifications_have_none(rt: HostRuntime) -> Result<(), Fail> {
-    let mut desk = Desk::new(rt.alloc());
-    let mut bytes = Vec::from_slice(rt.alloc(), b"before")?;
-    assert!(rt; desk.release_to(&mut bytes)? == 0);
-    acts::play(&rt, rt.alloc(), &mut desk, TWO_ANSWERS)?;
-    assert!(rt; desk.release_to(&mut bytes)? == 2);
-    assert!(rt; desk.is_empty() && bytes.as_slice() == FRAMES.as_bytes());
-    assert!(rt; desk.release_to(&mut bytes)? == 0 && bytes.len() == FRAMES.len());
-    Ok(())
+    played(&rt, rt.alloc(), FRAMES)
 }
 
 /// So many requests without calls of their own, whose ids count up from this one.
@@ -315,21 +330,13 @@ fn numbered(alloc: Global, first: u32, count: u32) -> Result<Vec<Place>, Fail> {
     Ok(places)
 }
 
-/// Whether the desk gives one text of so many bytes.
-fn gives_bytes(desk: &mut Desk, length: usize) -> Result<bool, Fail> {
-    match desk.release()?.as_slice() {
-        [text] => Ok(text.len() == length),
-        _ => Ok(false),
-    }
-}
+const HUNDRED: &[Act] = &[
+    Batch(0, 100),
+    FinishAll(1, 100),
+    ReleaseBytes(10 * 38 + 90 * 39 + 101),
+];
 
 #[test]
 fn batch_of_a_hundred_answers_is_one_text(rt: HostRuntime) -> Result<(), Fail> {
-    let mut desk = Desk::new(rt.alloc());
-    open(&rt, &mut desk, Kind::Batch, numbered(rt.alloc(), 0, 100)?)?;
-    for number in 1..101 {
-        finish(&rt, &mut desk, number, Json::null());
-    }
-    assert!(rt; gives_bytes(&mut desk, 10 * 38 + 90 * 39 + 101)?);
-    Ok(())
+    played(&rt, rt.alloc(), HUNDRED)
 }

@@ -1,11 +1,19 @@
 //! A set of numbers: what is in, at which place, as its room moves on.
+use Act::{Contains, HasRoom, Holds, Put, Remove, Room};
 use number_set::NumberSet;
 use std::process::Abort;
 use std::test::Fail;
 
-fn put(rt: &impl Abort, set: &mut NumberSet, number: u32) {
-    assert!(rt; set.has_room(number));
-    set.insert(number);
+enum Act {
+    /// Makes room for the numbers from the first to before the last.
+    Room(u32, u32),
+    /// Puts a number in that there is room for.
+    Put(u32),
+    Remove(u32),
+    Contains(u32, bool),
+    HasRoom(u32, bool),
+    /// These are all the numbers.
+    Holds(&'static [u32]),
 }
 
 /// Whether these are all the numbers of the set, each at its place.
@@ -20,37 +28,81 @@ fn holds(set: &NumberSet, numbers: &[u32]) -> bool {
     set.len() == place && set.at(place).is_none()
 }
 
-#[test]
-fn numbers_stand_at_their_places(rt: HostRuntime) -> Result<(), Fail> {
-    let mut set = NumberSet::new(rt.alloc());
-    assert!(rt; holds(&set, &[]));
-    set.make_room(1, 8)?;
-    put(&rt, &mut set, 7);
-    put(&rt, &mut set, 1);
-    put(&rt, &mut set, 4);
-    put(&rt, &mut set, 4);
-    assert!(rt; holds(&set, &[1, 4, 7]));
-    set.remove(4);
-    set.remove(5);
-    assert!(rt; set.contains(1) && !set.contains(4));
-    assert!(rt; !set.has_room(0) && !set.has_room(8));
-    assert!(rt; holds(&set, &[1, 7]));
+fn makes_room(set: &mut NumberSet, first: u32, end: u32) -> Result<bool, Fail> {
+    if first > end || end > 2_000 {
+        return Ok(false);
+    }
+    set.make_room(first, end)?;
+    Ok(true)
+}
+
+fn puts(set: &mut NumberSet, number: u32) -> bool {
+    if !set.has_room(number) {
+        return false;
+    }
+    set.insert(number);
+    true
+}
+
+fn comes_out(set: &mut NumberSet, act: &Act) -> Result<bool, Fail> {
+    match act {
+        Act::Room(first, end) => makes_room(set, *first, *end),
+        Act::Put(number) => Ok(puts(set, *number)),
+        Act::Remove(number) => {
+            set.remove(*number);
+            Ok(true)
+        }
+        Act::Contains(number, contains) => Ok(set.contains(*number) == *contains),
+        Act::HasRoom(number, has) => Ok(set.has_room(*number) == *has),
+        Act::Holds(numbers) => Ok(holds(set, numbers)),
+    }
+}
+
+/// Each act at the set comes out as it says.
+fn play(rt: &impl Abort, set: &mut NumberSet, acts: &[Act]) -> Result<(), Fail> {
+    for (index, act) in acts.iter().enumerate() {
+        assert!(rt; comes_out(set, act)?, "act {index}");
+    }
     Ok(())
 }
 
+const PLACES: &[Act] = &[
+    Holds(&[]),
+    Room(1, 8),
+    Put(7),
+    Put(1),
+    Put(4),
+    Put(4),
+    Holds(&[1, 4, 7]),
+    Remove(4),
+    Remove(5),
+    Contains(1, true),
+    Contains(4, false),
+    HasRoom(0, false),
+    HasRoom(8, false),
+    Holds(&[1, 7]),
+];
+
+#[test]
+fn numbers_stand_at_their_places(rt: HostRuntime) -> Result<(), Fail> {
+    play(&rt, &mut NumberSet::new(rt.alloc()), PLACES)
+}
+
+const MOVES: &[Act] = &[
+    Room(0, 3),
+    Put(0),
+    Put(2),
+    Room(2, 1000),
+    Holds(&[2]),
+    Put(999),
+    Holds(&[2, 999]),
+    Room(999, 1001),
+    Holds(&[999]),
+    Room(5, 5),
+    Holds(&[]),
+];
+
 #[test]
 fn room_moves_on_with_the_numbers_in_it(rt: HostRuntime) -> Result<(), Fail> {
-    let mut set = NumberSet::new(rt.alloc());
-    set.make_room(0, 3)?;
-    put(&rt, &mut set, 0);
-    put(&rt, &mut set, 2);
-    set.make_room(2, 1000)?;
-    assert!(rt; holds(&set, &[2]));
-    put(&rt, &mut set, 999);
-    assert!(rt; holds(&set, &[2, 999]));
-    set.make_room(999, 1001)?;
-    assert!(rt; holds(&set, &[999]));
-    set.make_room(5, 5)?;
-    assert!(rt; holds(&set, &[]));
-    Ok(())
+    play(&rt, &mut NumberSet::new(rt.alloc()), MOVES)
 }

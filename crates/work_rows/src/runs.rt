@@ -1,5 +1,6 @@
 //! What no clause says: that the definitions are those of the reference, and that calls succeed.
 
+mod acts;
 mod courses;
 mod each;
 mod large;
@@ -101,13 +102,19 @@ fn table(alloc: Global, text: &str) -> Result<Table, Fail> {
 }
 
 fn entry(alloc: Global, content: &str) -> Result<Entry, Fail> {
+    let content = Items::from(content.as_bytes().to_vec(alloc)?);
     let frame = Frame {
-        content: Items::from(content.as_bytes().to_vec(alloc)?),
+        content,
         foreign: false,
     };
-    match read_unit(alloc, &frame)? {
+    let unit = read_unit(alloc, &frame);
+    drop(frame);
+    match unit? {
         Unit::Single(entry) => Ok(entry),
-        _ => Err("no single entry")?,
+        other => {
+            drop(other);
+            Err("no single entry".into())
+        }
     }
 }
 
@@ -115,7 +122,10 @@ fn entry(alloc: Global, content: &str) -> Result<Entry, Fail> {
 fn call(alloc: Global, content: &str) -> Result<Arc<Call>, Fail> {
     match entry(alloc, content)? {
         Entry::Call(call) => Ok(call),
-        _ => Err("no call")?,
+        other => {
+            drop(other);
+            Err("no call".into())
+        }
     }
 }
 
@@ -123,63 +133,100 @@ fn call(alloc: Global, content: &str) -> Result<Arc<Call>, Fail> {
 fn reply(alloc: Global, content: &str) -> Result<(u32, Reply), Fail> {
     match entry(alloc, content)? {
         Entry::Reply { turn, reply, .. } => Ok((turn, reply)),
-        _ => Err("no reply")?,
+        other => {
+            drop(other);
+            Err("no reply".into())
+        }
     }
 }
 
-/// The replies of a text, one on each line.
-fn replies(alloc: Global, lines: &str) -> Result<Vec<(u32, Reply)>, Fail> {
-    let mut all = Vec::new(alloc);
+/// Lists the replies that stand behind `< `. What is sent stands behind `> `.
+fn list_replies(alloc: Global, lines: &str, replies: &mut Vec<(u32, Reply)>) -> Result<(), Fail> {
     for line in lines.lines() {
-        all.push(reply(alloc, line)?)?;
+        if let Some(content) = line.strip_prefix("< ") {
+            replies.push(reply(alloc, content)?)?;
+        } else if !line.starts_with("> ") {
+            return Err("a line without a mark".into());
+        }
     }
-    Ok(all)
+    Ok(())
+}
+
+/// The replies among the lines, with their turns.
+fn replies(alloc: Global, lines: &str) -> Result<Vec<(u32, Reply)>, Fail> {
+    let mut replies = Vec::new(alloc);
+    match list_replies(alloc, lines, &mut replies) {
+        Ok(()) => Ok(replies),
+        Err(fail) => {
+            drop(replies);
+            Err(fail)
+        }
+    }
 }
 
 /// Handler 1 of the call's method.
-fn handler(alloc: Global, table: &Table, content: &str) -> Result<Handler, Fail> {
-    let call = call(alloc, content)?;
+fn handler(alloc: Global, table: &Table, call: &Arc<Call>) -> Result<Handler, Fail> {
     let method = table.find(call.method.as_str()).ok_or("no such method")?;
     if method >= table.len() || matches!(&call.params, Params::Fractional) {
-        return Err("no such call")?;
+        return Err("no such call".into());
     }
-    Ok(Handler::new(alloc, table, method, 1, call)?)
+    Ok(Handler::new(alloc, table, method, 1, Arc::try_clone(call)?)?)
 }
 
-/// The table of most tests.
-fn usual_table(alloc: Global) -> Result<Table, Fail> {
-    table(alloc, TABLE)
+/// Handler 1 of the method that a content calls.
+fn called(alloc: Global, table: &Table, content: &str) -> Result<Handler, Fail> {
+    let call = call(alloc, content)?;
+    let handler = handler(alloc, table, &call);
+    drop(call);
+    handler
 }
 
-/// Handler 1 of the call's method in that table.
-fn handler_of(alloc: Global, content: &str) -> Result<Handler, Fail> {
-    let table = usual_table(alloc)?;
-    handler(alloc, &table, content)
+/// Handler 1 of the method that a content calls, in the table of this text.
+fn handler_of(alloc: Global, text: &str, content: &str) -> Result<Handler, Fail> {
+    let table = table(alloc, text)?;
+    let handler = called(alloc, &table, content);
+    drop(table);
+    handler
 }
 
-/// The handler's messages and its answer as they are sent, one on each line; a notification has no answer.
-fn told(
+/// The handler of the table's opening.
+fn opened(alloc: Global, table: &Table) -> Result<Handler, Fail> {
+    match Handler::opening(alloc, table)? {
+        Some(handler) => Ok(handler),
+        None => Err("no opening".into()),
+    }
+}
+
+fn message_text(alloc: Global, number: u32, message: &Message) -> Result<Vec<u8>, Fail> {
+    match message {
+        Message::Call(turn, outgoing) => Ok(call_text(alloc, number, *turn, outgoing)?),
+        Message::Calls(first, list) => batch(alloc, number, *first, list.as_slice()),
+        Message::Notice(outgoing) => Ok(notice_text(alloc, outgoing)?),
+    }
+}
+
+fn push_line(lines: &mut Vec<u8>, line: Vec<u8>) -> Result<(), AllocError> {
+    lines.extend_from_slice(line.as_slice())?;
+    lines.push(b'\n')?;
+    Ok(())
+}
+
+/// Adds the handler's messages and its answer as they are sent, one on each line; what has no id has no answer.
+fn tell(
     alloc: Global,
     handler: &Handler,
-    id: &Option<Id>,
+    id: Option<&Id>,
     answer: &Reply,
-) -> Result<Vec<u8>, Fail> {
-    let mut lines = Vec::new(alloc);
+    lines: &mut Vec<u8>,
+) -> Result<(), Fail> {
     let number = handler.number();
     for message in handler.messages() {
-        let text = match message {
-            Message::Call(turn, outgoing) => call_text(alloc, number, *turn, outgoing)?,
-            Message::Calls(first, list) => batch(alloc, number, *first, list.as_slice())?,
-            Message::Notice(outgoing) => notice_text(alloc, outgoing)?,
-        };
-        lines.extend_from_slice(text.as_slice())?;
-        lines.push(b'\n')?;
+        push_line(lines, message_text(alloc, number, message)?)?;
     }
     if let Some(id) = id {
-        lines.extend_from_slice(answer_text(alloc, id, answer)?.as_slice())?;
-        lines.push(b'\n')?;
+        push_line(lines, answer_text(alloc, id, answer)?)?;
     }
-    Ok(lines)
+    Ok(())
 }
 
 fn batch(alloc: Global, number: u32, first: u32, list: &[Outgoing]) -> Result<Vec<u8>, Fail> {
@@ -224,7 +271,15 @@ fn reply_of(replies: &[(u32, Reply)], turn: u32) -> Result<Reply, AllocError> {
     Ok(Reply::Standard(Standard::NoReply))
 }
 
-/// Has the handler hear one reply. Whether one is awaited still.
+/// Has the handler hear a reply. Whether it awaited that.
+fn is_heard(handler: &mut Handler, turn: u32, reply: Reply) -> bool {
+    let heard = handler.hear(turn, reply);
+    let is_heard = heard.is_ok();
+    drop(heard);
+    is_heard
+}
+
+/// Has the handler hear one reply. Whether none is awaited then.
 fn hear_next(
     handler: &mut Handler,
     replies: &[(u32, Reply)],
@@ -236,19 +291,18 @@ fn hear_next(
         handler.waits().first().copied()
     };
     let turn = awaited.ok_or("a handler that waits for nothing")?;
-    match handler.hear(turn, reply_of(replies, turn)?) {
-        Ok(()) => Ok(handler.waits().is_empty()),
-        Err(_) => Err("an awaited reply was refused")?,
+    if !is_heard(handler, turn, reply_of(replies, turn)?) {
+        return Err("an awaited reply was refused".into());
     }
+    Ok(handler.waits().is_empty())
 }
 
 /// Polls the handler to its end.
 fn run(handler: &mut Handler, replies: &[(u32, Reply)], order: &Order) -> Result<Reply, Fail> {
     for _ in 0..4_096 {
-        let outcome = handler.advance();
-        match outcome {
+        match handler.advance() {
             Some(Outcome::Answer(answer)) => return Ok(answer),
-            Some(Outcome::Failed) => Err("a poll found no memory")?,
+            Some(Outcome::Failed) => return Err("a poll found no memory".into()),
             None => {}
         }
         for _ in 0..16 {
@@ -257,130 +311,234 @@ fn run(handler: &mut Handler, replies: &[(u32, Reply)], order: &Order) -> Result
             }
         }
     }
-    Err("a handler without an end")?
+    Err("a handler without an end".into())
 }
 
-/// The answer that a poll gives.
-fn answered(handler: &mut Handler) -> Result<Reply, Fail> {
-    match handler.advance() {
-        Some(Outcome::Answer(answer)) => Ok(answer),
-        _ => Err("no answer")?,
-    }
-}
-
-/// What the handler sends and answers where it hears the replies in that order.
-fn told_in(
-    alloc: Global,
-    mut handler: Handler,
-    replies: &[(u32, Reply)],
-    order: &Order,
-    id: &Option<Id>,
-) -> Result<Vec<u8>, Fail> {
-    let answer = run(&mut handler, replies, order)?;
-    told(alloc, &handler, id, &answer)
-}
-
-/// What stands behind the mark on those lines that have it, a line each. The marks are `<` for a reply and `>` for what is sent.
-fn marked(alloc: Global, lines: &str, mark: &str) -> Result<String, Fail> {
-    let mut all = String::new(alloc);
+/// What stands behind `> `, a line each.
+fn sent_lines(alloc: Global, lines: &str) -> Result<String, AllocError> {
+    let mut sent = String::new(alloc);
     for line in lines.lines() {
-        if let Some(text) = line.strip_prefix(mark) {
-            all.push_str(text)?;
-            all.push('\n')?;
-        } else if !line.starts_with("< ") && !line.starts_with("> ") {
-            return Err("a line without a mark")?;
+        if let Some(text) = line.strip_prefix("> ") {
+            sent.push_str(text)?;
+            sent.push('\n')?;
         }
     }
-    Ok(all)
+    Ok(sent)
 }
 
-/// Whether the call sends and answers what its lines say, where its handler hears their replies in that order.
+/// Whether the handler's messages and its answer are what the lines say.
+fn is_sent(
+    alloc: Global,
+    handler: &Handler,
+    id: Option<&Id>,
+    answer: &Reply,
+    lines: &str,
+) -> Result<bool, Fail> {
+    let mut sent = Vec::new(alloc);
+    tell(alloc, handler, id, answer, &mut sent)?;
+    Ok(sent.as_slice() == sent_lines(alloc, lines)?.as_bytes())
+}
+
+/// Whether the handler sends and answers what the lines say, where it hears the replies in that order.
+fn is_told_in(
+    alloc: Global,
+    handler: &mut Handler,
+    id: Option<&Id>,
+    replies: &[(u32, Reply)],
+    order: &Order,
+    lines: &str,
+) -> Result<bool, Fail> {
+    let answer = run(handler, replies, order)?;
+    let is_sent = is_sent(alloc, handler, id, &answer, lines);
+    drop(answer);
+    is_sent
+}
+
+/// Whether the handler of the call, or of the opening where there is none, tells what the lines say in each order.
+fn is_told_in_each_order(
+    alloc: Global,
+    table: &Table,
+    call: Option<&Arc<Call>>,
+    replies: &[(u32, Reply)],
+    lines: &str,
+) -> Result<bool, Fail> {
+    let (number, id) = match call {
+        Some(call) => (1, call.id.as_ref()),
+        None => (0, None),
+    };
+    for order in ORDERS {
+        let mut handler = match call {
+            Some(call) => handler(alloc, table, call)?,
+            None => opened(alloc, table)?,
+        };
+        let is_numbered = handler.number() == number;
+        let is_told = is_told_in(alloc, &mut handler, id, replies, order, lines);
+        drop(handler);
+        if !is_told? || !is_numbered {
+            return Ok(false);
+        }
+    }
+    Ok(true)
+}
+
+/// Whether a content, which is a call or the word for the opening, comes to what its lines say.
 fn is_told(
     alloc: Global,
     table: &Table,
     content: &str,
+    replies: &[(u32, Reply)],
     lines: &str,
-    order: &Order,
 ) -> Result<bool, Fail> {
+    if content == "opening" {
+        return is_told_in_each_order(alloc, table, None, replies, lines);
+    }
     let call = call(alloc, content)?;
-    let replies = replies(alloc, marked(alloc, lines, "< ")?.as_str())?;
-    let handler = handler(alloc, table, content)?;
-    let found = told_in(alloc, handler, replies.as_slice(), order, &call.id)?;
-    Ok(found.as_slice() == marked(alloc, lines, "> ")?.as_bytes())
+    let is_told = is_told_in_each_order(alloc, table, Some(&call), replies, lines);
+    drop(call);
+    is_told
 }
 
-/// Compares what calls send and answer, by the methods of this table and by handlers that hear in different orders. A row is a
-/// call, the replies to its own calls, and what it sends and answers; between rows is an empty line.
-fn compare_all(rt: &impl Abort, alloc: Global, text: &str, rows: &str) -> Result<(), Fail> {
-    let table = table(alloc, text)?;
-    for row in rows.split("\n\n") {
-        let (content, lines) = row.split_once('\n').ok_or("a row without lines")?;
-        for order in ORDERS {
-            assert!(rt; is_told(alloc, &table, content, lines, order)?, "{row}");
-        }
-    }
-    Ok(())
+fn is_row_told(alloc: Global, table: &Table, row: &str) -> Result<bool, Fail> {
+    let (content, lines) = row.split_once('\n').ok_or("a row without lines")?;
+    let replies = replies(alloc, lines)?;
+    let is_told = is_told(alloc, table, content, replies.as_slice(), lines);
+    drop(replies);
+    is_told
 }
 
 /// Has the handler hear the reply that a content is. Whether it awaited that.
 fn hears(alloc: Global, handler: &mut Handler, content: &str) -> Result<bool, Fail> {
     let (turn, said) = reply(alloc, content)?;
-    Ok(handler.hear(turn, said).is_ok())
+    Ok(is_heard(handler, turn, said))
 }
 
-/// What the handler comes to as a future that hears the first of these replies with the turn of each call.
+/// How the handler ends as a future that hears the first of these replies with the turn of each call.
 fn rehearsed<R: Wait + RandomSource + AllocGlobal>(
     rt: &R,
     handler: Handler,
     replies: Vec<(u32, Reply)>,
-) -> Result<Reply, Fail> {
-    match block_on(rt, Rehearsal::new(rt.alloc(), handler, replies))? {
-        Outcome::Answer(answer) => Ok(answer),
-        Outcome::Failed => Err("a poll found no memory")?,
+) -> Result<Outcome, Fail> {
+    Ok(block_on(rt, Rehearsal::new(rt.alloc(), handler, replies))?)
+}
+
+/// How it ends in a rehearsal that hears the replies among the lines.
+fn rehearsed_by<R: Wait + RandomSource + AllocGlobal>(
+    rt: &R,
+    handler: Handler,
+    lines: &str,
+) -> Result<Outcome, Fail> {
+    match replies(rt.alloc(), lines) {
+        Ok(replies) => rehearsed(rt, handler, replies),
+        Err(fail) => {
+            drop(handler);
+            Err(fail)
+        }
     }
+}
+
+/// Whether the outcome is an answer that is sent so to the request of that id.
+fn is_answer(alloc: Global, outcome: &Outcome, id: &Id, want: &str) -> Result<bool, Fail> {
+    match outcome {
+        Outcome::Answer(answer) => Ok(
+            answer_text(alloc, id, answer)?.as_slice() == want.as_bytes(),
+        ),
+        Outcome::Failed => Err("a poll found no memory".into()),
+    }
+}
+
+/// Whether a handler of the request 7 ended with this answer.
+fn answers(alloc: Global, outcome: Outcome, want: &str) -> Result<bool, Fail> {
+    let is_answer = is_answer(alloc, &outcome, &Id::Unsigned(7), want);
+    drop(outcome);
+    is_answer
+}
+
+/// Compares the answer of a handler of the request 7.
+fn compare_answer(
+    rt: &impl Abort,
+    alloc: Global,
+    outcome: Outcome,
+    want: &str,
+) -> Result<(), Fail> {
+    assert!(rt; answers(alloc, outcome, want)?, "{want}");
+    Ok(())
+}
+
+/// Whether the outcome is the answer among the lines.
+fn is_answer_of(alloc: Global, outcome: &Outcome, id: &Id, lines: &str) -> Result<bool, Fail> {
+    let sent = sent_lines(alloc, lines)?;
+    is_answer(alloc, outcome, id, sent.as_str().trim_end())
 }
 
 /// Whether the call is answered as its lines say, in a rehearsal that hears their replies.
-fn is_rehearsed<R: Wait + RandomSource + AllocGlobal>(
+fn is_call_rehearsed<R: Wait + RandomSource + AllocGlobal>(
     rt: &R,
     table: &Table,
-    content: &str,
+    call: &Arc<Call>,
     lines: &str,
 ) -> Result<bool, Fail> {
-    let alloc = rt.alloc();
-    let call = call(alloc, content)?;
     let id = call.id.as_ref().ok_or("a notification")?;
-    let replies = replies(alloc, marked(alloc, lines, "< ")?.as_str())?;
-    let answer = rehearsed(rt, handler(alloc, table, content)?, replies)?;
-    let mut found = answer_text(alloc, id, &answer)?;
-    found.push(b'\n')?;
-    Ok(found.as_slice() == marked(alloc, lines, "> ")?.as_bytes())
+    let outcome = rehearsed_by(rt, handler(rt.alloc(), table, call)?, lines)?;
+    let is_answer = is_answer_of(rt.alloc(), &outcome, id, lines);
+    drop(outcome);
+    is_answer
 }
 
-/// Compares how calls are answered in rehearsals.
-fn compare_rehearsed<R: Wait + RandomSource + AllocGlobal + Abort>(
+fn is_row_rehearsed<R: Wait + RandomSource + AllocGlobal>(
     rt: &R,
-    alloc: Global,
-    text: &str,
+    table: &Table,
+    row: &str,
+) -> Result<bool, Fail> {
+    let (content, lines) = row.split_once('\n').ok_or("a row without lines")?;
+    let call = call(rt.alloc(), content)?;
+    let is_rehearsed = is_call_rehearsed(rt, table, &call, lines);
+    drop(call);
+    is_rehearsed
+}
+
+/// How handlers come to their replies.
+#[derive(Clone, Copy)]
+enum Way {
+    /// They are polled, and hear them in different orders.
+    Polls,
+    Rehearsal,
+}
+
+fn is_as_it_says<R: Wait + RandomSource + AllocGlobal>(
+    rt: &R,
+    table: &Table,
+    row: &str,
+    way: Way,
+) -> Result<bool, Fail> {
+    match way {
+        Way::Polls => is_row_told(rt.alloc(), table, row),
+        Way::Rehearsal => is_row_rehearsed(rt, table, row),
+    }
+}
+
+fn compare_rows<R: Wait + RandomSource + AllocGlobal + Abort>(
+    rt: &R,
+    table: &Table,
     rows: &str,
+    way: Way,
 ) -> Result<(), Fail> {
-    let table = table(alloc, text)?;
     for row in rows.split("\n\n") {
-        let (content, lines) = row.split_once('\n').ok_or("a row without lines")?;
-        assert!(rt; is_rehearsed(rt, &table, content, lines)?, "{row}");
+        assert!(rt; is_as_it_says(rt, table, row, way)?, "{row}");
     }
     Ok(())
 }
 
-/// Compares an answer as it is sent to the request of that id.
-fn answers(
-    rt: &impl Abort,
-    alloc: Global,
-    id: u64,
-    answer: &Reply,
-    want: &str,
-) -> Result<(), AllocError> {
-    let found = answer_text(alloc, &Id::Unsigned(id), answer)?;
-    assert!(rt; found.as_slice() == want.as_bytes(), "{want}");
-    Ok(())
+/// Compares what calls send and answer, by the methods of this table. A row is a call, the replies to its own
+/// calls, and what it sends and answers, in a rehearsal only what it answers; between rows is an empty line. The row
+/// of an opening has that word in place of a call.
+fn compare<R: Wait + RandomSource + AllocGlobal + Abort>(
+    rt: &R,
+    text: &str,
+    rows: &str,
+    way: Way,
+) -> Result<(), Fail> {
+    let table = table(rt.alloc(), text)?;
+    let compared = compare_rows(rt, &table, rows, way);
+    drop(table);
+    compared
 }

@@ -39,6 +39,18 @@ fn turned(number: u32) -> Counted {
     Counted { number, turns: 1 }
 }
 
+// A worker's seat, which is never refused.
+fn seat(
+    rt: &impl Abort,
+    slots: &JobSlots<Counted>,
+    clerk: &mut ClerkSeat<Counted>,
+) -> WorkerSeat<Counted>
+    requires { IsClerkOf slots.now clerk.old }
+    ensures { IsClerkOf slots.now clerk.new × IsWorkerOf slots.now result }
+{
+    slots.split(clerk).ok().expect(rt, "a seat")
+}
+
 // Offers the job of that number, which goes into that slot.
 fn offer_to(
     rt: &impl Abort,
@@ -66,6 +78,32 @@ fn offer_to_none(
     assert!(rt; slots.offer(clerk, fresh(number)) == Err(fresh(number)));
 }
 
+// Collects from that slot, which gives this.
+fn collect_from(
+    rt: &impl Abort,
+    slots: &JobSlots<Counted>,
+    clerk: &mut ClerkSeat<Counted>,
+    slot: u32,
+    want: Option<Counted>,
+)
+    requires { IsClerkOf slots.now clerk.old }
+    ensures { IsClerkOf slots.now clerk.new }
+{
+    assert!(rt; slots.collect(clerk, slot) == want);
+}
+
+// Closes the slots, which gives these jobs.
+fn close_with(
+    rt: &impl Abort,
+    slots: JobSlots<Counted>,
+    clerk: ClerkSeat<Counted>,
+    want: &[Counted],
+)
+    requires { IsClerkOf slots clerk }
+{
+    assert!(rt; slots.close(clerk).as_slice() == want);
+}
+
 // Fills two slots with the jobs 10 and 11, and runs the first.
 fn fill_two_and_run_one(
     rt: &impl Abort,
@@ -86,22 +124,22 @@ fn fill_two_and_run_one(
 #[test]
 fn a_job_comes_home_turned_once_and_its_slot_is_filled_again(rt: HostRuntime) -> Result<(), Fail> {
     let (slots, mut clerk) = JobSlots::make(rt.alloc(), 2)?;
-    let mut worker = slots.split(&mut clerk)?;
+    let mut worker = seat(&rt, &slots, &mut clerk);
     fill_two_and_run_one(&rt, &slots, &mut clerk, &mut worker);
-    assert!(rt; slots.collect(&mut clerk, 1).is_none());
-    assert!(rt; slots.collect(&mut clerk, 0) == Some(turned(10)));
+    collect_from(&rt, &slots, &mut clerk, 1, None);
+    collect_from(&rt, &slots, &mut clerk, 0, Some(turned(10)));
     offer_to(&rt, &slots, &mut clerk, 12, 0);
     slots.join(&mut clerk, worker);
-    assert!(rt; slots.close(clerk).as_slice() == [fresh(12), fresh(11)].as_slice());
+    close_with(&rt, slots, clerk, &[fresh(12), fresh(11)]);
     Ok(())
 }
 
 #[test]
 fn close_gives_the_turned_job_and_the_one_that_waits(rt: HostRuntime) -> Result<(), Fail> {
     let (slots, mut clerk) = JobSlots::make(rt.alloc(), 2)?;
-    let mut worker = slots.split(&mut clerk)?;
+    let mut worker = seat(&rt, &slots, &mut clerk);
     fill_two_and_run_one(&rt, &slots, &mut clerk, &mut worker);
-    assert!(rt; slots.close(clerk).as_slice() == [turned(10), fresh(11)].as_slice());
+    close_with(&rt, slots, clerk, &[turned(10), fresh(11)]);
     Ok(())
 }
 
@@ -136,23 +174,23 @@ fn collect_each(
     ensures { IsClerkOf slots.now clerk.new }
 {
     for number in 0..jobs {
-        assert!(rt; slots.collect(clerk, number) == Some(turned(number)));
+        collect_from(rt, slots, clerk, number, Some(turned(number)));
     }
 }
 
 #[test]
 fn each_of_128_slots_is_filled_run_and_collected(rt: HostRuntime) -> Result<(), Fail> {
     let (slots, mut clerk) = JobSlots::make(rt.alloc(), 128)?;
-    let mut worker = slots.split(&mut clerk)?;
+    let mut worker = seat(&rt, &slots, &mut clerk);
     offer_each(&rt, &slots, &mut clerk, 128);
     offer_to_none(&rt, &slots, &mut clerk, 128);
     run_each(&rt, &slots, &mut worker, 128);
     assert!(rt; slots.run_one(&mut worker) == Ran::Nothing);
     collect_each(&rt, &slots, &mut clerk, 128);
-    assert!(rt; slots.collect(&mut clerk, 127).is_none());
-    assert!(rt; slots.collect(&mut clerk, 128).is_none());
+    collect_from(&rt, &slots, &mut clerk, 127, None);
+    collect_from(&rt, &slots, &mut clerk, 128, None);
     slots.join(&mut clerk, worker);
-    assert!(rt; slots.close(clerk).is_empty());
+    close_with(&rt, slots, clerk, &[]);
     Ok(())
 }
 
@@ -225,24 +263,6 @@ fn run_by_two<R: Threads + Wait + Abort + Sync>(
     )
 }
 
-// How many jobs two workers say that they ran of eight, and what `close` then gives.
-fn eight_jobs_by_two<R: Threads + Wait + Abort + Sync>(
-    rt: &R,
-    alloc: Global,
-    enough: u32,
-) -> Result<(u32, Vec<Counted>), Fail> {
-    let (slots, mut clerk) = JobSlots::make(alloc, 8)?;
-    let (first, second) = (slots.split(&mut clerk)?, slots.split(&mut clerk)?);
-    for number in 0..8 {
-        slots
-            .offer(&mut clerk, fresh(number))
-            .ok()
-            .ok_or("no free slot")?;
-    }
-    let (a, b) = run_by_two(rt, &slots, first, second, enough);
-    Ok((a.saturating_add(b), slots.close(clerk)))
-}
-
 // How many of the jobs were turned, where they stand in their order and each was turned at most once.
 fn turned_once(jobs: &[Counted]) -> Option<u32> {
     let mut number = 0u32;
@@ -257,18 +277,32 @@ fn turned_once(jobs: &[Counted]) -> Option<u32> {
     Some(ones)
 }
 
+// How many of eight jobs two workers turned, where that is what they say and `close` gives all eight.
+fn eight_jobs_by_two<R: Threads + Wait + Abort + Sync>(
+    rt: &R,
+    alloc: Global,
+    enough: u32,
+) -> Result<Option<u32>, Fail> {
+    let (slots, mut clerk) = JobSlots::make(alloc, 8)?;
+    let first = seat(rt, &slots, &mut clerk);
+    let second = seat(rt, &slots, &mut clerk);
+    offer_each(rt, &slots, &mut clerk, 8);
+    let (a, b) = run_by_two(rt, &slots, first, second, enough);
+    let left = slots.close(clerk);
+    let ones = turned_once(left.as_slice());
+    let is_so = left.len() == 8 && ones == Some(a.saturating_add(b));
+    Ok(if is_so { ones } else { None })
+}
+
 #[test]
 fn two_workers_turn_each_job_at_most_once(rt: HostRuntime) -> Result<(), Fail> {
-    let (ones, left) = eight_jobs_by_two(&rt, rt.alloc(), 0)?;
-    assert!(rt; left.len() == 8 && turned_once(left.as_slice()) == Some(ones));
+    assert!(rt; eight_jobs_by_two(&rt, rt.alloc(), 0)?.is_some());
     Ok(())
 }
 
 #[test]
 fn all_jobs_are_turned_before_the_stop(rt: HostRuntime) -> Result<(), Fail> {
-    let (ones, left) = eight_jobs_by_two(&rt, rt.alloc(), 8)?;
-    assert!(rt; left.len() == 8 && turned_once(left.as_slice()) == Some(8));
-    assert!(rt; ones == 8);
+    assert!(rt; eight_jobs_by_two(&rt, rt.alloc(), 8)? == Some(8));
     Ok(())
 }
 
@@ -449,15 +483,17 @@ fn all_by_four<R: Threads + Wait + Abort + Sync>(
     requires { (0 < count) × (count ≤ 128) }
 {
     let (slots, mut clerk) = JobSlots::make(alloc, count)?;
-    let (first, second) = (slots.split(&mut clerk)?, slots.split(&mut clerk)?);
-    let (third, fourth) = (slots.split(&mut clerk)?, slots.split(&mut clerk)?);
+    let first = seat(rt, &slots, &mut clerk);
+    let second = seat(rt, &slots, &mut clerk);
+    let third = seat(rt, &slots, &mut clerk);
+    let fourth = seat(rt, &slots, &mut clerk);
     let (clerk, home, ones) = hand_to_four(
         rt, alloc, &slots, clerk, count, first, second, third, fourth,
     );
-    let home = home?;
+    let home = home.ok().expect(rt, "room for the counts");
     assert!(rt; home.len() == MANY as usize && is_each_1(home.as_slice()));
     assert!(rt; ones == MANY);
-    assert!(rt; slots.close(clerk).is_empty());
+    close_with(rt, slots, clerk, &[]);
     Ok(())
 }
 

@@ -1,5 +1,5 @@
 //! What is done at a desk, and what comes of it.
-use super::{are_texts, finish, open, request};
+use super::{are_texts, finish, numbered, open, request};
 use answer_desk::{Desk, Kind, Place, Put};
 use json_values::{Json, Text};
 use rpc_messages::{Id, Reply, Standard};
@@ -36,9 +36,17 @@ pub enum Act {
     Open(Kind, &'static [Entry], u32),
     /// Opens units of one request each, all of this id.
     Requests(u64, u32),
+    /// Opens one batch of requests, whose ids count up from this one.
+    Batch(u32, u32),
     Finish(u32, Said),
+    /// Answers null to all from the first number to the last.
+    FinishAll(u32, u32),
     /// The desk gives these answers.
     Release(&'static [&'static str]),
+    /// The desk gives one answer of so many bytes.
+    ReleaseBytes(usize),
+    /// So many answers are framed behind other bytes, and these are then all of them.
+    Frames(usize, &'static str),
     /// Puts a reply to a turn of a number.
     Put(u32, u32, Put),
     Has(u32, u32, bool),
@@ -66,7 +74,11 @@ fn comes_out(rt: &impl Abort, alloc: Global, desk: &mut Desk, act: &Act) -> Resu
     match act {
         Act::Open(kind, entries, number) => opens(rt, alloc, desk, *kind, entries, *number),
         Act::Requests(id, count) => requests(rt, alloc, desk, *id, *count),
-        Act::Release(texts) => Ok(are_texts(&desk.release()?, texts)),
+        Act::Batch(first, count) => opens_batch(rt, alloc, desk, *first, *count),
+        Act::FinishAll(first, last) => Ok(finishes_all(rt, desk, *first, *last)),
+        Act::Release(texts) => releases(desk, texts),
+        Act::ReleaseBytes(length) => releases_bytes(desk, *length),
+        Act::Frames(count, bytes) => frames(alloc, desk, *count, bytes),
         Act::Mark(name, before) => marks(alloc, desk, name, *before),
         Act::Finish(number, said) => Ok(finishes(rt, desk, *number, said)),
         Act::Put(number, turn, put) => Ok(desk.put_reply(*number, *turn, truth()) == *put),
@@ -101,10 +113,68 @@ fn opens(
     number: u32,
 ) -> Result<bool, Fail> {
     let mut places = Vec::new(alloc);
+    match list_places(alloc, entries, &mut places) {
+        Ok(()) => Ok(open(rt, desk, kind, places)? == number),
+        Err(error) => {
+            drop(places);
+            Err(error.into())
+        }
+    }
+}
+
+fn list_places(
+    alloc: Global,
+    entries: &[Entry],
+    places: &mut Vec<Place>,
+) -> Result<(), AllocError> {
     for entry in entries {
         places.push(place(alloc, entry)?)?;
     }
-    Ok(open(rt, desk, kind, places)? == number)
+    Ok(())
+}
+
+fn opens_batch(
+    rt: &impl Abort,
+    alloc: Global,
+    desk: &mut Desk,
+    first: u32,
+    count: u32,
+) -> Result<bool, Fail> {
+    open(rt, desk, Kind::Batch, numbered(alloc, first, count)?)?;
+    Ok(true)
+}
+
+fn finishes_all(rt: &impl Abort, desk: &mut Desk, first: u32, last: u32) -> bool {
+    for number in first..last.saturating_add(1) {
+        finish(rt, desk, number, Json::null());
+    }
+    true
+}
+
+/// Whether the desk gives these answers.
+pub fn releases(desk: &mut Desk, want: &[&str]) -> Result<bool, Fail> {
+    let texts = desk.release()?;
+    let are_texts = are_texts(&texts, want);
+    drop(texts);
+    Ok(are_texts)
+}
+
+/// Whether it gives one answer of so many bytes.
+fn releases_bytes(desk: &mut Desk, length: usize) -> Result<bool, Fail> {
+    let texts = desk.release()?;
+    let is_one = match texts.as_slice() {
+        [text] => text.len() == length,
+        _ => false,
+    };
+    drop(texts);
+    Ok(is_one)
+}
+
+/// Frames so many answers behind other bytes.
+fn frames(alloc: Global, desk: &mut Desk, count: usize, want: &str) -> Result<bool, Fail> {
+    let mut bytes = Vec::from_slice(alloc, b"before")?;
+    let framed = desk.release_to(&mut bytes)?;
+    Ok(framed == count && bytes.as_slice() == want.as_bytes())
 }
 
 fn place(alloc: Global, entry: &Entry) -> Result<Place, AllocError> {
@@ -177,10 +247,12 @@ fn truth() -> Reply {
 }
 
 fn is_said(reply: Option<Reply>, said: &Said) -> bool {
-    match (reply, said) {
+    let is_said = match (&reply, said) {
         (Some(Reply::Done(value)), Said::True) => value.as_value().as_bool() == Some(true),
-        (Some(Reply::Standard(standard)), Said::NoReply) => standard == Standard::NoReply,
+        (Some(Reply::Standard(standard)), Said::NoReply) => *standard == Standard::NoReply,
         (None, Said::Nothing) => true,
         _ => false,
-    }
+    };
+    drop(reply);
+    is_said
 }

@@ -1,7 +1,7 @@
 //! The courses of single calls, as they are sent: sums and their faults, calls that wait for their own reply, a gate, error
 //! replies, a kept error, and notifications.
 
-use super::{TABLE, compare_all};
+use super::{TABLE, Way, compare};
 use std::test::Fail;
 
 const ROWS: &str = r#"{"jsonrpc":"2.0","method":"add","params":[2,3],"id":8}
@@ -68,5 +68,5 @@ const ROWS: &str = r#"{"jsonrpc":"2.0","method":"add","params":[2,3],"id":8}
 
 #[test]
 fn calls_run_their_courses(rt: HostRuntime) -> Result<(), Fail> {
-    compare_all(&rt, rt.alloc(), TABLE, ROWS)
+    compare(&rt, TABLE, ROWS, Way::Polls)
 }

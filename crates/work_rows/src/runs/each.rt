@@ -1,6 +1,8 @@
 //! Courses of a step that makes one call for each element.
 
-use super::{compare_all, compare_rehearsed, handler, table};
+use super::acts::Act::{self, Answers, Has};
+use super::acts::played;
+use super::{Way, compare};
 use std::test::Fail;
 
 const ALL: &str = r#"version = 2
@@ -101,7 +103,7 @@ const ROWS: &str = r#"{"jsonrpc":"2.0","method":"all","params":[1,2],"id":1}
 
 #[test]
 fn one_call_for_each_element(rt: HostRuntime) -> Result<(), Fail> {
-    compare_all(&rt, rt.alloc(), ALL, ROWS)
+    compare(&rt, ALL, ROWS, Way::Polls)
 }
 
 const REHEARSED: &str = r#"{"jsonrpc":"2.0","method":"all","params":[1,2],"id":1}
@@ -112,14 +114,17 @@ const REHEARSED: &str = r#"{"jsonrpc":"2.0","method":"all","params":[1,2],"id":1
 
 #[test]
 fn one_call_for_each_element_in_a_rehearsal(rt: HostRuntime) -> Result<(), Fail> {
-    compare_rehearsed(&rt, rt.alloc(), ALL, REHEARSED)
+    compare(&rt, ALL, REHEARSED, Way::Rehearsal)
 }
 
 const NONE: &str = r#"{"jsonrpc":"2.0","method":"all","params":[],"id":1}"#;
 
+const ENDED: &[Act] = &[
+    Answers(r#"{"id":7,"jsonrpc":"2.0","result":[]}"#),
+    Has(0, &[], 0),
+];
+
 #[test]
 fn no_call_for_no_element(rt: HostRuntime) -> Result<(), Fail> {
-    let mut handler = handler(rt.alloc(), &table(rt.alloc(), ALL)?, NONE)?;
-    assert!(rt; handler.advance().is_some() && handler.messages().is_empty());
-    Ok(())
+    played(&rt, rt.alloc(), ALL, NONE, ENDED)
 }

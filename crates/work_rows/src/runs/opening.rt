@@ -1,9 +1,10 @@
 //! Courses of a table's opening.
 
-use super::{ORDERS, TABLE, rehearsed, replies, table, told_in};
-use handler_future::Handler;
-use std::alloc::Global;
-use std::process::Abort;
+use super::{TABLE, Way, compare, compare_answer, opened, rehearsed_by, table};
+use handler_future::{Handler, Outcome};
+use std::alloc::{AllocGlobal, Global};
+use std::random::RandomSource;
+use std::sync::Wait;
 use std::test::Fail;
 
 const OPENING: &str = r#"version = 2
@@ -18,30 +19,20 @@ method = "ready"
 params = ["$r"]
 "#;
 
-fn opening(alloc: Global, text: &str) -> Result<Handler, Fail> {
-    let table = table(alloc, text)?;
-    Ok(Handler::opening(alloc, &table)?.ok_or("no opening")?)
-}
+const ANSWER: &str = r#"< {"jsonrpc":"2.0","id":"0.1","result":true}"#;
 
-/// Compares what the opening of such a table sends, in different orders of its replies.
-fn sends(rt: &impl Abort, alloc: Global, text: &str, listed: &str, want: &str) -> Result<(), Fail> {
-    let listed = replies(alloc, listed)?;
-    for order in ORDERS {
-        let handler = opening(alloc, text)?;
-        assert!(rt; handler.number() == 0);
-        let sent = told_in(alloc, handler, listed.as_slice(), order, &None)?;
-        assert!(rt; sent.as_slice() == want.as_bytes(), "{want}");
-    }
-    Ok(())
+/// How the opening of the usual such table ends in a rehearsal.
+fn rehearsed_opening<R: Wait + RandomSource + AllocGlobal>(rt: &R) -> Result<Outcome, Fail> {
+    let table = table(rt.alloc(), OPENING)?;
+    let opening = opened(rt.alloc(), &table);
+    drop(table);
+    rehearsed_by(rt, opening?, ANSWER)
 }
-
-const ANSWER: &str = r#"{"jsonrpc":"2.0","id":"0.1","result":true}"#;
 
 #[test]
 fn an_opening_is_rehearsed(rt: HostRuntime) -> Result<(), Fail> {
-    let listed = replies(rt.alloc(), ANSWER)?;
-    rehearsed(&rt, opening(rt.alloc(), OPENING)?, listed)?;
-    Ok(())
+    let want = r#"{"id":7,"jsonrpc":"2.0","result":null}"#;
+    compare_answer(&rt, rt.alloc(), rehearsed_opening(&rt)?, want)
 }
 
 /// Params are null in an opening.
@@ -53,31 +44,39 @@ method = "begun"
 params = ["$params"]
 "#;
 
-const GREETED: &str = r#"{"id":"0.1","jsonrpc":"2.0","method":"hello"}
-{"jsonrpc":"2.0","method":"ready","params":[true]}
+const GREETINGS: &str = r#"opening
+< {"jsonrpc":"2.0","id":"0.1","result":true}
+> {"id":"0.1","jsonrpc":"2.0","method":"hello"}
+> {"jsonrpc":"2.0","method":"ready","params":[true]}
+
+opening
+> {"id":"0.1","jsonrpc":"2.0","method":"hello"}
 "#;
 
-const UNANSWERED: &str = r#"{"id":"0.1","jsonrpc":"2.0","method":"hello"}
-"#;
-
-const TOLD: &str = r#"{"jsonrpc":"2.0","method":"begun","params":[null]}
+const TOLD: &str = r#"opening
+> {"jsonrpc":"2.0","method":"begun","params":[null]}
 "#;
 
 #[test]
 fn openings_run_as_handler_0(rt: HostRuntime) -> Result<(), Fail> {
-    sends(&rt, rt.alloc(), OPENING, ANSWER, GREETED)?;
-    sends(&rt, rt.alloc(), OPENING, "", UNANSWERED)?;
-    sends(&rt, rt.alloc(), BEGUN, "", TOLD)
+    compare(&rt, OPENING, GREETINGS, Way::Polls)?;
+    compare(&rt, BEGUN, TOLD, Way::Polls)
 }
 
 fn has_opening(alloc: Global, text: &str) -> Result<bool, Fail> {
     let table = table(alloc, text)?;
-    Ok(Handler::opening(alloc, &table)?.is_some())
+    let opening = Handler::opening(alloc, &table);
+    drop(table);
+    let opening = opening?;
+    let has_opening = opening.is_some();
+    drop(opening);
+    Ok(has_opening)
 }
 
 #[test]
 fn a_table_without_an_opening_has_no_handler_0(rt: HostRuntime) -> Result<(), Fail> {
-    assert!(rt; !has_opening(rt.alloc(), TABLE)?);
-    assert!(rt; !has_opening(rt.alloc(), "version = 2\n")?);
+    for text in [TABLE, "version = 2\n"] {
+        assert!(rt; !has_opening(rt.alloc(), text)?, "{text}");
+    }
     Ok(())
 }

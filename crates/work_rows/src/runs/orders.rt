@@ -1,6 +1,6 @@
 //! One method with every kind of step, whose replies are heard in different orders.
 
-use super::compare_all;
+use super::{Way, compare};
 use std::test::Fail;
 
 const EVERY_KIND: &str = r#"version = 1
@@ -102,5 +102,5 @@ const ROWS: &str = r#"{"jsonrpc":"2.0","method":"all","params":["x"],"id":1}
 
 #[test]
 fn every_kind_of_step_in_every_order(rt: HostRuntime) -> Result<(), Fail> {
-    compare_all(&rt, rt.alloc(), EVERY_KIND, ROWS)
+    compare(&rt, EVERY_KIND, ROWS, Way::Polls)
 }

@@ -1,6 +1,7 @@
 //! Handlers that go from thread to thread.
 
-use super::{answered, handler_of, hears, reply, told};
+use super::acts::ends;
+use super::{ORDERS, TABLE, handler_of, hears, is_told_in, reply};
 use handler_future::Handler;
 use rpc_messages::Id;
 use std::alloc::Global;
@@ -14,40 +15,32 @@ const SECOND: &str = r#"{"jsonrpc":"2.0","id":"1.2","result":"B"}"#;
 const FIRST: &str = r#"{"jsonrpc":"2.0","id":"1.1","result":"A"}"#;
 
 const SENT: &str =
-    r#"[{"id":"1.1","jsonrpc":"2.0","method":"a"},{"id":"1.2","jsonrpc":"2.0","method":"b"}]
-{"id":7,"jsonrpc":"2.0","result":["A","B"]}
+    r#"> [{"id":"1.1","jsonrpc":"2.0","method":"a"},{"id":"1.2","jsonrpc":"2.0","method":"b"}]
+> {"id":7,"jsonrpc":"2.0","result":["A","B"]}
 "#;
 
-/// What the handler has sent and answers where it hears its last reply.
-fn ended(alloc: Global, handler: &mut Handler) -> Result<Vec<u8>, Fail> {
-    if !hears(alloc, handler, FIRST)? {
-        return Err("an awaited reply was refused".into());
-    }
-    sent(alloc, handler)
-}
-
-fn sent(alloc: Global, handler: &mut Handler) -> Result<Vec<u8>, Fail> {
-    let answer = answered(handler)?;
-    let id = Some(Id::Unsigned(7));
-    told(alloc, handler, &id, &answer)
-}
-
-fn two_calls(alloc: Global) -> Result<Handler, Fail> {
-    handler_of(alloc, TWO)
+/// Whether the handler awaits its first call alone, hears the reply, and then has sent and answers what is wanted.
+fn is_ended(alloc: Global, handler: &mut Handler) -> Result<bool, Fail> {
+    let is_left = handler.waits() == [1].as_slice();
+    let is_heard = hears(alloc, handler, FIRST)?;
+    let id = Id::Unsigned(7);
+    let is_told = is_told_in(alloc, handler, Some(&id), &[], &ORDERS[0], SENT)?;
+    Ok(is_left && is_heard && is_told)
 }
 
 #[test]
 fn a_handler_is_polled_by_one_thread_and_then_by_another(rt: HostRuntime) -> Result<(), Fail> {
-    let mut handler = two_calls(rt.alloc())?;
-    assert!(rt; handler.advance().is_none());
     let (turn, said) = reply(rt.alloc(), SECOND)?;
+    let mut handler = handler_of(rt.alloc(), TABLE, TWO)?;
+    assert!(rt; ends(&mut handler).is_none());
     let child = thread::spawn(&rt, move || {
         drop(handler.hear(turn, said));
         drop(handler.advance());
         handler
     })?;
     let mut handler = child.join(&rt);
-    assert!(rt; handler.waits() == [1].as_slice());
-    assert!(rt; ended(rt.alloc(), &mut handler)?.as_slice() == SENT.as_bytes());
+    let is_ended = is_ended(rt.alloc(), &mut handler);
+    drop(handler);
+    assert!(rt; is_ended?);
     Ok(())
 }
