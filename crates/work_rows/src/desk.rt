@@ -46,15 +46,17 @@ fn are_texts(texts: &Items<Items<u8>>, want: &[&str]) -> bool {
     true
 }
 
-fn played_at(rt: &impl Abort, alloc: Global, mut desk: Desk, acts: &[Act]) -> Result<(), Fail> {
-    let played = acts::play(rt, alloc, &mut desk, acts);
+/// The acts at this desk come out, or the name of their row is told.
+fn played_at(
+    rt: &impl Abort,
+    alloc: Global,
+    mut desk: Desk,
+    name: &str,
+    acts: &[Act],
+) -> Result<(), Fail> {
+    let played = acts::play(rt, alloc, &mut desk, name, acts);
     drop(desk);
     played
-}
-
-/// The acts at a new desk.
-fn played(rt: &impl Abort, alloc: Global, acts: &[Act]) -> Result<(), Fail> {
-    played_at(rt, alloc, Desk::new(alloc), acts)
 }
 
 const FIRST_REPLY: &[Act] = &[
@@ -80,7 +82,8 @@ const FIRST_REPLY: &[Act] = &[
 
 #[test]
 fn first_reply_is_kept_and_answers_wait_for_earlier_units(rt: HostRuntime) -> Result<(), Fail> {
-    played(&rt, rt.alloc(), FIRST_REPLY)
+    let desk = Desk::new(rt.alloc());
+    played_at(&rt, rt.alloc(), desk, "replies", FIRST_REPLY)
 }
 
 const NOTIFICATION: &[Act] = &[
@@ -93,11 +96,6 @@ const NOTIFICATION: &[Act] = &[
     Release(&[]),
     Open(Kind::Single, &[Silent], 3),
 ];
-
-#[test]
-fn notification_runs_on_after_its_batch_was_answered(rt: HostRuntime) -> Result<(), Fail> {
-    played(&rt, rt.alloc(), NOTIFICATION)
-}
 
 const BATCH: &[Act] = &[
     Open(Kind::Single, &[Unreadable], 1),
@@ -121,11 +119,6 @@ const BATCH: &[Act] = &[
         r#"{"id":2,"jsonrpc":"2.0","result":5}]"#,
     )]),
 ];
-
-#[test]
-fn batch_is_one_array_in_the_order_of_its_entries(rt: HostRuntime) -> Result<(), Fail> {
-    played(&rt, rt.alloc(), BATCH)
-}
 
 const CANCELS: &[Act] = &[
     Open(
@@ -154,11 +147,6 @@ const CANCELS: &[Act] = &[
     Marked(1, false),
 ];
 
-#[test]
-fn cancel_reaches_open_requests_of_its_id_before_it(rt: HostRuntime) -> Result<(), Fail> {
-    played(&rt, rt.alloc(), CANCELS)
-}
-
 const CLOSED: &[Act] = &[
     Open(Kind::Single, &[Request(Number(1), 2)], 1),
     Put(1, 1, Stored::Kept),
@@ -173,11 +161,6 @@ const CLOSED: &[Act] = &[
     Take(1, 3, Said::Nothing),
     Take(1, 0, Said::Nothing),
 ];
-
-#[test]
-fn closed_board_gives_no_reply_once(rt: HostRuntime) -> Result<(), Fail> {
-    played(&rt, rt.alloc(), CLOSED)
-}
 
 const SHARED: &[Act] = &[
     Requests(7, 20),
@@ -200,11 +183,6 @@ const SHARED: &[Act] = &[
     Marked(3, false),
     Marked(41, false),
 ];
-
-#[test]
-fn cancels_reach_each_request_of_a_shared_id_once(rt: HostRuntime) -> Result<(), Fail> {
-    played(&rt, rt.alloc(), SHARED)
-}
 
 /// Cancels the request of that number, whose id is 7, before it and then twice behind it.
 fn is_marked_again(desk: &mut Desk, number: u32) -> bool {
@@ -261,11 +239,6 @@ const TEXTS: &[Act] = &[
     Marked(6, false),
 ];
 
-#[test]
-fn text_ids_and_number_ids_are_apart(rt: HostRuntime) -> Result<(), Fail> {
-    played(&rt, rt.alloc(), TEXTS)
-}
-
 const NO_OPENING: &[Act] = &[OpenNumber(0, false)];
 
 const OPENING: &[Act] = &[
@@ -295,8 +268,8 @@ const OPENING: &[Act] = &[
 
 #[test]
 fn opening_is_open_before_any_call_and_no_unit_waits_for_it(rt: HostRuntime) -> Result<(), Fail> {
-    played(&rt, rt.alloc(), NO_OPENING)?;
-    played_at(&rt, rt.alloc(), Desk::with_opening(rt.alloc(), 2)?, OPENING)
+    let desk = Desk::with_opening(rt.alloc(), 2)?;
+    played_at(&rt, rt.alloc(), desk, "an opening", OPENING)
 }
 
 const FRAMED: &str = concat!(
@@ -316,11 +289,6 @@ const FRAMES: &[Act] = &[
     Frames(0, "before"),
 ];
 
-#[test]
-fn frames_stand_behind_the_bytes_and_notifications_have_none(rt: HostRuntime) -> Result<(), Fail> {
-    played(&rt, rt.alloc(), FRAMES)
-}
-
 /// So many requests without calls of their own, whose ids count up from this one.
 fn numbered(alloc: Global, first: u32, count: u32) -> Result<Vec<Place>, Fail> {
     let mut places = Vec::new(alloc);
@@ -336,7 +304,56 @@ const HUNDRED: &[Act] = &[
     ReleaseBytes(10 * 38 + 90 * 39 + 101),
 ];
 
+/// Acts at a new desk, and what they show.
+struct Row {
+    name: &'static str,
+    acts: &'static [Act],
+}
+
+const ROWS: &[Row] = &[
+    Row {
+        name: "notification runs on after its batch was answered",
+        acts: NOTIFICATION,
+    },
+    Row {
+        name: "batch is one array in the order of its entries",
+        acts: BATCH,
+    },
+    Row {
+        name: "cancel reaches open requests of its id before it",
+        acts: CANCELS,
+    },
+    Row {
+        name: "closed board gives no reply once",
+        acts: CLOSED,
+    },
+    Row {
+        name: "cancels reach each request of a shared id once",
+        acts: SHARED,
+    },
+    Row {
+        name: "text ids and number ids are apart",
+        acts: TEXTS,
+    },
+    Row {
+        name: "frames stand behind the bytes and notifications have none",
+        acts: FRAMES,
+    },
+    Row {
+        name: "batch of a hundred answers is one text",
+        acts: HUNDRED,
+    },
+    Row {
+        name: "opening is closed at a desk without one",
+        acts: NO_OPENING,
+    },
+];
+
 #[test]
-fn batch_of_a_hundred_answers_is_one_text(rt: HostRuntime) -> Result<(), Fail> {
-    played(&rt, rt.alloc(), HUNDRED)
+fn units_come_out_of_a_new_desk(rt: HostRuntime) -> Result<(), Fail> {
+    for row in ROWS {
+        let desk = Desk::new(rt.alloc());
+        played_at(&rt, rt.alloc(), desk, row.name, row.acts)?;
+    }
+    Ok(())
 }

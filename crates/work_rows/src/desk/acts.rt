@@ -63,9 +63,15 @@ pub enum Act {
 }
 
 /// Each act comes out as it says.
-pub fn play(rt: &impl Abort, alloc: Global, desk: &mut Desk, acts: &[Act]) -> Result<(), Fail> {
+pub fn play(
+    rt: &impl Abort,
+    alloc: Global,
+    desk: &mut Desk,
+    name: &str,
+    acts: &[Act],
+) -> Result<(), Fail> {
     for (index, act) in acts.iter().enumerate() {
-        assert!(rt; comes_out(rt, alloc, desk, act)?, "act {index}");
+        assert!(rt; comes_out(rt, alloc, desk, act)?, "{name}: act {index}");
     }
     Ok(())
 }

@@ -51,7 +51,7 @@ pub fn play(
 
 fn comes_out(alloc: Global, handler: &mut Handler, act: &Act) -> Result<bool, Fail> {
     match act {
-        Act::Waits => Ok(ends(handler).is_none()),
+        Act::Waits => waits(handler),
         Act::Fails => Ok(ends(handler) == Some(false)),
         Act::Answers(want) => gives(alloc, handler, want),
         Act::Hears(content) => hears(alloc, handler, content),
@@ -68,6 +68,15 @@ pub fn ends(handler: &mut Handler) -> Option<bool> {
         .map(|outcome| matches!(outcome, Outcome::Answer(_)));
     drop(outcome);
     ends
+}
+
+/// Whether a poll gives nothing.
+fn waits(handler: &mut Handler) -> Result<bool, Fail> {
+    match ends(handler) {
+        None => Ok(true),
+        Some(true) => Ok(false),
+        Some(false) => Err("a poll found no memory".into()),
+    }
 }
 
 /// Whether a poll gives this answer.

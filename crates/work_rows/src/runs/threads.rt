@@ -21,11 +21,17 @@ const SENT: &str =
 
 /// Whether the handler awaits its first call alone, hears the reply, and then has sent and answers what is wanted.
 fn is_ended(alloc: Global, handler: &mut Handler) -> Result<bool, Fail> {
-    let is_left = handler.waits() == [1].as_slice();
-    let is_heard = hears(alloc, handler, FIRST)?;
-    let id = Id::Unsigned(7);
-    let is_told = is_told_in(alloc, handler, Some(&id), &[], &ORDERS[0], SENT)?;
-    Ok(is_left && is_heard && is_told)
+    if handler.waits() != [1].as_slice() || !hears(alloc, handler, FIRST)? {
+        return Ok(false);
+    }
+    is_told_in(
+        alloc,
+        handler,
+        Some(&Id::Unsigned(7)),
+        &[],
+        &ORDERS[0],
+        SENT,
+    )
 }
 
 #[test]
