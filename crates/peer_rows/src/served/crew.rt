@@ -2,6 +2,7 @@
 
 use super::METHODS;
 use super::doubles::PATIENCE;
+use crate::cuts;
 use crate::plays::table;
 use lsp_frames::{MemSink, MemSource, put_frame};
 use peer_limits::Limits;
@@ -53,13 +54,6 @@ fn framed(alloc: Global, contents: &[&str]) -> Result<Vec<u8>, AllocError> {
     Ok(bytes)
 }
 
-/// The bytes as one piece.
-fn whole(alloc: Global, bytes: &[u8]) -> Result<Vec<Vec<u8>>, AllocError> {
-    let mut pieces = Vec::new(alloc);
-    pieces.push(bytes.to_vec(alloc)?)?;
-    Ok(pieces)
-}
-
 /// Whether the first handler was held until the second had so many turns, and what was written.
 fn held<R: Threads + Wait + Sync>(
     rt: &R,
@@ -78,7 +72,7 @@ fn held<R: Threads + Wait + Sync>(
     )?;
     let ours = Arc::try_clone(&gate)?;
     let input = framed(alloc, contents)?;
-    let source = MemSource::new(whole(alloc, input.as_slice())?, None);
+    let source = MemSource::new(cuts::owned(alloc, &[input.as_slice()])?, None);
     let sink = MemSink::new(alloc, None);
     match serve_with(rt, alloc, &table, Limits::standard(), 2, gate, source, sink) {
         Ok((_, sink)) => Ok((ours.saw.load(SeqCst) == 1, sink.into_vec())),
