@@ -1,5 +1,5 @@
 //! A peer that has no methods, and keeps nothing of what it has answered.
-ghost use Rattle.std.specs.Prelude.{◌≡◌, ◌++◌, ℕ, List, [], OnOk};
+ghost use Rattle.std.specs.Prelude.{◌≡◌, ◌++◌, ℕ, List, [], ◌∷◌, OnOk};
 ghost use Rattle.lsp_frames.specs.Contents.{Standing, IsContents, end_of};
 ghost use Rattle.lsp_frames.specs.Decoding.{StandsAfter};
 ghost use Rattle.lsp_frames.specs.declared.frame.Frame.{Frame as FrameOf};
@@ -13,10 +13,18 @@ use rpc_messages::UnitReader;
 use std::alloc::{AllocError, Global};
 
 /// Reads the frames of an input that comes in pieces, and answers each.
-#[derive(Drop)]
 pub struct Answerer {
     decoder: Decoder,
     refuser: Refuser,
+}
+
+// Written out, so that whoever drops one makes a call, and knows nothing of what is in it.
+impl Drop for Answerer {
+    fn drop(self) {
+        let Answerer { decoder, refuser } = self;
+        drop(decoder);
+        drop(refuser);
+    }
 }
 
 impl Answerer {
@@ -77,9 +85,19 @@ impl Refuser {
             bytes.old.items ++ bytes_to (units_of frames.now)) }
     {
         for frame in frames {
-            let unit = self.reader.read(frame)?;
-            put_answer_frame(self.alloc, bytes, &mut self.text, &unit)?;
+            self.answer(frame, bytes)?;
         }
         Ok(())
+    }
+
+    /// Puts the frame that answers this one behind the bytes, if there is one.
+    fn answer(&mut self, frame: &Frame, bytes: &mut Vec<u8>) -> Result<(), AllocError>
+        ensures { OnOk result (bytes.new.items ≡
+            bytes.old.items ++ bytes_to (units_of (frame.now ∷ []))) }
+    {
+        let unit = self.reader.read(frame)?;
+        let put = put_answer_frame(self.alloc, bytes, &mut self.text, &unit);
+        drop(unit);
+        put
     }
 }

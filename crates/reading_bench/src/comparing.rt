@@ -11,20 +11,48 @@ use std::alloc::Global;
 /// Reads so many texts, and gives how many were read as the same unit in both ways.
 pub fn count_alike(alloc: Global, texts: u32) -> Result<usize, Failure> {
     let mut reader = UnitReader::new(alloc);
+    let counted = count_read(alloc, texts, &mut reader);
+    drop(reader);
+    counted
+}
+
+fn count_read(alloc: Global, texts: u32, reader: &mut UnitReader) -> Result<usize, Failure> {
     let mut chance = Chance::new();
     let mut alike = 0usize;
     for _ in 0..texts {
-        let frame = Frame {
-            content: Items::from(next_text(alloc, &mut chance)?),
-            foreign: false,
-        };
-        let unit = reader.read(&frame)?;
-        let other = read_by_value(alloc, frame.content.as_slice())?;
-        if are_alike(alloc, &unit, &other)? {
+        if is_next_alike(alloc, reader, &mut chance)? {
             alike = alike.saturating_add(1);
         }
     }
     Ok(alike)
+}
+
+fn is_next_alike(
+    alloc: Global,
+    reader: &mut UnitReader,
+    chance: &mut Chance,
+) -> Result<bool, Failure> {
+    let frame = Frame {
+        content: Items::from(next_text(alloc, chance)?),
+        foreign: false,
+    };
+    let alike = is_read_alike(alloc, reader, &frame);
+    drop(frame);
+    alike
+}
+
+fn is_read_alike(alloc: Global, reader: &mut UnitReader, frame: &Frame) -> Result<bool, Failure> {
+    let unit = reader.read(frame)?;
+    let alike = is_as_by_value(alloc, &unit, frame.content.as_slice());
+    drop(unit);
+    alike
+}
+
+fn is_as_by_value(alloc: Global, unit: &Unit, content: &[u8]) -> Result<bool, Failure> {
+    let other = read_by_value(alloc, content)?;
+    let alike = are_alike(alloc, unit, &other);
+    drop(other);
+    alike
 }
 
 /// Whether `Debug` shows the same of both, which is all that they hold.

@@ -66,20 +66,25 @@ const BYTES: &[u8] = b"{}[]\",:\\ 0129eE+-.ntfu\xe9\xff\x00";
 /// The next text. Two in three are written by the grammar, and the others changed at some places.
 pub fn next_text(alloc: Global, chance: &mut Chance) -> Result<Vec<u8>, Failure> {
     let mut text = Vec::new(alloc);
+    put_text(alloc, chance, &mut text)?;
+    Ok(text)
+}
+
+fn put_text(alloc: Global, chance: &mut Chance, text: &mut Vec<u8>) -> Result<(), Failure> {
     if chance.once_in(4) {
-        put_batch(alloc, chance, &mut text)?;
+        put_batch(alloc, chance, text)?;
     } else if chance.once_in(8) {
-        put_value(alloc, chance, &mut text)?;
+        put_value(alloc, chance, text)?;
     } else {
-        put_message(alloc, chance, &mut text)?;
+        put_message(alloc, chance, text)?;
     }
-    put(&mut text, chance.one_of(BLANKS))?;
+    put(text, chance.one_of(BLANKS))?;
     if chance.once_in(3) {
         for _ in 0..chance.below(3) {
-            change(chance, &mut text)?;
+            change(chance, text)?;
         }
     }
-    Ok(text)
+    Ok(())
 }
 
 fn put(text: &mut Vec<u8>, part: &str) -> Result<(), Failure> {
@@ -110,12 +115,10 @@ fn put_message(alloc: Global, chance: &mut Chance, text: &mut Vec<u8>) -> Result
 
 fn put_member(alloc: Global, chance: &mut Chance, text: &mut Vec<u8>) -> Result<(), Failure> {
     let name = chance.one_of(NAMES);
-    put(text, chance.one_of(BLANKS))?;
-    put(text, "\"")?;
-    put(text, name)?;
-    put(text, "\"")?;
-    put(text, chance.one_of(BLANKS))?;
-    put(text, ":")?;
+    let (before, behind) = (chance.one_of(BLANKS), chance.one_of(BLANKS));
+    for part in [before, "\"", name, "\"", behind, ":"] {
+        put(text, part)?;
+    }
     if chance.once_in(8) {
         return put_value(alloc, chance, text);
     }
@@ -137,23 +140,27 @@ fn put_value(alloc: Global, chance: &mut Chance, text: &mut Vec<u8>) -> Result<(
     };
     let mut closing = Vec::with_capacity(alloc, levels)?;
     for _ in 0..levels {
-        if chance.once_in(2) {
-            put(text, "[")?;
-            if chance.once_in(2) {
-                put(text, chance.one_of(SCALARS))?;
-                put(text, ",")?;
-            }
-            closing.push(b']')?;
-        } else {
-            put(text, "{\"id\":1,\"b\":")?;
-            closing.push(b'}')?;
-        }
+        closing.push(opened(chance, text)?)?;
     }
     put(text, chance.one_of(SCALARS))?;
     for bracket in closing.iter().rev() {
         text.push(*bracket)?;
     }
     Ok(())
+}
+
+/// Begins an array or an object, and gives the byte that ends it.
+fn opened(chance: &mut Chance, text: &mut Vec<u8>) -> Result<u8, Failure> {
+    if !chance.once_in(2) {
+        put(text, "{\"id\":1,\"b\":")?;
+        return Ok(b'}');
+    }
+    put(text, "[")?;
+    if chance.once_in(2) {
+        put(text, chance.one_of(SCALARS))?;
+        put(text, ",")?;
+    }
+    Ok(b']')
 }
 
 /// One byte is changed, left out or put in, or the text ends there.

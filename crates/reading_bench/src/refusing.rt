@@ -34,17 +34,34 @@ fn put_text(alloc: Global, text: &mut Vec<u8>, unit: &Unit) -> Result<bool, Allo
         (if some then Some text.new.items else None)) }
 {
     let refusal = Reply::Standard(Standard::MethodNotFound);
+    let put = put_text_with(alloc, text, unit, &refusal);
+    drop(refusal);
+    put
+}
+
+/// Does so with a reply that refuses every request.
+fn put_text_with(
+    alloc: Global,
+    text: &mut Vec<u8>,
+    unit: &Unit,
+    refusal: &Reply,
+) -> Result<bool, AllocError>
+    requires text { text.old.items ≡ [] }
+    requires refusal { refusal.now ≡ Reply.Standard Standard.MethodNotFound }
+    ensures { IfOk result (λ some. text_to (unit_seen unit.now) ≡
+        (if some then Some text.new.items else None)) }
+{
     match unit {
         Unit::Unreadable => {
             let answer = Answer::Error(Standard::ParseError);
             put_unit_answer(alloc, text, Kind::Single, &[answer])
         }
-        Unit::Single(entry) => match answer_to(entry, &refusal) {
+        Unit::Single(entry) => match answer_to(entry, refusal) {
             Some(answer) => put_unit_answer(alloc, text, Kind::Single, &[answer]),
             None => Ok(false),
         },
         Unit::Batch(entries) => {
-            let answers = answers_to(alloc, entries.as_slice(), &refusal)?;
+            let answers = answers_to(alloc, entries.as_slice(), refusal)?;
             put_unit_answer(alloc, text, Kind::Batch, answers.as_slice())
         }
     }
