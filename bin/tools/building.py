@@ -11,13 +11,17 @@ import tempfile
 import time
 
 from tools import sources
-from tools.machine import MEMORY, free_memory, processors
+from tools.machine import free_memory, processors
 from tools.repository import TOP, Fault, listing, read_text
 
 # How many processors one check can use, and after how many seconds each line of progress comes.
 MOST_JOBS, EACH = 4, 15
-# How much later in line a check stands that others wait for less than for another one.
-NICE = 5
+# The memory that a check takes, and what each further job of it takes more.
+FIRST_JOB, FURTHER_JOB = 2_500_000_000, 1_000_000_000
+# What a check costs however small its crate is, in lines; and a line of a proof costs as much as a tenth of one of the code.
+FIXED_LINES, PROOF_LINES = 400, 10
+# A crate that can come later by this part of the longest way holds up nothing: it takes one processor, and stands back.
+SPARE, NICE = 1 / 5, 10
 
 
 class Run:
@@ -26,15 +30,18 @@ class Run:
     def __init__(self, name, room):
         self.name, self.room = name, f"{room}/{name}"
         self.folder, self.log = f"{self.room}/crates/{name}", f"{room}/{name}.log"
-        self.process, self.jobs, self.estimate = None, 0, 0
+        self.process, self.jobs, self.estimate, self.cost, self.spare = None, 0, 0, 0, 0.0
 
-    def start(self, jobs, is_first):
+    def start(self, jobs):
         words = ["run", "--jobs", str(jobs), "--", "--version"] if self.name == sources.PROGRAM else ["lib", "--jobs", str(jobs)]
-        later = [] if is_first else ["nice", "-n", str(NICE)]
+        later = ["nice", "-n", str(NICE)] if self.can_wait() else []
         self.jobs = jobs
         with open(self.log, "wb") as log:
             how = {"stdin": subprocess.DEVNULL, "stdout": log, "stderr": subprocess.STDOUT}
             self.process = subprocess.Popen([*later, "rt", *words], cwd=self.folder, **how)
+
+    def can_wait(self):
+        return self.spare > SPARE
 
     def told(self):
         return read_text(self.log) if os.path.isfile(self.log) else ""
@@ -63,6 +70,12 @@ def estimate(files):
     return sum(len(re.findall(r"\bfn \w+", it)) for it in texts) + sum(len(it.split(",")) for it in derived)
 
 
+def cost(files):
+    """What a check of these files costs, in lines."""
+    lines = lambda ending: sum(read_text(it).count("\n") for it in files if it.endswith(ending))
+    return FIXED_LINES + lines(".rt") + lines(".antt") // PROOF_LINES
+
+
 def copy(run, crates, lines, is_anew):
     """Lays out the folder in which a crate is proved: its files, those of the crates below it, and what earlier checks kept."""
     os.makedirs(run.room)
@@ -74,7 +87,8 @@ def copy(run, crates, lines, is_anew):
             to = f"{run.room}/{os.path.relpath(file, TOP)}"
             os.makedirs(os.path.dirname(to), exist_ok=True)
             shutil.copyfile(file, to)
-    run.estimate = estimate(sources.files_of(f"{TOP}/crates/{run.name}"))
+    files = sources.files_of(f"{TOP}/crates/{run.name}")
+    run.estimate, run.cost = estimate(files), cost(files)
     kept = f"{TOP}/crates/{run.name}/out/incremental"
     if os.path.isdir(kept) and not is_anew:
         shutil.copytree(kept, f"{run.folder}/out/incremental")
@@ -96,28 +110,30 @@ def progress(runs, begun):
     return f"{proved} of some {functions} functions proved, {minutes:.1f} minutes so far; at work: {at_work}"
 
 
-def behind(run, runs, listed):
-    """How many functions stand on the longest way from a crate up to the program."""
-    above = [it for it in runs if run.name in listed.libraries[it.name]]
-    return run.estimate + max((behind(it, runs, listed) for it in above), default=0)
-
-
-def needed(jobs):
-    """The memory that a check takes with so many jobs: each further one takes less than the first."""
-    return MEMORY * (1 + 0.6 * (jobs - 1))
+def measure_ways(runs, listed):
+    """Finds by how much of the longest way of crates, each standing on the one before, a crate can come later. What `runs` has stands
+    above what comes before it there."""
+    ahead, behind = {}, {}
+    for run in runs:
+        ahead[run.name] = run.cost + max((ahead[it] for it in listed.libraries[run.name] if it in ahead), default=0)
+    for run in reversed(runs):
+        behind[run.name] = run.cost + max((behind[it.name] for it in runs if run.name in listed.libraries[it.name]), default=0)
+    longest = max(ahead.values())
+    for run in runs:
+        run.spare = 1 - (ahead[run.name] + behind[run.name] - run.cost) / longest
 
 
 def start_ready(left, runs, done, listed, memory):
-    """Starts each run whose libraries are built, as memory allows, the one first for which most is waiting. Each may use all
-    processors, since a check uses one at its beginning and its end; the others stand behind the first one in line."""
+    """Starts each run whose libraries are built, as memory allows, first those that can wait the least. These may use all processors,
+    since a check uses one at its beginning and its end."""
     ready = [it for it in left if {*listed.below(it.name)} - {it.name} <= done]
     running = [it for it in runs if it.is_running()]
-    for run in sorted(ready, key=lambda it: -behind(it, runs, listed)):
-        free = memory - sum(needed(it.jobs) for it in running)
-        jobs = max((it for it in range(1, min(MOST_JOBS, processors()) + 1) if needed(it) <= free), default=0)
-        if jobs or not running:
-            is_first = all(behind(run, runs, listed) >= behind(it, runs, listed) for it in [*left, *running])
-            run.start(max(1, jobs), is_first)
+    for run in sorted(ready, key=lambda it: it.spare):
+        free = memory - sum(FIRST_JOB + FURTHER_JOB * (it.jobs - 1) for it in running)
+        most = 1 if run.can_wait() else min(MOST_JOBS, processors())
+        jobs = min(most, 1 + int((free - FIRST_JOB) // FURTHER_JOB))
+        if jobs > 0 or not running:
+            run.start(max(1, jobs))
             left.remove(run)
             running.append(run)
 
@@ -136,6 +152,7 @@ def prove(runs, listed, say):
     """Proves and builds each crate once those below it are built."""
     memory = free_memory()
     left, done, begun, said = [*runs], set(), time.monotonic(), 0.0
+    measure_ways(runs, listed)
     try:
         while len(done) < len(runs):
             start_ready(left, runs, done, listed, memory)
