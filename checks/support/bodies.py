@@ -44,6 +44,7 @@ class Body:
     what: str
     functions: tuple[Function, ...]  # those that its texts stand in
     mates: tuple[Function, ...]  # the others of their cycles of calls, which fall with them
+    is_outside: bool  # whether one of its texts stands in no function
     is_apart: bool  # whether it is tried alone: it says so, or one of its texts stands in no function
     changes: tuple[Change, ...]
 
@@ -139,9 +140,10 @@ def body_of(sources: Sources, file: str, table: dict, is_right: bool) -> Body:
             held |= {fn.name: fn for fn in sources.functions(file) if fn.name == name}
     if {*named} != {*held}:
         raise Unfit(f"its texts stand in {', '.join(held) or 'no function'}, and it names {', '.join(named)}")
-    is_apart = None in inside or table.get("alone") is True
+    is_outside = None in inside
+    is_apart = is_outside or table.get("alone") is True
     mates = tuple(fn for it in held.values() for fn in sources.functions(it.file) if it.cycle == fn.cycle != "" and fn not in held.values())
-    return Body(sources.crate, table["name"], is_right, table["what"], tuple(held.values()), mates, is_apart, tuple(changes))
+    return Body(sources.crate, table["name"], is_right, table["what"], tuple(held.values()), mates, is_outside, is_apart, tuple(changes))
 
 
 def files_below(folder: str) -> list[str]:

@@ -61,6 +61,12 @@ def lines_of(output: Output, function: Function) -> list[Verdict]:
     return lines if any(function.printed.fullmatch(it.name) for it in lines) else []
 
 
+def names_of(output: Output, functions: Iterable[Function]) -> dict[Function, list[str]]:
+    """What the check calls each of these functions."""
+    named = lambda function: [it.name for it in output.verdicts.values() if it.kind == "fn" and function.printed.fullmatch(it.name)]
+    return {function: named(function) for function in functions}
+
+
 def commented(functions: Iterable[Function]) -> list[Change]:
     """A comment more at the head of each function's body."""
     spots = [it for it in functions if it.opening]

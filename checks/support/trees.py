@@ -9,7 +9,7 @@ import subprocess
 import tempfile
 import time
 from dataclasses import dataclass
-from typing import Iterator
+from typing import Iterable, Iterator
 
 from support import prover
 
@@ -186,12 +186,13 @@ class Trees:
         folder = f"{self.root}/crates/{name}/must-fail"
         return os.path.isdir(folder) and sum(it.endswith(".edit") for it in os.listdir(folder)) > 1
 
-    def prove(self, name: str, jobs: int) -> Ran:
-        """Proves a crate, and builds it where others stand on it and no gate does. It must be ready."""
+    def prove(self, name: str, jobs: int, modules: list[str]) -> Ran:
+        """Proves a crate, and builds it where others stand on it and no gate does. It must be ready. Beside a gate, which proves all of
+        it, these modules and what they call are enough, if any are named."""
         home = f"{self.home(name)}/crates/{name}"
         if self.gate:
             copy_folder(f"{self.gate}/{name}/{KEPT}", f"{home}/{KEPT}", is_linked=True)
-            return run(self.words(name, home, jobs), home, self.limit)
+            return run(self.words(name, home, jobs, modules), home, self.limit)
         above = [it for it in self.needed if name in self.below[it]]
         is_library = above or os.path.isfile(f"{home}/out/rlib/stamp")
         ran = run(["rt", "lib" if is_library else "check", "--jobs", str(jobs)], home, self.limit)
@@ -203,11 +204,12 @@ class Trees:
             self.libraries[name] = f"{home}/out/rlib"
         return ran
 
-    def words(self, name: str, folder: str, jobs: int) -> list[str]:
-        """The words of a check of a crate that lies in a folder."""
+    def words(self, name: str, folder: str, jobs: int, only: Iterable[str] = ()) -> list[str]:
+        """The words of a check of a crate that lies in a folder, or of some of its functions and what these call."""
         of_kit = [it for it in self.named[name] if it not in self.named]
         root = "src/main.rt" if os.path.isfile(f"{folder}/src/main.rt") else "src/lib.rt"
-        return prover.check(name, of_kit, self.direct[name], {it: self.libraries[it] for it in self.below[name]}, root, jobs)
+        words = prover.check(name, of_kit, self.direct[name], {it: self.libraries[it] for it in self.below[name]}, root, jobs)
+        return [*words, *(word for it in only for word in ("--only", it))]
 
     @contextlib.contextmanager
     def room(self, name: str, texts: dict[str, str]) -> Iterator[str]:
@@ -218,10 +220,11 @@ class Trees:
             copy_folder(f"{self.home(name)}/crates/{name}/{KEPT}", f"{folder}/{KEPT}", is_linked=True)
             yield folder
 
-    def check(self, name: str, texts: dict[str, str], jobs: int) -> Ran:
-        """Checks a crate with these texts in place of its own, over what its proof kept."""
+    def check(self, name: str, texts: dict[str, str], jobs: int, only: Iterable[str] = ()) -> Ran:
+        """Checks a crate with these texts in place of its own, over what its proof kept: all of it, or only some functions and what
+        these call."""
         with self.room(name, texts) as folder:
-            return run(self.words(name, folder, jobs), folder, self.limit)
+            return run(self.words(name, folder, jobs, only), folder, self.limit)
 
 
 def lines_below(folder: str) -> int:

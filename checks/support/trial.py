@@ -7,8 +7,8 @@ from functools import partial
 from typing import Callable, Optional
 
 from support.bodies import Body, Sources
-from support.functions import Function
-from support.rounds import Judged, blamed, commented, hurt_beside, judge_right, judge_wrong, lines_of, no_verdict, rounds_of
+from support.functions import Function, module_of
+from support.rounds import Judged, blamed, commented, hurt_beside, judge_right, judge_wrong, lines_of, names_of, no_verdict, rounds_of
 from support.trees import Ran, Trees
 from support.verdicts import Output, read_output
 
@@ -35,6 +35,7 @@ class Crate:
     sources: Sources
     bodies: list[Body]
     known: set[str] = field(default_factory=set)  # the functions that the unchanged crate has
+    names: dict[Function, list[str]] = field(default_factory=dict)  # what the check calls those that bodies change
     judged: list[Judged] = field(default_factory=list)
     failures: list[str] = field(default_factory=list)
     comments_are_proved: bool = False
@@ -54,6 +55,12 @@ class Crate:
     def right(self) -> list[Body]:
         return [it for it in self.bodies if it.is_right]
 
+    @property
+    def modules(self) -> list[str]:
+        """The modules with the functions that a body changes; none where a body reaches further, or one stands in the crate's root."""
+        found = [module_of(fn.file).removesuffix("::") for fn in self.functions]
+        return [] if "" in found or any(it.is_outside for it in self.bodies) else [*dict.fromkeys(found)]
+
     def with_bodies(self, bodies: list[Body]) -> dict[str, str]:
         """The texts with these bodies, of the files that they change."""
         return self.sources.with_changes([change for it in bodies for change in it.changes])
@@ -72,10 +79,18 @@ class Turn:
     crate: Crate
     bodies: list[Body]
     label: str
+    is_whole: bool = False  # whether it looks at the whole crate, and not only at what its bodies change and what that calls
 
     @property
     def is_control(self) -> bool:
         return self.label.startswith("control")
+
+    @property
+    def only(self) -> list[str]:
+        """The functions that it looks at; none where that is the whole crate."""
+        if self.is_whole or self.is_control or any(it.is_outside for it in self.bodies):
+            return []
+        return [name for it in self.bodies for fn in it.functions for name in self.crate.names[fn]]
 
     @property
     def cost(self) -> int:
@@ -123,7 +138,8 @@ class Trial:
                 # (several jobs take more of the processors, for which a gate beside has work)
                 jobs = 1 if self.trees.gate else max(1, self.idle() // (len(ready) - at))
                 self.unproved.remove(name)
-                future = pool.submit(self.trees.prove, name, jobs)
+                modules = self.crates[name].modules if name in self.crates else []
+                future = pool.submit(self.trees.prove, name, jobs, modules)
                 self.running[future] = jobs, partial(self.after_proof, name)
         self.waiting.sort(key=lambda it: it.cost * self.trees.lines[it.crate.name], reverse=True)
         # (as long as proofs are to come that others wait for, they find a processor free)
@@ -132,7 +148,7 @@ class Trial:
             # (at the end the long ones share the processors that nothing else waits for)
             jobs = 1 if self.unproved else min(MOST_JOBS, max(1, self.idle() // len(self.waiting)))
             turn = self.waiting.pop(0)
-            future = pool.submit(self.trees.check, turn.crate.name, self.texts(turn), jobs)
+            future = pool.submit(self.trees.check, turn.crate.name, self.texts(turn), jobs, turn.only)
             self.running[future] = jobs, partial(self.after_turn, turn)
         return bool(self.running)
 
@@ -168,6 +184,7 @@ class Trial:
             self.waiting += [Turn(crate, [], "control-comments"), *(Turn(crate, [it], f"control-{it.name}") for it in crate.right)]
             return
         crate.known = {it.name for it in output.verdicts.values() if not it.is_by_compiler}
+        crate.names = names_of(output, crate.functions)
         crate.judged += [judge_right(it, output) for it in crate.right]
         crate.comments_are_proved = True
         self.waiting += [Turn(crate, it, f"round-{at}") for at, it in enumerate(rounds_of(crate.wrong), 1)]
@@ -206,17 +223,25 @@ class Trial:
 
     def judge_round(self, turn: Turn, output: Output, why: Optional[str], is_late: bool) -> None:
         crate, bodies = turn.crate, turn.bodies
-        beside = [] if why else hurt_beside(output, bodies, crate.known)
+        beside = [] if why else hurt_beside(output, bodies, set() if turn.only else crate.known)
         if why and (is_late or len(bodies) == 1):
-            crate.judged += [Judged(it, False, "unfit", why) for it in bodies]
+            self.settle(turn, [Judged(it, False, "unfit", why) for it in bodies])
         elif len(bodies) == 1:
-            crate.judged.append(judge_wrong(bodies[0], output, True))
+            self.settle(turn, [judge_wrong(bodies[0], output, True)])
         elif why or beside:
             say(f"== {crate.name} {turn.label} hurts more than it should, so it is parted: {(why or ', '.join(beside))[:300]}")
             self.part(turn, blamed(output, bodies, self.texts(turn)))
         else:
             for body in bodies:
                 if judged := judge_wrong(body, output, False):
-                    crate.judged.append(judged)
+                    self.settle(turn, [judged])
                 else:
                     self.waiting.append(Turn(crate, [body], f"alone-{body.name}"))
+
+    def settle(self, turn: Turn, judged: list[Judged]) -> None:
+        """Takes what became of bodies; one that isn't as it should be is tried on the whole crate, where that wasn't looked at."""
+        for it in judged:
+            if it.is_well or not turn.only:
+                turn.crate.judged.append(it)
+            else:
+                self.waiting.append(Turn(turn.crate, [it.body], f"whole-{it.body.name}", is_whole=True))

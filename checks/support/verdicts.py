@@ -3,6 +3,7 @@ import re
 from dataclasses import dataclass, field
 
 LINE = re.compile(r"(fn|struct|enum|union|impl|trait|law) (\S+): (proved|not proved|no proof|could not tell|assumed|not assumed)\b(.*)")
+ONLY = re.compile(r"only=(?P<asked>\d+) proved=(?P<proved>\d+)")
 GOAL = re.compile(r"note: (?P<place>\S+:\d+:\d+): it is not proved that (?P<what>.*?) \(`(?P<goal>[^`]+)`\)(?P<rest>.*)")
 ERROR = re.compile(r"(?:\./)?(?P<file>(?:src|specs|proofs)/\S+?):(?P<line>\d+):\d+: error: (?P<what>.*)")
 GONE = re.compile(r"has no field|is not in scope|has no `|was not admitted")
@@ -124,6 +125,16 @@ def own_goals(verdict: Verdict, verdicts: dict[str, Verdict]) -> list[str]:
     return [it for it in verdict.goals if not it.startswith(tuple(f"`{name}-" for name in others))]
 
 
+def verdict_of(logic: list[str]) -> tuple[bool, bool]:
+    """Whether the last lines of a check say that all is proved, and whether they say anything. A check of some functions counts them."""
+    if len(logic) != 1:
+        return False, False
+    if only := ONLY.fullmatch(logic[0]):
+        return only["asked"] == only["proved"] != "0", True
+    is_proved = logic[0].startswith("logic=proved ")
+    return is_proved, is_proved or logic[0] == "logic=not-proved"
+
+
 def read_output(text: str) -> Output:
     """Reads a check's output. The notes on a function's goals stand right before its line, the errors on its answers anywhere."""
     verdicts: dict[str, Verdict] = {}
@@ -141,15 +152,15 @@ def read_output(text: str) -> Output:
             goals.append(f"`{found['goal']}`{strength(found['rest'])}")
         elif found := ERROR.match(line):
             errors.append(found)
-        elif line.startswith("logic="):
+        elif line.startswith("logic=") or ONLY.fullmatch(line):
             logic.append(line)
     attach(errors, verdicts)
     for it in verdicts.values():
         it.goals = own_goals(it, verdicts)
     first = next((it for it in lines if re.search(r"\berror(\[|:)", it) or it.startswith(("rt: ", "rattle"))), lines[0] if lines else "")
     unread = [f"{it['file']}:{it['line']}: {it['what'][:160]}" for it in errors if is_unread(it)]
-    is_proved = len(logic) == 1 and logic[0].startswith("logic=proved ")
-    has_verdict = len(logic) == 1 and (is_proved or logic[0] == "logic=not-proved") and bool(verdicts)
+    is_proved, has_verdict = verdict_of(logic)
+    has_verdict = has_verdict and bool(verdicts)
     places = [(it[1], int(it[2])) for it in re.finditer(r"^(?:\./)?(src/\S+?):(\d+):\d+: error", text, re.M)]
     return Output(verdicts, is_proved, has_verdict, unread, first[:240], places)
 
