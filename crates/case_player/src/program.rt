@@ -20,7 +20,7 @@ where
 {
     match read(rt.alloc(), words) {
         Ok(options) => ended(run_all(rt, options, &mut input, output), errors),
-        Err(error) => answer_words(&error, output, errors),
+        Err(refusal) => answer_words(&refusal, output, errors),
     }
 }
 

@@ -1,7 +1,7 @@
 //! What a command line asks for.
 
 /// What a command line asks the program to do.
-#[derive(Clone, Copy, Debug, PartialEq, Eq)]
+#[derive(Clone, Copy)]
 pub enum Subcommand<'a> {
     /// Serves standard input and output until the input ends.
     Serve(ServeOptions<'a>),
@@ -12,7 +12,7 @@ pub enum Subcommand<'a> {
 }
 
 /// How much of its input the program takes.
-#[derive(Clone, Copy, Debug, PartialEq, Eq)]
+#[derive(Clone, Copy)]
 pub struct LimitOptions {
     /// How many bytes a content may have, from 1 to 16,777,216.
     pub content: u32,
@@ -21,7 +21,7 @@ pub struct LimitOptions {
 }
 
 /// How `serve` runs methods.
-#[derive(Clone, Copy, Debug, PartialEq, Eq)]
+#[derive(Clone, Copy)]
 pub struct ServeOptions<'a> {
     /// The file of the table of methods; without one there are no methods.
     pub table: Option<&'a str>,
@@ -31,7 +31,7 @@ pub struct ServeOptions<'a> {
 }
 
 /// How `play` reads its input, runs methods and writes its output.
-#[derive(Clone, Copy, Debug, PartialEq, Eq)]
+#[derive(Clone, Copy)]
 pub struct PlayOptions<'a> {
     /// The file of the table of methods; without one there are no methods.
     pub table: Option<&'a str>,

@@ -20,7 +20,7 @@ where
 {
     match read(rt.alloc(), words) {
         Ok(bench) => tell_end(obey(rt, bench, output), errors),
-        Err(error) => answer_words(&error, output, errors),
+        Err(refusal) => answer_words(&refusal, output, errors),
     }
 }
 

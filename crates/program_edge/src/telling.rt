@@ -2,7 +2,7 @@
 ghost use Rattle.std.specs.Prelude.{◌≡◌, ◌≢◌, OnOk, IfErr};
 
 use crate::failure::Failure;
-use clap::Error;
+use crate::refusal::Refusal;
 use clap::error::ErrorKind;
 use std::io::Write;
 
@@ -23,7 +23,8 @@ pub fn tell_end<W: Write>(outcome: Result<(), Failure>, errors: &mut W) -> u8
 
 /// Writes the text of a command line that asks for no work, and gives the status: 0 for help and the version, 2 where the
 /// words are refused, 1 where the text can't be written.
-pub fn answer_words<W: Write, E: Write>(error: &Error, output: &mut W, errors: &mut E) -> u8 {
+pub fn answer_words<W: Write, E: Write>(refusal: &Refusal, output: &mut W, errors: &mut E) -> u8 {
+    let error = &refusal.error;
     if error.kind() == ErrorKind::OutOfMemory {
         return tell_end(Err(Failure::Memory), errors);
     }

@@ -19,7 +19,7 @@ where
     match read(rt.alloc(), words) {
         Ok(Task::Answer) => ended(answer(rt.alloc(), input, output), errors),
         Ok(Task::Compare { texts }) => tell_end(compare(rt.alloc(), texts, output), errors),
-        Err(error) => answer_words(&error, output, errors),
+        Err(refusal) => answer_words(&refusal, output, errors),
     }
 }
 

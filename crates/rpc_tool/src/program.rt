@@ -26,7 +26,7 @@ where
         Ok(Subcommand::Serve(options)) => ended(serve_streams(rt, options, input, output), errors),
         Ok(Subcommand::Play(options)) => ended(play(rt, options, input, output), errors),
         Ok(Subcommand::Check { table }) => checked(check(rt, table, output), errors),
-        Err(error) => answer_words(&error, output, errors),
+        Err(refusal) => answer_words(&refusal, output, errors),
     }
 }
 

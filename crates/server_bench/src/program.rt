@@ -41,7 +41,7 @@ where
 {
     match read(rt.alloc(), words) {
         Ok(rounds) => tell_end(go_round(rt, rounds, output), errors),
-        Err(error) => answer_words(&error, output, errors),
+        Err(refusal) => answer_words(&refusal, output, errors),
     }
 }
 
