@@ -18,7 +18,7 @@ pub fn read<'a>(alloc: Global, words: &'a [String]) -> Result<Options<'a>, Refus
     })
 }
 
-const PROGRAM: Program = Program {
+static PROGRAM: Program = Program {
     name: "case_player",
     version: "0.1.0",
     about: "Plays and serves the streams on standard input, each as the line before it says: \

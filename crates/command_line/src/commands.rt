@@ -2,7 +2,7 @@
 use program_edge::{CommandOption, FlagOption, NumberOption, Program, ProgramCommand, TextOption};
 
 /// The program, with all of its commands.
-pub const PROGRAM: Program = Program {
+pub static PROGRAM: Program = Program {
     name: "rpc_tool",
     version: "0.1.0",
     about: "A JSON-RPC 2.0 peer over standard input and output, framed as in the Language Server Protocol",

@@ -52,7 +52,7 @@ fn finishing(words: &Words<'_>) -> Finishing {
     }
 }
 
-const PROGRAM: Program = Program {
+static PROGRAM: Program = Program {
     name: "peer_bench",
     version: "0.1.0",
     about: "Work at size for the libraries that have no program of their own; without words, a little of each",

@@ -24,7 +24,7 @@ pub fn read(alloc: Global, words: &[String]) -> Result<Task, Refusal> {
     })
 }
 
-const PROGRAM: Program = Program {
+static PROGRAM: Program = Program {
     name: "reading_bench",
     version: "0.1.0",
     about: "Reading and writing messages, and no more than that",

@@ -26,7 +26,7 @@ pub fn read(alloc: Global, words: &[String]) -> Result<Rounds, Refusal> {
     })
 }
 
-const PROGRAM: Program = Program {
+static PROGRAM: Program = Program {
     name: "server_bench",
     version: "0.1.0",
     about: "A server whose client waits for each answer before its next request",
