@@ -48,33 +48,47 @@ impl Finishing {
 pub fn run_desk(alloc: Global, finishing: Finishing, units: u32) -> Result<usize, Failure> {
     let units = units.min(MOST_NUMBERS);
     let mut desk = Desk::new(alloc);
+    let released = finish_by(alloc, &mut desk, finishing, units);
+    drop(desk);
+    released
+}
+
+/// Opens so many units at a desk that has room for their numbers, and finishes them so.
+fn finish_by(
+    alloc: Global,
+    desk: &mut Desk,
+    finishing: Finishing,
+    units: u32,
+) -> Result<usize, Failure>
+    requires { next_number (view desk.old) + units ≤ MOST_NUMBERS + 1 }
+{
     match finishing {
         Finishing::Straight => {
-            open_all(alloc, &mut desk, units)?;
-            finish_by_windows(&mut desk, units, 1)
+            open_all(alloc, desk, units)?;
+            finish_by_windows(desk, units, 1)
         }
         Finishing::Windows => {
-            open_all(alloc, &mut desk, units)?;
-            finish_by_windows(&mut desk, units, WINDOW)
+            open_all(alloc, desk, units)?;
+            finish_by_windows(desk, units, WINDOW)
         }
         Finishing::Cancels => {
-            open_all(alloc, &mut desk, units)?;
-            cancel_all(&mut desk, units)
+            open_all(alloc, desk, units)?;
+            cancel_all(desk, units)
         }
-        Finishing::Stream => answer_each(alloc, &mut desk, units),
+        Finishing::Stream => answer_each(alloc, desk, units),
         Finishing::Behind => {
             let Some(requests) = units.checked_sub(1) else {
                 return Ok(0);
             };
-            open(alloc, &mut desk, None)?;
-            answer_each(alloc, &mut desk, requests)
+            open(alloc, desk, None)?;
+            answer_each(alloc, desk, requests)
         }
         Finishing::Batch => {
             desk.open_unit(Shape {
                 kind: Kind::Batch,
                 places: Items::from(requests(alloc, units)?),
             })?;
-            finish_by_windows(&mut desk, units, 1)
+            finish_by_windows(desk, units, 1)
         }
     }
 }

@@ -4,6 +4,7 @@ use crate::crew::Crew;
 use crate::desk_run::Finishing;
 use crate::stopwatch::Stopwatch;
 use crate::task::Task;
+use crate::work::Work;
 use program_edge::{Failure, answer_words, tell_end};
 use std::io::Write;
 use std::sync::Wait;
@@ -73,14 +74,23 @@ where
     R: Threads + Wait + Sync + Clock + AllocGlobal,
     W: Write,
 {
-    let work = task.begin(rt.alloc())?;
-    let watch = Stopwatch::start(rt)?;
-    let done = work.run(rt)?;
-    let took = watch.microseconds(rt)?;
-    let count = done.count();
+    let (count, took) = timed(rt, task.begin(rt.alloc())?)?;
     let (name, outcome) = (task.name(), task.outcome());
     written(writeln!(output, "{name}: {count} {outcome} in {took} us"))?;
     written(output.flush())
+}
+
+/// Does the work, and gives how much came of it and how many microseconds it took.
+fn timed<R>(rt: &R, work: Work) -> Result<(usize, u128), Failure>
+where
+    R: Threads + Wait + Sync + Clock + AllocGlobal,
+{
+    let watch = Stopwatch::start(rt)?;
+    let done = work.run(rt)?;
+    let took = watch.microseconds(rt);
+    let count = done.count();
+    drop(done);
+    Ok((count, took?))
 }
 
 fn written(outcome: std::io::Result<()>) -> Result<(), Failure> {

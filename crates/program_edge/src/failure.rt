@@ -2,25 +2,31 @@
 ghost use Rattle.std.specs.Prelude.{◌≡◌, ◌≢◌};
 
 use std::alloc::{AllocError, AllocFailed};
-use std::error::Error;
-use std::fmt;
+use thiserror::Error;
 
 /// Why a run of a program failed. Its text is the one line on standard error.
-#[derive(Clone, Copy, Debug)]
+#[derive(Clone, Copy, Debug, Error)]
 pub enum Failure {
     /// The words of the command line can't be read.
+    #[error("the arguments cannot be read")]
     Words,
     /// A growth was refused.
+    #[error("failed: Memory")]
     Memory,
     /// Standard input failed, or took more reads than the program makes.
+    #[error("failed: Read")]
     Read,
     /// Standard output failed.
+    #[error("failed: Write")]
     Write,
     /// A content that would be written as a line is over 16,777,216 bytes.
+    #[error("failed: Long")]
     Long,
     /// A thread could not be started.
+    #[error("failed: Thread")]
     Thread,
     /// The clock cannot be read.
+    #[error("failed: Clock")]
     Clock,
 }
 
@@ -40,27 +46,7 @@ impl Failure {
             | Failure::Clock => 1,
         }
     }
-
-    fn text(self) -> &'static str {
-        match self {
-            Failure::Words => "the arguments cannot be read",
-            Failure::Memory => "failed: Memory",
-            Failure::Read => "failed: Read",
-            Failure::Write => "failed: Write",
-            Failure::Long => "failed: Long",
-            Failure::Thread => "failed: Thread",
-            Failure::Clock => "failed: Clock",
-        }
-    }
 }
-
-impl fmt::Display for Failure {
-    fn fmt<W: fmt::Write>(&self, f: &mut fmt::Formatter<W>) -> fmt::Result {
-        f.write_str(self.text())
-    }
-}
-
-impl Error for Failure {}
 
 impl From<AllocError> for Failure {
     ghost use Rattle.program_edge.specs.declared.failure.Failure.{Failure};
