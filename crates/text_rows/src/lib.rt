@@ -2,11 +2,15 @@
 #![tactic(auto)]
 
 #[cfg(test)]
+mod another;
+#[cfg(test)]
 mod items;
 #[cfg(test)]
 mod parts;
 #[cfg(test)]
 mod reading;
+#[cfg(test)]
+mod rows;
 #[cfg(test)]
 mod tables;
 #[cfg(test)]

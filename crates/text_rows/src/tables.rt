@@ -7,6 +7,7 @@ mod large;
 mod rows;
 mod sizes;
 
+use crate::rows::is_text;
 use method_steps::{Table, TableFault};
 use std::alloc::{AllocError, Global};
 
@@ -29,5 +30,5 @@ fn tells(alloc: Global, bytes: &[u8], words: &str) -> Result<bool, AllocError> {
     let reading = Table::read(alloc, bytes);
     let found = told(alloc, &reading);
     drop(reading);
-    Ok(found?.as_str() == words)
+    is_text(found, words.as_bytes())
 }

@@ -1,12 +1,14 @@
 //! Calls: the targets of cancels, and calls that go to other threads.
 
 use super::unit;
+use crate::another::by_another;
+use crate::rows::{each_line, holds, is_text};
 use json_values::Text;
 use rpc_messages::{Call, Entry, Unit, cancel_target};
 use std::alloc::{AllocError, Global};
 use std::sync::Arc;
 use std::test::Fail;
-use std::thread;
+use std::thread::Threads;
 
 /// Calls, and what `Debug` shows of their targets: a cancel names a whole number or a text, and a request or another method is
 /// no cancel.
@@ -46,15 +48,12 @@ fn has_target(alloc: Global, line: &str) -> Result<bool, AllocError> {
     let unit = unit(alloc, content.as_bytes(), false)?;
     let shown = shown_target(alloc, &unit);
     drop(unit);
-    Ok(shown?.as_str() == wanted)
+    is_text(shown, wanted.as_bytes())
 }
 
 #[test]
 fn cancels_have_targets(rt: HostRuntime) -> Result<(), Fail> {
-    for line in TARGETS.lines() {
-        assert!(rt; has_target(rt.alloc(), line)?, "{line}");
-    }
-    Ok(())
+    each_line(&rt, rt.alloc(), "cancels", TARGETS, has_target)
 }
 
 const CALL: &str = r#"{"jsonrpc":"2.0","method":"f","id":1}"#;
@@ -82,17 +81,35 @@ fn shown_entry(alloc: Global, entry: Entry) -> Result<String, AllocError> {
     shown
 }
 
+const SHOWN: &str =
+    r#"Call(Call { id: Some(Unsigned(1)), method: "f", params: Omitted, target: None })"#;
+
+/// Whether another thread shows the call as it is.
+fn is_shown_by_another(
+    rt: &impl Threads,
+    alloc: Global,
+    call: &Arc<Call, Global>,
+) -> Result<bool, Fail> {
+    let shared = Entry::Call(Arc::try_clone(call)?);
+    let shown = by_another(rt, move || shown_entry(alloc, shared))?;
+    Ok(is_text(shown, SHOWN.as_bytes())?)
+}
+
+/// Whether a call has no other owner.
+fn is_alone(call: Arc<Call, Global>) -> bool {
+    let method = method_of(call);
+    let is_alone = method.is_some();
+    drop(method);
+    is_alone
+}
+
 #[test]
 fn a_shared_call_is_read_by_another_thread(rt: HostRuntime) -> Result<(), Fail> {
-    let alloc = rt.alloc();
-    let call = read_call(alloc)?;
-    let shared = Entry::Call(Arc::try_clone(&call)?);
-    let child = thread::spawn(&rt, move || shown_entry(alloc, shared))?;
-    assert!(rt;
-        child.join(&rt)?.as_str()
-            == r#"Call(Call { id: Some(Unsigned(1)), method: "f", params: Omitted, target: None })"#
-    );
-    assert!(rt; Arc::try_unwrap(call).is_ok());
+    let call = read_call(rt.alloc())?;
+    let is_shown = is_shown_by_another(&rt, rt.alloc(), &call);
+    let is_alone = is_alone(call);
+    holds(&rt, SHOWN, is_shown)?;
+    assert!(rt; is_alone);
     Ok(())
 }
 
@@ -104,10 +121,18 @@ fn method_of(call: Arc<Call, Global>) -> Option<Text> {
     }
 }
 
+/// Whether there is a method, and it is this.
+fn is_method(method: Option<Text>, want: &str) -> bool {
+    match method {
+        Some(method) => method.as_str() == want,
+        None => false,
+    }
+}
+
 #[test]
 fn a_call_moves_to_another_thread(rt: HostRuntime) -> Result<(), Fail> {
     let call = read_call(rt.alloc())?;
-    let child = thread::spawn(&rt, move || method_of(call))?;
-    assert!(rt; child.join(&rt).is_some_and(|method| method.as_str() == "f"));
+    let is_f = by_another(&rt, move || is_method(method_of(call), "f"))?;
+    assert!(rt; is_f);
     Ok(())
 }

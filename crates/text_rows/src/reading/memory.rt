@@ -1,6 +1,7 @@
 //! Contents whose reading was refused memory.
 
 use super::shown_unit;
+use crate::rows::is_text;
 use json_values::Items;
 use lsp_frames::Frame;
 use rpc_messages::UnitReader;
@@ -70,14 +71,21 @@ fn is_read_at_last(alloc: Global, reader: &mut UnitReader, row: &Row) -> bool {
 }
 
 fn is_read(alloc: Global, reader: &mut UnitReader, row: &Row) -> Result<bool, AllocError> {
+    let wanted = with_letters(alloc, row.shown_front, row.letters, row.shown_back)?;
     let content = with_letters(alloc, row.front, row.letters, row.back)?;
+    let shown = shown_by(alloc, reader, content);
+    is_text(shown, wanted.as_bytes())
+}
+
+/// What `Debug` shows of the unit that the reader reads.
+fn shown_by(alloc: Global, reader: &mut UnitReader, content: String) -> Result<String, AllocError> {
     let frame = Frame {
         content: Items::from(content.into_bytes()),
         foreign: false,
     };
-    let shown = shown_unit(alloc, reader.read(&frame)?)?;
-    let wanted = with_letters(alloc, row.shown_front, row.letters, row.shown_back)?;
-    Ok(shown == wanted)
+    let unit = reader.read(&frame);
+    drop(frame);
+    shown_unit(alloc, unit?)
 }
 
 fn with_letters(

@@ -1,6 +1,7 @@
 //! Contents that are texts of one line.
 
 use super::shown;
+use crate::rows::{each_line, is_text};
 use std::alloc::{AllocError, Global};
 use std::process::Abort;
 use std::test::Fail;
@@ -153,31 +154,26 @@ nul
 
 /// The text with another one in each place of `@`.
 fn filled(alloc: Global, text: &str, part: &str) -> Result<String, AllocError> {
-    let mut all = String::new(alloc);
-    for c in text.chars() {
-        if c == '@' {
-            all.push_str(part)?;
-        } else {
-            all.push(c)?;
-        }
-    }
-    Ok(all)
+    text.replace(alloc, "@", part)
 }
 
 /// Whether the content of a line is read as its unit.
 fn is_read(alloc: Global, group: &Group, line: &str) -> Result<bool, AllocError> {
     let (part, wanted) = line.split_once(" => ").unwrap_or((line, ""));
     let content = filled(alloc, group.content, part)?;
-    let found = shown(alloc, content.as_bytes(), false)?;
-    Ok(found == filled(alloc, group.unit, wanted)?)
+    let wanted = filled(alloc, group.unit, wanted)?;
+    is_text(shown(alloc, content.as_bytes(), false), wanted.as_bytes())
 }
 
 /// Reads each content of a group.
-fn compare(rt: &impl Abort, alloc: Global, group: &Group) -> Result<(), AllocError> {
-    for line in group.lines.lines() {
-        assert!(rt; is_read(alloc, group, line)?, "{}: {line}", group.name);
-    }
-    Ok(())
+fn compare(rt: &impl Abort, alloc: Global, group: &Group) -> Result<(), Fail> {
+    each_line(
+        rt,
+        alloc,
+        group.name,
+        group.lines,
+        |alloc, line| is_read(alloc, group, line),
+    )
 }
 
 #[test]

@@ -1,4 +1,5 @@
 //! Templates and registers.
+use crate::rows::{each_row, holds, is_text};
 use json_values::{Json, JsonArray, Text};
 use method_steps::{FaultKind, FillFault, Registers, Step, Table, Template, fill};
 use std::alloc::{AllocError, Global};
@@ -64,7 +65,7 @@ fn gives(alloc: Global, template: &Template, want: &str) -> Result<bool, AllocEr
     drop(registers);
     let shown = shown(alloc, &filled);
     drop(filled);
-    Ok(shown?.as_str() == want)
+    is_text(shown, want.as_bytes())
 }
 
 /// Whether the first `answer` of the only method of a table gives that.
@@ -79,7 +80,7 @@ fn answers(alloc: Global, table: &Table, want: &str) -> Result<bool, AllocError>
 }
 
 /// Whether the first `answer` of the only method of these steps gives that.
-fn is_filled(alloc: Global, steps: &str, want: &str) -> Result<bool, AllocError> {
+fn is_filled(alloc: Global, steps: &str, want: &&str) -> Result<bool, AllocError> {
     let before = "version = 1\n[[method]]\nname = \"m\"\nstep = [";
     let text = [before, steps, "]\n"].concat(alloc)?;
     let table = Table::read(alloc, text.as_bytes());
@@ -96,10 +97,7 @@ fn is_filled(alloc: Global, steps: &str, want: &str) -> Result<bool, AllocError>
 fn templates_are_filled_and_missing_places_are_told_by_their_register(
     rt: HostRuntime,
 ) -> Result<(), Fail> {
-    for (steps, want) in ROWS {
-        assert!(rt; is_filled(rt.alloc(), steps, want)?, "{steps}");
-    }
-    Ok(())
+    each_row(&rt, rt.alloc(), ROWS, is_filled)
 }
 
 /// Registers without params, of which `r` was set to 1 and then to 2.
@@ -112,7 +110,7 @@ fn set_twice(alloc: Global) -> Result<Registers, AllocError> {
 
 fn is_two(alloc: Global, value: Option<&Json>) -> Result<bool, AllocError> {
     match value {
-        Some(value) => Ok(value.to_text(alloc)?.as_str() == "2"),
+        Some(value) => is_text(value.to_text(alloc).map(Text::into_string), b"2"),
         None => Ok(false),
     }
 }
@@ -134,6 +132,5 @@ fn is_newest_kept(alloc: Global) -> Result<bool, AllocError> {
 
 #[test]
 fn registers_keep_the_newest_value(rt: HostRuntime) -> Result<(), Fail> {
-    assert!(rt; is_newest_kept(rt.alloc())?);
-    Ok(())
+    holds(&rt, "r is 2", is_newest_kept(rt.alloc()))
 }

@@ -1,8 +1,10 @@
 //! Rows of tables, and what a reading of each tells.
 
 use super::{rows, tells};
+use crate::rows::each_line;
 use std::alloc::{AllocError, Global};
 use std::process::Abort;
+use std::test::Fail;
 
 /// Where rows stand: the texts before and after them, and what the words say there of their method and of how many
 /// methods there are.
@@ -71,20 +73,13 @@ const EVERYWHERE: &[Home] = &[METHOD, METHOD_OF_2, OPENING];
 
 /// The text of a row in its home. In the row a `;` stands for a line's end.
 fn text_of(alloc: Global, home: &Home, text: &str) -> Result<String, AllocError> {
-    let mut all = String::from_str(alloc, home.before)?;
-    for c in text.chars() {
-        all.push(if c == ';' { '\n' } else { c })?;
-    }
-    all.push_str(home.after)?;
-    Ok(all)
+    let lines = text.replace(alloc, ";", "\n")?;
+    [home.before, lines.as_str(), home.after].concat(alloc)
 }
 
 /// A text between two others.
 fn between(alloc: Global, before: &str, text: &str, after: &str) -> Result<String, AllocError> {
-    let mut all = String::from_str(alloc, before)?;
-    all.push_str(text)?;
-    all.push_str(after)?;
-    Ok(all)
+    [before, text, after].concat(alloc)
 }
 
 /// The words of a row in its home.
@@ -106,15 +101,18 @@ fn is_judged(alloc: Global, home: &Home, row: &str) -> Result<bool, AllocError> 
 }
 
 /// Reads each row in that home.
-fn compare_at(rt: &impl Abort, alloc: Global, rows: &str, home: &Home) -> Result<(), AllocError> {
-    for row in rows.trim().lines() {
-        assert!(rt; is_judged(alloc, home, row)?, "{}: {row}", home.name);
-    }
-    Ok(())
+fn compare_at(rt: &impl Abort, alloc: Global, rows: &str, home: &Home) -> Result<(), Fail> {
+    each_line(
+        rt,
+        alloc,
+        home.name,
+        rows.trim(),
+        |alloc, row| is_judged(alloc, home, row),
+    )
 }
 
 /// Reads each row in each of these homes.
-fn compare(rt: &impl Abort, alloc: Global, rows: &str, homes: &[Home]) -> Result<(), AllocError> {
+fn compare(rt: &impl Abort, alloc: Global, rows: &str, homes: &[Home]) -> Result<(), Fail> {
     for home in homes {
         compare_at(rt, alloc, rows, home)?;
     }
@@ -122,43 +120,43 @@ fn compare(rt: &impl Abort, alloc: Global, rows: &str, homes: &[Home]) -> Result
 }
 
 #[test]
-fn documents_are_judged_in_order(rt: HostRuntime) -> Result<(), AllocError> {
+fn documents_are_judged_in_order(rt: HostRuntime) -> Result<(), Fail> {
     compare(&rt, rt.alloc(), rows::DOCUMENTS, &[ALONE])
 }
 
 #[test]
-fn methods_are_judged_in_order(rt: HostRuntime) -> Result<(), AllocError> {
+fn methods_are_judged_in_order(rt: HostRuntime) -> Result<(), Fail> {
     let homes = &[BEHIND_VERSION_1, BEHIND_VERSION_2];
     compare(&rt, rt.alloc(), rows::METHODS, homes)
 }
 
 #[test]
-fn openings_are_judged_before_methods(rt: HostRuntime) -> Result<(), AllocError> {
+fn openings_are_judged_before_methods(rt: HostRuntime) -> Result<(), Fail> {
     compare(&rt, rt.alloc(), rows::OPENINGS, &[BEHIND_VERSION_2])
 }
 
 #[test]
-fn steps_with_wrong_fields_are_refused(rt: HostRuntime) -> Result<(), AllocError> {
+fn steps_with_wrong_fields_are_refused(rt: HostRuntime) -> Result<(), Fail> {
     compare(&rt, rt.alloc(), rows::FIELDS, EVERYWHERE)
 }
 
 #[test]
-fn steps_past_their_limits_are_refused(rt: HostRuntime) -> Result<(), AllocError> {
+fn steps_past_their_limits_are_refused(rt: HostRuntime) -> Result<(), Fail> {
     compare(&rt, rt.alloc(), rows::LIMITS, EVERYWHERE)
 }
 
 #[test]
-fn registers_and_references_are_judged(rt: HostRuntime) -> Result<(), AllocError> {
+fn registers_and_references_are_judged(rt: HostRuntime) -> Result<(), Fail> {
     compare(&rt, rt.alloc(), rows::REGISTERS, EVERYWHERE)
 }
 
 #[test]
-fn reserved_codes_are_refused(rt: HostRuntime) -> Result<(), AllocError> {
+fn reserved_codes_are_refused(rt: HostRuntime) -> Result<(), Fail> {
     compare(&rt, rt.alloc(), rows::CODES, EVERYWHERE)
 }
 
 #[test]
-fn each_stands_in_version_2_alone(rt: HostRuntime) -> Result<(), AllocError> {
+fn each_stands_in_version_2_alone(rt: HostRuntime) -> Result<(), Fail> {
     compare(&rt, rt.alloc(), rows::EACH, &[METHOD_OF_2, OPENING])?;
     compare(&rt, rt.alloc(), rows::NO_EACH, &[METHOD])
 }

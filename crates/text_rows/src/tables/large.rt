@@ -1,6 +1,7 @@
 //! Tables of as many methods as there may be, and of more.
 use super::tells;
 use crate::parts::{Part, put};
+use crate::rows::each_row;
 use method_steps::Table;
 use std::alloc::{AllocError, Global};
 use std::test::Fail;
@@ -8,7 +9,6 @@ use std::test::Fail;
 /// A table of methods `m0`, `m1` and so on: how many stand before its last, what stands behind the name of each of them
 /// and of the last, and what its reading tells.
 struct Row {
-    name: &'static str,
     others: u32,
     rest: &'static [Part],
     last: &'static [Part],
@@ -29,36 +29,41 @@ const WHOLE: &[Part] = &[
 const FAULTY: &[Part] = &[(b"step = [", 1), OTHER_STEPS, (b"{kind=\"go\"}]\n", 1)];
 
 const LARGEST: Row = Row {
-    name: "256 methods of 64 steps",
     others: 255,
     rest: WHOLE,
     last: WHOLE,
     words: "ok: 256",
 };
 
-const ROWS: &[Row] = &[
-    Row {
-        name: "256 methods",
-        others: 255,
-        rest: &[],
-        last: &[],
-        words: "ok: 256",
-    },
-    Row {
-        name: "257 methods",
-        others: 256,
-        rest: &[],
-        last: &[],
-        words: "Limit 0 0",
-    },
-    LARGEST,
-    Row {
-        name: "256 methods of 64 steps, of which the very last is none",
-        others: 255,
-        rest: WHOLE,
-        last: FAULTY,
-        words: "Step 256 64",
-    },
+const ROWS: &[(&str, Row)] = &[
+    (
+        "256 methods",
+        Row {
+            others: 255,
+            rest: &[],
+            last: &[],
+            words: "ok: 256",
+        },
+    ),
+    (
+        "257 methods",
+        Row {
+            others: 256,
+            rest: &[],
+            last: &[],
+            words: "Limit 0 0",
+        },
+    ),
+    ("256 methods of 64 steps", LARGEST),
+    (
+        "256 methods of 64 steps, of which the very last is none",
+        Row {
+            others: 255,
+            rest: WHOLE,
+            last: FAULTY,
+            words: "Step 256 64",
+        },
+    ),
 ];
 
 /// Puts the method of that number behind the bytes.
@@ -82,17 +87,14 @@ fn table_of(alloc: Global, row: &Row) -> Result<Vec<u8>, AllocError> {
     Ok(bytes)
 }
 
-fn is_judged(alloc: Global, row: &Row) -> Result<bool, AllocError> {
+fn is_judged(alloc: Global, _name: &str, row: &Row) -> Result<bool, AllocError> {
     let table = table_of(alloc, row)?;
     tells(alloc, table.as_slice(), row.words)
 }
 
 #[test]
 fn the_largest_table_is_judged_to_its_end(rt: HostRuntime) -> Result<(), Fail> {
-    for row in ROWS {
-        assert!(rt; is_judged(rt.alloc(), row)?, "{}", row.name);
-    }
-    Ok(())
+    each_row(&rt, rt.alloc(), ROWS, is_judged)
 }
 
 /// How many steps the method of this number has.

@@ -2,6 +2,7 @@
 
 use super::is_same;
 use crate::reading::unit;
+use crate::rows::{each_line, each_row};
 use rpc_messages::{Entry, Id, Reply, Standard, Unit, answer_text, batch_text};
 use std::alloc::{AllocError, Global};
 use std::test::Fail;
@@ -15,41 +16,35 @@ pub const INVALID_REQUEST: &str =
 const NOT_FOUND: &str =
     r#"{"error":{"code":-32601,"message":"Method not found"},"id":1,"jsonrpc":"2.0"}"#;
 
-/// Errors, the ids of their requests, of which none is for one that can't be read, and the texts of the answers.
-const FIXED: &[(Standard, Option<u64>, &str)] = &[
-    (Standard::ParseError, None, PARSE_ERROR),
-    (Standard::InvalidRequest, None, INVALID_REQUEST),
+/// The texts of answers, their errors, and the ids of their requests, of which none is for one that can't be read.
+const FIXED: &[(&str, (Standard, Option<u64>))] = &[
+    (PARSE_ERROR, (Standard::ParseError, None)),
+    (INVALID_REQUEST, (Standard::InvalidRequest, None)),
     (
-        Standard::MethodNotFound,
-        None,
         r#"{"error":{"code":-32601,"message":"Method not found"},"id":null,"jsonrpc":"2.0"}"#,
+        (Standard::MethodNotFound, None),
     ),
     (
-        Standard::InvalidParams,
-        None,
         r#"{"error":{"code":-32602,"message":"Invalid params"},"id":null,"jsonrpc":"2.0"}"#,
+        (Standard::InvalidParams, None),
     ),
     (
-        Standard::InternalError,
-        None,
         r#"{"error":{"code":-32603,"message":"Internal error"},"id":null,"jsonrpc":"2.0"}"#,
+        (Standard::InternalError, None),
     ),
     (
-        Standard::Cancelled,
-        None,
         r#"{"error":{"code":-32800,"message":"Request cancelled"},"id":null,"jsonrpc":"2.0"}"#,
+        (Standard::Cancelled, None),
     ),
     (
-        Standard::NoReply,
-        None,
         r#"{"error":{"code":-32000,"message":"No reply"},"id":null,"jsonrpc":"2.0"}"#,
+        (Standard::NoReply, None),
     ),
     (
-        Standard::InvalidReply,
-        None,
         r#"{"error":{"code":-32603,"message":"Invalid reply"},"id":null,"jsonrpc":"2.0"}"#,
+        (Standard::InvalidReply, None),
     ),
-    (Standard::MethodNotFound, Some(1), NOT_FOUND),
+    (NOT_FOUND, (Standard::MethodNotFound, Some(1))),
 ];
 
 /// The answer of this error to the request of that id.
@@ -65,12 +60,18 @@ fn fixed(alloc: Global, standard: Standard, id: Option<u64>) -> Result<Vec<u8>, 
     text
 }
 
+/// Whether the answer of that error has this text.
+fn is_fixed(
+    alloc: Global,
+    text: &str,
+    (standard, id): &(Standard, Option<u64>),
+) -> Result<bool, AllocError> {
+    is_same(fixed(alloc, *standard, *id), text)
+}
+
 #[test]
 fn each_fixed_error_has_its_code_and_message(rt: HostRuntime) -> Result<(), Fail> {
-    for (standard, id, text) in FIXED {
-        assert!(rt; is_same(fixed(rt.alloc(), *standard, *id), text)?, "{text}");
-    }
-    Ok(())
+    each_row(&rt, rt.alloc(), FIXED, is_fixed)
 }
 
 /// Ids, what they are answered with, and the text of the answer.
@@ -119,21 +120,22 @@ fn answers(alloc: Global, request: &Unit, members: &str, text: &str) -> Result<b
     is_answer
 }
 
-fn is_answered(alloc: Global, line: &str) -> Result<bool, Fail> {
-    let (given, text) = line.split_once(" => ").ok_or("a line without ` => `")?;
-    let (id, members) = given.split_once(" <- ").ok_or("a line without ` <- `")?;
+fn is_answered(alloc: Global, line: &str) -> Result<bool, AllocError> {
+    let Some((given, text)) = line.split_once(" => ") else {
+        return Ok(false);
+    };
+    let Some((id, members)) = given.split_once(" <- ") else {
+        return Ok(false);
+    };
     let request = read(alloc, r#"{"jsonrpc":"2.0","method":"f","id":"#, id)?;
     let is_answered = answers(alloc, &request, members, text);
     drop(request);
-    Ok(is_answered?)
+    is_answered
 }
 
 #[test]
 fn an_answer_has_the_id_of_its_request(rt: HostRuntime) -> Result<(), Fail> {
-    for line in ANSWERS.lines() {
-        assert!(rt; is_answered(rt.alloc(), line)?, "{line}");
-    }
-    Ok(())
+    each_line(&rt, rt.alloc(), "answers", ANSWERS, is_answered)
 }
 
 /// So many answers of invalid requests.
@@ -146,8 +148,8 @@ fn invalid_requests(alloc: Global, count: u32) -> Result<Vec<Vec<u8>>, AllocErro
 }
 
 /// Whether a batch of so many of them has that text.
-fn is_batch(alloc: Global, count: u32, text: &str) -> Result<bool, AllocError> {
-    let texts = invalid_requests(alloc, count)?;
+fn is_batch(alloc: Global, text: &str, count: &u32) -> Result<bool, AllocError> {
+    let texts = invalid_requests(alloc, *count)?;
     if texts.is_empty() {
         return Ok(false);
     }
@@ -163,13 +165,10 @@ const THREE_INVALID: &str = concat!(
     r#"{"error":{"code":-32600,"message":"Invalid Request"},"id":null,"jsonrpc":"2.0"}]"#,
 );
 
-/// How many answers there are, and the text of their batch.
-const BATCHES: &[(u32, &str)] = &[(1, ONE_INVALID), (3, THREE_INVALID)];
+/// The text of a batch, and how many answers it has.
+const BATCHES: &[(&str, u32)] = &[(ONE_INVALID, 1), (THREE_INVALID, 3)];
 
 #[test]
 fn a_batch_of_answers_is_an_array(rt: HostRuntime) -> Result<(), Fail> {
-    for (count, text) in BATCHES {
-        assert!(rt; is_batch(rt.alloc(), *count, text)?, "{text}");
-    }
-    Ok(())
+    each_row(&rt, rt.alloc(), BATCHES, is_batch)
 }

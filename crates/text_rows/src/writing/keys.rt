@@ -1,3 +1,4 @@
+use crate::rows::each_row;
 use rpc_messages::{call_key, read_key};
 use std::alloc::{AllocError, Global};
 use std::test::Fail;
@@ -9,17 +10,14 @@ const KEYS: &[(&str, (u32, u32))] = &[
 ];
 
 /// Whether that text is the key of the call, and nothing else is read from it.
-fn is_key(alloc: Global, text: &str, (number, turn): (u32, u32)) -> Result<bool, AllocError> {
-    let key = call_key(alloc, number, turn)?;
-    Ok(key.as_str() == text && read_key(text) == Some((number, turn)))
+fn is_key(alloc: Global, text: &str, (number, turn): &(u32, u32)) -> Result<bool, AllocError> {
+    let key = call_key(alloc, *number, *turn)?;
+    Ok(key.as_str() == text && read_key(text) == Some((*number, *turn)))
 }
 
 #[test]
 fn keys_are_two_decimals_with_a_dot_between(rt: HostRuntime) -> Result<(), Fail> {
-    for (text, call) in KEYS {
-        assert!(rt; is_key(rt.alloc(), text, *call)?, "{text}");
-    }
-    Ok(())
+    each_row(&rt, rt.alloc(), KEYS, is_key)
 }
 
 const NO_KEYS: &[&str] = &[

@@ -2,6 +2,7 @@
 
 use super::answers::{INVALID_REQUEST, ONE_INVALID, PARSE_ERROR};
 use super::{is_same, message, outgoing};
+use crate::rows::{each_row, holds};
 use json_values::Json;
 use rpc_messages::{
     Id, Outgoing, Reply, call_text, calls_text, notice_text, put_answer, put_call, put_calls,
@@ -14,36 +15,42 @@ const CONFIRM: &str = r#"{"id":"1.1","jsonrpc":"2.0","method":"confirm","params"
 
 const LOG: &str = r#"{"jsonrpc":"2.0","method":"log","params":["x"]}"#;
 
-/// A call `1.1` or a notice, and its text.
+/// A call `1.1` or a notice.
 struct Row {
     is_call: bool,
     method: &'static str,
     params: Option<&'static str>,
-    text: &'static str,
 }
 
-const ROWS: &[Row] = &[
-    Row {
-        is_call: true,
-        method: "confirm",
-        params: Some(r#"["x"]"#),
-        text: CONFIRM,
-    },
-    Row {
-        is_call: true,
-        method: "confirm",
-        params: None,
-        text: r#"{"id":"1.1","jsonrpc":"2.0","method":"confirm"}"#,
-    },
-    Row {
-        is_call: false,
-        method: "log",
-        params: Some(r#"["x"]"#),
-        text: LOG,
-    },
+/// Texts, each with what it is of.
+const ROWS: &[(&str, Row)] = &[
+    (
+        CONFIRM,
+        Row {
+            is_call: true,
+            method: "confirm",
+            params: Some(r#"["x"]"#),
+        },
+    ),
+    (
+        r#"{"id":"1.1","jsonrpc":"2.0","method":"confirm"}"#,
+        Row {
+            is_call: true,
+            method: "confirm",
+            params: None,
+        },
+    ),
+    (
+        LOG,
+        Row {
+            is_call: false,
+            method: "log",
+            params: Some(r#"["x"]"#),
+        },
+    ),
 ];
 
-fn is_written(alloc: Global, row: &Row) -> Result<bool, Fail> {
+fn is_written(alloc: Global, text: &str, row: &Row) -> Result<bool, Fail> {
     let message = outgoing(alloc, row.method, row.params)?;
     let written = if row.is_call {
         call_text(alloc, 1, 1, &message)
@@ -51,35 +58,36 @@ fn is_written(alloc: Global, row: &Row) -> Result<bool, Fail> {
         notice_text(alloc, &message)
     };
     drop(message);
-    Ok(is_same(written, row.text)?)
+    Ok(is_same(written, text)?)
 }
 
 #[test]
 fn calls_and_notices_have_params_where_given(rt: HostRuntime) -> Result<(), Fail> {
-    for row in ROWS {
-        assert!(rt; is_written(rt.alloc(), row)?, "{}", row.text);
-    }
-    Ok(())
+    each_row(&rt, rt.alloc(), ROWS, is_written)
 }
 
 const WITHDRAWAL: &str = r#"{"jsonrpc":"2.0","method":"$/cancelRequest","params":{"id":"1.1"}}"#;
 
-/// Calls, and the texts of their withdrawals.
-const WITHDRAWALS: &[((u32, u32), &str)] = &[
-    ((1, 1), WITHDRAWAL),
+/// The texts of withdrawals, and their calls.
+const WITHDRAWALS: &[(&str, (u32, u32))] = &[
+    (WITHDRAWAL, (1, 1)),
     (
-        (1_000_000, 1_024),
         r#"{"jsonrpc":"2.0","method":"$/cancelRequest","params":{"id":"1000000.1024"}}"#,
+        (1_000_000, 1_024),
     ),
 ];
 
+fn is_withdrawn(
+    alloc: Global,
+    text: &str,
+    (number, turn): &(u32, u32),
+) -> Result<bool, AllocError> {
+    is_same(withdraw_text(alloc, *number, *turn), text)
+}
+
 #[test]
 fn a_withdrawal_names_its_call(rt: HostRuntime) -> Result<(), Fail> {
-    for ((number, turn), text) in WITHDRAWALS {
-        let written = withdraw_text(rt.alloc(), *number, *turn);
-        assert!(rt; is_same(written, text)?, "{text}");
-    }
-    Ok(())
+    each_row(&rt, rt.alloc(), WITHDRAWALS, is_withdrawn)
 }
 
 const TURNS: &str =
@@ -120,8 +128,7 @@ fn count_up(alloc: Global) -> Result<bool, AllocError> {
 
 #[test]
 fn turns_of_a_batch_of_calls_count_up(rt: HostRuntime) -> Result<(), Fail> {
-    assert!(rt; count_up(rt.alloc())?);
-    Ok(())
+    holds(&rt, TURNS, count_up(rt.alloc()))
 }
 
 fn put_null(alloc: Global, bytes: &mut Vec<u8>) -> Result<(), AllocError> {
@@ -158,8 +165,7 @@ fn go_behind(alloc: Global) -> Result<bool, Fail> {
 
 #[test]
 fn texts_go_behind_other_bytes(rt: HostRuntime) -> Result<(), Fail> {
-    assert!(rt; go_behind(rt.alloc())?);
-    Ok(())
+    holds(&rt, BEHIND_OTHERS, go_behind(rt.alloc()))
 }
 
 /// Texts, and how long they are.

@@ -1,8 +1,9 @@
 use super::{is_same, json, outgoing};
+use crate::another::by_another;
+use crate::rows::holds;
 use rpc_messages::{Id, Outgoing, Reply, answer_text, call_text};
 use std::alloc::{AllocError, Global};
 use std::test::Fail;
-use std::thread;
 
 const ANSWER: &str = r#"{"id":1,"jsonrpc":"2.0","result":[1,{"a":null}]}"#;
 
@@ -16,9 +17,8 @@ fn answered(alloc: Global, reply: Reply) -> Result<Vec<u8>, AllocError> {
 fn a_reply_moves_to_another_thread(rt: HostRuntime) -> Result<(), Fail> {
     let alloc = rt.alloc();
     let reply = Reply::Done(json(alloc, "[1,{\"a\":null}]")?);
-    let child = thread::spawn(&rt, move || answered(alloc, reply))?;
-    assert!(rt; is_same(child.join(&rt), ANSWER)?);
-    Ok(())
+    let text = by_another(&rt, move || answered(alloc, reply))?;
+    holds(&rt, ANSWER, is_same(text, ANSWER))
 }
 
 const CALL: &str = r#"{"id":"1.1","jsonrpc":"2.0","method":"confirm","params":[1]}"#;
@@ -33,7 +33,6 @@ fn called(alloc: Global, message: Outgoing) -> Result<Vec<u8>, AllocError> {
 fn a_message_moves_to_another_thread(rt: HostRuntime) -> Result<(), Fail> {
     let alloc = rt.alloc();
     let message = outgoing(alloc, "confirm", Some("[1]"))?;
-    let child = thread::spawn(&rt, move || called(alloc, message))?;
-    assert!(rt; is_same(child.join(&rt), CALL)?);
-    Ok(())
+    let text = by_another(&rt, move || called(alloc, message))?;
+    holds(&rt, CALL, is_same(text, CALL))
 }

@@ -1,4 +1,5 @@
-use super::json;
+use super::{is_same, json};
+use crate::rows::{each_row, holds, is_text};
 use json_values::{Json, JsonArray, JsonObject, Negative, Text};
 use rpc_messages::Id;
 use serde_json::Value;
@@ -22,16 +23,13 @@ const VALUES: &[(&str, bool)] = &[
     ("true", true),
 ];
 
-fn is_whole(alloc: Global, text: &str) -> Result<bool, Fail> {
-    Ok(Json::new(Value::from_str(alloc, text)?).is_some())
+fn is_whole(alloc: Global, text: &str, want: &bool) -> Result<bool, Fail> {
+    Ok(Json::new(Value::from_str(alloc, text)?).is_some() == *want)
 }
 
 #[test]
 fn values_with_a_fraction_are_refused(rt: HostRuntime) -> Result<(), Fail> {
-    for (text, want) in VALUES {
-        assert!(rt; is_whole(rt.alloc(), text)? == *want, "{text}");
-    }
-    Ok(())
+    each_row(&rt, rt.alloc(), VALUES, is_whole)
 }
 
 fn put_elements(array: &mut JsonArray) -> Result<(), AllocError> {
@@ -64,7 +62,7 @@ const OBJECT: &str = r#"{"a":"t","b":[null,false,2,-3]}"#;
 fn has_bytes(alloc: Global, value: Json) -> Result<bool, AllocError> {
     let bytes = value.to_bytes(alloc);
     drop(value);
-    Ok(bytes?.as_slice() == OBJECT.as_bytes())
+    is_same(bytes, OBJECT)
 }
 
 /// Whether the object and its copy have their text.
@@ -72,7 +70,10 @@ fn are_written(alloc: Global, value: &Json) -> Result<bool, AllocError> {
     if !value.as_value().is_object() || !has_bytes(alloc, value.clone()?)? {
         return Ok(false);
     }
-    Ok(value.to_text(alloc)?.as_str() == OBJECT)
+    is_text(
+        value.to_text(alloc).map(Text::into_string),
+        OBJECT.as_bytes(),
+    )
 }
 
 fn is_object(value: Json) -> bool {
@@ -94,8 +95,7 @@ fn is_built(alloc: Global) -> Result<bool, AllocError> {
 
 #[test]
 fn built_values_have_their_text(rt: HostRuntime) -> Result<(), Fail> {
-    assert!(rt; is_built(rt.alloc())?);
-    Ok(())
+    holds(&rt, OBJECT, is_built(rt.alloc()))
 }
 
 const POINTED: &str = "{\"a/b\":[7,[8]]}";
@@ -114,17 +114,29 @@ fn has_text(alloc: Global, place: &Option<Json>, other: &Json) -> Result<Option<
     }
 }
 
-/// Whether the value's place has the text of another value.
-fn compared(alloc: Global, value: &Json, path: &str, other: &Json) -> Result<Option<bool>, Fail> {
+/// Whether it is so that the value's place has the text of another value, or that there is none.
+fn compared(
+    alloc: Global,
+    value: &Json,
+    path: &str,
+    other: &Json,
+    want: Option<bool>,
+) -> Result<bool, Fail> {
     let place = value.pointer(path)?;
     let has_text = has_text(alloc, &place, other);
     drop(place);
-    Ok(has_text?)
+    Ok(has_text? == want)
 }
 
-fn leads_to(alloc: Global, value: &Json, path: &str, other: &str) -> Result<Option<bool>, Fail> {
+fn leads_to(
+    alloc: Global,
+    value: &Json,
+    path: &str,
+    other: &str,
+    want: Option<bool>,
+) -> Result<bool, Fail> {
     let other = json(alloc, other)?;
-    let compared = compared(alloc, value, path, &other);
+    let compared = compared(alloc, value, path, &other, want);
     drop(other);
     compared
 }
@@ -132,7 +144,7 @@ fn leads_to(alloc: Global, value: &Json, path: &str, other: &str) -> Result<Opti
 /// Follows each path.
 fn follow(rt: &impl Abort, alloc: Global, value: &Json) -> Result<(), Fail> {
     for (path, other, want) in PATHS {
-        assert!(rt; leads_to(alloc, value, path, other)? == *want, "{path}");
+        holds(rt, path, leads_to(alloc, value, path, other, *want))?;
     }
     Ok(())
 }
@@ -174,13 +186,6 @@ fn is_by_value(seven: &Id) -> Result<bool, AllocError> {
     Ok(is_same && differs(seven, Id::Unsigned(7)) && is_above(seven, Id::Null))
 }
 
-fn are_by_value(alloc: Global) -> Result<bool, AllocError> {
-    let seven = text_id(alloc, "7")?;
-    let is_by_value = is_by_value(&seven);
-    drop(seven);
-    is_by_value
-}
-
 /// Whether a number below 0 is no number above, and 0 isn't below.
 fn are_below() -> bool {
     match Negative::new(-7) {
@@ -192,10 +197,19 @@ fn are_below() -> bool {
     }
 }
 
+fn are_by_value(alloc: Global) -> Result<bool, AllocError> {
+    if !are_below() {
+        return Ok(false);
+    }
+    let seven = text_id(alloc, "7")?;
+    let is_by_value = is_by_value(&seven);
+    drop(seven);
+    is_by_value
+}
+
 #[test]
 fn ids_are_equal_by_value(rt: HostRuntime) -> Result<(), Fail> {
-    assert!(rt; are_below() && are_by_value(rt.alloc())?);
-    Ok(())
+    holds(&rt, "ids", are_by_value(rt.alloc()))
 }
 
 fn is_its_string(alloc: Global, string: &str) -> Result<bool, AllocError> {
@@ -205,6 +219,5 @@ fn is_its_string(alloc: Global, string: &str) -> Result<bool, AllocError> {
 
 #[test]
 fn a_text_is_its_string(rt: HostRuntime) -> Result<(), Fail> {
-    assert!(rt; is_its_string(rt.alloc(), "7")?);
-    Ok(())
+    holds(&rt, "7", is_its_string(rt.alloc(), "7"))
 }

@@ -1,0 +1,53 @@
+//! Assertions, each of which names what it fails at.
+use std::alloc::{AllocError, Global};
+use std::process::Abort;
+use std::test::Fail;
+
+/// Whether a text that was written is that one.
+pub fn is_text(written: Result<String, AllocError>, want: &[u8]) -> Result<bool, AllocError> {
+    Ok(written?.as_bytes() == want)
+}
+
+/// Fails by this name where it isn't so.
+pub fn holds<E>(rt: &impl Abort, name: &str, is_so: Result<bool, E>) -> Result<(), Fail>
+where
+    Fail: From<E>,
+{
+    assert!(rt; is_so?, "{name}");
+    Ok(())
+}
+
+/// Fails by this name and the first line of which it isn't so.
+pub fn each_line<E, F: FnOnce(Global, &str) -> Result<bool, E> + Copy>(
+    rt: &impl Abort,
+    alloc: Global,
+    name: &str,
+    lines: &str,
+    is_so: F,
+) -> Result<(), Fail>
+where
+    Fail: From<E>,
+    requires { F.IsAlwaysCallable is_so }
+{
+    for line in lines.lines() {
+        assert!(rt; is_so(alloc, line)?, "{name}: {line}");
+    }
+    Ok(())
+}
+
+/// Fails by the name of the first row of which it isn't so.
+pub fn each_row<T, E, F: FnOnce(Global, &str, &T) -> Result<bool, E> + Copy>(
+    rt: &impl Abort,
+    alloc: Global,
+    rows: &[(&str, T)],
+    is_so: F,
+) -> Result<(), Fail>
+where
+    Fail: From<E>,
+    requires { F.IsAlwaysCallable is_so }
+{
+    for (name, row) in rows {
+        holds(rt, name, is_so(alloc, name, row))?;
+    }
+    Ok(())
+}
