@@ -193,6 +193,14 @@ fn is_marked_again(desk: &mut Desk, number: u32) -> bool {
     before.is_none() && (number % 2 != 0 || desk.take_marked() == Some(number))
 }
 
+/// Whether the desk gives one answer.
+fn releases_one(desk: &mut Desk) -> Result<bool, Fail> {
+    let texts = desk.release()?;
+    let is_one = texts.len() == 1;
+    drop(texts);
+    Ok(is_one)
+}
+
 /// A request of the id 7 is marked again, is answered, and nothing is left of it.
 fn comes_and_goes(
     rt: &impl Abort,
@@ -203,7 +211,10 @@ fn comes_and_goes(
     acts::requests(rt, alloc, desk, 7, 1)?;
     let is_marked = is_marked_again(desk, number);
     finish(rt, desk, number, Json::null());
-    Ok(is_marked && desk.take_marked().is_none() && desk.release()?.len() == 1)
+    if !is_marked || desk.take_marked().is_some() {
+        return Ok(false);
+    }
+    releases_one(desk)
 }
 
 fn come_and_go(rt: &impl Abort, alloc: Global, desk: &mut Desk) -> Result<(), Fail> {

@@ -9,6 +9,7 @@ mod orders;
 mod polls;
 mod threads;
 
+use crate::rows::{holds, is_text};
 use futures::executor::block_on;
 use handler_future::{Handler, Message, Outcome, Rehearsal};
 use json_values::Items;
@@ -140,11 +141,17 @@ fn reply(alloc: Global, content: &str) -> Result<(u32, Reply), Fail> {
     }
 }
 
+/// Adds the turn and the reply that a content is.
+fn push_reply(alloc: Global, content: &str, replies: &mut Vec<(u32, Reply)>) -> Result<(), Fail> {
+    let said = reply(alloc, content)?;
+    Ok(replies.push(said)?)
+}
+
 /// Lists the replies that stand behind `< `. What is sent stands behind `> `.
 fn list_replies(alloc: Global, lines: &str, replies: &mut Vec<(u32, Reply)>) -> Result<(), Fail> {
     for line in lines.lines() {
         if let Some(content) = line.strip_prefix("< ") {
-            replies.push(reply(alloc, content)?)?;
+            push_reply(alloc, content, replies)?;
         } else if !line.starts_with("> ") {
             return Err("a line without a mark".into());
         }
@@ -326,6 +333,18 @@ fn sent_lines(alloc: Global, lines: &str) -> Result<String, AllocError> {
     Ok(sent)
 }
 
+/// The handler's messages and its answer as they are sent.
+fn told(
+    alloc: Global,
+    handler: &Handler,
+    id: Option<&Id>,
+    answer: &Reply,
+) -> Result<Vec<u8>, Fail> {
+    let mut sent = Vec::new(alloc);
+    tell(alloc, handler, id, answer, &mut sent)?;
+    Ok(sent)
+}
+
 /// Whether the handler's messages and its answer are what the lines say.
 fn is_sent(
     alloc: Global,
@@ -334,9 +353,8 @@ fn is_sent(
     answer: &Reply,
     lines: &str,
 ) -> Result<bool, Fail> {
-    let mut sent = Vec::new(alloc);
-    tell(alloc, handler, id, answer, &mut sent)?;
-    Ok(sent.as_slice() == sent_lines(alloc, lines)?.as_bytes())
+    let want = sent_lines(alloc, lines)?;
+    is_text(told(alloc, handler, id, answer), want.as_bytes())
 }
 
 /// Whether the handler sends and answers what the lines say, where it hears the replies in that order.
@@ -354,6 +372,25 @@ fn is_told_in(
     is_sent
 }
 
+/// Whether the handler has the number of a call's, or of an opening's where there is no call, and tells what the lines say.
+fn is_told_by(
+    alloc: Global,
+    mut handler: Handler,
+    call: Option<&Arc<Call>>,
+    replies: &[(u32, Reply)],
+    order: &Order,
+    lines: &str,
+) -> Result<bool, Fail> {
+    let (number, id) = match call {
+        Some(call) => (1, call.id.as_ref()),
+        None => (0, None),
+    };
+    let is_numbered = handler.number() == number;
+    let is_told = is_told_in(alloc, &mut handler, id, replies, order, lines);
+    drop(handler);
+    Ok(is_told? && is_numbered)
+}
+
 /// Whether the handler of the call, or of the opening where there is none, tells what the lines say in each order.
 fn is_told_in_each_order(
     alloc: Global,
@@ -362,19 +399,12 @@ fn is_told_in_each_order(
     replies: &[(u32, Reply)],
     lines: &str,
 ) -> Result<bool, Fail> {
-    let (number, id) = match call {
-        Some(call) => (1, call.id.as_ref()),
-        None => (0, None),
-    };
     for order in ORDERS {
-        let mut handler = match call {
-            Some(call) => handler(alloc, table, call)?,
-            None => opened(alloc, table)?,
+        let handler = match call {
+            Some(call) => handler(alloc, table, call),
+            None => opened(alloc, table),
         };
-        let is_numbered = handler.number() == number;
-        let is_told = is_told_in(alloc, &mut handler, id, replies, order, lines);
-        drop(handler);
-        if !is_told? || !is_numbered {
+        if !is_told_by(alloc, handler?, call, replies, order, lines)? {
             return Ok(false);
         }
     }
@@ -399,7 +429,9 @@ fn is_told(
 }
 
 fn is_row_told(alloc: Global, table: &Table, row: &str) -> Result<bool, Fail> {
-    let (content, lines) = row.split_once('\n').ok_or("a row without lines")?;
+    let Some((content, lines)) = row.split_once('\n') else {
+        return Ok(false);
+    };
     let replies = replies(alloc, lines)?;
     let is_told = is_told(alloc, table, content, replies.as_slice(), lines);
     drop(replies);
@@ -421,13 +453,13 @@ fn rehearsed<R: Wait + RandomSource + AllocGlobal>(
     Ok(block_on(rt, Rehearsal::new(rt.alloc(), handler, replies))?)
 }
 
-/// How it ends in a rehearsal that hears the replies among the lines.
-fn rehearsed_by<R: Wait + RandomSource + AllocGlobal>(
+/// How it ends in a rehearsal that hears these replies, where they could be made.
+fn rehearsed_with<R: Wait + RandomSource + AllocGlobal>(
     rt: &R,
     handler: Handler,
-    lines: &str,
+    replies: Result<Vec<(u32, Reply)>, Fail>,
 ) -> Result<Outcome, Fail> {
-    match replies(rt.alloc(), lines) {
+    match replies {
         Ok(replies) => rehearsed(rt, handler, replies),
         Err(fail) => {
             drop(handler);
@@ -436,12 +468,19 @@ fn rehearsed_by<R: Wait + RandomSource + AllocGlobal>(
     }
 }
 
+/// How it ends in a rehearsal that hears the replies among the lines.
+fn rehearsed_by<R: Wait + RandomSource + AllocGlobal>(
+    rt: &R,
+    handler: Handler,
+    lines: &str,
+) -> Result<Outcome, Fail> {
+    rehearsed_with(rt, handler, replies(rt.alloc(), lines))
+}
+
 /// Whether the outcome is an answer that is sent so to the request of that id.
 fn is_answer(alloc: Global, outcome: &Outcome, id: &Id, want: &str) -> Result<bool, Fail> {
     match outcome {
-        Outcome::Answer(answer) => Ok(
-            answer_text(alloc, id, answer)?.as_slice() == want.as_bytes(),
-        ),
+        Outcome::Answer(answer) => is_text(answer_text(alloc, id, answer), want.as_bytes()),
         Outcome::Failed => Err("a poll found no memory".into()),
     }
 }
@@ -460,14 +499,24 @@ fn compare_answer(
     outcome: Outcome,
     want: &str,
 ) -> Result<(), Fail> {
-    assert!(rt; answers(alloc, outcome, want)?, "{want}");
-    Ok(())
+    holds(rt, want, answers(alloc, outcome, want))
 }
 
 /// Whether the outcome is the answer among the lines.
 fn is_answer_of(alloc: Global, outcome: &Outcome, id: &Id, lines: &str) -> Result<bool, Fail> {
     let sent = sent_lines(alloc, lines)?;
     is_answer(alloc, outcome, id, sent.as_str().trim_end())
+}
+
+/// How the handler of the call ends in a rehearsal that hears the replies among the lines.
+fn rehearsed_call<R: Wait + RandomSource + AllocGlobal>(
+    rt: &R,
+    table: &Table,
+    call: &Arc<Call>,
+    lines: &str,
+) -> Result<Outcome, Fail> {
+    let handler = handler(rt.alloc(), table, call)?;
+    rehearsed_by(rt, handler, lines)
 }
 
 /// Whether the call is answered as its lines say, in a rehearsal that hears their replies.
@@ -477,8 +526,10 @@ fn is_call_rehearsed<R: Wait + RandomSource + AllocGlobal>(
     call: &Arc<Call>,
     lines: &str,
 ) -> Result<bool, Fail> {
-    let id = call.id.as_ref().ok_or("a notification")?;
-    let outcome = rehearsed_by(rt, handler(rt.alloc(), table, call)?, lines)?;
+    let Some(id) = call.id.as_ref() else {
+        return Ok(false);
+    };
+    let outcome = rehearsed_call(rt, table, call, lines)?;
     let is_answer = is_answer_of(rt.alloc(), &outcome, id, lines);
     drop(outcome);
     is_answer
@@ -489,7 +540,9 @@ fn is_row_rehearsed<R: Wait + RandomSource + AllocGlobal>(
     table: &Table,
     row: &str,
 ) -> Result<bool, Fail> {
-    let (content, lines) = row.split_once('\n').ok_or("a row without lines")?;
+    let Some((content, lines)) = row.split_once('\n') else {
+        return Ok(false);
+    };
     let call = call(rt.alloc(), content)?;
     let is_rehearsed = is_call_rehearsed(rt, table, &call, lines);
     drop(call);
@@ -523,7 +576,7 @@ fn compare_rows<R: Wait + RandomSource + AllocGlobal + Abort>(
     way: Way,
 ) -> Result<(), Fail> {
     for row in rows.split("\n\n") {
-        assert!(rt; is_as_it_says(rt, table, row, way)?, "{row}");
+        holds(rt, row, is_as_it_says(rt, table, row, way))?;
     }
     Ok(())
 }

@@ -1,5 +1,5 @@
 //! Jobs that go through slots to workers and come home.
-ghost use Rattle.std.specs.Prelude.{◌<◌, ◌≤◌};
+ghost use Rattle.std.specs.Prelude.{◌≡◌, ◌<◌, ◌≤◌};
 ghost use Rattle.job_slots.specs.Seats.{IsClerkOf, IsWorkerOf};
 
 use job_slots::{ClerkSeat, JobSlots, Ran, Turns, WorkerSeat};
@@ -11,7 +11,7 @@ use std::sync::atomic::Ordering::SeqCst;
 use std::sync::atomic::{AtomicBool, AtomicU32};
 use std::test::Fail;
 use std::thread;
-use std::thread::{Promise, Threads};
+use std::thread::{Promise, PromisedHandle, Scope, Threads};
 
 // A job that counts its turns.
 #[derive(PartialEq, Eq, Drop)]
@@ -230,6 +230,35 @@ fn wait_until<R: Wait>(rt: &R, ran: &AtomicU32, enough: u32) {
     }
 }
 
+// A worker's seat comes back as one of the same table.
+#[derive(Drop)]
+struct SeatOf(Snapshot<JobSlots<Counted>>);
+
+impl Promise<(WorkerSeat<Counted>, u32)> for SeatOf {
+    ghost use Rattle.job_slots.specs.Seats.{IsWorkerOf};
+
+    ghost kept_by = { λ p r. IsWorkerOf p.0.value r.0 };
+}
+
+// A worker of a scope. Its seat comes back as one of the same table.
+fn start<'s, E, R: Wait + Abort + Sync>(
+    rt: &'s R,
+    scope: &Scope<'s, E>,
+    slots: &'s JobSlots<Counted>,
+    worker: WorkerSeat<Counted>,
+    stop: &'s AtomicBool,
+    ran: &'s AtomicU32,
+) -> PromisedHandle<(WorkerSeat<Counted>, u32), SeatOf>
+    requires { IsWorkerOf slots.now worker }
+    ensures { result.promise.0.value ≡ slots.now }
+{
+    let promise = SeatOf(Snapshot::of(slots));
+    scope
+        .spawn_with(promise, move || work(rt, slots, worker, stop, ran))
+        .ok()
+        .expect(rt, "a thread")
+}
+
 // Two workers and eight jobs. They stop once so many were turned. It gives how many jobs each says that it ran.
 fn run_by_two<R: Threads + Wait + Abort + Sync>(
     rt: &R,
@@ -248,17 +277,11 @@ fn run_by_two<R: Threads + Wait + Abort + Sync>(
         move |scope| -> (u32, u32)
             requires { IsWorkerOf slots.now first × IsWorkerOf slots.now second }
         {
-            let first = scope
-                .spawn(move || work(rt, slots, first, stop, ran).1)
-                .ok()
-                .expect(rt, "a thread");
-            let second = scope
-                .spawn(move || work(rt, slots, second, stop, ran).1)
-                .ok()
-                .expect(rt, "a thread");
+            let first = start(rt, scope, slots, first, stop, ran);
+            let second = start(rt, scope, slots, second, stop, ran);
             wait_until(rt, ran, enough);
             stop.store(true, SeqCst);
-            (first.join(rt), second.join(rt))
+            (first.join(rt).1, second.join(rt).1)
         },
     )
 }
@@ -307,16 +330,6 @@ fn all_jobs_are_turned_before_the_stop(rt: HostRuntime) -> Result<(), Fail> {
 }
 
 const MANY: u32 = 10000;
-
-// A worker's seat comes back as one of the same table.
-#[derive(Drop)]
-struct SeatOf(Snapshot<JobSlots<Counted>>);
-
-impl Promise<(WorkerSeat<Counted>, u32)> for SeatOf {
-    ghost use Rattle.job_slots.specs.Seats.{IsWorkerOf};
-
-    ghost kept_by = { λ p r. IsWorkerOf p.0.value r.0 };
-}
 
 // Offers the next job, if one is left and a slot is free. It gives the next job after that.
 fn offer_next(slots: &JobSlots<Counted>, clerk: &mut ClerkSeat<Counted>, next: u32) -> u32
@@ -425,30 +438,10 @@ fn hand_to_four<R: Threads + Wait + Abort + Sync>(
                 × IsWorkerOf slots.now fourth }
             ensures { IsClerkOf slots.entry.now result.0 }
         {
-            let first = scope
-                .spawn_with(SeatOf(Snapshot::of(slots)), move || {
-                    work(rt, slots, first, stop, ran)
-                })
-                .ok()
-                .expect(rt, "a thread");
-            let second = scope
-                .spawn_with(SeatOf(Snapshot::of(slots)), move || {
-                    work(rt, slots, second, stop, ran)
-                })
-                .ok()
-                .expect(rt, "a thread");
-            let third = scope
-                .spawn_with(SeatOf(Snapshot::of(slots)), move || {
-                    work(rt, slots, third, stop, ran)
-                })
-                .ok()
-                .expect(rt, "a thread");
-            let fourth = scope
-                .spawn_with(SeatOf(Snapshot::of(slots)), move || {
-                    work(rt, slots, fourth, stop, ran)
-                })
-                .ok()
-                .expect(rt, "a thread");
+            let first = start(rt, scope, slots, first, stop, ran);
+            let second = start(rt, scope, slots, second, stop, ran);
+            let third = start(rt, scope, slots, third, stop, ran);
+            let fourth = start(rt, scope, slots, fourth, stop, ran);
             let mut clerk = clerk;
             let home = hand_out(rt, alloc, slots, &mut clerk, count);
             stop.store(true, SeqCst);

@@ -179,8 +179,10 @@ fn releases_bytes(desk: &mut Desk, length: usize) -> Result<bool, Fail> {
 /// Frames so many answers behind other bytes.
 fn frames(alloc: Global, desk: &mut Desk, count: usize, want: &str) -> Result<bool, Fail> {
     let mut bytes = Vec::from_slice(alloc, b"before")?;
-    let framed = desk.release_to(&mut bytes)?;
-    Ok(framed == count && bytes.as_slice() == want.as_bytes())
+    let framed = desk.release_to(&mut bytes);
+    let is_so = bytes.as_slice() == want.as_bytes();
+    drop(bytes);
+    Ok(framed? == count && is_so)
 }
 
 fn place(alloc: Global, entry: &Entry) -> Result<Place, AllocError> {

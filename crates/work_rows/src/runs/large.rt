@@ -2,7 +2,8 @@
 
 use super::acts::Act::{self, Answers, Has, Hears, Waits};
 use super::acts::played;
-use super::{ORDERS, Order, TABLE, compare_answer, handler_of, rehearsed, run};
+use super::{ORDERS, Order, TABLE, compare_answer, handler_of, rehearsed, rehearsed_with, run};
+use crate::rows::holds;
 use handler_future::{Handler, Message};
 use json_values::Json;
 use rpc_messages::Reply;
@@ -85,7 +86,7 @@ fn most_calls_without_a_reply(rt: HostRuntime) -> Result<(), Fail> {
         let mut handler = most_calls(rt.alloc())?;
         let makes_all = makes_all(&mut handler, order);
         drop(handler);
-        assert!(rt; makes_all?);
+        holds(&rt, "most calls", makes_all)?;
     }
     Ok(())
 }
@@ -99,7 +100,7 @@ fn most_calls_without_a_reply_in_a_rehearsal(rt: HostRuntime) -> Result<(), Fail
 }
 
 /// To each call, its turn.
-fn turns(alloc: Global) -> Result<Vec<(u32, Reply)>, AllocError> {
+fn turns(alloc: Global) -> Result<Vec<(u32, Reply)>, Fail> {
     let mut listed = Vec::new(alloc);
     for turn in 1..301u32 {
         listed.push((turn, Reply::Done(Json::unsigned(turn as u64))))?;
@@ -112,8 +113,8 @@ const LAST_TURNS: &str =
 
 #[test]
 fn three_hundred_replies_are_heard_in_a_rehearsal(rt: HostRuntime) -> Result<(), Fail> {
-    let turns = turns(rt.alloc())?;
-    let outcome = rehearsed(&rt, three_hundred_calls(rt.alloc())?, turns)?;
+    let handler = three_hundred_calls(rt.alloc())?;
+    let outcome = rehearsed_with(&rt, handler, turns(rt.alloc()))?;
     compare_answer(&rt, rt.alloc(), outcome, LAST_TURNS)
 }
 

@@ -1,6 +1,7 @@
 //! Courses of a table's opening.
 
 use super::{TABLE, Way, compare, compare_answer, opened, rehearsed_by, table};
+use crate::rows::holds;
 use handler_future::{Handler, Outcome};
 use std::alloc::{AllocGlobal, Global};
 use std::random::RandomSource;
@@ -63,20 +64,20 @@ fn openings_run_as_handler_0(rt: HostRuntime) -> Result<(), Fail> {
     compare(&rt, BEGUN, TOLD, Way::Polls)
 }
 
-fn has_opening(alloc: Global, text: &str) -> Result<bool, Fail> {
+fn has_no_opening(alloc: Global, text: &str) -> Result<bool, Fail> {
     let table = table(alloc, text)?;
     let opening = Handler::opening(alloc, &table);
     drop(table);
     let opening = opening?;
-    let has_opening = opening.is_some();
+    let has_none = opening.is_none();
     drop(opening);
-    Ok(has_opening)
+    Ok(has_none)
 }
 
 #[test]
 fn a_table_without_an_opening_has_no_handler_0(rt: HostRuntime) -> Result<(), Fail> {
     for text in [TABLE, "version = 2\n"] {
-        assert!(rt; !has_opening(rt.alloc(), text)?, "{text}");
+        holds(&rt, text, has_no_opening(rt.alloc(), text))?;
     }
     Ok(())
 }

@@ -1,6 +1,6 @@
 -- The closure that polls a handler may go to the other thread, and the handler may come back.
 use Rattle.handler_future.proofs.Crossing.{known, handler_send, reply_send}
-use Rattle.work_rows.proofs.runs.threads.a_handler_is_polled_by_one_thread_and_then_by_another.Goals as goal
+use Rattle.work_rows.proofs.runs.threads.polled_by_another.Goals as goal
 
 pub spawn-requires-send-F : goal.spawn-requires-send-F
 spawn-requires-send-F c κs = search (known, handler_send, reply_send) depth 12 fits 8000
