@@ -1,6 +1,8 @@
 //! Streams that are made of parts, and the places at which they are cut.
+use crate::told::holds;
 use std::alloc::{AllocError, Global};
 use std::process::Abort;
+use std::test::Fail;
 
 /// A text, and how many times it stands there.
 pub type Part = (&'static str, usize);
@@ -78,9 +80,9 @@ pub fn is_front_of(bytes: &[u8], texts: &[&str]) -> bool {
 }
 
 /// Each row, however its stream is cut.
-pub fn each_holds<R: Row>(rt: &impl Abort, alloc: Global, rows: &[R]) -> Result<(), AllocError> {
+pub fn each_holds<R: Row>(rt: &impl Abort, alloc: Global, rows: &[R]) -> Result<(), Fail> {
     for row in rows {
-        assert!(rt; holds_however_cut(alloc, row)?, "{}", row.name());
+        holds(rt, holds_however_cut(alloc, row)?, row.name());
     }
     Ok(())
 }
@@ -88,16 +90,25 @@ pub fn each_holds<R: Row>(rt: &impl Abort, alloc: Global, rows: &[R]) -> Result<
 /// A row whose stream comes whole, byte by byte, cut in two at each place, and cut in three where it is short.
 pub fn holds_however_cut<R: Row>(alloc: Global, row: &R) -> Result<bool, AllocError> {
     let stream = joined(alloc, row.stream())?;
+    let holds = holds_in_pieces(alloc, row, stream.as_slice());
+    drop(stream);
+    holds
+}
+
+fn holds_in_pieces<R: Row>(alloc: Global, row: &R, stream: &[u8]) -> Result<bool, AllocError> {
     Ok(
-        holds_whole(alloc, row, stream.as_slice())?
-            && holds_in_two(alloc, row, stream.as_slice())?
-            && holds_in_three(alloc, row, stream.as_slice())?,
+        row.holds(alloc, &[stream])?
+            && holds_bytewise(alloc, row, stream)?
+            && holds_in_two(alloc, row, stream)?
+            && holds_in_three(alloc, row, stream)?,
     )
 }
 
-fn holds_whole<R: Row>(alloc: Global, row: &R, stream: &[u8]) -> Result<bool, AllocError> {
+fn holds_bytewise<R: Row>(alloc: Global, row: &R, stream: &[u8]) -> Result<bool, AllocError> {
     let bytes: Vec<&[u8]> = stream.chunks(1).collect(alloc)?;
-    Ok(row.holds(alloc, &[stream])? && row.holds(alloc, bytes.as_slice())?)
+    let holds = row.holds(alloc, bytes.as_slice());
+    drop(bytes);
+    holds
 }
 
 fn holds_in_two<R: Row>(alloc: Global, row: &R, stream: &[u8]) -> Result<bool, AllocError> {

@@ -3,57 +3,60 @@ mod mem_source;
 mod std_devices;
 mod whole_writes;
 
-ghost use Rattle.std.specs.Prelude.{◌<◌, length};
-
+use crate::told::holds_at;
 use lsp_frames::{IoFault, PutFault, Sink, Source, put_all};
 use std::process::Abort;
 
-/// The next call gives these bytes or fails, and so many calls have failed then.
-fn gives<S: Source>(
-    rt: &impl Abort,
-    source: &mut S,
-    room: &mut [u8],
-    want: Result<&[u8], IoFault>,
-    failures: u64,
-)
-    requires { 0 < length room.old }
-{
-    let is_wanted = match (source.next(room), want) {
-        (Ok(count), Ok(bytes)) => count == bytes.len() && room.starts_with(bytes),
+/// What a source's next call gives, or that it fails, and how many calls have failed then.
+type Given = (Result<&'static str, IoFault>, u64);
+
+/// Whether the next call, which has so much room, gives this.
+fn is_given<S: Source>(source: &mut S, most: usize, given: &Given) -> bool {
+    let mut bytes = [0; 16];
+    let Some(room) = bytes.get_mut(..most) else {
+        return false;
+    };
+    if room.is_empty() {
+        return false;
+    }
+    let is_wanted = match (source.next(room), given.0) {
+        (Ok(count), Ok(text)) => count == text.len() && room.starts_with(text.as_bytes()),
         (Err(IoFault), Err(IoFault)) => true,
         _ => false,
     };
-    assert!(rt; is_wanted && source.failures() == failures);
+    is_wanted && source.failures() == given.1
 }
 
-/// A put takes so many bytes or fails, and so many calls have failed then.
-fn takes<S: Sink>(
-    rt: &impl Abort,
-    sink: &mut S,
-    bytes: &[u8],
-    want: Result<usize, IoFault>,
-    failures: u64,
-)
-    requires { 0 < length bytes.now }
-{
-    let is_wanted = sink.put(bytes) == want;
-    assert!(rt; is_wanted && sink.failures() == failures);
+/// Calls that have so much room, one after another, give these.
+fn gives<S: Source>(rt: &impl Abort, source: &mut S, most: usize, calls: &[Given]) {
+    for (at, given) in calls.iter().enumerate() {
+        holds_at(rt, is_given(source, most, given), "call", at as u64);
+    }
 }
 
-/// A write of all the bytes, and how many calls have failed then.
-fn takes_all<S: Sink>(
-    rt: &impl Abort,
-    sink: &mut S,
-    bytes: &[u8],
-    want: Result<(), PutFault>,
-    failures: u64,
-) {
-    let is_wanted = put_all(sink, bytes) == want;
-    assert!(rt; is_wanted && sink.failures() == failures);
+/// A call of a sink, and what it gives: of bytes that it may take some of, of bytes that are written whole, and of a flush.
+enum Call {
+    Put(&'static str, Result<usize, IoFault>),
+    PutAll(&'static str, Result<(), PutFault>),
+    Flush(Result<(), IoFault>),
 }
 
-/// A flush, and how many calls have failed then.
-fn flushes<S: Sink>(rt: &impl Abort, sink: &mut S, want: Result<(), IoFault>, failures: u64) {
-    let is_wanted = sink.flush() == want;
-    assert!(rt; is_wanted && sink.failures() == failures);
+/// A call of a sink, and how many calls have failed then.
+type Taken = (Call, u64);
+
+/// Whether the sink's next call gives this.
+fn is_taken<S: Sink>(sink: &mut S, taken: &Taken) -> bool {
+    let is_wanted = match &taken.0 {
+        Call::Put(text, want) => !text.is_empty() && sink.put(text.as_bytes()) == *want,
+        Call::PutAll(text, want) => put_all(sink, text.as_bytes()) == *want,
+        Call::Flush(want) => sink.flush() == *want,
+    };
+    is_wanted && sink.failures() == taken.1
+}
+
+/// The calls, one after another, give what they say.
+fn takes<S: Sink>(rt: &impl Abort, sink: &mut S, calls: &[Taken]) {
+    for (at, taken) in calls.iter().enumerate() {
+        holds_at(rt, is_taken(sink, taken), "call", at as u64);
+    }
 }

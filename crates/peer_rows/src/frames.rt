@@ -6,6 +6,7 @@ mod rows;
 ghost use Rattle.std.specs.Prelude.{◌≤◌};
 
 use crate::cuts::{self, Part};
+use crate::told::holds;
 use lsp_frames::{Decoder, End, FeedFault, Frame, FrameFault, LARGEST_CONTENT, encode};
 use std::alloc::{AllocError, Global};
 use std::process::Abort;
@@ -46,15 +47,32 @@ fn decoded(alloc: Global, limit: u32, pieces: &[&[u8]]) -> Result<(Vec<Frame>, E
 {
     let mut decoder = Decoder::new(alloc, limit);
     let mut all = Vec::new(alloc);
+    match feed_all(&mut decoder, pieces, &mut all) {
+        Ok(()) => Ok((all, decoder.end())),
+        Err(fault) => {
+            drop(all);
+            Err(fault)
+        }
+    }
+}
+
+/// Feeds the pieces, and puts what they give behind the other frames.
+fn feed_all(
+    decoder: &mut Decoder,
+    pieces: &[&[u8]],
+    all: &mut Vec<Frame>,
+) -> Result<(), AllocError> {
     for piece in pieces {
         let mut frames = match decoder.feed(piece) {
             Ok(frames) => frames,
             Err(FeedFault::Ended(_, frames)) => frames.into_vec(),
             Err(FeedFault::Memory) => return Err(AllocError),
         };
-        all.append(&mut frames)?;
+        let appended = all.append(&mut frames);
+        drop(frames);
+        appended?;
     }
-    Ok((all, decoder.end()))
+    Ok(())
 }
 
 fn are(frames: &[Frame], contents: &[(&str, bool)]) -> bool {
@@ -71,17 +89,17 @@ fn are(frames: &[Frame], contents: &[(&str, bool)]) -> bool {
 
 #[test]
 fn contents_and_their_charsets(rt: HostRuntime) -> Result<(), Fail> {
-    Ok(cuts::each_holds(&rt, rt.alloc(), rows::TAKEN)?)
+    cuts::each_holds(&rt, rt.alloc(), rows::TAKEN)
 }
 
 #[test]
 fn faults_of_heads_and_ends_inside_a_frame(rt: HostRuntime) -> Result<(), Fail> {
-    Ok(cuts::each_holds(&rt, rt.alloc(), rows::REFUSED)?)
+    cuts::each_holds(&rt, rt.alloc(), rows::REFUSED)
 }
 
 #[test]
 fn heads_of_about_4096_bytes(rt: HostRuntime) -> Result<(), Fail> {
-    Ok(cuts::each_holds(&rt, rt.alloc(), rows::LONG)?)
+    cuts::each_holds(&rt, rt.alloc(), rows::LONG)
 }
 
 /// Feeds a piece to a decoder that then is at the fault `BadHead`. It gives how many frames came.
@@ -101,27 +119,24 @@ fn nothing_comes_after_a_fault(rt: HostRuntime) {
     assert!(rt; decoder.end() == End::Fault(FrameFault::BadHead));
 }
 
-fn is_written(alloc: Global, content: &[u8], frame: &[u8]) -> Result<bool, AllocError> {
-    Ok(encode(alloc, content)?.as_slice() == frame)
+/// Contents and their frames.
+const WRITTEN: &[(&str, &str)] = &[
+    ("[1,2,3,4,5]", "Content-Length: 11\r\n\r\n[1,2,3,4,5]"),
+    ("", "Content-Length: 0\r\n\r\n"),
+    (
+        r#"{"jsonrpc":"2.0","method":"nope","id":1}"#,
+        "Content-Length: 40\r\n\r\n{\"jsonrpc\":\"2.0\",\"method\":\"nope\",\"id\":1}",
+    ),
+];
+
+fn is_written(alloc: Global, content: &str, frame: &str) -> Result<bool, AllocError> {
+    Ok(encode(alloc, content.as_bytes())?.as_slice() == frame.as_bytes())
 }
 
 #[test]
 fn a_frame_is_written_with_its_length(rt: HostRuntime) -> Result<(), Fail> {
-    let alloc = rt.alloc();
-    assert!(rt;
-        is_written(
-            alloc,
-            b"[1,2,3,4,5]",
-            b"Content-Length: 11\r\n\r\n[1,2,3,4,5]"
-        )?
-    );
-    assert!(rt; is_written(alloc, b"", b"Content-Length: 0\r\n\r\n")?);
-    assert!(rt;
-        is_written(
-            alloc,
-            br#"{"jsonrpc":"2.0","method":"nope","id":1}"#,
-            b"Content-Length: 40\r\n\r\n{\"jsonrpc\":\"2.0\",\"method\":\"nope\",\"id\":1}"
-        )?
-    );
+    for (content, frame) in WRITTEN {
+        holds(&rt, is_written(rt.alloc(), content, frame)?, frame);
+    }
     Ok(())
 }

@@ -15,3 +15,5 @@ mod peer;
 mod plays;
 #[cfg(test)]
 mod served;
+#[cfg(test)]
+mod told;

@@ -1,5 +1,6 @@
 //! The answers of a peer as bytes, however its input is cut: without methods, and with those of a table.
 use crate::cuts::{self, Part, joined};
+use crate::told::holds;
 use method_steps::Table;
 use methods::Runs;
 use peer_limits::{Close, Limits, Report};
@@ -73,7 +74,10 @@ fn played(
         lazy: false,
         picks: Picks::First,
     };
-    match play(alloc, table, limits, owned.as_slice(), &schedule) {
+    let played = play(alloc, table, limits, owned.as_slice(), &schedule);
+    drop(owned);
+    drop(schedule);
+    match played {
         Ok(played) => Ok(played),
         Err(PlayFault::Memory) => Err(AllocError),
     }
@@ -85,14 +89,14 @@ fn each_is_answered(
     alloc: Global,
     table: &Table,
     rows: &[Row],
-) -> Result<(), AllocError> {
+) -> Result<(), Fail> {
     for row in rows {
         let case = Case {
             row,
             table,
             runs: methods::NONE,
         };
-        assert!(rt; cuts::holds_however_cut(alloc, &case)?, "{}", row.name);
+        holds(rt, cuts::holds_however_cut(alloc, &case)?, row.name);
     }
     Ok(())
 }
@@ -102,7 +106,7 @@ fn each_is_answered_by_an_empty_table(
     rt: &impl Abort,
     alloc: Global,
     rows: &[Row],
-) -> Result<(), AllocError> {
+) -> Result<(), Fail> {
     let table = Table::empty(alloc);
     let answered = each_is_answered(rt, alloc, &table, rows);
     drop(table);
@@ -115,12 +119,12 @@ fn each_is_answered_alike(rt: &impl Abort, alloc: Global, rows: &[Row]) -> Resul
     let table = crate::plays::methods(alloc)?;
     let answered = each_is_answered(rt, alloc, &table, rows);
     drop(table);
-    Ok(answered?)
+    answered
 }
 
 #[test]
 fn messages_are_answered(rt: HostRuntime) -> Result<(), Fail> {
-    Ok(each_is_answered_by_an_empty_table(&rt, rt.alloc(), rows::MESSAGES)?)
+    each_is_answered_by_an_empty_table(&rt, rt.alloc(), rows::MESSAGES)
 }
 
 #[test]
@@ -138,14 +142,14 @@ fn contents_numbers_and_depths_have_limits(rt: HostRuntime) -> Result<(), Fail> 
     each_is_answered_alike(&rt, rt.alloc(), rows::LIMITS)
 }
 
-fn each_runs(rt: &impl Abort, alloc: Global, table: &Table) -> Result<(), AllocError> {
+fn each_runs(rt: &impl Abort, alloc: Global, table: &Table) -> Result<(), Fail> {
     for (row, runs) in methods::ROWS {
         let case = Case {
             row,
             table,
             runs: *runs,
         };
-        assert!(rt; cuts::holds_however_cut(alloc, &case)?, "{}", row.name);
+        holds(rt, cuts::holds_however_cut(alloc, &case)?, row.name);
     }
     Ok(())
 }
@@ -155,7 +159,7 @@ fn methods_run_however_their_input_is_cut(rt: HostRuntime) -> Result<(), Fail> {
     let table = crate::plays::methods(rt.alloc())?;
     let ran = each_runs(&rt, rt.alloc(), &table);
     drop(table);
-    Ok(ran?)
+    ran
 }
 
 #[test]
@@ -169,7 +173,9 @@ fn limits_are_at_most_the_standard_ones(rt: HostRuntime) {
 /// Whether a piece of many frames is answered with as many.
 fn are_answered(alloc: Global, table: &Table) -> Result<bool, AllocError> {
     let piece = joined(alloc, &[(rows::ASKED, 100_000)])?;
-    let (bytes, report) = played(alloc, table, Limits::standard(), &[piece.as_slice()])?;
+    let played = played(alloc, table, Limits::standard(), &[piece.as_slice()]);
+    drop(piece);
+    let (bytes, report) = played?;
     Ok(report.answers == 100_000 && is_repeated(bytes.as_slice(), rows::NOT_FOUND, 100_000))
 }
 

@@ -11,6 +11,7 @@ mod plain;
 mod version_2;
 
 use crate::cuts;
+use crate::told::{holds, holds_in_way};
 use json_values::Items;
 use lsp_frames::{Frame, put_frame};
 use method_steps::Table;
@@ -276,9 +277,10 @@ fn is_played(alloc: Global, table: &Table, lines: &str, way: &str) -> Result<boo
 fn compare(rt: &impl Abort, alloc: Global, table: &Table, row: &str) -> Result<(), Fail> {
     let (head, lines) = row.split_once('\n').ok_or("a row without lines")?;
     let (name, ways) = head.split_once(": ").ok_or("a row without schedules")?;
-    assert!(rt; is_row(lines), "{name}");
+    holds(rt, is_row(lines), name);
     for way in ways.split(' ') {
-        assert!(rt; is_played(alloc, table, lines, way)?, "{name}, {way}");
+        let is_played = is_played(alloc, table, lines, way)?;
+        holds_in_way(rt, is_played, name, way);
     }
     Ok(())
 }

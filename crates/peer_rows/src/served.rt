@@ -7,7 +7,7 @@ mod rows;
 mod while_open;
 
 use crate::cuts;
-use lsp_frames::{MemSink, MemSource};
+use lsp_frames::{MemSink, MemSource, Sink, Source};
 use method_steps::Table;
 use peer_limits::{Close, Limits, Report};
 use peer_server::{ServeFault, serve};
@@ -98,6 +98,26 @@ struct Ended {
     written: Vec<u8>,
 }
 
+/// Serves by so many workers: how it ended, and the sink.
+fn by_workers<S, K, R>(
+    rt: &R,
+    alloc: Global,
+    table: &Table,
+    workers: u32,
+    source: S,
+    sink: K,
+) -> (Result<Report, ServeFault>, K)
+where
+    S: Source + Drop + Send,
+    K: Sink + Drop,
+    R: Threads + Wait + Sync,
+{
+    match serve(rt, alloc, table, Limits::standard(), workers, source, sink) {
+        Ok((report, sink)) => (Ok(report), sink),
+        Err((fault, sink)) => (Err(fault), sink),
+    }
+}
+
 impl Ended {
     /// Whether this was the end of the input, or why it wasn't served.
     fn has_outcome(&self, outcome: Result<Close, ServeFault>) -> bool {
@@ -154,26 +174,11 @@ impl Given<'_> {
     ) -> Result<Ended, AllocError> {
         let source = MemSource::new(self.pieces(alloc)?, self.fault_at);
         let sink = MemSink::new(alloc, self.stop);
-        Ok(
-            match serve(
-                rt,
-                alloc,
-                table,
-                Limits::standard(),
-                self.workers,
-                source,
-                sink,
-            ) {
-                Ok((report, sink)) => Ended {
-                    outcome: Ok(report),
-                    written: sink.into_vec(),
-                },
-                Err((fault, sink)) => Ended {
-                    outcome: Err(fault),
-                    written: sink.into_vec(),
-                },
-            },
-        )
+        let (outcome, sink) = by_workers(rt, alloc, table, self.workers, source, sink);
+        Ok(Ended {
+            outcome,
+            written: sink.into_vec(),
+        })
     }
 
     /// The frames as one piece, or byte by byte.

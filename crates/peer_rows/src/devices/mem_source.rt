@@ -1,50 +1,78 @@
 //! Pieces in order, and a fault at a call.
 
-use super::gives;
+use super::{Given, gives};
 use crate::cuts;
 use lsp_frames::{IoFault, MemSource};
-use std::alloc::{AllocError, Global};
+use std::alloc::Global;
+use std::process::Abort;
 use std::test::Fail;
 
-fn source(alloc: Global, pieces: &[&[u8]], fault_at: Option<u32>) -> Result<MemSource, AllocError> {
-    Ok(MemSource::new(cuts::owned(alloc, pieces)?, fault_at))
+/// A source's pieces, the call at which it fails, how much room its calls have, and what they give.
+struct Row {
+    pieces: &'static [&'static [u8]],
+    fault_at: Option<u32>,
+    most: usize,
+    calls: &'static [Given],
 }
+
+/// The calls give what the row says.
+fn compare(rt: &impl Abort, alloc: Global, row: &Row) -> Result<(), Fail> {
+    let mut source = MemSource::new(cuts::owned(alloc, row.pieces)?, row.fault_at);
+    gives(rt, &mut source, row.most, row.calls);
+    drop(source);
+    Ok(())
+}
+
+const IN_ORDER: Row = Row {
+    pieces: &[b"", b"ab", b"", b"", b"cdefg", b""],
+    fault_at: None,
+    most: 3,
+    calls: &[
+        (Ok("ab"), 0),
+        (Ok("cde"), 0),
+        (Ok("fg"), 0),
+        (Ok(""), 0),
+        (Ok(""), 0),
+    ],
+};
 
 #[test]
 fn pieces_come_in_order_as_room_allows(rt: HostRuntime) -> Result<(), Fail> {
-    let mut source = source(rt.alloc(), &[b"", b"ab", b"", b"", b"cdefg", b""], None)?;
-    let mut room = [0; 3];
-    gives(&rt, &mut source, &mut room, Ok(b"ab"), 0);
-    gives(&rt, &mut source, &mut room, Ok(b"cde"), 0);
-    gives(&rt, &mut source, &mut room, Ok(b"fg"), 0);
-    gives(&rt, &mut source, &mut room, Ok(b""), 0);
-    gives(&rt, &mut source, &mut room, Ok(b""), 0);
-    Ok(())
+    compare(&rt, rt.alloc(), &IN_ORDER)
 }
+
+const AT_THE_SECOND: Row = Row {
+    pieces: &[b"first", b"second"],
+    fault_at: Some(2),
+    most: 16,
+    calls: &[(Ok("first"), 0), (Err(IoFault), 1), (Err(IoFault), 2)],
+};
 
 #[test]
 fn a_fault_at_the_second_call_and_all_later(rt: HostRuntime) -> Result<(), Fail> {
-    let mut source = source(rt.alloc(), &[b"first", b"second"], Some(2))?;
-    let mut room = [0; 16];
-    gives(&rt, &mut source, &mut room, Ok(b"first"), 0);
-    gives(&rt, &mut source, &mut room, Err(IoFault), 1);
-    gives(&rt, &mut source, &mut room, Err(IoFault), 2);
-    Ok(())
+    compare(&rt, rt.alloc(), &AT_THE_SECOND)
 }
+
+const AT_THE_FIRST: Row = Row {
+    pieces: &[b"first"],
+    fault_at: Some(1),
+    most: 16,
+    calls: &[(Err(IoFault), 1)],
+};
 
 #[test]
 fn a_fault_at_the_first_call(rt: HostRuntime) -> Result<(), Fail> {
-    let mut first = source(rt.alloc(), &[b"first"], Some(1))?;
-    gives(&rt, &mut first, &mut [0; 16], Err(IoFault), 1);
-    Ok(())
+    compare(&rt, rt.alloc(), &AT_THE_FIRST)
 }
+
+const BEHIND_THE_END: Row = Row {
+    pieces: &[b"first"],
+    fault_at: Some(3),
+    most: 16,
+    calls: &[(Ok("first"), 0), (Ok(""), 0), (Err(IoFault), 1)],
+};
 
 #[test]
 fn a_fault_behind_the_end(rt: HostRuntime) -> Result<(), Fail> {
-    let mut last = source(rt.alloc(), &[b"first"], Some(3))?;
-    let mut room = [0; 16];
-    gives(&rt, &mut last, &mut room, Ok(b"first"), 0);
-    gives(&rt, &mut last, &mut room, Ok(b""), 0);
-    gives(&rt, &mut last, &mut room, Err(IoFault), 1);
-    Ok(())
+    compare(&rt, rt.alloc(), &BEHIND_THE_END)
 }

@@ -1,6 +1,6 @@
 //! Readers and writers that fail, and that fail for a while.
 
-use super::{flushes, gives, takes, takes_all};
+use super::{Call, Taken, gives, takes};
 use lsp_frames::{IoFault, PutFault, StdSink, StdSource};
 use std::io::{self, Read, Write};
 use std::test::Fail;
@@ -28,19 +28,19 @@ fn an_interrupted_read_is_a_failure(rt: HostRuntime) {
         bytes: b"abc",
         calls: 0,
     });
-    let mut room = [0; 2];
-    gives(&rt, &mut source, &mut room, Err(IoFault), 1);
-    gives(&rt, &mut source, &mut room, Ok(b"ab"), 1);
-    gives(&rt, &mut source, &mut room, Err(IoFault), 2);
+    let calls = &[(Err(IoFault), 1), (Ok("ab"), 1), (Err(IoFault), 2)];
+    gives(&rt, &mut source, 2, calls);
 }
 
 #[test]
 fn a_slice_is_a_source_of_its_bytes(rt: HostRuntime) {
     let mut source = StdSource::new(b"abc".as_slice());
-    let mut room = [0; 2];
-    gives(&rt, &mut source, &mut room, Ok(b"ab"), 0);
-    gives(&rt, &mut source, &mut room, Ok(b"c"), 0);
-    gives(&rt, &mut source, &mut room, Ok(b""), 0);
+    gives(
+        &rt,
+        &mut source,
+        2,
+        &[(Ok("ab"), 0), (Ok("c"), 0), (Ok(""), 0)],
+    );
 }
 
 /// Takes two bytes, then none, then fails; and counts its flushes, of which the second fails.
@@ -69,6 +69,13 @@ impl Write for Faint {
     }
 }
 
+const FAINT: &[Taken] = &[
+    (Call::PutAll("abc", Err(PutFault { taken: 2 })), 1),
+    (Call::Put("c", Err(IoFault)), 2),
+    (Call::Flush(Ok(())), 2),
+    (Call::Flush(Err(IoFault)), 3),
+];
+
 #[test]
 fn a_write_of_no_bytes_and_an_interrupted_one_are_failures(rt: HostRuntime) {
     let mut writer = Faint {
@@ -76,18 +83,16 @@ fn a_write_of_no_bytes_and_an_interrupted_one_are_failures(rt: HostRuntime) {
         flushes: 0,
     };
     let mut sink = StdSink::new(&mut writer);
-    takes_all(&rt, &mut sink, b"abc", Err(PutFault { taken: 2 }), 1);
-    takes(&rt, &mut sink, b"c", Err(IoFault), 2);
-    flushes(&rt, &mut sink, Ok(()), 2);
-    flushes(&rt, &mut sink, Err(IoFault), 3);
+    takes(&rt, &mut sink, FAINT);
     assert!(rt; writer.writes == 3 && writer.flushes == 2);
 }
+
+const WHOLE: &[Taken] = &[(Call::PutAll("abc", Ok(())), 0), (Call::Flush(Ok(())), 0)];
 
 #[test]
 fn a_vector_takes_the_bytes(rt: HostRuntime) {
     let mut bytes = Vec::new(rt.alloc());
     let mut sink = StdSink::new(&mut bytes);
-    takes_all(&rt, &mut sink, b"abc", Ok(()), 0);
-    flushes(&rt, &mut sink, Ok(()), 0);
+    takes(&rt, &mut sink, WHOLE);
     assert!(rt; bytes.as_slice() == b"abc".as_slice());
 }

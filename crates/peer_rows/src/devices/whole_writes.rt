@@ -2,22 +2,27 @@
 
 ghost use Rattle.std.specs.Prelude.{◌≤◌, length};
 
-use super::{flushes, takes, takes_all};
+use super::{Call, Taken, takes};
+use crate::cuts;
 use lsp_frames::{IoFault, MemSink, PutFault, Sink};
 use std::alloc::Global;
 use std::process::Abort;
 
-const FRAME: &[u8] =
-    b"Content-Length: 77\r\n\r\n{\"error\":{\"code\":-32601,\"message\":\"Method not found\"},\"id\":1,\"jsonrpc\":\"2.0\"}";
+const FRAME: &str =
+    "Content-Length: 77\r\n\r\n{\"error\":{\"code\":-32601,\"message\":\"Method not found\"},\"id\":1,\"jsonrpc\":\"2.0\"}";
+
+const TWO_WRITES: &[Taken] = &[
+    (Call::PutAll(FRAME, Ok(())), 0),
+    (Call::PutAll("[]", Ok(())), 0),
+];
 
 /// Two writes into a sink of short puts, and what it then holds.
 fn goes_through(rt: &impl Abort, alloc: Global, most: u32)
     requires { 1 ≤ most }
 {
     let mut sink = MemSink::short(alloc, None, most);
-    takes_all(rt, &mut sink, FRAME, Ok(()), 0);
-    takes_all(rt, &mut sink, b"[]", Ok(()), 0);
-    assert!(rt; sink.bytes().strip_prefix(FRAME) == Some(b"[]".as_slice()));
+    takes(rt, &mut sink, TWO_WRITES);
+    assert!(rt; cuts::is_made_of(sink.bytes(), &[FRAME, "[]"]));
 }
 
 #[test]
@@ -27,25 +32,35 @@ fn all_bytes_come_through_short_writes(rt: HostRuntime) {
     goes_through(&rt, rt.alloc(), 7);
 }
 
+const SHORT_PUTS: &[Taken] = &[
+    (Call::Put(FRAME, Ok(7)), 0),
+    (Call::Put(FRAME, Ok(2)), 0),
+    (Call::Put(FRAME, Err(IoFault)), 1),
+    (Call::Flush(Ok(())), 1),
+];
+
 #[test]
 fn a_put_takes_no_more_than_its_most(rt: HostRuntime) {
     let mut sink = MemSink::short(rt.alloc(), Some(9), 7);
-    takes(&rt, &mut sink, FRAME, Ok(7), 0);
-    takes(&rt, &mut sink, FRAME, Ok(2), 0);
-    takes(&rt, &mut sink, FRAME, Err(IoFault), 1);
-    flushes(&rt, &mut sink, Ok(()), 1);
+    takes(&rt, &mut sink, SHORT_PUTS);
     assert!(rt; sink.bytes() == b"ContentCo".as_slice());
 }
+
+const STOPS: &[Taken] = &[(Call::PutAll(FRAME, Err(PutFault { taken: 30 })), 1)];
+
+const HAS_STOPPED: &[Taken] = &[
+    (Call::PutAll(FRAME, Err(PutFault { taken: 0 })), 2),
+    (Call::PutAll("", Ok(())), 2),
+];
 
 /// Writes into a sink of short puts that stops after 30 bytes.
 fn stops_after_thirty(rt: &impl Abort, alloc: Global, most: u32)
     requires { 1 ≤ most }
 {
     let mut sink = MemSink::short(alloc, Some(30), most);
-    takes_all(rt, &mut sink, FRAME, Err(PutFault { taken: 30 }), 1);
+    takes(rt, &mut sink, STOPS);
     assert!(rt; sink.bytes() == b"Content-Length: 77\r\n\r\n{\"error\"".as_slice());
-    takes_all(rt, &mut sink, FRAME, Err(PutFault { taken: 0 }), 2);
-    takes_all(rt, &mut sink, b"", Ok(()), 2);
+    takes(rt, &mut sink, HAS_STOPPED);
 }
 
 #[test]
@@ -57,11 +72,13 @@ fn a_sink_stops_after_thirty_bytes(rt: HostRuntime) {
     stops_after_thirty(&rt, rt.alloc(), 1000);
 }
 
+const ALL: &[Taken] = &[(Call::PutAll(FRAME, Ok(())), 0)];
+
 #[test]
 fn a_sink_that_stops_behind_the_last_byte_takes_all(rt: HostRuntime) {
     let mut sink = MemSink::new(rt.alloc(), Some(99));
-    takes_all(&rt, &mut sink, FRAME, Ok(()), 0);
-    assert!(rt; sink.into_vec().as_slice() == FRAME);
+    takes(&rt, &mut sink, ALL);
+    assert!(rt; sink.into_vec().as_slice() == FRAME.as_bytes());
 }
 
 /// A put into a sink that has held so much and failed so often. Where it fails, the sink holds what it held.
@@ -84,10 +101,10 @@ fn takes_or_keeps(rt: &impl Abort, sink: &mut MemSink, rest: &[u8])
 fn a_refused_growth_is_a_failure_of_the_sink(rt: HostRuntime) {
     let mut sink = MemSink::short(rt.alloc(), None, 40);
     for _ in 0..4 {
-        match FRAME.get(sink.bytes().len()..) {
+        match FRAME.as_bytes().get(sink.bytes().len()..) {
             Some(rest) if !rest.is_empty() => takes_or_keeps(&rt, &mut sink, rest),
             _ => break,
         }
     }
-    assert!(rt; sink.bytes() == FRAME);
+    assert!(rt; sink.bytes() == FRAME.as_bytes());
 }

@@ -1,5 +1,7 @@
 //! Pieces that are refused for memory.
+use crate::told::holds_at;
 use lsp_frames::{Decoder, End, FeedFault, Frame, FrameFault, LARGEST_CONTENT};
+use std::alloc::{AllocGlobal, Global};
 use std::process::Abort;
 
 const CONTENTS: &[&[u8]] = &[b"[]", br#"{"jsonrpc":"2.0","method":"nope","id":1}"#, b"1"];
@@ -9,20 +11,22 @@ const STREAM: &[u8] =
 
 const SIZES: &[usize] = &[1, 7, 30, 200];
 
+/// Whether the stream in pieces of this size, which may be fed again, gives its contents up to its bad head.
+fn is_taken_in_pieces(rt: &impl Abort, alloc: Global, size: usize) -> bool {
+    let mut decoder = Decoder::new(alloc, LARGEST_CONTENT);
+    let mut seen = 0;
+    for piece in STREAM.chunks(size.max(1)) {
+        seen = fed_until_taken(rt, &mut decoder, piece, seen);
+    }
+    seen == 3 && decoder.end() == End::Fault(FrameFault::BadHead)
+}
+
 /// A piece that was refused for memory is fed again. `bin/test` runs this test with each request for memory refused in turn.
 #[test]
 fn a_piece_is_taken_again_after_memory(rt: HostRuntime) {
     for size in SIZES {
-        let mut decoder = Decoder::new(rt.alloc(), LARGEST_CONTENT);
-        let mut seen = 0;
-        for piece in STREAM.chunks((*size).max(1)) {
-            seen = fed_until_taken(&rt, &mut decoder, piece, seen);
-        }
-        assert!(rt; seen == 3, "in pieces of {size}");
-        assert!(rt;
-            decoder.end() == End::Fault(FrameFault::BadHead),
-            "in pieces of {size}"
-        );
+        let is_taken = is_taken_in_pieces(&rt, rt.alloc(), *size);
+        holds_at(&rt, is_taken, "in pieces of", *size as u64);
     }
 }
 

@@ -1,6 +1,7 @@
 //! Sinks that take few bytes at once, and sinks that stop.
 
 use super::{METHODS, framed, table, whole};
+use crate::told::holds_at;
 use lsp_frames::MemSink;
 use method_steps::Table;
 use peer_limits::Limits;
@@ -42,15 +43,16 @@ impl Played<'_> {
             schedule,
             sink,
         ) {
-            Ok((_, sink)) => end == Ok(()) && sink.bytes() == wanted,
-            Err((fault, sink)) => end == Err(fault) && sink.bytes() == wanted,
+            Ok((_, sink)) => holds_bytes(sink, wanted) && end == Ok(()),
+            Err((fault, sink)) => holds_bytes(sink, wanted) && end == Err(fault),
         }
     }
 
     fn fills_short_sinks(&self, rt: &impl Abort, alloc: Global, wanted: &[u8]) {
         for most in [1, 2, 7] {
             let sink = MemSink::short(alloc, None, most);
-            assert!(rt; self.fills(alloc, sink, wanted, Ok(())), "{most} at once");
+            let is_filled = self.fills(alloc, sink, wanted, Ok(()));
+            holds_at(rt, is_filled, "at once at most", u64::from(most));
         }
     }
 
@@ -59,25 +61,40 @@ impl Played<'_> {
             let sink = MemSink::new(alloc, Some(stop as u64));
             let front = &wanted[..stop];
             let is_filled = self.fills(alloc, sink, front, Err(DrainFault::Write));
-            assert!(rt; is_filled, "after {stop} bytes");
+            holds_at(rt, is_filled, "stopped at byte", stop as u64);
         }
+    }
+
+    fn fills_a_sink_that_stops_behind_all(&self, rt: &impl Abort, alloc: Global, wanted: &[u8]) {
         assert!(rt; wanted.len() == 144);
         let sink = MemSink::new(alloc, Some(144));
-        assert!(rt; self.fills(alloc, sink, wanted, Ok(())));
+        let is_filled = self.fills(alloc, sink, wanted, Ok(()));
+        holds_at(rt, is_filled, "stopped at byte", 144);
     }
+}
+
+/// Whether a sink holds these bytes. It is dropped.
+fn holds_bytes(sink: MemSink, wanted: &[u8]) -> bool {
+    let holds = sink.bytes() == wanted;
+    drop(sink);
+    holds
 }
 
 fn each_is_filled(rt: &impl Abort, alloc: Global, played: &Played<'_>) -> Result<(), AllocError> {
     let wanted = framed(alloc, ROW, "> ")?;
     played.fills_short_sinks(rt, alloc, wanted.as_slice());
     played.fills_sinks_that_stop(rt, alloc, wanted.as_slice());
+    played.fills_a_sink_that_stops_behind_all(rt, alloc, wanted.as_slice());
+    drop(wanted);
     Ok(())
 }
 
 /// Plays the row to each sink by an eager peer.
 fn played_eagerly(rt: &impl Abort, alloc: Global, table: &Table) -> Result<(), AllocError> {
     let input = framed(alloc, ROW, "< ")?;
-    let pieces = whole(alloc, input.as_slice())?;
+    let pieces = whole(alloc, input.as_slice());
+    drop(input);
+    let pieces = pieces?;
     let schedule = Schedule {
         lazy: false,
         picks: Picks::First,
@@ -87,7 +104,9 @@ fn played_eagerly(rt: &impl Abort, alloc: Global, table: &Table) -> Result<(), A
         schedule: &schedule,
         pieces: pieces.as_slice(),
     };
-    each_is_filled(rt, alloc, &played)
+    let filled = each_is_filled(rt, alloc, &played);
+    drop(pieces);
+    filled
 }
 
 #[test]

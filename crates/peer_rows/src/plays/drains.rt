@@ -1,6 +1,7 @@
 //! What a drain hands on: the sink of a session is flushed once where a drain has written something, and else not.
 
 use super::{METHODS, frame, table};
+use crate::told::holds;
 use lsp_frames::StdSink;
 use method_steps::Table;
 use peer_limits::Limits;
@@ -74,10 +75,8 @@ fn each_is_drained(
     };
     for (content, bytes, flushes) in DRAINS {
         take(alloc, session, content)?;
-        assert!(rt;
-            is_drained(session, &mut counter, *bytes, *flushes),
-            "{content}"
-        );
+        let is_drained = is_drained(session, &mut counter, *bytes, *flushes);
+        holds(rt, is_drained, content);
     }
     assert!(rt; is_drained(session, &mut counter, 279, 2));
     Ok(())

@@ -2,6 +2,7 @@
 
 use super::{METHODS, framed, played, played_whole, table};
 use crate::cuts;
+use crate::told::holds;
 use lsp_frames::FrameFault;
 use method_steps::Table;
 use peer_limits::{Close, Limits};
@@ -81,7 +82,7 @@ fn is_played(alloc: Global, table: &Table, row: &Row) -> Result<bool, Fail> {
 
 fn each_is_played(rt: &impl Abort, alloc: Global, table: &Table) -> Result<(), Fail> {
     for row in ROWS {
-        assert!(rt; is_played(alloc, table, row)?, "{}", row.before);
+        holds(rt, is_played(alloc, table, row)?, row.before);
     }
     Ok(())
 }

@@ -2,6 +2,7 @@
 
 use super::{ASK, CONFIRM, CONFIRMED, Given, METHODS, NO_REPLY, NOT_FOUND, REPLY, UNKNOWN};
 use crate::cuts;
+use crate::told::{holds, holds_at};
 use peer_limits::Close;
 use peer_server::ServeFault;
 use std::alloc::{AllocGlobal, Global};
@@ -32,7 +33,8 @@ fn is_stopped<R: Threads + Wait + Sync>(rt: &R, alloc: Global, stop: usize) -> R
 fn a_sink_may_stop_at_each_byte(rt: HostRuntime) -> Result<(), Fail> {
     assert!(rt; CONFIRM.len() + CONFIRMED.len() == 144);
     for stop in 0..=144 {
-        assert!(rt; is_stopped(&rt, rt.alloc(), stop)?, "after {stop} bytes");
+        let is_stopped = is_stopped(&rt, rt.alloc(), stop)?;
+        holds_at(&rt, is_stopped, "stopped at byte", stop as u64);
     }
     Ok(())
 }
@@ -60,10 +62,8 @@ fn is_cut_off<R: Threads + Wait + Sync>(
 fn a_source_may_fail_at_each_byte(rt: HostRuntime) -> Result<(), Fail> {
     assert!(rt; ASK.len() + REPLY.len() == 140);
     for fault_at in 1..=142 {
-        assert!(rt;
-            is_cut_off(&rt, rt.alloc(), fault_at)?,
-            "at call {fault_at}"
-        );
+        let is_cut_off = is_cut_off(&rt, rt.alloc(), fault_at)?;
+        holds_at(&rt, is_cut_off, "at call", u64::from(fault_at));
     }
     Ok(())
 }
@@ -100,10 +100,8 @@ fn a_short_answer_is_cut_and_a_failed_read_is_told(rt: HostRuntime) -> Result<()
             stop: *stop,
             ..Given::whole("version = 1", 4, &[UNKNOWN])
         };
-        assert!(rt;
-            given.gives(&rt, rt.alloc(), *outcome, &[*output])?,
-            "{name}"
-        );
+        let is_given = given.gives(&rt, rt.alloc(), *outcome, &[*output])?;
+        holds(&rt, is_given, name);
     }
     Ok(())
 }

@@ -1,6 +1,7 @@
 //! Whole inputs, by few workers and by many.
 
 use super::{ASK, CONFIRM, CONFIRMED, Ended, Given, METHODS, REPLY, UNKNOWN};
+use crate::told::holds_at;
 use peer_limits::{Close, Report};
 use peer_server::ServeFault;
 use std::alloc::{AllocGlobal, Global};
@@ -44,7 +45,7 @@ fn a_server_has_from_1_to_64_workers(rt: HostRuntime) -> Result<(), Fail> {
     for workers in [0, 65, u32::MAX] {
         let given = Given::whole(METHODS, workers, &[UNKNOWN]);
         let is_refused = given.gives(&rt, rt.alloc(), Err(ServeFault::Workers), &[])?;
-        assert!(rt; is_refused, "{workers} workers");
+        holds_at(&rt, is_refused, "workers:", u64::from(workers));
     }
     Ok(())
 }
@@ -70,10 +71,8 @@ fn is_called_back<R: Threads + Wait + Sync>(
 #[test]
 fn a_call_back_is_answered_whatever_the_number_of_workers(rt: HostRuntime) -> Result<(), Fail> {
     for workers in [1, 3, 64] {
-        assert!(rt;
-            is_called_back(&rt, rt.alloc(), workers)?,
-            "{workers} workers"
-        );
+        let is_called_back = is_called_back(&rt, rt.alloc(), workers)?;
+        holds_at(&rt, is_called_back, "workers:", u64::from(workers));
     }
     Ok(())
 }
@@ -109,10 +108,8 @@ fn has_written_one_of(ended: &Ended, outputs: &[&[&str]]) -> bool {
 #[test]
 fn a_cancel_finds_its_handler_parked_or_out_or_unturned(rt: HostRuntime) -> Result<(), Fail> {
     for workers in [1, 2, 4, 64] {
-        assert!(rt;
-            is_cancelled(&rt, rt.alloc(), workers)?,
-            "{workers} workers"
-        );
+        let is_cancelled = is_cancelled(&rt, rt.alloc(), workers)?;
+        holds_at(&rt, is_cancelled, "workers:", u64::from(workers));
     }
     Ok(())
 }

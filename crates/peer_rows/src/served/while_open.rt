@@ -1,12 +1,11 @@
 //! Calls and answers go out while the input is open.
 
 use super::doubles::{Coming, CountingSink, WaitingSource};
-use super::{ASK, CONFIRM, CONFIRMED, METHODS, NOT_FOUND, REPLY, UNKNOWN};
+use super::{ASK, CONFIRM, CONFIRMED, METHODS, NOT_FOUND, REPLY, UNKNOWN, by_workers};
 use crate::cuts;
+use crate::told::holds;
 use lsp_frames::MemSink;
 use method_steps::Table;
-use peer_limits::Limits;
-use peer_server::serve;
 use std::alloc::{AllocGlobal, Global};
 use std::process::Abort;
 use std::sync::Wait;
@@ -39,7 +38,7 @@ impl Row {
         let table = crate::plays::table(alloc, self.methods)?;
         let is_written = self.is_written(rt, alloc, &table);
         drop(table);
-        assert!(rt; is_written);
+        holds(rt, is_written, "what is written");
         Ok(())
     }
 
@@ -54,10 +53,10 @@ impl Row {
             sink: MemSink::new(alloc, None),
             taken: &taken,
         };
-        match serve(rt, alloc, table, Limits::standard(), 2, source, sink) {
-            Ok((_, sink)) => cuts::is_made_of(sink.sink.bytes(), self.output),
-            Err(_) => false,
-        }
+        let (outcome, sink) = by_workers(rt, alloc, table, 2, source, sink);
+        let is_written = outcome.is_ok() && cuts::is_made_of(sink.sink.bytes(), self.output);
+        drop(sink);
+        is_written
     }
 }
 
