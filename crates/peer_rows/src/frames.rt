@@ -47,32 +47,15 @@ fn decoded(alloc: Global, limit: u32, pieces: &[&[u8]]) -> Result<(Vec<Frame>, E
 {
     let mut decoder = Decoder::new(alloc, limit);
     let mut all = Vec::new(alloc);
-    match feed_all(&mut decoder, pieces, &mut all) {
-        Ok(()) => Ok((all, decoder.end())),
-        Err(fault) => {
-            drop(all);
-            Err(fault)
-        }
-    }
-}
-
-/// Feeds the pieces, and puts what they give behind the other frames.
-fn feed_all(
-    decoder: &mut Decoder,
-    pieces: &[&[u8]],
-    all: &mut Vec<Frame>,
-) -> Result<(), AllocError> {
     for piece in pieces {
         let mut frames = match decoder.feed(piece) {
             Ok(frames) => frames,
             Err(FeedFault::Ended(_, frames)) => frames.into_vec(),
             Err(FeedFault::Memory) => return Err(AllocError),
         };
-        let appended = all.append(&mut frames);
-        drop(frames);
-        appended?;
+        all.append(&mut frames)?;
     }
-    Ok(())
+    Ok((all, decoder.end()))
 }
 
 fn are(frames: &[Frame], contents: &[(&str, bool)]) -> bool {

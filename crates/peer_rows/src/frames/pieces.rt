@@ -3,7 +3,6 @@ use super::decoded;
 use crate::told::holds_at;
 use lsp_frames::{End, Frame, LARGEST_CONTENT};
 use std::alloc::{AllocError, Global};
-use std::process::Abort;
 use std::test::Fail;
 
 /// The lengths of contents about the sizes at which a decoder may take room.
@@ -11,23 +10,15 @@ const LENGTHS: &[usize] = &[0, 1, 4_095, 4_096, 4_097, 65_536, 70_000, 100_001, 
 
 const SIZES: &[usize] = &[4_095, 4_097, 70_000];
 
-/// Puts a frame of so many letters behind the others.
-fn put_letters(alloc: Global, stream: &mut Vec<u8>, length: usize) -> Result<(), AllocError> {
-    let head = format!(in alloc; "Content-Length: {length}\r\n\r\n")?;
-    let put = stream.extend_from_slice(head.as_bytes());
-    drop(head);
-    put?;
-    for _ in 0..length {
-        stream.push(b'a')?;
-    }
-    Ok(())
-}
-
 /// A frame of each length, all letters.
 fn stream(alloc: Global) -> Result<Vec<u8>, AllocError> {
     let mut stream = Vec::new(alloc);
     for length in LENGTHS {
-        put_letters(alloc, &mut stream, *length)?;
+        let head = format!(in alloc; "Content-Length: {length}\r\n\r\n")?;
+        stream.extend_from_slice(head.as_bytes())?;
+        for _ in 0..*length {
+            stream.push(b'a')?;
+        }
     }
     Ok(stream)
 }
@@ -53,27 +44,17 @@ fn are_of_the_lengths(frames: &[Frame]) -> bool {
     true
 }
 
-/// Whether the stream in pieces of this size gives the frames, and ends cleanly.
-fn are_given(alloc: Global, stream: &[u8], size: usize) -> Result<bool, AllocError> {
-    let pieces: Vec<&[u8]> = stream.chunks(size.max(1)).collect(alloc)?;
-    let decoded = decoded(alloc, LARGEST_CONTENT, pieces.as_slice());
-    drop(pieces);
-    let (given, end) = decoded?;
-    Ok(end == End::Clean && are_of_the_lengths(given.as_slice()))
-}
-
-fn are_given_in_each_size(rt: &impl Abort, alloc: Global, stream: &[u8]) -> Result<(), AllocError> {
-    for size in SIZES {
-        let are_given = are_given(alloc, stream, *size)?;
-        holds_at(rt, are_given, "in pieces of", *size as u64);
-    }
-    Ok(())
-}
-
 #[test]
 fn large_pieces_give_the_same_frames(rt: HostRuntime) -> Result<(), Fail> {
     let stream = stream(rt.alloc())?;
-    let given = are_given_in_each_size(&rt, rt.alloc(), stream.as_slice());
-    drop(stream);
-    Ok(given?)
+    for size in SIZES {
+        let pieces: Vec<&[u8]> = stream
+            .as_slice()
+            .chunks((*size).max(1))
+            .collect(rt.alloc())?;
+        let (given, end) = decoded(rt.alloc(), LARGEST_CONTENT, pieces.as_slice())?;
+        let are_given = end == End::Clean && are_of_the_lengths(given.as_slice());
+        holds_at(&rt, are_given, "in pieces of", *size as u64);
+    }
+    Ok(())
 }
