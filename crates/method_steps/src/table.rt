@@ -1,10 +1,11 @@
 //! The table of methods.
 
 ghost use Rattle.std.specs.Prelude.{◌≡◌, ◌≢◌, ◌<◌, ◌≤◌, [], length, Ok, Err, Some, None, IfOk, IfErr, IfSome, option_map};
-ghost use Rattle.toml.specs.View.{table_view};
+ghost use Rattle.toml.specs.Data.{no_items};
+ghost use Rattle.toml.specs.View.{items_view, table_view};
 ghost use Rattle.method_steps.specs.Fault.{in_document};
-ghost use Rattle.method_steps.specs.Judged.{fault_of_document};
-ghost use Rattle.method_steps.specs.Made.{document_of, table_of, made_of};
+ghost use Rattle.method_steps.specs.Judged.{first_of, steps_fault, methods_fault, fault_of_document};
+ghost use Rattle.method_steps.specs.Made.{document_of, table_of, made_of, steps_from, methods_from};
 ghost use Rattle.method_steps.specs.Steps.{AreWithinLimits, place_of, shared_steps, steps_at, calls_at, calls_of, unless_empty};
 
 use crate::fault::{FaultKind, TableFault, in_document};
@@ -19,6 +20,7 @@ use std::alloc::Global;
 use std::collections::BTreeMap;
 use std::marker::Model;
 use std::sync::Arc;
+use toml::Value;
 
 /// A method: its name, and its steps, which handlers share.
 #[derive(Drop)]
@@ -100,6 +102,28 @@ impl Table {
         if count_of(methods) > MOST_METHODS || count_of(opening) > MOST_STEPS {
             return Err(in_document(FaultKind::Limit));
         }
+        Table::of_lists(alloc, version, opening, methods)
+    }
+
+    /// The table of an opening's steps and of methods, or their first fault.
+    fn of_lists(
+        alloc: Global,
+        version: Version,
+        opening: &[Value],
+        methods: &[Value],
+    ) -> Result<Table, TableFault>
+        requires opening { length opening.now ≤ MOST_STEPS }
+        requires methods { length methods.now ≤ MOST_METHODS }
+        ensures ok { IfOk result (λ table. (table ≡ record {
+          opening = steps_from (items_view opening.now);
+          methods = methods_from (items_view methods.now);
+        })
+            × (first_of (steps_fault version 0 no_items (items_view opening.now))
+            (methods_fault version no_items (items_view methods.now)) ≡ None)) }
+        ensures refused { IfErr result (λ fault. fault ≢ in_document FaultKind.Memory
+            → first_of (steps_fault version 0 no_items (items_view opening.now))
+            (methods_fault version no_items (items_view methods.now)) ≡ Some fault) }
+    {
         let opening = opening_of(alloc, version, opening)?;
         let methods = methods_of(alloc, version, methods)?;
         let places = places_of(alloc, &methods)?;

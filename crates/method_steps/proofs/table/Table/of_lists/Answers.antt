@@ -5,28 +5,26 @@ use Rattle.toml.specs.View.{items_view}
 use Rattle.method_steps.specs.Inner.Methods.{named_steps}
 use Rattle.method_steps.specs.Limits.{items_len}
 use Rattle.method_steps.specs.Made.{steps_from, methods_from}
+use Rattle.method_steps.proofs.ItemsLaws.{items_len-view}
 use Rattle.method_steps.proofs.Opening.{opening_of_steps}
 use Rattle.method_steps.proofs.Within.{list_within, methods_within, length-methods_from}
-use Rattle.method_steps.proofs.table.Table.of_document.Goals as goal
+use Rattle.method_steps.proofs.table.Table.of_lists.Goals as goal
 
 pub places_of-requires : goal.places_of-requires
 places_of-requires c =
     let ms = c.in_ok-methods.methods.items in
-    let ds = items_view c.in-Some-Some.methods.now in
-    let number = c.count_of.ensures.number in
-    let few : items_len ds ≤ 256 = omega (arith, number) in
+    let ds = items_view c.args.methods.now in
+    let few : items_len ds ≤ 256 = omega (arith, c.requires.methods, items_len-view c.args.methods.now) in
     let kept : length ms ≤ 256 = omega (arith, few, ap length c.in_ok-methods.ensures.ok.0, length-map ms named_steps, length-methods_from ds) in
     rw c.deref.ensures.value kept
 
 pub invariant_of-result : goal.invariant_of-result
 invariant_of-result c =
     let ms = c.in_ok-methods.methods.items in
-    let ds = items_view c.in-Some-Some.methods.now in
-    let os = items_view c.in-Some-Some.opening.now in
-    let number = c.count_of.ensures.number in
-    let steps = c.count_of-else-count_of-gt-MOST_METHODS.ensures.number in
-    let few : items_len ds ≤ 256 = omega (arith, number) in
-    let short : items_len os ≤ 64 = omega (arith, steps) in
+    let ds = items_view c.args.methods.now in
+    let os = items_view c.args.opening.now in
+    let few : items_len ds ≤ 256 = omega (arith, c.requires.methods, items_len-view c.args.methods.now) in
+    let short : items_len os ≤ 64 = omega (arith, c.requires.opening, items_len-view c.args.opening.now) in
     let made : map named_steps ms ≡ methods_from ds = c.in_ok-methods.ensures.ok.0 in (
       record {
         few = omega (arith, few, ap length made, length-map ms named_steps, length-methods_from ds);
