@@ -2,9 +2,9 @@
 """Has the prover refuse each wrong body of crates/*/wrong-bodies, many in one check, and accept the right ones.
 
 A wrong body is a change of a function's text after which a promise no longer holds, so the check must refuse that function. The
-wrong bodies of different functions are tried at once, in rounds, in copies of the crate over what its proof kept: each changed
-function must fall for a reason of its own, and every other is proved, or falls only because it calls one of those. What hurts more
-than that is tried singly. Control: that proof is one of the crate with its right bodies, which are written differently, and with a
+wrong bodies of different functions are tried at once, in rounds, in copies of the crate over what its proof kept. A round looks at the
+functions that it changes and at what these call: each changed function must fall for a reason of its own, and every other is proved,
+or falls only because it calls one of those. What hurts more than that is tried singly, and what isn't refused on the whole crate. Control: that proof is one of the crate with its right bodies, which are written differently, and with a
 comment in each other function that has bodies. Beside a gate (--gate) it stands on what the gate has proved and kept.
 
 For each wrong body a line says how it was refused: by which clauses or goals, or only because an answer by hand no longer fits

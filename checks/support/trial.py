@@ -107,6 +107,7 @@ class Trial:
         self.crates = {it.name: it for it in crates}
         self.trees, self.jobs, self.logs = trees, jobs, logs
         self.unproved = list(trees.needed)
+        self.whole: set[str] = set()  # the crates whose modules with bodies can't be proved alone
         self.waiting: list[Turn] = []
         self.running: dict["Future[Ran]", tuple[int, Callable[[Ran], None]]] = {}
         self.seconds = 0.0
@@ -138,9 +139,9 @@ class Trial:
                 # (several jobs take more of the processors, for which a gate beside has work)
                 jobs = 1 if self.trees.gate else max(1, self.idle() // (len(ready) - at))
                 self.unproved.remove(name)
-                modules = self.crates[name].modules if name in self.crates else []
+                modules = self.modules_of(name)
                 future = pool.submit(self.trees.prove, name, jobs, modules)
-                self.running[future] = jobs, partial(self.after_proof, name)
+                self.running[future] = jobs, partial(self.after_proof, name, modules)
         self.waiting.sort(key=lambda it: it.cost * self.trees.lines[it.crate.name], reverse=True)
         # (as long as proofs are to come that others wait for, they find a processor free)
         kept_free = 1 if self.unproved and self.jobs > 1 and not self.trees.gate else 0
@@ -151,6 +152,11 @@ class Trial:
             future = pool.submit(self.trees.check, turn.crate.name, self.texts(turn), jobs, turn.only)
             self.running[future] = jobs, partial(self.after_turn, turn)
         return bool(self.running)
+
+    def modules_of(self, name: str) -> list[str]:
+        """The modules that are enough of a crate's proof: all, where the gate doesn't prove the rest or has kept its proof."""
+        is_enough = self.trees.gate and name in self.crates and name not in self.whole and not self.trees.has_kept_edits(name)
+        return self.crates[name].modules if is_enough else []
 
     def lose(self, name: str, why: str) -> None:
         if name in self.crates:
@@ -163,9 +169,15 @@ class Trial:
             with open(f"{self.logs}/{label}.log", "w", encoding="utf-8") as it:
                 it.write(ran.output)
 
-    def after_proof(self, name: str, ran: Ran) -> None:
+    def after_proof(self, name: str, modules: list[str], ran: Ran) -> None:
         """Once a crate is proved, with its right bodies and comments, its rounds come."""
         crate = self.crates.get(name)
+        if crate and modules and (ran.status or no_line(crate, read_output(ran.output))):
+            # (then its whole proof decides)
+            self.log(f"{name}-modules", ran, f"not proved in {', '.join(modules)} alone")
+            self.whole.add(name)
+            self.unproved.append(name)
+            return
         what = f", with {len(crate.right)} right bodies and comments" if crate else ""
         self.log(f"{name}-proof", ran, f"{'NOT proved' if ran.status else 'proved'}{what}")
         if crate:
