@@ -5,7 +5,8 @@ A wrong body is a change of a function's text after which a promise no longer ho
 wrong bodies of different functions are tried at once, in rounds, in copies of the crate over what its proof kept. A round looks at the
 functions that it changes and at what these call: each changed function must fall for a reason of its own, and every other is proved,
 or falls only because it calls one of those. What hurts more than that is tried singly, and what isn't refused on the whole crate. Control: that proof is one of the crate with its right bodies, which are written differently, and with a
-comment in each other function that has bodies. Beside a gate (--gate) it stands on what the gate has proved and kept.
+comment in each other function that has bodies. Beside a gate (--gate) it stands on what the gate has proved and kept. What became of a
+crate's bodies is kept on this machine: they are tried again once a file changes on which that rests, or with --anew.
 
 For each wrong body a line says how it was refused: by which clauses or goals, or only because an answer by hand no longer fits
 (which says less: a right body could be refused so too). One that is proved is a failure, and so is one that doesn't compile, whose
@@ -22,6 +23,7 @@ import time
 import traceback
 
 from support.bodies import Body, Sources, read_bodies
+from support.kept import Kept
 from support.ran import TOP
 from support.trees import Trees, crates_in, stop_all
 from support.trial import Crate, Trial, say
@@ -33,6 +35,7 @@ def arguments() -> argparse.Namespace:
     parser.add_argument("names", nargs="*", metavar="NAME", help="a crate, a body, or CRATE/BODY; none: all bodies of all crates")
     parser.add_argument("--stands", action="store_true", help="only look whether each old text stands once, in the function that is named, and whether docs/proofs.md names bodies that there are; proves nothing")
     parser.add_argument("--kept", action="store_true", help="use what is kept in crates/*/out where the crate is proved there, and prove the others")
+    parser.add_argument("--anew", action="store_true", help="try all, also where an earlier run on this machine tried the same files")
     parser.add_argument("--gate", default="", metavar="FOLDER", help="take libraries and kept work from a gate that runs beside, as it hands them on there (bin/test does so)")
     parser.add_argument("--jobs", type=int, metavar="N", default=default_jobs(), help="checks side by side (default: %(default)s), each with up to 2.5 GB")
     parser.add_argument("--minutes", type=float, metavar="M", default=120, help="the most that one check may take (default: %(default)s)")
@@ -104,6 +107,8 @@ def report(crates: list[Crate], problems: list[str], names: list[str]) -> tuple[
 def summary(crates: list[Crate], seconds: float, wall: float) -> None:
     """How many were refused and how, by crate, and what it took."""
     for crate in crates:
+        if crate.is_kept:
+            say(f"== {crate.name}: kept: an earlier run on this machine tried the same bodies of the same files")
         wrong = [it for it in crate.judged if not it.body.is_right]
         counts = {word: sum(it.word == word and it.is_well for it in wrong) for word in ("refused", "by hand answer")}
         right = sum(it.is_well for it in crate.judged if it.body.is_right)
@@ -144,6 +149,19 @@ def look(crates: list[Crate], problems: list[str]) -> int:
     return 1 if failed else 0
 
 
+def attempt_anew(crates: list[Crate], given: argparse.Namespace) -> float:
+    """Tries the bodies of those crates of which no earlier run knows all; gives the processor seconds that it took."""
+    kept = Kept(TOP)
+    whole = [it for it in crates if len(it.bodies) == len(read_bodies(it.sources)[0])]
+    known = [it for it in whole if kept.take(it, given.anew)]
+    left = [it for it in crates if it not in known]
+    seconds = attempt(left, given) if left else 0.0
+    for it in whole:
+        kept.keep(it)
+    kept.shrink()
+    return seconds
+
+
 def attempt(crates: list[Crate], given: argparse.Namespace) -> float:
     """Tries the crates' bodies in a folder of this run; gives the processor seconds that it took."""
     with tempfile.TemporaryDirectory(prefix="wrong-bodies-") as folder:
@@ -167,7 +185,7 @@ def main() -> int:
     if not shutil.which("rt"):
         problems, crates = ["the command rt of the Rattle kit isn't on the PATH"], []
     if crates:
-        seconds = attempt(crates, given)
+        seconds = attempt_anew(crates, given)
     passed, failed = report(crates, problems, given.names)
     summary(crates, seconds, time.monotonic() - began)
     say(f"{passed} passed, {failed} failed")

@@ -1,66 +1,24 @@
 """Proves the crates that the program stands on, side by side where they don't stand on each other, and builds the program.
 
-Each crate is proved in a folder of its own, with copies of exactly the files that the stamp covers and the libraries below it as they
-were built: two runs of rt in one folder would wait for one another. What is kept from earlier checks under crates/*/out is taken up,
-unless everything is to be proved anew."""
+The gate's own command does it, `rt ci`, in a copy of exactly the files that the stamp covers: so there are no tests and no must-fail
+edits to try. What it proves it keeps on this machine beside the kit, by the sums of all that was read, and takes from there what it has
+proved of the same files before, unless everything is to be proved anew."""
 import os
 import re
 import shutil
 import subprocess
 import tempfile
+import threading
 import time
 
 from tools import sources
-from tools.machine import free_memory, processors
 from tools.repository import TOP, Fault, listing, read_text
+from tools.watching import checks_below
 
-# How many processors one check can use, and after how many seconds each line of progress comes.
-MOST_JOBS, EACH = 4, 15
-# The memory that a check takes, and what each further job of it takes more.
-FIRST_JOB, FURTHER_JOB = 2_500_000_000, 1_000_000_000
-# What a check costs however small its crate is, in lines; and a line of a proof costs as much as a tenth of one of the code.
-FIXED_LINES, PROOF_LINES = 400, 10
-# A crate that can come later by this part of the longest way holds up nothing: it takes one processor, and stands back.
-SPARE, NICE = 1 / 5, 10
-
-
-class Run:
-    """One crate's proof and build under way, and what it has told so far."""
-
-    def __init__(self, name, room):
-        self.name, self.room = name, f"{room}/{name}"
-        self.folder, self.log = f"{self.room}/crates/{name}", f"{room}/{name}.log"
-        self.process, self.jobs, self.estimate, self.cost, self.spare = None, 0, 0, 0, 0.0
-
-    def start(self, jobs):
-        words = ["run", "--jobs", str(jobs), "--", "--version"] if self.name == sources.PROGRAM else ["lib", "--jobs", str(jobs)]
-        later = ["nice", "-n", str(NICE)] if self.can_wait() else []
-        self.jobs = jobs
-        with open(self.log, "wb") as log:
-            how = {"stdin": subprocess.DEVNULL, "stdout": log, "stderr": subprocess.STDOUT}
-            self.process = subprocess.Popen([*later, "rt", *words], cwd=self.folder, **how)
-
-    def can_wait(self):
-        return self.spare > SPARE
-
-    def told(self):
-        return read_text(self.log) if os.path.isfile(self.log) else ""
-
-    def progress(self):
-        """How many functions are proved, of how many: as its check tells, or before that as many as its sources seem to have."""
-        told = self.told()
-        proved = len(re.findall(r"^fn \S+: proved", told, re.M))
-        if self.has_ended():
-            return proved, proved
-        checked = re.findall(r"^so far: (\d+) of (\d+) functions", told, re.M)
-        done, functions = map(int, checked[-1]) if checked else (0, self.estimate)
-        return max(done, proved), max(functions, proved)
-
-    def is_running(self):
-        return self.process is not None and self.process.poll() is None
-
-    def has_ended(self):
-        return self.process is not None and self.process.poll() is not None
+# After how many seconds each line of progress comes.
+EACH = 15
+# What the program is given and has to write where the gate runs it.
+RUN_BY = ("args", "stdin", "stdout", "status")
 
 
 def estimate(files):
@@ -70,121 +28,87 @@ def estimate(files):
     return sum(len(re.findall(r"\bfn \w+", it)) for it in texts) + sum(len(it.split(",")) for it in derived)
 
 
-def cost(files):
-    """What a check of these files costs, in lines."""
-    lines = lambda ending: sum(read_text(it).count("\n") for it in files if it.endswith(ending))
-    return FIXED_LINES + lines(".rt") + lines(".antt") // PROOF_LINES
+def lay_out(room):
+    """Copies what the program is built from, and gives how many functions each crate seems to have."""
+    listed, functions = listing(), {}
+    with open(f"{room}/crates.txt", "w", encoding="utf-8") as it:
+        it.writelines(f"{listed.lines[name]}\n" for name in sources.crates())
+    shutil.copyfile(f"{TOP}/HANDLES", f"{room}/HANDLES")
+    for name in sources.crates():
+        files = sources.files_of(f"{TOP}/crates/{name}")
+        functions[name] = estimate(files)
+        for file in [*files, *(f"{TOP}/crates/{name}/{it}" for it in RUN_BY)]:
+            if os.path.isfile(file):
+                to = f"{room}/{os.path.relpath(file, TOP)}"
+                os.makedirs(os.path.dirname(to), exist_ok=True)
+                shutil.copyfile(file, to)
+    return functions
 
 
-def copy(run, crates, lines, is_anew):
-    """Lays out the folder in which a crate is proved: its files, those of the crates below it, and what earlier checks kept."""
-    os.makedirs(run.room)
-    with open(f"{run.room}/crates.txt", "w", encoding="utf-8") as it:
-        it.write("".join(f"{lines[name]}\n" for name in crates))
-    shutil.copyfile(f"{TOP}/HANDLES", f"{run.room}/HANDLES")
-    for name in crates:
-        for file in sources.files_of(f"{TOP}/crates/{name}"):
-            to = f"{run.room}/{os.path.relpath(file, TOP)}"
-            os.makedirs(os.path.dirname(to), exist_ok=True)
-            shutil.copyfile(file, to)
-    files = sources.files_of(f"{TOP}/crates/{run.name}")
-    run.estimate, run.cost = estimate(files), cost(files)
-    kept = f"{TOP}/crates/{run.name}/out/incremental"
-    if os.path.isdir(kept) and not is_anew:
-        shutil.copytree(kept, f"{run.folder}/out/incremental")
+class Progress:
+    """How many functions are proved, of how many, by what the gate prints: of each crate once it's done."""
+
+    def __init__(self, functions):
+        self.functions, self.proved, self.crate, self.begun = functions, {}, "", time.monotonic()
+
+    def heard(self, line):
+        if told := re.match(r"== (\w+)$", line):
+            self.crate = told[1]
+            self.proved[self.crate] = 0
+        elif re.match(r"fn \S+: proved", line) and self.crate:
+            self.proved[self.crate] += 1
+            self.functions[self.crate] = max(self.functions[self.crate], self.proved[self.crate])
+        elif told := re.match(r"rt: (\w+) proved$", line):
+            self.functions[told[1]] = self.proved.get(told[1], 0)
+        elif told := re.match(r"rt: (\w+) is kept:", line):
+            self.proved[told[1]] = self.functions[told[1]]
+
+    def told(self, at_work):
+        proved, minutes = sum(self.proved.values()), (time.monotonic() - self.begun) / 60
+        text = f"{proved} of some {sum(self.functions.values())} functions proved, {minutes:.1f} minutes so far"
+        return f"{text}; at work: {', '.join(at_work)}" if at_work else text
 
 
-def pass_on(run, runs):
-    """Gives the library that a run built to the folders of the crates above it, as links, since nobody writes into it again."""
-    for it in runs:
-        above = f"{it.room}/crates/{run.name}"
-        if it is not run and os.path.isdir(above):
-            shutil.copytree(f"{run.folder}/out/rlib", f"{above}/out/rlib", copy_function=os.link)
-    shutil.rmtree(f"{run.folder}/out/incremental", ignore_errors=True)
+def prove(room, is_anew, functions, say):
+    """Runs the gate there, telling how far it is; gives whether all is well, and what it said."""
+    progress, lines, is_over = Progress(functions), [], threading.Event()
 
+    def tell():
+        while not is_over.wait(EACH):
+            say(progress.told(sorted({words[words.index("--crate-name") + 1] for words, _ in checks_below(process.pid)})))
 
-def progress(runs, begun):
-    proved, functions = map(sum, zip(*(it.progress() for it in runs)))
-    at_work = ", ".join(it.name for it in runs if it.is_running())
-    minutes = (time.monotonic() - begun) / 60
-    return f"{proved} of some {functions} functions proved, {minutes:.1f} minutes so far; at work: {at_work}"
-
-
-def measure_ways(runs, listed):
-    """Finds by how much of the longest way of crates, each standing on the one before, a crate can come later. What `runs` has stands
-    above what comes before it there."""
-    ahead, behind = {}, {}
-    for run in runs:
-        ahead[run.name] = run.cost + max((ahead[it] for it in listed.libraries[run.name] if it in ahead), default=0)
-    for run in reversed(runs):
-        behind[run.name] = run.cost + max((behind[it.name] for it in runs if run.name in listed.libraries[it.name]), default=0)
-    longest = max(ahead.values())
-    for run in runs:
-        run.spare = 1 - (ahead[run.name] + behind[run.name] - run.cost) / longest
-
-
-def start_ready(left, runs, done, listed, memory):
-    """Starts each run whose libraries are built, as memory allows, first those that can wait the least. These may use all processors,
-    since a check uses one at its beginning and its end."""
-    ready = [it for it in left if {*listed.below(it.name)} - {it.name} <= done]
-    running = [it for it in runs if it.is_running()]
-    for run in sorted(ready, key=lambda it: it.spare):
-        free = memory - sum(FIRST_JOB + FURTHER_JOB * (it.jobs - 1) for it in running)
-        most = 1 if run.can_wait() else min(MOST_JOBS, processors())
-        jobs = min(most, 1 + int((free - FIRST_JOB) // FURTHER_JOB))
-        if jobs > 0 or not running:
-            run.start(max(1, jobs))
-            left.remove(run)
-            running.append(run)
-
-
-def take_ended(runs, done):
-    """Passes on what the runs that have ended since built; one that failed ends all."""
-    for run in [it for it in runs if it.has_ended() and it.name not in done]:
-        if run.process.returncode:
-            raise Fault(f"{run.name} isn't proved, or doesn't build:\n{run.told()[-3000:]}")
-        done.add(run.name)
-        if run.name != sources.PROGRAM:
-            pass_on(run, runs)
-
-
-def prove(runs, listed, say):
-    """Proves and builds each crate once those below it are built."""
-    memory = free_memory()
-    left, done, begun, said = [*runs], set(), time.monotonic(), 0.0
-    measure_ways(runs, listed)
-    try:
-        while len(done) < len(runs):
-            start_ready(left, runs, done, listed, memory)
-            if time.monotonic() - begun >= said + EACH:
-                said = time.monotonic() - begun
-                say(progress(runs, begun))
-            time.sleep(0.2)
-            take_ended(runs, done)
-        say(progress(runs, begun).partition(";")[0])
-    finally:
-        for it in runs:
-            if it.is_running():
-                it.process.terminate()
-                it.process.wait()
+    words = ["rt", "ci", *["--anew"] * is_anew]
+    how = {"cwd": room, "stdin": subprocess.DEVNULL, "stdout": subprocess.PIPE, "stderr": subprocess.STDOUT, "errors": "replace"}
+    with subprocess.Popen(words, **how) as process:
+        teller = threading.Thread(target=tell, daemon=True)
+        teller.start()
+        try:
+            for line in process.stdout:
+                lines.append(line)
+                progress.heard(line)
+        finally:
+            is_over.set()
+            process.terminate()
+    teller.join()
+    say(progress.told([]))
+    return process.returncode == 0, "".join(lines)
 
 
 def build(log, is_anew, say, keep):
-    """Proves and builds the program, and hands it to `keep` with its stamp. What rt said goes to the file `log`."""
+    """Proves and builds the program, and hands it to `keep` with its stamp. What the gate said goes to the file `log`."""
     if shutil.which("rt") is None:
         raise Fault("the Rattle kit's command rt isn't on the PATH, and no program that lies here is of these sources")
     say("proving and building the program, which takes some minutes (what the prover says is then in out/build.log)")
-    listed, stamp = listing(), sources.stamp()
+    stamp = sources.stamp()
     with tempfile.TemporaryDirectory(prefix=f"{sources.PROGRAM}-build-") as room:
-        runs = [Run(it, room) for it in sources.crates()]
-        try:
-            for it in runs:
-                copy(it, listed.below(it.name), listed.lines, is_anew)
-            if sources.sum_of(runs[-1].room) != stamp[0]:
-                raise Fault("the sources changed while they were copied: try again")
-            prove(runs, listed, say)
-            keep(f"{runs[-1].folder}/out/{sources.PROGRAM}", stamp)
-        finally:
-            os.makedirs(os.path.dirname(log), exist_ok=True)
-            with open(log, "w", encoding="utf-8") as it:
-                it.write("".join(f"== {run.name}\n{run.told()}" for run in runs))
+        functions = lay_out(room)
+        if sources.sum_of(room) != stamp[0]:
+            raise Fault("the sources changed while they were copied: try again")
+        is_well, told = prove(room, is_anew, functions, say)
+        os.makedirs(os.path.dirname(log), exist_ok=True)
+        with open(log, "w", encoding="utf-8") as it:
+            it.write(told)
+        made = f"{room}/crates/{sources.PROGRAM}/out/{sources.PROGRAM}"
+        if not is_well or not os.path.isfile(made):
+            raise Fault(f"the program isn't proved, or doesn't build:\n{told[-3000:]}")
+        keep(made, stamp)

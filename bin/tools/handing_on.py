@@ -1,14 +1,16 @@
 """Hands on what the gate has proved while it runs, so that the wrong bodies beside it prove none of that again: the library of each crate,
-and what the first must-fail edit's check of a crate kept for the next. It lies as FOLDER/CRATE/rlib and FOLDER/CRATE/out/incremental;
-FOLDER/over says that nothing more comes."""
-import contextlib
+and what its must-fail edits begin with, which is kept from one check of the crate as it stands. It lies as FOLDER/CRATE/rlib and
+FOLDER/CRATE/out/incremental; FOLDER/over says that nothing more comes."""
 import os
 import re
 import shutil
 
 from tools.repository import TOP
 
-PROVED = re.compile(r"rt: (\w+) proved\s*")
+# (what an earlier run on this machine proved of the same files lies there too)
+PROVED = re.compile(r"rt: (\w+) (?:proved|is kept: .*)\s*")
+# The gate's name for the folder that a crate's must-fail edits begin with; each is tried over a copy beside it.
+SEED = "seed"
 
 
 def link_or_copy(source, to):
@@ -20,29 +22,31 @@ def link_or_copy(source, to):
 
 def hand(source, to):
     """Makes a folder's copy appear whole or not at all. (The files are links: nobody writes into them again.)"""
-    with contextlib.suppress(OSError, shutil.Error):
-        shutil.copytree(source, f"{to}.part", copy_function=link_or_copy)
-        os.makedirs(os.path.dirname(to), exist_ok=True)
-        os.rename(f"{to}.part", to)
+    part = f"{to}.part"
+    try:
+        shutil.copytree(source, part, copy_function=link_or_copy)
+        os.rename(part, to)
+    except (OSError, shutil.Error):
+        shutil.rmtree(part, ignore_errors=True)
 
 
 class HandingOn:
     def __init__(self, folder):
-        self.folder, self.rooms = folder, {}
+        self.folder = folder
 
     def heard(self, line):
-        """Hands on the library of a crate that the gate says is proved."""
+        """Hands on the library of a crate that the gate says is proved, by this run or an earlier one."""
         proved = PROVED.fullmatch(line)
         if proved and os.path.isdir(f"{TOP}/crates/{proved[1]}/out/rlib"):
             hand(f"{TOP}/crates/{proved[1]}/out/rlib", f"{self.folder}/{proved[1]}/rlib")
 
-    def seen(self, words, room):
-        """Hands on what a crate's edits keep, once a check is at work over it in another room than the first one."""
+    def seen(self, words, _):
+        """Hands on what a crate's edits begin with, once one of them is at work: then it is whole."""
         if "--incremental" in words[:-1] and "--crate-name" in words[:-1]:
             crate, kept = (words[words.index(it) + 1] for it in ("--crate-name", "--incremental"))
-            to = f"{self.folder}/{crate}/out/incremental"
-            if self.rooms.setdefault(crate, room) != room and not os.path.isdir(to):
-                hand(kept, to)
+            seed, to = f"{os.path.dirname(kept)}/{SEED}", f"{self.folder}/{crate}/out/incremental"
+            if kept != seed and os.path.isdir(seed) and not os.path.isdir(to):
+                hand(seed, to)
 
     def end(self):
         with open(f"{self.folder}/over", "w", encoding="utf-8"):

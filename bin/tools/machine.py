@@ -16,6 +16,13 @@ def processors():
     return len(os.sched_getaffinity(0))
 
 
+def processor_seconds():
+    """The seconds that the processors were at work, had nothing to do, and were taken away by the host of this machine, all since it began."""
+    told = [int(it) / os.sysconf("SC_CLK_TCK") for it in read_text("/proc/stat").split("\n")[0].split()[1:9]]
+    user, nice, system, idle, waiting, interrupts, soft_interrupts, stolen = told
+    return user + nice + system + interrupts + soft_interrupts, idle + waiting, stolen
+
+
 def free_memory():
     """The memory that is free, in bytes."""
     found = re.search(r"MemAvailable:\s+(\d+) kB", read_text("/proc/meminfo"))

@@ -6,6 +6,7 @@ import threading
 import time
 from typing import List, NamedTuple
 
+from tools.machine import processor_seconds, processors
 from tools.repository import TOP
 
 TALLY = re.compile(r"(\d+) passed, (\d+) failed\s*")
@@ -36,7 +37,7 @@ def tally(part, status, lines):
 class Report:
     def __init__(self):
         self.passed, self.failed, self.skipped, self.seconds = 0, 0, [], {}
-        self.printing, self.begun = threading.Lock(), time.monotonic()
+        self.printing, self.begun, self.at_begin = threading.Lock(), time.monotonic(), processor_seconds()
 
     def say(self, text):
         with self.printing:
@@ -83,9 +84,10 @@ class Report:
         return failed == 0
 
     def end(self):
-        """Prints what was skipped and the slowest parts, and then the last line; gives the status."""
+        """Prints the slowest parts, what the processors did and what was skipped, and then the last line; gives the status."""
         if self.seconds:
             self.print_slowest()
+            self.print_processors()
         for it in self.skipped:
             print(f"{SKIPPED}{it}")
         print(f"{self.passed} passed, {self.failed} failed", flush=True)
@@ -95,3 +97,8 @@ class Report:
         print(f"\nThe slowest parts of {(time.monotonic() - self.begun) / 60:.1f} minutes, in seconds (those of the gate run side by side):")
         for name, seconds in sorted(self.seconds.items(), key=lambda it: -it[1])[:SHOWN]:
             print(f"{seconds:8.0f}  {name}")
+
+    def print_processors(self):
+        """(A host that takes processors away makes the test longer, and what it takes is no work of the test.)"""
+        work, idle, stolen = (now - then for now, then in zip(processor_seconds(), self.at_begin))
+        print(f"{processors()} processors: {work:,.0f} seconds at work, {idle:,.0f} idle, {stolen:,.0f} taken away by the host")

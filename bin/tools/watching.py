@@ -31,6 +31,13 @@ def is_below(process, top, parents):
     return False
 
 
+def checks_below(top):
+    """The checks that a process has started, itself or by others: the words of each, and the name of the folder that it runs in."""
+    parents = {it: parent_of(it) for it in os.listdir("/proc") if it.isdigit()}
+    found = [check_of(it) for it in parents if is_below(it, str(top), parents)]
+    return [it for it in found if it]
+
+
 def check_of(process):
     """The words of a process that checks a crate, and the name of the folder that it runs in; or None."""
     words = words_of(process)
@@ -55,7 +62,7 @@ class Watch(threading.Thread):
 
     def __init__(self, process, seen):
         super().__init__(daemon=True)
-        self.top, self.seen, self.seconds, self.is_over = str(process), seen, {}, threading.Event()
+        self.top, self.seen, self.seconds, self.is_over = process, seen, {}, threading.Event()
         self.start()
 
     def run(self):
@@ -67,11 +74,10 @@ class Watch(threading.Thread):
             last = now
 
     def at_work(self):
-        parents = {it: parent_of(it) for it in os.listdir("/proc") if it.isdigit()}
-        found = [check_of(it) for it in parents if is_below(it, self.top, parents)]
-        for it in filter(None, found):
+        found = checks_below(self.top)
+        for it in found:
             self.seen(*it)
-        return {part_of(*it) for it in found if it}
+        return {part_of(*it) for it in found}
 
     def end(self):
         self.is_over.set()

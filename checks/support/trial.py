@@ -39,6 +39,7 @@ class Crate:
     judged: list[Judged] = field(default_factory=list)
     failures: list[str] = field(default_factory=list)
     comments_are_proved: bool = False
+    is_kept: bool = False  # whether an earlier run found all of this
     checks: int = 0
     seconds: float = 0.0
 
