@@ -25,6 +25,33 @@ ROWS = [
 # The same of the table of reading and writing alone.
 ROWS_READ = ("single requests", "batches of 100", "one param of 8 MB")
 
+# What reading and writing alone answers beside the player's rows: contents, and those that answer them.
+ANSWERED = [
+    ("a notification", ['{"jsonrpc":"2.0","method":"nope","params":[1]}'], []),
+    ("a reply to a call", ['{"jsonrpc":"2.0","id":"1.1","result":true}'], []),
+    ("a reply to no call", ['{"jsonrpc":"2.0","id":"x","error":{"code":1,"message":"m"}}'], []),
+    (
+        "ids that are null and below 0",
+        ['{"jsonrpc":"2.0","method":"nope","id":null}', '{"jsonrpc":"2.0","method":"nope","id":-7}'],
+        [
+            '{"error":{"code":-32601,"message":"Method not found"},"id":null,"jsonrpc":"2.0"}',
+            '{"error":{"code":-32601,"message":"Method not found"},"id":-7,"jsonrpc":"2.0"}',
+        ],
+    ),
+    (
+        "the greatest id",
+        ['{"jsonrpc":"2.0","method":"nope","id":18446744073709551615}'],
+        ['{"error":{"code":-32601,"message":"Method not found"},"id":18446744073709551615,"jsonrpc":"2.0"}'],
+    ),
+    (
+        "an id that is a text",
+        ['{"jsonrpc":"2.0","method":"nope","id":"a\\"\\u0062"}'],
+        ['{"error":{"code":-32601,"message":"Method not found"},"id":"a\\"b","jsonrpc":"2.0"}'],
+    ),
+    ("a batch of a request and what has no answer", [f"[{rows.NOTICE},{rows.REQUEST},{rows.NOTICE}]"], [f"[{rows.NOT_FOUND}]"]),
+    ("a long answer, then a short one", ["[1,2,3]", rows.REQUEST], [f"[{rows.INVALID},{rows.INVALID},{rows.INVALID}]", rows.NOT_FOUND]),
+]
+
 # A request with small params and its answer ask for memory so often at most, where nothing but reading and writing is done.
 MOST_REQUESTS = 8
 
@@ -90,6 +117,15 @@ def check_reading():
         errors = f"input ended: {end}\n".encode() if end else b""
         got = ran.run(["answer"], given, program=READING)
         count.check(f"answered alone: {name}", got == (1 if end else 0, output, errors), f"{got}")
+    for name, given, answers in ANSWERED:
+        got = ran.run(["answer"], rows.frames(*given), program=READING)
+        count.check(f"answered alone: {name}", got == (0, rows.frames(*answers), b""), f"{got}")
+    # (more than is read at once, so that some contents come in two pieces)
+    ids = range(1, 3_001)
+    requests = rows.frames(*('{"jsonrpc":"2.0","method":"nope","id":%d}' % it for it in ids))
+    answers = rows.frames(*('{"error":{"code":-32601,"message":"Method not found"},"id":%d,"jsonrpc":"2.0"}' % it for it in ids))
+    status, output, errors = ran.run(["answer"], requests, program=READING)
+    count.check("3,000 requests answered alone", (status, output == answers, errors) == (0, True, b""), f"{status}, {len(output)} bytes, {errors!r}")
     for texts in (0, 1, 100_000):
         got = ran.run(["compare", f"--texts={texts}"], program=READING)
         count.check(f"{texts} texts", got == (0, b"compare: %d alike\n" % texts, b""), f"{got}")

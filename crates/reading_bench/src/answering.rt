@@ -1,66 +1,57 @@
 //! A whole input, answered as it comes.
-ghost use Rattle.std.specs.Prelude.{◌<◌, ◌≤◌, Ok, length, IfOk, OnOk};
-ghost use Rattle.std.specs.Io.KnownBytes.{Appends, Keeps};
-ghost use Rattle.lsp_frames.specs.Devices.{GivesNext};
-ghost use Rattle.reading_bench.specs.Answering.{Answers};
-
 use crate::answerer::Answerer;
-use lsp_frames::{End, IoFault, PutFault, Sink, Source, put_all};
+use lsp_frames::End;
 use program_edge::Failure;
 use std::alloc::Global;
+use std::io::{Read, Write};
 
 /// So many bytes are asked for at once.
 const PIECE: usize = 65_536;
 
-/// How many pieces are read before a source that doesn't end is given up.
+/// How many pieces are read before an input that doesn't end is given up.
 const MOST_PIECES: u32 = 1_000_000;
 
-/// Answers the frames of a source as a peer without methods does, and gives how it ended. The answers to a piece's frames
+/// Answers the frames of an input as a peer without methods does, and gives how it ended. The answers to a piece's frames
 /// go out before the next is read.
 ///
 /// # Errors
-/// `Read` where the source fails or hasn't ended after 1,000,000 pieces, `Write` where the sink fails, and `Memory` where a
+/// `Read` where the input fails or hasn't ended after 1,000,000 pieces, `Write` where the output fails, and `Memory` where a
 /// growth is refused.
-pub fn answer_all<I: Source, O: Sink>(
+pub fn answer_all<I: Read, W: Write>(
     alloc: Global,
-    source: &mut I,
-    sink: &mut O,
-) -> Result<End, Failure>
-    ensures { IfOk result (λ end. Answers (I.gave source.old)
-        (O.bytes_taken sink.old) (O.bytes_taken sink.new) end) }
-{
-    let mut room = [0u8; PIECE];
+    input: &mut I,
+    output: &mut W,
+) -> Result<End, Failure> {
     let mut answerer = Answerer::new(alloc);
     let mut answers = Vec::new(alloc);
+    let end = answer_pieces(input, output, &mut answerer, &mut answers);
+    drop(answerer);
+    end
+}
+
+/// Does so piece by piece. The answers to each are made in `answers`.
+fn answer_pieces<I: Read, W: Write>(
+    input: &mut I,
+    output: &mut W,
+    answerer: &mut Answerer,
+    answers: &mut Vec<u8>,
+) -> Result<End, Failure> {
+    let mut room = [0u8; PIECE];
     for _ in 0..MOST_PIECES {
-        let count = next_piece(source, &mut room)?;
+        let Ok(count) = input.read(&mut room) else {
+            return Err(Failure::Read);
+        };
         if count == 0 {
-            flush(sink)?;
+            written(output.flush())?;
             return Ok(answerer.end());
         }
         answers.clear();
-        answerer.take(&room[..count], &mut answers)?;
-        put(sink, answers.as_slice())?;
+        answerer.take(&room[..count], answers)?;
+        written(output.write_all(answers.as_slice()))?;
     }
     Err(Failure::Read)
 }
 
-fn next_piece<I: Source>(source: &mut I, room: &mut [u8]) -> Result<usize, Failure>
-    requires { 0 < length room.old }
-    ensures count { IfOk result (λ n. n ≤ length room.new) }
-    ensures gives { IfOk result (λ n. GivesNext (I.gave source.old) (I.gave source.new) (Ok n) room.new) }
-{
-    source.next(room).map_err(|_: IoFault| Failure::Read)
-}
-
-fn put<O: Sink>(sink: &mut O, bytes: &[u8]) -> Result<(), Failure>
-    ensures { OnOk result (Appends (O.bytes_taken sink.old) (O.bytes_taken sink.new) bytes.now) }
-{
-    put_all(sink, bytes).map_err(|_: PutFault| Failure::Write)
-}
-
-fn flush<O: Sink>(sink: &mut O) -> Result<(), Failure>
-    ensures { OnOk result (Keeps (O.bytes_taken sink.old) (O.bytes_taken sink.new)) }
-{
-    sink.flush().map_err(|_: IoFault| Failure::Write)
+fn written(outcome: std::io::Result<()>) -> Result<(), Failure> {
+    outcome.map_err(|_| Failure::Write)
 }

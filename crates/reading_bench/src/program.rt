@@ -2,14 +2,14 @@
 use crate::answering::answer_all;
 use crate::command_line::{Task, read};
 use crate::comparing::count_alike;
-use lsp_frames::{End, StdSink, StdSource};
+use lsp_frames::End;
 use program_edge::{Failure, answer_words, tell_end};
 use std::alloc::Global;
 use std::io::{Read, Write};
 
 /// Does what the words ask for, of which the first is the program's name, and gives the exit status:
 /// 0, or 1 where the input did not end cleanly or something failed, or 2 where the words are refused.
-pub fn run<R, I, W, E>(rt: &R, words: &[String], input: I, output: &mut W, errors: &mut E) -> u8
+pub fn run<R, I, W, E>(rt: &R, words: &[String], mut input: I, output: &mut W, errors: &mut E) -> u8
 where
     R: AllocGlobal,
     I: Read + Drop,
@@ -17,21 +17,10 @@ where
     E: Write,
 {
     match read(rt.alloc(), words) {
-        Ok(Task::Answer) => ended(answer(rt.alloc(), input, output), errors),
+        Ok(Task::Answer) => ended(answer_all(rt.alloc(), &mut input, output), errors),
         Ok(Task::Compare { texts }) => tell_end(compare(rt.alloc(), texts, output), errors),
         Err(refusal) => answer_words(&refusal, output, errors),
     }
-}
-
-/// Answers the input, and gives how it ended.
-fn answer<I: Read + Drop, W: Write>(
-    alloc: Global,
-    input: I,
-    output: &mut W,
-) -> Result<End, Failure> {
-    let mut source = StdSource::new(input);
-    let mut sink = StdSink::new(output);
-    answer_all(alloc, &mut source, &mut sink)
 }
 
 /// Tells how the input ended, where it isn't cleanly, or why it wasn't answered, and gives the status.
