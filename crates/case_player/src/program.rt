@@ -3,7 +3,7 @@ use crate::command_line::{Options, read};
 use crate::run_failure::RunFailure;
 use crate::running::run_cases;
 use crate::table_file::table_in;
-use program_edge::{Failure, answer_words};
+use program_edge::{Failure, answer_words, tell_end};
 use std::io::{ErrorKind, Read, Write};
 use std::rt::Files;
 use std::sync::Wait;
@@ -57,9 +57,10 @@ where
 fn ended<E: Write>(outcome: Result<(), RunFailure>, errors: &mut E) -> u8 {
     match outcome {
         Ok(()) => 0,
-        Err(failure) => {
-            let _ = writeln!(errors, "{failure}");
-            failure.status()
+        Err(RunFailure::Program(failure)) => tell_end(Err(failure), errors),
+        Err(RunFailure::Refused(why)) => {
+            let _ = writeln!(errors, "{why}");
+            2
         }
     }
 }

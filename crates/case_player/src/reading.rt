@@ -1,43 +1,23 @@
 //! Cases, read from the bytes of standard input.
 use crate::case::{Case, Way};
+use crate::run_failure::{BROKEN_CASE, RunFailure};
 use json_values::Items;
-use peer_player::{Picks, Schedule};
-use std::alloc::{AllocError, AllocFailed, Global};
+use peer_player::Picks;
+use std::alloc::Global;
 use std::str::from_utf8;
 
-/// Why a case isn't read.
-#[derive(Clone, Copy, Debug, PartialEq, Eq)]
-pub enum CaseFault {
-    Memory,
-    /// Its line isn't one of a case, or the stream is shorter than the line says.
-    Broken,
-}
-
-impl From<AllocError> for CaseFault {
-    fn from(_error: AllocError) -> CaseFault {
-        CaseFault::Memory
-    }
-}
-
-impl<T: Drop> From<AllocFailed<T>> for CaseFault {
-    fn from(_error: AllocFailed<T>) -> CaseFault {
-        CaseFault::Memory
-    }
-}
-
-/// The case that the bytes begin with, and the bytes behind it.
-pub fn read_case(alloc: Global, bytes: &[u8]) -> Result<(Case<'_>, &[u8]), CaseFault> {
-    let (line, rest) = split_line(bytes).ok_or(CaseFault::Broken)?;
-    let (way, words) = read_way(alloc, line)?;
-    let (sizes, length) = words.split_once(' ').ok_or(CaseFault::Broken)?;
+/// The case that the bytes begin with, and the bytes behind it. None where the line isn't one of a case, or the stream is
+/// shorter than it says.
+pub fn read_case(bytes: &[u8]) -> Option<(Case<'_>, &[u8])> {
+    let (line, rest) = split_line(bytes)?;
+    let (way, words) = read_way(line)?;
+    let (sizes, length) = words.split_once(' ')?;
     let length = number(length)? as usize;
     if length > rest.len() {
-        return Err(CaseFault::Broken);
+        return None;
     }
     let (stream, behind) = rest.split_at(length);
-    let sizes = numbers(alloc, sizes)?;
-    let case = Case { way, sizes, stream };
-    Ok((case, behind))
+    Some((Case { way, sizes, stream }, behind))
 }
 
 /// The text before the first LF, and the bytes behind that.
@@ -48,33 +28,33 @@ fn split_line(bytes: &[u8]) -> Option<(&str, &[u8])> {
 }
 
 /// How a stream is run, and the words behind those that say it.
-fn read_way(alloc: Global, line: &str) -> Result<(Way, &str), CaseFault> {
-    match line.split_once(' ') {
-        Some(("play", words)) => {
-            let (time, words) = words.split_once(' ').ok_or(CaseFault::Broken)?;
-            let (order, words) = words.split_once(' ').ok_or(CaseFault::Broken)?;
-            let lazy = is_lazy(time)?;
-            let picks = picks(alloc, order)?;
-            Ok((Way::Play(Schedule { lazy, picks }), words))
+fn read_way(line: &str) -> Option<(Way<'_>, &str)> {
+    let (verb, words) = line.split_once(' ')?;
+    let (word, words) = words.split_once(' ')?;
+    match verb {
+        "play" => {
+            let (picks, words) = words.split_once(' ')?;
+            let lazy = is_lazy(word)?;
+            Some((Way::Play { lazy, picks }, words))
         }
-        Some(("serve", words)) => {
-            let (workers, words) = words.split_once(' ').ok_or(CaseFault::Broken)?;
-            let workers = number(workers)?;
-            Ok((Way::Serve { workers }, words))
+        "serve" => {
+            let workers = number(word)?;
+            Some((Way::Serve { workers }, words))
         }
-        _ => Err(CaseFault::Broken),
+        _ => None,
     }
 }
 
-fn is_lazy(word: &str) -> Result<bool, CaseFault> {
+fn is_lazy(word: &str) -> Option<bool> {
     match word {
-        "eager" => Ok(false),
-        "lazy" => Ok(true),
-        _ => Err(CaseFault::Broken),
+        "eager" => Some(false),
+        "lazy" => Some(true),
+        _ => None,
     }
 }
 
-fn picks(alloc: Global, word: &str) -> Result<Picks, CaseFault> {
+/// The picks that a word says.
+pub fn read_picks(alloc: Global, word: &str) -> Result<Picks, RunFailure> {
     match word {
         "first" => Ok(Picks::First),
         "last" => Ok(Picks::Last),
@@ -83,17 +63,17 @@ fn picks(alloc: Global, word: &str) -> Result<Picks, CaseFault> {
 }
 
 /// Numbers between commas, or `-` where there are none.
-fn numbers(alloc: Global, text: &str) -> Result<Vec<u32>, CaseFault> {
+pub fn numbers(alloc: Global, text: &str) -> Result<Vec<u32>, RunFailure> {
     let mut found = Vec::new(alloc);
     if text == "-" {
         return Ok(found);
     }
     for word in text.split(',') {
-        found.push(number(word)?)?;
+        found.push(number(word).ok_or(BROKEN_CASE)?)?;
     }
     Ok(found)
 }
 
-fn number(word: &str) -> Result<u32, CaseFault> {
-    word.parse::<u32>().map_err(|_| CaseFault::Broken)
+fn number(word: &str) -> Option<u32> {
+    word.parse::<u32>().ok()
 }

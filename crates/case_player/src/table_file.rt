@@ -16,7 +16,7 @@ pub fn table_in<R: Files + AllocGlobal>(rt: &R, path: Option<&str>) -> Result<Ta
         Err(error) if error.kind() == ErrorKind::OutOfMemory => {
             Err(RunFailure::Program(Failure::Memory))
         }
-        Err(_) => Err(RunFailure::UnreadableTable),
+        Err(_) => Err(RunFailure::Refused("table: cannot be read")),
     }
 }
 
@@ -24,6 +24,6 @@ fn read_table<R: AllocGlobal>(rt: &R, bytes: &[u8]) -> Result<Table, RunFailure>
     match Table::read(rt.alloc(), bytes) {
         Ok(table) => Ok(table),
         Err(fault) if fault.kind == FaultKind::Memory => Err(RunFailure::Program(Failure::Memory)),
-        Err(_) => Err(RunFailure::RefusedTable),
+        Err(_) => Err(RunFailure::Refused("table: refused")),
     }
 }
