@@ -1,6 +1,6 @@
 //! The command line: how many rounds, and with how much patience.
 use peer_server::Crew;
-use program_edge::{CommandOption, FlagOption, NumberOption, Program, Refusal};
+use program_edge::{CommandOption, NumberOption, Program, Refusal};
 use std::alloc::Global;
 
 /// What a command line asks the program to do.
@@ -8,8 +8,6 @@ use std::alloc::Global;
 pub struct Rounds {
     pub count: u32,
     pub crew: Crew,
-    /// Whether it is told how long they took.
-    pub is_timed: bool,
 }
 
 /// Reads the words of a command line, of which the first is the program's name. An `Err` has the text
@@ -22,7 +20,6 @@ pub fn read(alloc: Global, words: &[String]) -> Result<Rounds, Refusal> {
             workers: words.number(&WORKERS),
             yields: words.number(&YIELDS),
         },
-        is_timed: words.flag(&TIMED),
     })
 }
 
@@ -36,7 +33,6 @@ static PROGRAM: Program = Program {
         CommandOption::Number(ROUNDS),
         CommandOption::Number(WORKERS),
         CommandOption::Number(YIELDS),
-        CommandOption::Flag(TIMED),
     ],
 };
 
@@ -65,9 +61,4 @@ const YIELDS: NumberOption = NumberOption {
     least: 0,
     greatest: u32::MAX,
     usual: "0",
-};
-
-const TIMED: FlagOption = FlagOption {
-    name: "timed",
-    help: "Tell how long it took",
 };

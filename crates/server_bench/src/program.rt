@@ -1,4 +1,4 @@
-//! The program over any clock and any two writers.
+//! The program over any two writers.
 use crate::command_line::{Rounds, read};
 use crate::lockstep::{Asking, Counting, Step};
 use lsp_frames::encode;
@@ -11,7 +11,6 @@ use std::io::Write;
 use std::sync::atomic::AtomicU64;
 use std::sync::{Arc, Wait};
 use std::thread::Threads;
-use std::time::{Clock, Instant};
 
 const METHODS: &[u8] = br#"version = 2
 
@@ -35,7 +34,7 @@ const ANSWER: &[u8] = br#"{"id":1,"jsonrpc":"2.0","result":5}"#;
 /// 0, or 1 where something failed, or 2 where the words are refused.
 pub fn run<R, W, E>(rt: &R, words: &[String], output: &mut W, errors: &mut E) -> u8
 where
-    R: Threads + Wait + Sync + Clock + AllocGlobal,
+    R: Threads + Wait + Sync + AllocGlobal,
     W: Write,
     E: Write,
 {
@@ -48,17 +47,11 @@ where
 /// Goes all rounds, and tells how many requests were answered.
 fn go_round<R, W>(rt: &R, rounds: Rounds, output: &mut W) -> Result<(), Failure>
 where
-    R: Threads + Wait + Sync + Clock + AllocGlobal,
+    R: Threads + Wait + Sync + AllocGlobal,
     W: Write,
 {
-    let begun = Instant::now(rt).map_err(|_| Failure::Clock)?;
     let answered = answered(rt, rounds)?;
-    let took = begun.elapsed(rt).map_err(|_| Failure::Clock)?.as_micros();
-    written(if rounds.is_timed {
-        writeln!(output, "{answered} requests answered in {took} us")
-    } else {
-        writeln!(output, "{answered} requests answered")
-    })?;
+    written(writeln!(output, "{answered} requests answered"))?;
     written(output.flush())
 }
 
@@ -67,18 +60,27 @@ fn answered<R>(rt: &R, rounds: Rounds) -> Result<u64, Failure>
 where
     R: Threads + Wait + Sync + AllocGlobal,
 {
-    let alloc = rt.alloc();
-    let Ok(table) = Table::read(alloc, METHODS) else {
-        return Err(Failure::Memory);
+    let request = encode(rt.alloc(), REQUEST)?;
+    let answer = encode(rt.alloc(), ANSWER)?.len() as u64;
+    let step = Step {
+        request: request.as_slice(),
+        answer,
     };
-    let request = encode(alloc, REQUEST)?;
-    let answer = encode(alloc, ANSWER)?.len() as u64;
+    match Table::read(rt.alloc(), METHODS) {
+        Ok(table) => answered_by(rt, &table, rounds, step),
+        Err(_) => Err(Failure::Memory),
+    }
+}
+
+/// How many are by a server with this table.
+fn answered_by<R>(rt: &R, table: &Table, rounds: Rounds, step: Step<'_>) -> Result<u64, Failure>
+where
+    R: Threads + Wait + Sync + AllocGlobal,
+{
+    let alloc = rt.alloc();
     let taken = AtomicU64::new(0);
     let source = Asking {
-        step: Step {
-            request: request.as_slice(),
-            answer,
-        },
+        step,
         left: rounds.count,
         wanted: 0,
         taken: &taken,
@@ -88,7 +90,7 @@ where
     match serve_by(
         rt,
         alloc,
-        &table,
+        table,
         Limits::standard(),
         rounds.crew,
         gate,
