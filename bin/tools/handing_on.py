@@ -17,14 +17,20 @@ def link_or_copy(source, to):
     try:
         os.link(source, to)
     except OSError:
-        shutil.copyfile(source, to)
+        shutil.copy2(source, to)
 
 
-def hand(source, to):
-    """Makes a folder's copy appear whole or not at all. (The files are links: nobody writes into them again.)"""
+def link_modules(source, to):
+    """Of what checks keep, the modules are links: a check puts a new one in the place of one that it changes. Into the other files it may
+    write, and then they would change in the gate's folder too, which would try each edit once more, from nothing."""
+    (link_or_copy if source.endswith(".oantt") else shutil.copy2)(source, to)
+
+
+def hand(source, to, copied):
+    """Makes a folder's copy appear whole or not at all; `copied` copies a file."""
     part = f"{to}.part"
     try:
-        shutil.copytree(source, part, copy_function=link_or_copy)
+        shutil.copytree(source, part, copy_function=copied)
         os.rename(part, to)
     except (OSError, shutil.Error):
         shutil.rmtree(part, ignore_errors=True)
@@ -38,7 +44,7 @@ class HandingOn:
         """Hands on the library of a crate that the gate says is proved, by this run or an earlier one."""
         proved = PROVED.fullmatch(line)
         if proved and os.path.isdir(f"{TOP}/crates/{proved[1]}/out/rlib"):
-            hand(f"{TOP}/crates/{proved[1]}/out/rlib", f"{self.folder}/{proved[1]}/rlib")
+            hand(f"{TOP}/crates/{proved[1]}/out/rlib", f"{self.folder}/{proved[1]}/rlib", link_or_copy)
 
     def seen(self, words, _):
         """Hands on what a crate's edits begin with, once one of them is at work: then it is whole."""
@@ -46,7 +52,7 @@ class HandingOn:
             crate, kept = (words[words.index(it) + 1] for it in ("--crate-name", "--incremental"))
             seed, to = f"{os.path.dirname(kept)}/{SEED}", f"{self.folder}/{crate}/out/incremental"
             if kept != seed and os.path.isdir(seed) and not os.path.isdir(to):
-                hand(seed, to)
+                hand(seed, to, link_modules)
 
     def end(self):
         with open(f"{self.folder}/over", "w", encoding="utf-8"):

@@ -9,7 +9,7 @@ import subprocess
 import tempfile
 import time
 from dataclasses import dataclass
-from typing import Iterable, Iterator
+from typing import Callable, Iterable, Iterator
 
 from support import prover
 
@@ -191,7 +191,7 @@ class Trees:
         it, these modules and what they call are enough, if any are named."""
         home = f"{self.home(name)}/crates/{name}"
         if self.gate:
-            copy_folder(f"{self.gate}/{name}/{KEPT}", f"{home}/{KEPT}", is_linked=True)
+            copy_folder(f"{self.gate}/{name}/{KEPT}", f"{home}/{KEPT}", link_modules)
             return run(self.words(name, home, jobs, modules), home, self.limit)
         above = [it for it in self.needed if name in self.below[it]]
         is_library = above or os.path.isfile(f"{home}/out/rlib/stamp")
@@ -200,7 +200,7 @@ class Trees:
             self.unproved.add(name)
         else:
             for it in above:
-                copy_folder(f"{home}/out/rlib", f"{self.home(it)}/crates/{name}/out/rlib", is_linked=True)
+                copy_folder(f"{home}/out/rlib", f"{self.home(it)}/crates/{name}/out/rlib", os.link)
             self.libraries[name] = f"{home}/out/rlib"
         return ran
 
@@ -216,8 +216,7 @@ class Trees:
         """A copy of a crate with these texts, and of what its proof kept: its folder. It is gone afterwards."""
         with tempfile.TemporaryDirectory(prefix=f"{name}-", dir=self.folder) as folder:
             self.put_sources(name, folder, texts)
-            # (the prover puts a new file in the place of one that it changes, so links are as good as copies)
-            copy_folder(f"{self.home(name)}/crates/{name}/{KEPT}", f"{folder}/{KEPT}", is_linked=True)
+            copy_folder(f"{self.home(name)}/crates/{name}/{KEPT}", f"{folder}/{KEPT}", link_modules)
             yield folder
 
     def check(self, name: str, texts: dict[str, str], jobs: int, only: Iterable[str] = ()) -> Ran:
@@ -237,11 +236,16 @@ def lines_below(folder: str) -> int:
     return count
 
 
-def copy_folder(source: str, to: str, late: str = "", is_linked: bool = False) -> None:
-    """Copies a folder, if there is one; the file named `late` is copied last, so that it stands only beside the rest."""
+def link_modules(source: str, to: str) -> None:
+    """Links a module that a check has kept, in whose place another check puts a new one; copies any other file, into which it may write."""
+    (os.link if source.endswith(".oantt") else shutil.copy2)(source, to)
+
+
+def copy_folder(source: str, to: str, copied: Callable[[str, str], object] = shutil.copyfile, late: str = "") -> None:
+    """Copies a folder, if there is one, each file by `copied`; the one named `late` comes last, so that it stands only beside the rest."""
     if not os.path.isdir(source):
         return
     ignored = shutil.ignore_patterns(late) if late else None
-    shutil.copytree(source, to, ignore=ignored, copy_function=os.link if is_linked else shutil.copyfile)
+    shutil.copytree(source, to, ignore=ignored, copy_function=copied)
     if late and os.path.isfile(f"{source}/{late}"):
         shutil.copyfile(f"{source}/{late}", f"{to}/{late}")
