@@ -1,6 +1,7 @@
 -- What holds of a result, carried on.
-use Rattle.std.proofs.Common.{Result, Ok, Err, IfOk, OnOk, OnErr}
+use Rattle.std.proofs.Common.{◌≡◌, Result, Ok, Err, Some, None, IfOk, OnOk, OnErr, subst}
 use Rattle.std.specs.Prelude.{IfErr}
+use Rattle.std.specs.Result.{result_ok}
 
 pub on-err : {A E X : Type 0} (r : Result A E) → X → OnErr r X
 on-err (Ok a) x = tt
@@ -25,3 +26,13 @@ OnOk-with (Err e) f p q = tt
 pub IfErr-with : {A E : Type 0} {P Q R : E → Type 0} (r : Result A E) → ((e : E) → P e → Q e → R e) → IfErr r P → IfErr r Q → IfErr r R
 IfErr-with (Ok a) f p q = tt
 IfErr-with (Err e) f p q = f e p q
+
+-- ---- what a result gives, where its fault is let go
+
+pub of-given : {A E : Type 0} (P : A → Type 0) (r : Result A E) (a : A) → result_ok r ≡ Some a → IfOk r P → P a
+of-given P (Ok b) a is p = let same : b ≡ a = cc in subst P same p
+of-given P (Err e) a is p = absurd (cc)
+
+pub of-refused : {A E P : Type 0} (r : Result A E) → result_ok r ≡ None → OnErr r P → P
+of-refused (Ok a) is p = absurd (cc)
+of-refused (Err e) is p = p

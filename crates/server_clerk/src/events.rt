@@ -77,7 +77,8 @@ impl<'a, G: Gate, K: Sink> Serving<'a, G, K> {
         let Some(job) = self.session.next_job(0) else {
             return Ok(false);
         };
-        let Ok(_) = self.slots.offer(&mut self.seat, Gated::new(gate, job)) else {
+        let offered = self.slots.offer(&mut self.seat, Gated::new(gate, job));
+        let Some(_) = offered.ok() else {
             unreachable!()
         };
         self.bells.workers.notify_one();
