@@ -151,14 +151,43 @@ where
     if !is_possible(crew.workers) {
         return Err((ServeFault::Workers, sink));
     }
+    match run_crew(rt, alloc, table, limits, crew, gate, source, sink) {
+        Ok((served, ring)) => tell::<S, K>(served, ring),
+        Err(sink) => Err((ServeFault::Memory, sink)),
+    }
+}
+
+/// Makes what the threads of a server share, and runs them. Where there is no memory for it, the sink comes back as it
+/// was.
+fn run_crew<S, K, G, R>(
+    rt: &R,
+    alloc: Global,
+    table: &Table,
+    limits: Limits,
+    crew: Crew,
+    gate: Arc<G, Global>,
+    source: S,
+    sink: K,
+) -> Result<(Served<K>, Producer<Arrival>), K>
+where
+    S: Source + Drop + Send,
+    K: Sink + Drop,
+    G: Gate + Send + Sync,
+    R: Threads + Wait + Sync,
+    ensures served { IfOk result (λ done. HasServed K.bytes_taken K.failures table.now limits sink
+        done.0) }
+    ensures pair { IfOk result (λ done. IsPair done.1 done.0.ring) }
+    ensures reads { IfOk result (λ done. Reads (S.gave source) (sent done.1)) }
+    ensures refused { IfErr result (λ back. back ≡ sink) }
+{
     let Ok((producer, consumer)) = RingBuffer::new(alloc, PIECES) else {
-        return Err((ServeFault::Memory, sink));
+        return Err(sink);
     };
     let Ok((slots, mut seat)) = JobSlots::make(alloc, MOST_SLOTS as u32) else {
-        return Err((ServeFault::Memory, sink));
+        return Err(sink);
     };
     let Ok(seats) = split_seats(alloc, &slots, &mut seat, crew.workers) else {
-        return Err((ServeFault::Memory, sink));
+        return Err(sink);
     };
     let bells = Bells::new();
     let clerk = match Clerk::new(
@@ -174,9 +203,9 @@ where
         sink,
     ) {
         Ok(clerk) => clerk,
-        Err(sink) => return Err((ServeFault::Memory, sink)),
+        Err(sink) => return Err(sink),
     };
-    match run_threads(
+    run_threads(
         rt,
         alloc,
         &slots,
@@ -186,10 +215,7 @@ where
         clerk,
         producer,
         source,
-    ) {
-        Ok((served, ring)) => tell::<S, K>(served, ring),
-        Err(sink) => Err((ServeFault::Memory, sink)),
-    }
+    )
 }
 
 fn is_possible(workers: u32) -> bool

@@ -1,0 +1,27 @@
+-- The clerk's run is the crew's.
+use Rattle.std.proofs.Common.{◌≡◌, ◌∙◌}
+use Rattle.std.proofs.lemmas.Result.{IfOk-weaker, IfErr-weaker}
+use Rattle.peer_server.specs.Inner.Threads.{HasServed}
+use Rattle.peer_server.proofs.Served.{served-for, pair-kept}
+use Rattle.peer_server.proofs.server.run_crew.Goals as goal
+
+pub returns-clause-served : goal.returns-clause-served
+returns-clause-served g c =
+    let taken = g.K.Sink.bytes_taken in
+    let failures = g.K.Sink.failures in
+    let clerk = c.in-Ok-new.clerk in
+    IfOk-weaker c.run_threads.result (λ done. HasServed taken failures clerk.table.now clerk.limits clerk.sink done.0)
+    (λ done. HasServed taken failures c.args.table.now c.args.limits c.args.sink done.0)
+    (λ done. served-for taken failures clerk.table.now c.args.table.now clerk.limits c.args.limits clerk.sink c.args.sink done.0
+    c.in-Ok-new.ensures.table c.in-Ok-new.ensures.limits c.in-Ok-new.ensures.sink)
+    c.run_threads.ensures.served
+
+pub returns-clause-pair : goal.returns-clause-pair
+returns-clause-pair g c =
+    pair-kept c.in-Ok.producer c.in-Ok.consumer c.in-Ok-new.clerk.ring c.run_threads.result c.in-Ok.ensures.pair c.in-Ok-new.ensures.ring
+    c.run_threads.ensures.consumer c.run_threads.ensures.producer
+
+pub returns-clause-refused : goal.returns-clause-refused
+returns-clause-refused g c =
+    IfErr-weaker c.run_threads.result (λ back. back ≡ c.in-Ok-new.clerk.sink) (λ back. back ≡ c.args.sink)
+    (λ back same. same ∙ c.in-Ok-new.ensures.sink) c.run_threads.ensures.refused
