@@ -86,9 +86,11 @@ def prove(room, is_anew, functions, say):
             for line in process.stdout:
                 lines.append(line)
                 progress.heard(line)
+        except BaseException:
+            process.terminate()
+            raise
         finally:
             is_over.set()
-            process.terminate()
     teller.join()
     say(progress.told([]))
     return process.returncode == 0, "".join(lines)
