@@ -9,9 +9,10 @@
     old = '''return Err(FeedFault::Ended(fault, Items::new(self.alloc)));'''
     new = '''let _ = fault; return Ok(Vec::new(self.alloc));'''
 
-An old text stands exactly once in its file; how its words are spaced and cut into lines doesn't count. Further texts stand in
-`[[wrong.also]]`, with a `file` where it is another. `function` names each function that the texts stand in, one or a list; at least
-one of them must be refused. `[[right]]` is a body that is written differently and does the same: it must be proved."""
+An old text stands exactly once in its file, or else exactly once in the functions that are named; how its words are spaced and cut into
+lines doesn't count. Further texts stand in `[[wrong.also]]`, with a `file` where it is another. `function` names each function that the
+texts stand in, one or a list; at least one of them must be refused. `[[right]]` is a body that is written differently and does the same:
+it must be proved."""
 import os
 import re
 import tomllib
@@ -104,11 +105,14 @@ def moved_to(sources: Sources, file: str, old: str) -> str:
     return f" (it stands in {', '.join(found[:3])})" if found else ""
 
 
-def change_of(sources: Sources, file: str, old: str, new: str) -> Change:
-    """The change that a body makes to a file, in which its old text stands once."""
+def change_of(sources: Sources, named: list[str], file: str, old: str, new: str) -> Change:
+    """The change that a body makes to a file, in which its old text stands once, or once in the functions that are named."""
     if not old.split():
         raise Unfit("an old text is empty")
     found = places_of(sources, file, old) if os.path.isfile(f"{sources.folder}/{file}") else []
+    if len(found) > 1:
+        meant = [fn for fn in sources.functions(file) if fn.name in named]
+        found = [it for it in found if any(fn.holds(it.start(), it.end()) for fn in meant)] or found
     if len(found) != 1:
         times = f"stands {len(found)} times, and not once, in {file}" if found else f"no longer stands in {file}{moved_to(sources, file, old)}"
         raise Unfit(f"its old text {times}: {' '.join(old.split())[:160]}")
@@ -131,10 +135,10 @@ def body_of(sources: Sources, file: str, table: dict, is_right: bool) -> Body:
         raise Unfit(f"it lacks {', '.join(sorted(lacking))}" if lacking else f"unknown keys: {', '.join(sorted({*table} - KEYS))}")
     if not re.fullmatch(r"\w+", table["name"]):
         raise Unfit("its name is of letters, digits and _")
-    changes = [change_of(sources, *it) for it in texts_of(table, file)]
+    named = [table["function"]] if isinstance(table["function"], str) else table["function"]
+    changes = [change_of(sources, named, *it) for it in texts_of(table, file)]
     inside = [next((fn for fn in sources.functions(it.file) if fn.holds(it.start, it.end)), None) for it in changes]
     held = {fn.name: fn for fn in inside if fn}
-    named = [table["function"]] if isinstance(table["function"], str) else table["function"]
     for name in named:
         if name not in held and None in inside:
             held |= {fn.name: fn for fn in sources.functions(file) if fn.name == name}

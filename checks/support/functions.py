@@ -105,7 +105,7 @@ def end_of(lines: list[str], first: int, indent: str) -> tuple[int, Optional[int
             opening = at
         elif line == f"{indent}}}":
             return at, opening
-        elif line.lstrip()[0] not in ")":
+        elif line.lstrip()[0] != ")" and line.strip() != "where":
             return at - 1, None
     return len(lines) - 1, opening
 

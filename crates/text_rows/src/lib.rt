@@ -2,10 +2,6 @@
 #![tactic(auto)]
 
 #[cfg(test)]
-mod another;
-#[cfg(test)]
-mod items;
-#[cfg(test)]
 mod parts;
 #[cfg(test)]
 mod reading;

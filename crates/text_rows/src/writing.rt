@@ -1,7 +1,6 @@
 mod answers;
 mod keys;
 mod messages;
-mod threads;
 mod values;
 
 use json_values::{Json, Text};

@@ -7,7 +7,6 @@ mod large;
 mod opening;
 mod orders;
 mod polls;
-mod threads;
 
 use crate::rows::{holds, is_text};
 use futures::executor::block_on;
