@@ -1,7 +1,7 @@
 //! What is written of a case.
 use lsp_frames::FrameFault;
 use peer_limits::{Close, Report};
-use peer_server::ServeFault;
+use rpc_peer::ServeFault;
 use peer_session::DrainFault;
 use program_edge::Failure;
 use std::io::Write;

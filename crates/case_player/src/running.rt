@@ -7,7 +7,7 @@ use lsp_frames::{MemSink, MemSource};
 use method_steps::Table;
 use peer_limits::Limits;
 use peer_player::{Schedule, play_to};
-use peer_server::serve;
+use rpc_peer::serve;
 use program_edge::Failure;
 use std::alloc::Global;
 use std::io::Write;

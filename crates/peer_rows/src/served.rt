@@ -10,7 +10,7 @@ use crate::cuts;
 use lsp_frames::{MemSink, MemSource, Sink, Source};
 use method_steps::Table;
 use peer_limits::{Close, Limits, Report};
-use peer_server::{ServeFault, serve};
+use rpc_peer::{ServeFault, serve};
 use std::alloc::{AllocError, Global};
 use std::sync::Wait;
 use std::test::Fail;

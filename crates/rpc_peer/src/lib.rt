@@ -1,4 +1,4 @@
-//! A JSON-RPC 2.0 peer over one byte stream: the front door of the libraries below.
+//! A JSON-RPC 2.0 peer over one byte stream: the server, and the front door of the libraries below.
 //!
 //! A table of methods says what the peer can do. A player takes the bytes that come in, in any pieces, runs the methods
 //! that they ask for, and writes what the peer sends and answers:
@@ -23,14 +23,25 @@
 //! }
 //! ```
 //!
-//! - `serve` serves a source and a sink by several threads, and `serve_with` holds each handler at a gate before its turns.
+//! - `serve` serves a source and a sink by several threads; `serve_with` holds each handler at a gate before its turns, and
+//!   `serve_by` chooses its crew too.
 //! - `play` plays a whole input and keeps what is written; `play_to` writes it to a sink as it goes.
 //! - A `Player` is fed its input piece by piece.
 //! - A `Session` is what a player stands on, for who brings contents in and handlers to their turns by himself.
 #![tactic(auto)]
 
+mod crew;
+mod fault;
+mod law;
+mod reading;
+mod server;
+mod threads;
+mod worker;
+
+pub use crew::Crew;
+pub use fault::ServeFault;
 pub use peer_limits::{Close, Limits, Report};
 pub use peer_player::{Picks, PlayFault, Player, Schedule, play, play_to};
-pub use peer_server::{ServeFault, serve, serve_with};
 pub use peer_session::{DrainFault, Job, Session, Taken};
+pub use server::{MOST_WORKERS, serve, serve_by, serve_with};
 pub use server_clerk::{Gate, Gated, OpenGate};

@@ -1,5 +1,5 @@
 //! The command line: how many rounds, and with how much patience.
-use peer_server::Crew;
+use rpc_peer::Crew;
 use program_edge::{CommandOption, NumberOption, Program, Refusal};
 use std::alloc::Global;
 

@@ -4,7 +4,7 @@ use crate::lockstep::{Asking, Counting, Step};
 use lsp_frames::encode;
 use method_steps::Table;
 use peer_limits::Limits;
-use peer_server::serve_by;
+use rpc_peer::serve_by;
 use program_edge::{Failure, answer_words, tell_end};
 use server_clerk::OpenGate;
 use std::io::Write;

@@ -8,7 +8,7 @@ use crate::told::holds;
 use lsp_frames::{MemSink, MemSource};
 use method_steps::Table;
 use peer_limits::Limits;
-use peer_server::serve_with;
+use rpc_peer::serve_with;
 use server_clerk::Gate;
 use std::alloc::{AllocError, AllocGlobal, Global};
 use std::process::Abort;

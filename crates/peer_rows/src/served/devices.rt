@@ -4,7 +4,7 @@ use super::{ASK, CONFIRM, CONFIRMED, Given, METHODS, NO_REPLY, NOT_FOUND, REPLY,
 use crate::cuts;
 use crate::told::{holds, holds_at};
 use peer_limits::Close;
-use peer_server::ServeFault;
+use rpc_peer::ServeFault;
 use std::alloc::{AllocGlobal, Global};
 use std::process::Abort;
 use std::sync::Wait;

@@ -3,7 +3,7 @@
 use super::{ASK, CONFIRM, CONFIRMED, Ended, Given, METHODS, REPLY, UNKNOWN};
 use crate::told::holds_at;
 use peer_limits::{Close, Report};
-use peer_server::ServeFault;
+use rpc_peer::ServeFault;
 use std::alloc::{AllocGlobal, Global};
 use std::process::Abort;
 use std::sync::Wait;

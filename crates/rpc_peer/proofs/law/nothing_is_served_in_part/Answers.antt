@@ -1,5 +1,5 @@
-use Rattle.peer_server.proofs.Nothing.{nothing-in-part}
-use Rattle.peer_server.proofs.law.nothing_is_served_in_part.Goals as goal
+use Rattle.rpc_peer.proofs.Nothing.{nothing-in-part}
+use Rattle.rpc_peer.proofs.law.nothing_is_served_in_part.Goals as goal
 
 pub returns : goal.returns
 returns g c = λ table limits source before.

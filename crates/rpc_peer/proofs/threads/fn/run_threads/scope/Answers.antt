@@ -1,9 +1,9 @@
 -- A job and its gate may go to another thread.
 use denote.Param.Send.{IsSend, param_send}
 use denote.Param.{param}
-use Rattle.peer_server.proofs.Crossing.{gated_send}
-use Rattle.peer_server.proofs.threads.fn.run_threads.scope.Lts as lts
-use Rattle.peer_server.proofs.threads.fn.run_threads.scope.Goals as goal
+use Rattle.rpc_peer.proofs.Crossing.{gated_send}
+use Rattle.rpc_peer.proofs.threads.fn.run_threads.scope.Lts as lts
+use Rattle.rpc_peer.proofs.threads.fn.run_threads.scope.Goals as goal
 
 pub hire-requires-send-J : goal.hire-requires-send-J
 hire-requires-send-J g c κs bounds =

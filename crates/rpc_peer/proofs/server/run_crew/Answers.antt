@@ -1,9 +1,9 @@
 -- The clerk's run is the crew's.
 use Rattle.std.proofs.Common.{◌≡◌, ◌∙◌}
 use Rattle.std.proofs.lemmas.Result.{IfOk-weaker, IfErr-weaker}
-use Rattle.peer_server.specs.Inner.Threads.{HasServed}
-use Rattle.peer_server.proofs.Served.{served-for, pair-kept}
-use Rattle.peer_server.proofs.server.run_crew.Goals as goal
+use Rattle.rpc_peer.specs.Inner.Threads.{HasServed}
+use Rattle.rpc_peer.proofs.Served.{served-for, pair-kept}
+use Rattle.rpc_peer.proofs.server.run_crew.Goals as goal
 
 pub returns-clause-served : goal.returns-clause-served
 returns-clause-served g c =

@@ -1,5 +1,5 @@
 -- What the crew has served is told.
-use Rattle.peer_server.proofs.server.serve_by.Goals as goal
+use Rattle.rpc_peer.proofs.server.serve_by.Goals as goal
 
 pub returns-in-Ok-clause-ok : goal.returns-in-Ok-clause-ok
 returns-in-Ok-clause-ok g c =

@@ -5,7 +5,7 @@ ghost use Rattle.job_slots.specs.Seats.{IsWorkerOf};
 ghost use Rattle.rtrb.specs.Ring.{sent, SameProducer, SameConsumer};
 ghost use Rattle.server_clerk.specs.Clerk.{IsNew};
 ghost use Rattle.server_ring.specs.Arriving.{Reads};
-ghost use Rattle.peer_server.specs.Inner.Threads.{HasServed};
+ghost use Rattle.rpc_peer.specs.Inner.Threads.{HasServed};
 
 use crate::reading::Reading;
 use crate::worker::work;

@@ -5,9 +5,9 @@ use Rattle.method_steps.specs.Steps.{MethodTable}
 use Rattle.peer_limits.specs.declared.limits.Limits.{Limits}
 use Rattle.peer_limits.specs.declared.report.Report.{Report}
 use Rattle.peer_session.specs.Run.{IsRun, IsRunCutShort}
-use Rattle.peer_server.specs.declared.fault.ServeFault.{ServeFault}
-use Rattle.peer_server.specs.declared.fault.ServeFault.TheVariants.{Workers, Memory, Write}
-use Rattle.peer_server.specs.declared.server.TheConstants.{MOST_WORKERS}
+use Rattle.rpc_peer.specs.declared.fault.ServeFault.{ServeFault}
+use Rattle.rpc_peer.specs.declared.fault.ServeFault.TheVariants.{Workers, Memory, Write}
+use Rattle.rpc_peer.specs.declared.server.TheConstants.{MOST_WORKERS}
 
 -- The source gave an input, which came to an ending, and what was written is a whole run of it.
 pub record IsServed (table : MethodTable) (limits : Limits) (gave : Gift) (before after : Option (List ℕ)) (report : Report) : Type 0 where

@@ -2,7 +2,7 @@
 use Rattle.std.proofs.Common.{[], ◌∷◌, ◌++◌, ◌∙◌}
 use Rattle.std.proofs.lemmas.List.Elements.{All-push, All-same}
 use Rattle.job_slots.specs.Seats.{IsWorkerOf}
-use Rattle.peer_server.proofs.server.split_seats.Goals as goal
+use Rattle.rpc_peer.proofs.server.split_seats.Goals as goal
 
 pub loop-preserved : goal.loop-preserved
 loop-preserved g c =

@@ -9,7 +9,7 @@ use Rattle.rpc_messages.specs.Unit.{SeenUnit, units_of}
 use Rattle.method_steps.specs.Steps.{MethodTable}
 use Rattle.peer_limits.specs.declared.limits.Limits.{Limits}
 use Rattle.peer_output.specs.Output.{IsPartialOutput}
-use Rattle.peer_server.specs.Serve.{IsServedInPart}
+use Rattle.rpc_peer.specs.Serve.{IsServedInPart}
 
 appends-none : (before : Option (List ℕ)) → Appends before before []
 appends-none None = tt

@@ -9,7 +9,7 @@ use Rattle.method_steps.specs.Steps.{MethodTable}
 use Rattle.peer_limits.specs.declared.limits.Limits.{Limits}
 use Rattle.server_clerk.specs.declared.clerk.Served.{Served}
 use Rattle.server_ring.specs.declared.arrival.Arrival.{Arrival}
-use Rattle.peer_server.specs.Inner.Threads.{HasServed}
+use Rattle.rpc_peer.specs.Inner.Threads.{HasServed}
 
 pub served-for : {K : Type 0} (taken : K → Option (List ℕ)) (failures : K → ℕ) (table other_table : MethodTable) (limits other_limits : Limits) (sink other_sink : K) (served : Served K)
     → table ≡ other_table → limits ≡ other_limits → sink ≡ other_sink → HasServed taken failures table limits sink served

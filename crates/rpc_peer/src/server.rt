@@ -6,10 +6,10 @@ ghost use Rattle.method_steps.specs.Steps.{MethodTable};
 ghost use Rattle.peer_limits.specs.declared.limits.Limits.{Limits as LimitsOf};
 ghost use Rattle.rtrb.specs.Ring.{sent, IsPair};
 ghost use Rattle.server_ring.specs.Arriving.{Reads};
-ghost use Rattle.peer_server.specs.declared.server.TheConstants.{MOST_WORKERS};
-ghost use Rattle.peer_server.specs.declared.fault.ServeFault.TheVariants.{Workers};
-ghost use Rattle.peer_server.specs.Inner.Threads.{HasServed};
-ghost use Rattle.peer_server.specs.Serve.{IsServed, IsServedInPart, IsImpossible, CountsFault};
+ghost use Rattle.rpc_peer.specs.declared.server.TheConstants.{MOST_WORKERS};
+ghost use Rattle.rpc_peer.specs.declared.fault.ServeFault.TheVariants.{Workers};
+ghost use Rattle.rpc_peer.specs.Inner.Threads.{HasServed};
+ghost use Rattle.rpc_peer.specs.Serve.{IsServed, IsServedInPart, IsImpossible, CountsFault};
 
 use crate::crew::Crew;
 use crate::fault::ServeFault;

@@ -3,7 +3,7 @@
 ghost use Rattle.std.specs.Prelude.{ℕ, List, Option};
 ghost use Rattle.method_steps.specs.Steps.{MethodTable};
 ghost use Rattle.peer_limits.specs.declared.limits.Limits.{Limits as LimitsOf};
-ghost use Rattle.peer_server.specs.Serve.{IsServedInPart};
+ghost use Rattle.rpc_peer.specs.Serve.{IsServedInPart};
 
 use lsp_frames::{Source, contents_are_a_function_of_the_bytes};
 use peer_output::nothing_is_a_partial_output;

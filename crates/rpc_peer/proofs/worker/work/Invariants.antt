@@ -1,5 +1,5 @@
 use Rattle.job_slots.specs.Seats.{IsWorkerOf}
-use Rattle.peer_server.proofs.worker.work.Given as goal
+use Rattle.rpc_peer.proofs.worker.work.Given as goal
 
 abbrev pub invariant-loop : goal.invariant-loop
 invariant-loop g l = IsWorkerOf l.slots l.seat
