@@ -1,9 +1,8 @@
 //! What is written of a case.
 use lsp_frames::FrameFault;
-use peer_limits::{Close, Report};
-use rpc_peer::ServeFault;
-use peer_session::DrainFault;
+use peer_session::{Close, DrainFault, Report};
 use program_edge::Failure;
+use rpc_peer::ServeFault;
 use std::io::Write;
 
 /// Writes what came of a case that was run to its end, and the bytes that the peer wrote.

@@ -5,10 +5,10 @@ use crate::record::{name_of_drain_fault, name_of_serve_fault, write_report, writ
 use crate::run_failure::{BROKEN_CASE, RunFailure};
 use lsp_frames::{MemSink, MemSource};
 use method_steps::Table;
-use peer_limits::Limits;
 use peer_player::{Schedule, play_to};
-use rpc_peer::serve;
+use peer_session::Limits;
 use program_edge::Failure;
+use rpc_peer::serve;
 use std::alloc::Global;
 use std::io::Write;
 use std::sync::Wait;

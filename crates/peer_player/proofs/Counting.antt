@@ -3,8 +3,8 @@ use Rattle.std.proofs.Common.{◌≡◌, ℕ, ◌+◌, ◌-◌, ◌^◌, min, Bo
 use Rattle.std.specs.Prelude.{if◌then◌else◌}
 use Rattle.handler_future.specs.State.{HandlerState}
 use Rattle.rpc_messages.specs.Unit.{SeenUnit}
-use Rattle.peer_limits.specs.declared.report.Close.{Close}
-use Rattle.peer_limits.specs.declared.report.Close.TheVariants.{Full}
+use Rattle.peer_session.specs.declared.report.Close.{Close}
+use Rattle.peer_session.specs.declared.report.Close.TheVariants.{Full}
 use Rattle.peer_session.specs.Events.{CountsDrain, DrainsTo, LeavesAt, TakesUnit, ended_at, ended}
 use Rattle.peer_session.specs.SessionState.{SessionState}
 use Rattle.peer_session.specs.declared.drain_fault.DrainFault.{DrainFault}

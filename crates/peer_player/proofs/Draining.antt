@@ -9,8 +9,8 @@ use Rattle.rpc_messages.specs.Unit.{SeenUnit}
 use Rattle.method_steps.specs.Steps.{MethodTable}
 use Rattle.answer_desk.specs.State.{front_texts}
 use Rattle.session_stages.specs.declared.stage.Stage.{Stage}
-use Rattle.peer_limits.specs.declared.limits.Limits.{Limits}
-use Rattle.peer_limits.specs.declared.report.Close.{Close}
+use Rattle.peer_session.specs.declared.limits.Limits.{Limits}
+use Rattle.peer_session.specs.declared.report.Close.{Close}
 use Rattle.peer_output.specs.Course.{Sending}
 use Rattle.peer_output.specs.Items.{Item, sent, answered, answers_in, bytes_of, is_sending, is_call, count_sendings, count_calls}
 use Rattle.peer_output.specs.Later.{MayBecome}

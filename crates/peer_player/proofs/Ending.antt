@@ -4,10 +4,10 @@ use Rattle.std.specs.Prelude.{if◌then◌else◌}
 use Rattle.rpc_messages.specs.Numbering.{taken, is_cut, units_numbers}
 use Rattle.rpc_messages.specs.Unit.{SeenUnit}
 use Rattle.method_steps.specs.Steps.{MethodTable}
-use Rattle.peer_limits.specs.declared.limits.Limits.{Limits}
-use Rattle.peer_limits.specs.declared.report.Close.{Close}
-use Rattle.peer_limits.specs.declared.report.Close.TheVariants.{Full}
-use Rattle.peer_limits.specs.declared.report.Report.{Report}
+use Rattle.peer_session.specs.declared.limits.Limits.{Limits}
+use Rattle.peer_session.specs.declared.report.Close.{Close}
+use Rattle.peer_session.specs.declared.report.Close.TheVariants.{Full}
+use Rattle.peer_session.specs.declared.report.Report.{Report}
 use Rattle.peer_output.specs.Items.{Item}
 use Rattle.peer_output.specs.Past.{past_units}
 use Rattle.session_state.specs.Core.{Core}

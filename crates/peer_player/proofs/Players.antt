@@ -13,11 +13,11 @@ use Rattle.rpc_messages.specs.Numbering.{taken, is_cut}
 use Rattle.rpc_messages.specs.Unit.{SeenUnit, units_of}
 use Rattle.method_steps.specs.Steps.{MethodTable}
 use Rattle.lsp_frames.specs.Devices.{Finished}
-use Rattle.peer_limits.specs.Close.{close_of}
-use Rattle.peer_limits.specs.declared.limits.Limits.{Limits}
-use Rattle.peer_limits.specs.declared.report.Close.{Close}
-use Rattle.peer_limits.specs.declared.report.Close.TheVariants as close
-use Rattle.peer_limits.specs.declared.report.Report.{Report}
+use Rattle.peer_session.specs.Close.{close_of}
+use Rattle.peer_session.specs.declared.limits.Limits.{Limits}
+use Rattle.peer_session.specs.declared.report.Close.{Close}
+use Rattle.peer_session.specs.declared.report.Close.TheVariants as close
+use Rattle.peer_session.specs.declared.report.Report.{Report}
 use Rattle.peer_output.specs.Cancelled.{Begins}
 use Rattle.peer_output.specs.Later.{MayBecome}
 use Rattle.peer_session.specs.SessionState.{SessionState, new_session}

@@ -5,8 +5,8 @@ use Rattle.method_steps.specs.Steps.{MethodTable}
 use Rattle.handler_future.specs.State.{HandlerState, IsPoll}
 use Rattle.handler_future.specs.declared.outcome.Outcome.{Outcome}
 use Rattle.handler_future.specs.declared.outcome.Outcome.TheVariants.{Answer, Failed as NoMemory}
-use Rattle.peer_limits.specs.declared.limits.Limits.{Limits}
-use Rattle.peer_limits.specs.declared.report.Close.{Close}
+use Rattle.peer_session.specs.declared.limits.Limits.{Limits}
+use Rattle.peer_session.specs.declared.report.Close.{Close}
 use Rattle.peer_output.specs.Items.{Item, count_calls}
 use Rattle.peer_output.specs.Output.{IsOutput}
 use Rattle.session_state.specs.Core.{Core, stage_at}

@@ -7,9 +7,9 @@ use Rattle.rpc_messages.specs.Numbering.{taken, is_cut, unit_numbers, units_numb
 use Rattle.rpc_messages.specs.Unit.{SeenUnit, units_of}
 use Rattle.rpc_messages.proofs.Units.{taken-uncut, taken-append, is_cut-append, taken-cut, is_cut-cut}
 use Rattle.method_steps.specs.Steps.{MethodTable}
-use Rattle.peer_limits.specs.declared.limits.Limits.{Limits}
-use Rattle.peer_limits.specs.declared.report.Close.{Close}
-use Rattle.peer_limits.specs.declared.report.Close.TheVariants.{Full}
+use Rattle.peer_session.specs.declared.limits.Limits.{Limits}
+use Rattle.peer_session.specs.declared.report.Close.{Close}
+use Rattle.peer_session.specs.declared.report.Close.TheVariants.{Full}
 use Rattle.peer_output.specs.Cancelled.{Begins}
 use Rattle.peer_output.specs.Items.{bytes_of}
 use Rattle.peer_output.specs.Later.{MayBecome}

@@ -2,8 +2,8 @@
 use Rattle.std.specs.Prelude.{◌≡◌, ℕ, ◌+◌, ◌-◌, ◌^◌, min, List, Option}
 use Rattle.lsp_frames.specs.Devices.{Finished}
 use Rattle.method_steps.specs.Steps.{MethodTable}
-use Rattle.peer_limits.specs.declared.limits.Limits.{Limits}
-use Rattle.peer_limits.specs.declared.report.Report.{Report}
+use Rattle.peer_session.specs.declared.limits.Limits.{Limits}
+use Rattle.peer_session.specs.declared.report.Report.{Report}
 use Rattle.peer_session.specs.Run.{IsRun}
 use Rattle.peer_session.specs.declared.drain_fault.DrainFault.{DrainFault}
 use Rattle.peer_session.specs.declared.drain_fault.DrainFault.TheVariants.{Memory, Write}

@@ -6,7 +6,7 @@ use Rattle.lsp_frames.specs.declared.frame.Frame.{Frame}
 use Rattle.rpc_messages.specs.Numbering.{taken, is_cut}
 use Rattle.rpc_messages.specs.Unit.{units_of}
 use Rattle.method_steps.specs.Steps.{MethodTable}
-use Rattle.peer_limits.specs.declared.limits.Limits.{Limits}
+use Rattle.peer_session.specs.declared.limits.Limits.{Limits}
 use Rattle.peer_session.specs.SessionState.{SessionState}
 use Rattle.peer_session.specs.Run.{IsRunCutShort}
 use Rattle.peer_player.specs.Playing.{HasWritten, close_by}

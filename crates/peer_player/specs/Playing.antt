@@ -5,10 +5,10 @@ use Rattle.rpc_messages.specs.Numbering.{taken, is_cut, units_numbers}
 use Rattle.rpc_messages.specs.Unit.{SeenUnit}
 use Rattle.method_steps.specs.Steps.{MethodTable}
 use Rattle.session_stages.specs.declared.stage.Stage.TheVariants.{Failed}
-use Rattle.peer_limits.specs.declared.limits.Limits.{Limits}
-use Rattle.peer_limits.specs.declared.report.Close.{Close}
-use Rattle.peer_limits.specs.declared.report.Close.TheVariants.{Full}
-use Rattle.peer_limits.specs.declared.report.Report.{Report}
+use Rattle.peer_session.specs.declared.limits.Limits.{Limits}
+use Rattle.peer_session.specs.declared.report.Close.{Close}
+use Rattle.peer_session.specs.declared.report.Close.TheVariants.{Full}
+use Rattle.peer_session.specs.declared.report.Report.{Report}
 use Rattle.peer_output.specs.Cancelled.{Begins}
 use Rattle.peer_output.specs.Items.{Item, answers_in, bytes_of, count_sendings, count_calls}
 use Rattle.peer_output.specs.Output.{IsOutput, IsPartialOutput}

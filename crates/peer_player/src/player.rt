@@ -13,8 +13,7 @@ use crate::playing::Playing;
 use crate::schedule::Schedule;
 use lsp_frames::{Decoder, End, FeedFault, Sink};
 use method_steps::Table;
-use peer_limits::{Close, Limits, Report};
-use peer_session::{DrainFault, Session};
+use peer_session::{Close, DrainFault, Limits, Report, Session};
 use std::alloc::{AllocError, Global};
 
 /// A peer on one thread, which is fed its input piece by piece and writes to its sink as it goes. Of the input it holds the

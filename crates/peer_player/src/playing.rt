@@ -4,8 +4,8 @@ ghost use Rattle.std.specs.Prelude.{◌≡◌, ◌<◌, ◌++◌, ℕ, List, [],
 ghost use Rattle.rpc_messages.specs.Numbering.{taken};
 ghost use Rattle.rpc_messages.specs.Unit.{SeenUnit, units_of};
 ghost use Rattle.method_steps.specs.Steps.{MethodTable};
-ghost use Rattle.peer_limits.specs.declared.limits.Limits.{Limits as LimitsOf};
-ghost use Rattle.peer_limits.specs.declared.report.Close.{Close as CloseOf};
+ghost use Rattle.peer_session.specs.declared.limits.Limits.{Limits as LimitsOf};
+ghost use Rattle.peer_session.specs.declared.report.Close.{Close as CloseOf};
 ghost use Rattle.peer_output.specs.Cancelled.{Begins};
 ghost use Rattle.peer_output.specs.Later.{MayBecome};
 ghost use Rattle.session_state.specs.Turns.{all_turns_left};
@@ -18,8 +18,7 @@ use crate::known::known;
 use crate::schedule::Schedule;
 use job_slots::Turns;
 use lsp_frames::{Frame, Sink};
-use peer_limits::{Close, Report};
-use peer_session::{DrainFault, Session};
+use peer_session::{Close, DrainFault, Report, Session};
 
 /// A session, the sink that it writes to, and how many jobs were turned by the schedule.
 #[derive(Drop)]

@@ -2,7 +2,7 @@
 
 ghost use Rattle.std.specs.Prelude.{◌≡◌, ℕ, List, [], IfOk, IfErr, OnErr, Option, Some, flat_map};
 ghost use Rattle.method_steps.specs.Steps.{MethodTable};
-ghost use Rattle.peer_limits.specs.declared.limits.Limits.{Limits as LimitsOf};
+ghost use Rattle.peer_session.specs.declared.limits.Limits.{Limits as LimitsOf};
 ghost use Rattle.peer_session.specs.Session.{view};
 ghost use Rattle.peer_player.specs.Player.{PlaysAfter};
 ghost use Rattle.peer_session.specs.Events.{CountsDrain};
@@ -14,8 +14,7 @@ use crate::player::Player;
 use crate::schedule::Schedule;
 use lsp_frames::{MemSink, Sink};
 use method_steps::Table;
-use peer_limits::{Limits, Report};
-use peer_session::DrainFault;
+use peer_session::{DrainFault, Limits, Report};
 use std::alloc::Global;
 
 /// Why nothing was played.

@@ -9,7 +9,7 @@ mod while_open;
 use crate::cuts;
 use lsp_frames::{MemSink, MemSource, Sink, Source};
 use method_steps::Table;
-use peer_limits::{Close, Limits, Report};
+use peer_session::{Close, Limits, Report};
 use rpc_peer::{ServeFault, serve};
 use std::alloc::{AllocError, Global};
 use std::sync::Wait;

@@ -1,6 +1,6 @@
 -- Whether an input is over, and whether a unit is taken.
 use Rattle.std.proofs.Common.{◌≡◌, ◌≤◌, ◌<◌, ℕ, nat_le, rules, refl, sym, true, false, true≢false, Option, Some, None, is_none}
-use Rattle.peer_limits.specs.declared.report.Close.{Close}
+use Rattle.peer_session.specs.declared.report.Close.{Close}
 use Rattle.peer_session.specs.Events.{ended_at}
 use Rattle.peer_session.specs.SessionState.{SessionState}
 

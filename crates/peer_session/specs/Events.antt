@@ -5,8 +5,8 @@ use Rattle.answer_desk.specs.State.{front_texts}
 use Rattle.handler_future.specs.declared.outcome.Outcome.{Outcome}
 use Rattle.handler_future.specs.declared.outcome.Outcome.TheVariants.{Answer, Failed}
 use Rattle.handler_future.specs.State.{HandlerState}
-use Rattle.peer_limits.specs.declared.report.Close.{Close}
-use Rattle.peer_limits.specs.declared.report.Close.TheVariants.{Full}
+use Rattle.peer_session.specs.declared.report.Close.{Close}
+use Rattle.peer_session.specs.declared.report.Close.TheVariants.{Full}
 use Rattle.rpc_messages.specs.Numbering.{unit_numbers}
 use Rattle.rpc_messages.specs.Unit.{SeenUnit}
 use Rattle.peer_output.specs.Items.{Item, count_sendings, count_calls}

@@ -1,3 +1,4 @@
+pub mod Close
 pub mod Events
 pub mod Inner
 pub mod Run

@@ -7,9 +7,9 @@ use Rattle.lsp_frames.specs.declared.frame.Frame.{Frame}
 use Rattle.rpc_messages.specs.Numbering.{taken, is_cut, units_numbers}
 use Rattle.rpc_messages.specs.Unit.{units_of}
 use Rattle.method_steps.specs.Steps.{MethodTable}
-use Rattle.peer_limits.specs.Close.{close_of}
-use Rattle.peer_limits.specs.declared.limits.Limits.{Limits}
-use Rattle.peer_limits.specs.declared.report.Report.{Report}
+use Rattle.peer_session.specs.Close.{close_of}
+use Rattle.peer_session.specs.declared.limits.Limits.{Limits}
+use Rattle.peer_session.specs.declared.report.Report.{Report}
 use Rattle.peer_output.specs.Cancelled.{Begins}
 use Rattle.peer_output.specs.Items.{Item, answers_in, bytes_of, count_sendings, count_calls}
 use Rattle.peer_output.specs.Output.{IsOutput, IsPartialOutput}

@@ -1,9 +1,9 @@
 -- What a session is, as its calls tell it.
 use Rattle.std.specs.Prelude.{◌≡◌, ◌≢◌, ℕ, ◌-◌, ◌^◌, min, [], length, Bool, false, Option, Some, None}
-use Rattle.peer_limits.specs.declared.limits.Limits.{Limits}
-use Rattle.peer_limits.specs.declared.report.Close.{Close}
-use Rattle.peer_limits.specs.declared.report.Close.TheVariants.{Clean}
-use Rattle.peer_limits.specs.declared.report.Report.{Report}
+use Rattle.peer_session.specs.declared.limits.Limits.{Limits}
+use Rattle.peer_session.specs.declared.report.Close.{Close}
+use Rattle.peer_session.specs.declared.report.Close.TheVariants.{Clean}
+use Rattle.peer_session.specs.declared.report.Report.{Report}
 use Rattle.method_steps.specs.Steps.{MethodTable}
 use Rattle.session_stages.specs.declared.stage.Stage.TheVariants.{Gone}
 use Rattle.session_state.specs.Core.{Core, stage_at}

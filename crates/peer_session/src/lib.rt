@@ -1,5 +1,6 @@
 //! One session of a peer: units come in, handlers go out for their turns and come back, and what is
 //! due goes out.
+//! Its limits say how much a peer takes, its report what a run tells of itself.
 #![tactic(auto)]
 
 mod arrival;
@@ -7,7 +8,9 @@ mod drain_fault;
 mod finishing;
 mod hearing;
 mod job;
+mod limits;
 mod passing;
+mod report;
 mod runs;
 mod session;
 mod taken;
@@ -17,6 +20,7 @@ mod writing;
 
 pub use drain_fault::DrainFault;
 pub use job::Job;
-pub use peer_limits::{Close, Limits, Report};
+pub use limits::Limits;
+pub use report::{Close, Report};
 pub use session::Session;
 pub use taken::Taken;

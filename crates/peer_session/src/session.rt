@@ -10,7 +10,9 @@ ghost use Rattle.peer_session.specs.SessionState.{SessionState, IsDone, new_sess
 use crate::arrival::numbers_of;
 use crate::drain_fault::DrainFault;
 use crate::job::Job;
+use crate::limits::Limits;
 use crate::passing::take_unit;
+use crate::report::{Close, Report};
 use crate::runs::Runs;
 use crate::taken::Taken;
 use crate::turning::{come_back, leave};
@@ -18,7 +20,6 @@ use crate::writing::{NOTHING, Written, put_due};
 use handler_future::Outcome;
 use lsp_frames::{Frame, Sink, put_all};
 use method_steps::Table;
-use peer_limits::{Close, Limits, Report};
 use rpc_messages::UnitReader;
 use std::alloc::{AllocError, Global};
 

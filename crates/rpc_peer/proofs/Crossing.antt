@@ -2,7 +2,7 @@
 use denote.RattleType.{RattleType}
 use denote.Param.Send.{IsSend, IsSync}
 use denote.Param.SendFields.{declared_send}
-use Rattle.server_clerk.specs.contracts.gated.Gated as Gated
+use Rattle.rpc_peer.specs.contracts.gated.Gated as Gated
 use Rattle.serde_json.proofs.value.Value.TheLaws.TheKnot as value
 use Rattle.json_values.specs.contracts.json_value.Json as Json
 use Rattle.handler_future.proofs.Crossing.{known, handler_send, reply_send}

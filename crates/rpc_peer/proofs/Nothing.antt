@@ -7,7 +7,7 @@ use Rattle.lsp_frames.specs.declared.frame.Frame.{Frame}
 use Rattle.rpc_messages.specs.Numbering.{taken}
 use Rattle.rpc_messages.specs.Unit.{SeenUnit, units_of}
 use Rattle.method_steps.specs.Steps.{MethodTable}
-use Rattle.peer_limits.specs.declared.limits.Limits.{Limits}
+use Rattle.peer_session.specs.declared.limits.Limits.{Limits}
 use Rattle.peer_output.specs.Output.{IsPartialOutput}
 use Rattle.rpc_peer.specs.Serve.{IsServedInPart}
 

@@ -6,9 +6,9 @@ use Rattle.rtrb.specs.declared.AnyItems.{AnyItems}
 use Rattle.rtrb.specs.declared.consumer.Consumer.{Consumer}
 use Rattle.rtrb.specs.declared.producer.Producer.{Producer}
 use Rattle.method_steps.specs.Steps.{MethodTable}
-use Rattle.peer_limits.specs.declared.limits.Limits.{Limits}
-use Rattle.server_clerk.specs.declared.clerk.Served.{Served}
-use Rattle.server_ring.specs.declared.arrival.Arrival.{Arrival}
+use Rattle.peer_session.specs.declared.limits.Limits.{Limits}
+use Rattle.rpc_peer.specs.declared.clerk.Served.{Served}
+use Rattle.rpc_peer.specs.declared.arrival.Arrival.{Arrival}
 use Rattle.rpc_peer.specs.Inner.Threads.{HasServed}
 
 pub served-for : {K : Type 0} (taken : K → Option (List ℕ)) (failures : K → ℕ) (table other_table : MethodTable) (limits other_limits : Limits) (sink other_sink : K) (served : Served K)

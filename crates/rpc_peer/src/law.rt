@@ -1,8 +1,10 @@
-//! What holds of a server that has not begun. The law is the contract of a function that does nothing.
+//! Laws of a server: what holds before it has begun, and of what comes out of its ring. Each is the contract of a function that does nothing.
 
-ghost use Rattle.std.specs.Prelude.{ℕ, List, Option};
+ghost use Rattle.std.specs.Prelude.{◌≡◌, ℕ, List, Option, ◌++◌};
 ghost use Rattle.method_steps.specs.Steps.{MethodTable};
-ghost use Rattle.peer_limits.specs.declared.limits.Limits.{Limits as LimitsOf};
+ghost use Rattle.peer_session.specs.declared.limits.Limits.{Limits as LimitsOf};
+ghost use Rattle.rpc_peer.specs.declared.arrival.Arrival.{Arrival as ArrivalOf};
+ghost use Rattle.rpc_peer.specs.Arriving.{Reads, bytes_of, ending_of};
 ghost use Rattle.rpc_peer.specs.Serve.{IsServedInPart};
 
 use lsp_frames::{Source, contents_are_a_function_of_the_bytes};
@@ -16,3 +18,10 @@ pub(crate) fn nothing_is_served_in_part<S: Source>()
     contents_are_a_function_of_the_bytes();
     nothing_is_a_partial_output();
 }
+
+/// Whatever front of what was sent has arrived, the source gave its bytes and its ending.
+pub(crate) fn what_arrives_was_given<S: Source>()
+    ensures { (source : S) (sent arrived rest : List ArrivalOf) →
+        Reads (S.gave source) sent → sent ≡ arrived ++ rest →
+        S.gave source (bytes_of arrived) (ending_of arrived) }
+{}

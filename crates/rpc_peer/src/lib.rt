@@ -30,18 +30,29 @@
 //! - A `Session` is what a player stands on, for who brings contents in and handlers to their turns by himself.
 #![tactic(auto)]
 
+mod arrival;
+mod bells;
+mod clerk;
 mod crew;
+mod events;
 mod fault;
+mod gate;
+mod gated;
+mod known;
 mod law;
+mod patience;
+mod reader;
 mod reading;
 mod server;
+mod serving;
+mod taking;
 mod threads;
 mod worker;
 
 pub use crew::Crew;
 pub use fault::ServeFault;
-pub use peer_limits::{Close, Limits, Report};
+pub use gate::{Gate, OpenGate};
+pub use gated::Gated;
 pub use peer_player::{Picks, PlayFault, Player, Schedule, play, play_to};
-pub use peer_session::{DrainFault, Job, Session, Taken};
+pub use peer_session::{Close, DrainFault, Job, Limits, Report, Session, Taken};
 pub use server::{MOST_WORKERS, serve, serve_by, serve_with};
-pub use server_clerk::{Gate, Gated, OpenGate};

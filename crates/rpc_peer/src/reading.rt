@@ -1,11 +1,11 @@
 //! What a server's reader promises.
 
 ghost use Rattle.rtrb.specs.Ring.{sent, SameProducer};
-ghost use Rattle.server_ring.specs.Arriving.{Reads};
+ghost use Rattle.rpc_peer.specs.Arriving.{Reads};
 
+use crate::arrival::Arrival;
 use lsp_frames::Source;
 use rtrb::Producer;
-use server_ring::Arrival;
 use std::snapshot::Snapshot;
 use std::thread::Promise;
 

@@ -3,17 +3,21 @@
 ghost use Rattle.std.specs.Prelude.{◌≡◌, [], All, IfOk, IfErr, IfSome};
 ghost use Rattle.job_slots.specs.Seats.{IsWorkerOf};
 ghost use Rattle.rtrb.specs.Ring.{sent, SameProducer, SameConsumer};
-ghost use Rattle.server_clerk.specs.Clerk.{IsNew};
-ghost use Rattle.server_ring.specs.Arriving.{Reads};
+ghost use Rattle.rpc_peer.specs.Clerk.{IsNew};
+ghost use Rattle.rpc_peer.specs.Arriving.{Reads};
 ghost use Rattle.rpc_peer.specs.Inner.Threads.{HasServed};
 
+use crate::arrival::Arrival;
+use crate::bells::Bells;
+use crate::clerk::{Clerk, Served};
+use crate::gate::Gate;
+use crate::gated::Gated;
+use crate::reader::read_into;
 use crate::reading::Reading;
 use crate::worker::work;
 use job_slots::{JobSlots, Turns, WorkerSeat};
 use lsp_frames::{Sink, Source};
 use rtrb::Producer;
-use server_clerk::{Clerk, Gate, Gated, Served};
-use server_ring::{Arrival, Bells, read_into};
 use std::alloc::Global;
 use std::snapshot::Snapshot;
 use std::sync::Wait;

@@ -2,8 +2,9 @@
 
 ghost use Rattle.job_slots.specs.Seats.{IsWorkerOf};
 
+use crate::bells::{Bells, Stopped};
+use crate::patience::Patience;
 use job_slots::{JobSlots, Ran, Turns, WorkerSeat};
-use server_ring::{Bells, Patience, Stopped};
 use std::sync::Wait;
 
 /// Turns jobs until it sees that the server has stopped.

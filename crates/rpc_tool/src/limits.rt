@@ -1,7 +1,7 @@
 //! The limits of a run.
 ghost use Rattle.std.specs.Prelude.{◌≡◌, IfOk};
 
-use command_line::LimitOptions;
+use crate::command_line::LimitOptions;
 use program_edge::Failure;
 use rpc_peer::Limits;
 

@@ -1,6 +1,7 @@
 //! The program `rpc_tool`: a JSON-RPC 2.0 peer on the standard streams.
 #![tactic(auto)]
 
+mod command_line;
 mod input;
 mod limits;
 mod output;

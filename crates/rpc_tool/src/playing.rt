@@ -1,6 +1,7 @@
 //! The command `play`: the whole of the input is played, and what was written goes out.
 ghost use Rattle.std.specs.Prelude.{◌<◌};
 
+use crate::command_line::PlayOptions;
 use crate::input::InputStream;
 use crate::limits::limits_of;
 use crate::output::{write_frames, write_lines};
@@ -8,7 +9,6 @@ use crate::pieces::Pieces;
 use crate::reading::read_all;
 use crate::run_failure::RunFailure;
 use crate::table_file::table_in;
-use command_line::PlayOptions;
 use method_steps::Table;
 use program_edge::Failure;
 use rpc_peer::{Close, Picks, Report, Schedule};

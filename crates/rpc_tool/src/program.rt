@@ -1,9 +1,9 @@
 //! The program over any reader and any two writers.
+use crate::command_line::{Subcommand, read};
 use crate::playing::play;
 use crate::run_failure::RunFailure;
 use crate::serving::serve_streams;
 use crate::table_file::check;
-use command_line::{Subcommand, read};
 use lsp_frames::FrameFault;
 use program_edge::answer_words;
 use rpc_peer::Close;

@@ -1,8 +1,8 @@
 //! The command `serve`: the input is served as it comes, by several threads.
+use crate::command_line::ServeOptions;
 use crate::limits::limits_of;
 use crate::run_failure::RunFailure;
 use crate::table_file::table_in;
-use command_line::ServeOptions;
 use lsp_frames::{StdSink, StdSource};
 use program_edge::Failure;
 use rpc_peer::{Close, ServeFault, serve};

@@ -1,6 +1,6 @@
 //! The command line: how many rounds, and with how much patience.
-use rpc_peer::Crew;
 use program_edge::{CommandOption, NumberOption, Program, Refusal};
+use rpc_peer::Crew;
 use std::alloc::Global;
 
 /// What a command line asks the program to do.

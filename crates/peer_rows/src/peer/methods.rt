@@ -1,7 +1,7 @@
 //! What the peer writes where methods of its table run, row by row.
 use super::Row;
 use super::rows::STANDARD;
-use peer_limits::Close;
+use peer_session::Close;
 
 /// What a report counts of the methods that ran.
 #[derive(Clone, Copy)]

@@ -1,7 +1,7 @@
 //! What the peer answers where its table has no methods, row by row.
 use super::Row;
 use lsp_frames::FrameFault;
-use peer_limits::Close;
+use peer_session::Close;
 
 /// The greatest content and the greatest count of numbers of the standard limits.
 pub const STANDARD: (u32, u32) = (16_777_216, 1_000_000);

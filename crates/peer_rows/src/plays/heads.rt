@@ -5,7 +5,7 @@ use crate::cuts;
 use crate::told::holds;
 use lsp_frames::FrameFault;
 use method_steps::Table;
-use peer_limits::{Close, Limits};
+use peer_session::{Close, Limits};
 use std::alloc::Global;
 use std::process::Abort;
 use std::test::Fail;

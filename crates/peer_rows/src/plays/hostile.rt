@@ -2,7 +2,7 @@
 
 use super::{METHODS, framed, is_framed, played_whole, table};
 use lsp_frames::put_frame;
-use peer_limits::Limits;
+use peer_session::Limits;
 use std::alloc::{AllocError, Global};
 use std::test::Fail;
 

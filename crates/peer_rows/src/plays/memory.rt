@@ -5,8 +5,7 @@ use handler_future::Outcome;
 use job_slots::Turns;
 use lsp_frames::{Frame, StdSink};
 use method_steps::Table;
-use peer_limits::{Close, Limits};
-use peer_session::{DrainFault, Session};
+use peer_session::{Close, DrainFault, Limits, Session};
 use std::alloc::Global;
 use std::io::{self, Write};
 

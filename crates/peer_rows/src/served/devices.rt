@@ -3,7 +3,7 @@
 use super::{ASK, CONFIRM, CONFIRMED, Given, METHODS, NO_REPLY, NOT_FOUND, REPLY, UNKNOWN};
 use crate::cuts;
 use crate::told::{holds, holds_at};
-use peer_limits::Close;
+use peer_session::Close;
 use rpc_peer::ServeFault;
 use std::alloc::{AllocGlobal, Global};
 use std::process::Abort;

@@ -2,7 +2,7 @@
 
 use super::{ASK, CONFIRM, CONFIRMED, Ended, Given, METHODS, REPLY, UNKNOWN};
 use crate::told::holds_at;
-use peer_limits::{Close, Report};
+use peer_session::{Close, Report};
 use rpc_peer::ServeFault;
 use std::alloc::{AllocGlobal, Global};
 use std::process::Abort;

@@ -2,11 +2,11 @@
 use Rattle.std.specs.Prelude.{ℕ, List, Option, IfOk, OnErr}
 use Rattle.rtrb.specs.Ring.{received}
 use Rattle.method_steps.specs.Steps.{MethodTable}
-use Rattle.peer_limits.specs.declared.limits.Limits.{Limits}
+use Rattle.peer_session.specs.declared.limits.Limits.{Limits}
 use Rattle.peer_session.specs.Run.{IsRun, IsRunCutShort}
-use Rattle.server_clerk.specs.Clerk.{CountsRun}
-use Rattle.server_clerk.specs.declared.clerk.Served.{Served}
-use Rattle.server_ring.specs.Arriving.{bytes_of, ending_of}
+use Rattle.rpc_peer.specs.Clerk.{CountsRun}
+use Rattle.rpc_peer.specs.declared.clerk.Served.{Served}
+use Rattle.rpc_peer.specs.Arriving.{bytes_of, ending_of}
 
 -- The clerk has served what it took from the ring.
 pub record HasServed {K : Type 0} (taken : K → Option (List ℕ)) (failures : K → ℕ) (table : MethodTable) (limits : Limits) (sink : K) (served : Served K) : Type 0 where

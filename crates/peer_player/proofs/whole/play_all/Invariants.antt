@@ -1,6 +1,6 @@
 use Rattle.std.proofs.Common.{◌≡◌, ℕ, List, [], take, flat_map, Option}
 use Rattle.method_steps.specs.Steps.{MethodTable}
-use Rattle.peer_limits.specs.declared.limits.Limits.{Limits}
+use Rattle.peer_session.specs.declared.limits.Limits.{Limits}
 use Rattle.peer_session.specs.Session.{view}
 use Rattle.peer_player.specs.Player.{PlaysAfter}
 use Rattle.peer_player.proofs.whole.play_all.Given as goal

@@ -1,8 +1,8 @@
 use Rattle.std.proofs.Common.{◌≡◌, ℕ, List, Option}
 use Rattle.rpc_messages.specs.Unit.{SeenUnit}
 use Rattle.method_steps.specs.Steps.{MethodTable}
-use Rattle.peer_limits.specs.declared.limits.Limits.{Limits}
-use Rattle.peer_limits.specs.declared.report.Close.{Close}
+use Rattle.peer_session.specs.declared.limits.Limits.{Limits}
+use Rattle.peer_session.specs.declared.report.Close.{Close}
 use Rattle.session_state.specs.Turns.{all_turns_left}
 use Rattle.peer_session.specs.Session.{view}
 use Rattle.peer_player.specs.Playing.{HasWritten, HasDrained}

@@ -2,7 +2,7 @@ use Rattle.std.proofs.Common.{◌≡◌, ℕ, List, ◌++◌, take, Option}
 use Rattle.rpc_messages.specs.Numbering.{taken}
 use Rattle.rpc_messages.specs.Unit.{SeenUnit, units_of}
 use Rattle.method_steps.specs.Steps.{MethodTable}
-use Rattle.peer_limits.specs.declared.limits.Limits.{Limits}
+use Rattle.peer_session.specs.declared.limits.Limits.{Limits}
 use Rattle.peer_session.specs.Session.{view}
 use Rattle.peer_player.specs.Playing.{HasWritten, close_by}
 use Rattle.peer_player.proofs.playing.Playing.take_frames.Given as goal

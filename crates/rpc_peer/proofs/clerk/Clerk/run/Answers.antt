@@ -1,0 +1,72 @@
+-- A new clerk has served nothing; what it then serves is a run.
+use Rattle.std.proofs.Common.{refl}
+use Rattle.rpc_peer.proofs.Happenings.{starts-new}
+use Rattle.rpc_peer.proofs.Outcomes.{ring-of, run-of, part-of, cause-of}
+use Rattle.rpc_peer.proofs.Rings.{same-ring}
+use Rattle.rpc_peer.proofs.clerk.Clerk.run.Goals as goal
+
+pub returns-clause-ring : goal.returns-clause-ring
+returns-clause-ring g c =
+    let clerk = c.args.self in
+    let taken = g.K.Sink.bytes_taken in
+    let failures = g.K.Sink.failures in
+    ring-of taken failures
+    (record { table = clerk.table.now; limits = clerk.limits; ring = clerk.ring; taken = taken clerk.sink; failures = failures clerk.sink })
+    c.serve-outcome.new.self c.serve-outcome.result
+    (c.serve-outcome.ensures.ok _ (record {
+      after = starts-new c.known.ensures clerk c.requires (taken clerk.sink) c.new.result c.new.ensures.limit c.new.ensures.start;
+      ring = same-ring clerk.ring;
+      unfailing = refl;
+    }))
+    (c.serve-outcome.ensures.err _ (record {
+      after = starts-new c.known.ensures clerk c.requires (taken clerk.sink) c.new.result c.new.ensures.limit c.new.ensures.start;
+      ring = same-ring clerk.ring;
+      unfailing = refl;
+    }))
+
+pub returns-clause-ok : goal.returns-clause-ok
+returns-clause-ok g c =
+    let clerk = c.args.self in
+    let taken = g.K.Sink.bytes_taken in
+    let failures = g.K.Sink.failures in
+    run-of taken failures
+    (record { table = clerk.table.now; limits = clerk.limits; ring = clerk.ring; taken = taken clerk.sink; failures = failures clerk.sink })
+    c.serve-outcome.new.self c.serve-outcome.result
+    (c.serve-outcome.ensures.ok _ (record {
+      after = starts-new c.known.ensures clerk c.requires (taken clerk.sink) c.new.result c.new.ensures.limit c.new.ensures.start;
+      ring = same-ring clerk.ring;
+      unfailing = refl;
+    }))
+
+pub returns-clause-err : goal.returns-clause-err
+returns-clause-err g c =
+    let clerk = c.args.self in
+    let taken = g.K.Sink.bytes_taken in
+    let failures = g.K.Sink.failures in
+    part-of taken failures
+    (record { table = clerk.table.now; limits = clerk.limits; ring = clerk.ring; taken = taken clerk.sink; failures = failures clerk.sink })
+    c.serve-outcome.new.self c.serve-outcome.result
+    (c.serve-outcome.ensures.err _ (record {
+      after = starts-new c.known.ensures clerk c.requires (taken clerk.sink) c.new.result c.new.ensures.limit c.new.ensures.start;
+      ring = same-ring clerk.ring;
+      unfailing = refl;
+    }))
+
+pub returns-clause-cause : goal.returns-clause-cause
+returns-clause-cause g c =
+    let clerk = c.args.self in
+    let taken = g.K.Sink.bytes_taken in
+    let failures = g.K.Sink.failures in
+    cause-of taken failures
+    (record { table = clerk.table.now; limits = clerk.limits; ring = clerk.ring; taken = taken clerk.sink; failures = failures clerk.sink })
+    c.serve-outcome.new.self c.serve-outcome.result
+    (c.serve-outcome.ensures.ok _ (record {
+      after = starts-new c.known.ensures clerk c.requires (taken clerk.sink) c.new.result c.new.ensures.limit c.new.ensures.start;
+      ring = same-ring clerk.ring;
+      unfailing = refl;
+    }))
+    (c.serve-outcome.ensures.err _ (record {
+      after = starts-new c.known.ensures clerk c.requires (taken clerk.sink) c.new.result c.new.ensures.limit c.new.ensures.start;
+      ring = same-ring clerk.ring;
+      unfailing = refl;
+    }))

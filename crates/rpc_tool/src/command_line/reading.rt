@@ -1,0 +1,49 @@
+//! The words of a command line, read.
+use super::commands::{
+    CALLS, CONTENT, JUDGED_TABLE, LAST, LAZY, LINES, PIECE, PROGRAM, TABLE, WORKERS,
+};
+use super::subcommand::{LimitOptions, PlayOptions, ServeOptions, Subcommand};
+use program_edge::{Refusal, Words};
+use std::alloc::Global;
+
+/// Reads the words of a command line, of which the first is the program's name.
+///
+/// # Errors
+/// A `Refusal` has the text for the user: help and the version too, whose status is 0.
+pub fn read<'a>(alloc: Global, words: &'a [String]) -> Result<Subcommand<'a>, Refusal> {
+    let words = PROGRAM.read(alloc, words)?;
+    Ok(match words.command() {
+        Some("serve") => Subcommand::Serve(serve_options(&words)),
+        Some("play") => Subcommand::Play(play_options(&words)),
+        // Words without a command are refused, and `check` without its table.
+        _ => Subcommand::Check {
+            table: words.text(&JUDGED_TABLE).unwrap_or(""),
+        },
+    })
+}
+
+fn serve_options<'a>(words: &Words<'a>) -> ServeOptions<'a> {
+    ServeOptions {
+        table: words.text(&TABLE),
+        workers: words.number(&WORKERS),
+        limits: limit_options(words),
+    }
+}
+
+fn play_options<'a>(words: &Words<'a>) -> PlayOptions<'a> {
+    PlayOptions {
+        table: words.text(&TABLE),
+        lazy: words.flag(&LAZY),
+        last: words.flag(&LAST),
+        piece: words.number(&PIECE),
+        lines: words.flag(&LINES),
+        limits: limit_options(words),
+    }
+}
+
+fn limit_options(words: &Words<'_>) -> LimitOptions {
+    LimitOptions {
+        content: words.number(&CONTENT),
+        calls: words.number(&CALLS),
+    }
+}

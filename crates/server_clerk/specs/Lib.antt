@@ -1,6 +1,0 @@
-pub mod Clerk
-pub mod Inner
-pub mod Jobs
-pub mod Serves
-pub mod Serving
-pub mod Taking

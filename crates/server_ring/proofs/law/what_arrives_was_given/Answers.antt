@@ -1,5 +1,0 @@
-use Rattle.server_ring.proofs.Sent.{arrived-was-given}
-use Rattle.server_ring.proofs.law.what_arrives_was_given.Goals as goal
-
-pub returns : goal.returns
-returns g c = λ source sent arrived rest. arrived-was-given (g.S.Source.gave source) sent arrived rest
