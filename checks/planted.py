@@ -45,8 +45,8 @@ CHOSEN = (
     "peer_session/withdrawal_of_a_call_whose_reply_is_there",
     "rpc_messages/calls_of_a_batch_share_a_turn",
     "rpc_messages/first_id_counts",
-    "server_clerk/pieces_are_taken_in_the_other_order",
-    "server_clerk/two_jobs_go_out_and_one_is_lost",
+    "rpc_peer/pieces_are_taken_in_the_other_order",
+    "rpc_peer/two_jobs_go_out_and_one_is_lost",
 )
 
 
