@@ -8,6 +8,7 @@ import glob
 import hashlib
 import json
 import os
+import sys
 import tempfile
 
 from support import prover
@@ -48,8 +49,10 @@ def sum_of_kit() -> str:
 
 
 def sum_of_judges(root: str) -> str:
-    """A sum of the scripts that try bodies and judge them."""
-    return sum_of_files([f"{root}/checks/wrong_bodies.py", *sorted(glob.glob(f"{root}/checks/support/*.py"))], root)
+    """A sum of the scripts that try bodies and judge them: of those in checks/ that this run has loaded."""
+    loaded = {os.path.realpath(it.__file__) for it in [*sys.modules.values()] if getattr(it, "__file__", None)}
+    below = os.path.realpath(f"{root}/checks") + os.sep
+    return sum_of_files(sorted(it for it in loaded if it.startswith(below)), os.path.realpath(root))
 
 
 class Kept:
