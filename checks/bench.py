@@ -1,5 +1,5 @@
-"""Runs the bench programs on sizes that are no multiple of anything: each job comes home once, each unit is released, and its time is told;
-what reads and writes alone answers what the player answers, and asks for little memory. What a desk took while much was open it gives back.
+"""Runs the bench program on sizes that are no multiple of anything: each job comes home once, each unit is released, and its time is told;
+what it reads and writes alone it answers as the player does, and asks for little memory. What a desk took while much was open it gives back.
 And bench/run runs on small sizes, where what it measures can be built: each answer of the player and of the server is the one that it has to
 be."""
 import os
@@ -58,8 +58,6 @@ MOST_REQUESTS = 8
 count = ran.Count()
 BENCH = ran.gates_program("peer_bench")
 count.check("the gate built peer_bench", BENCH is not None)
-READING = ran.gates_program("reading_bench")
-count.check("the gate built reading_bench", READING is not None)
 
 
 def check_work(words, name, number, outcome):
@@ -81,7 +79,7 @@ def check_all():
             # (the first unit of the one is never finished, and the other is one unit)
             released = {"behind": max(0, units - 1), "batch": min(1, units)}.get(order, units)
             check_work(["desk", "--order", order, f"--units={units}"], f"desk {order}", released, "released")
-    for words in (["--help"], ["desk", "--help"], ["--version"]):
+    for words in (["--help"], *([it, "--help"] for it in ("slots", "queue", "desk", "answer", "compare", "lockstep")), ["--version"]):
         status, output, errors = ran.run(words, program=BENCH)
         count.check(f"{words}", status == 0 and b"peer_bench" in output and errors == b"", f"{status}, {errors!r}")
     for words in (
@@ -92,6 +90,11 @@ def check_all():
         ["desk", "--units", "1000001"],
         ["desk", "--order", "sideways"],
         ["desk", "more"],
+        ["compare", "--texts", "1000000001"],
+        ["answer", "more"],
+        ["lockstep", "--rounds", "0"],
+        ["lockstep", "--workers", "65"],
+        ["lockstep", "--room", "1"],
     ):
         status, output, errors = ran.run(words, program=BENCH)
         count.check(f"refused words {words}", status == 2 and output == b"" and errors.startswith(b"error: "), f"{status}, {errors!r}")
@@ -115,31 +118,25 @@ def check_reading():
     """Frames are answered as the player answers them without methods, however they end; and texts at random are read alike in two ways."""
     for name, given, output, end in rows.ROWS:
         errors = f"input ended: {end}\n".encode() if end else b""
-        got = ran.run(["answer"], given, program=READING)
+        got = ran.run(["answer"], given, program=BENCH)
         count.check(f"answered alone: {name}", got == (1 if end else 0, output, errors), f"{got}")
     for name, given, answers in ANSWERED:
-        got = ran.run(["answer"], rows.frames(*given), program=READING)
+        got = ran.run(["answer"], rows.frames(*given), program=BENCH)
         count.check(f"answered alone: {name}", got == (0, rows.frames(*answers), b""), f"{got}")
     # (more than is read at once, so that some contents come in two pieces)
     ids = range(1, 3_001)
     requests = rows.frames(*('{"jsonrpc":"2.0","method":"nope","id":%d}' % it for it in ids))
     answers = rows.frames(*('{"error":{"code":-32601,"message":"Method not found"},"id":%d,"jsonrpc":"2.0"}' % it for it in ids))
-    status, output, errors = ran.run(["answer"], requests, program=READING)
+    status, output, errors = ran.run(["answer"], requests, program=BENCH)
     count.check("3,000 requests answered alone", (status, output == answers, errors) == (0, True, b""), f"{status}, {len(output)} bytes, {errors!r}")
     for texts in (0, 1, 100_000):
-        got = ran.run(["compare", f"--texts={texts}"], program=READING)
+        got = ran.run(["compare", f"--texts={texts}"], program=BENCH)
         count.check(f"{texts} texts", got == (0, b"compare: %d alike\n" % texts, b""), f"{got}")
-    for words in (["--help"], ["compare", "--help"], ["--version"]):
-        status, output, errors = ran.run(words, program=READING)
-        count.check(f"{words}", status == 0 and b"reading_bench" in output and errors == b"", f"{status}, {errors!r}")
-    for words in (["frobnicate"], ["compare", "--texts", "1000000001"], ["answer", "more"]):
-        status, output, errors = ran.run(words, program=READING)
-        count.check(f"refused words {words}", status == 2 and output == b"" and errors.startswith(b"error: "), f"{status}, {errors!r}")
     answers = rows.frames(rows.NOT_FOUND)
     for room in (0, 1, len(answers) - 1):
-        got = ran.run_into(room, ["answer"], rows.frames(rows.REQUEST), program=READING)
+        got = ran.run_into(room, ["answer"], rows.frames(rows.REQUEST), program=BENCH)
         count.check(f"an output that takes {room} bytes of an answer", got == (1, answers[:room], b"failed: Write\n"), f"{got}")
-    got = ran.run_on_broken(["answer"], rows.frames(rows.REQUEST), program=READING)
+    got = ran.run_on_broken(["answer"], rows.frames(rows.REQUEST), program=BENCH)
     count.check("an input that breaks off", got == (1, answers, b"failed: Read\n"), f"{got}")
 
 
@@ -148,7 +145,7 @@ def requests_each(params):
     made = []
     for size in (1_000, 2_000):
         requests = ('{"jsonrpc":"2.0","method":"nope","params":%s,"id":%d}' % (params, it) for it in range(1, size + 1))
-        status, number = refusals.requests_for_memory([READING, "answer"], rows.frames(*requests))
+        status, number = refusals.requests_for_memory([BENCH, "answer"], rows.frames(*requests))
         count.check(f"{size} requests with params {params} are answered", status == 0, f"{status}")
         made.append(number)
     return (made[1] - made[0]) / 1_000
@@ -170,7 +167,7 @@ def check_run():
     if wanted:
         print(f"SKIPPED: bench/run on small sizes, which wants {' '.join(wanted)}", flush=True)
         return
-    words = [os.path.join(ran.TOP, "bench", "run"), "--quick", "--small", "1000", "--runs", "1", "--reading", READING]
+    words = [os.path.join(ran.TOP, "bench", "run"), "--quick", "--small", "1000", "--runs", "1", "--reading", BENCH]
     ended = subprocess.run(words, capture_output=True, text=True, timeout=600, check=False)
     count.check("bench/run on small sizes", ended.returncode == 0, f"{ended.stdout[-500:]} {ended.stderr[-1000:]}")
     for name in ROWS:
@@ -184,11 +181,9 @@ def check_run():
 
 if BENCH:
     check_all()
-if READING:
     check_reading()
-if BENCH and READING and not ran.lacks("cc", refusals.WHY):
-    check_memory()
-    check_requests()
-if READING:
+    if not ran.lacks("cc", refusals.WHY):
+        check_memory()
+        check_requests()
     check_run()
 count.end()

@@ -19,15 +19,15 @@ for threaded in THREADED:
             break
 
 ROUNDS = 20_000
-bench = ran.gates_program("server_bench")
-count.check("the gate built server_bench", bench is not None)
+bench = ran.gates_program("peer_bench")
+count.check("the gate built peer_bench", bench is not None)
 for workers in ("1", "4") if bench else ():
     for yields in ("0", "5"):
-        words = ["--rounds", str(ROUNDS), "--workers", workers, "--yields", yields]
+        words = ["lockstep", "--rounds", str(ROUNDS), "--workers", workers, "--yields", yields]
         try:
             ended = subprocess.run([bench, *words], capture_output=True, timeout=120)
             told = (ended.returncode, ended.stdout)
         except subprocess.TimeoutExpired:
             told = "no end after 120 seconds"
-        count.check(f"server_bench {' '.join(words)}", told == (0, b"%d requests answered\n" % ROUNDS), f"{told}")
+        count.check(f"peer_bench {' '.join(words)}", told == (0, b"%d requests answered\n" % ROUNDS), f"{told}")
 count.end()

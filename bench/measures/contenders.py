@@ -18,8 +18,8 @@ BASELINE = os.path.join(FOLDER, "target", "release", "baseline")
 CLIENT = os.path.join(FOLDER, "target", "release", "client")
 # The table of the methods that are built into the baseline.
 METHODS = ("--table", os.path.join(FOLDER, "methods.toml"))
-# Reads and writes, and does nothing else.
-READING = os.path.join(TOP, "crates", "reading_bench", "out", "reading_bench")
+# By `answer` it reads and writes, and does nothing else.
+READING = os.path.join(TOP, "crates", "peer_bench", "out", "peer_bench")
 
 
 class Contender(NamedTuple):
@@ -70,7 +70,7 @@ def lacking(counts: bool) -> List[str]:
 
 
 def built(before: Optional[str], reading: Optional[str], counts: bool) -> Programs:
-    """The programs, built where they aren't yet. A `reading_bench` that is named is taken as it is."""
+    """The programs, built where they aren't yet. A `peer_bench` that is named is taken as it is."""
     wanted = lacking(counts)
     if wanted:
         sys.exit(f"bench/run: first apt-get install -y {' '.join(wanted)}")
@@ -87,5 +87,5 @@ def built_reading() -> str:
     words = ["rt", "run", "--", "--version"]
     ended = subprocess.run(words, cwd=os.path.dirname(os.path.dirname(READING)), capture_output=True, text=True, check=False)
     if ended.returncode:
-        sys.exit(f"bench/run: reading_bench isn't proved or doesn't build:\n{ended.stderr[-2000:]}")
+        sys.exit(f"bench/run: peer_bench isn't proved or doesn't build:\n{ended.stderr[-2000:]}")
     return READING

@@ -1,34 +1,22 @@
-//! The command line: how many rounds, and with how much patience.
-use program_edge::{CommandOption, NumberOption, Program, Refusal};
+//! The command that serves a client in lockstep: how many rounds, and with how much patience.
+use crate::lockstep::Rounds;
+use program_edge::{CommandOption, NumberOption, ProgramCommand, Words};
 use rpc_peer::Crew;
-use std::alloc::Global;
 
-/// What a command line asks the program to do.
-#[derive(Clone, Copy)]
-pub struct Rounds {
-    pub count: u32,
-    pub crew: Crew,
-}
-
-/// Reads the words of a command line, of which the first is the program's name. An `Err` has the text
-/// for the user: help and the version too, whose status is 0.
-pub fn read(alloc: Global, words: &[String]) -> Result<Rounds, Refusal> {
-    let words = PROGRAM.read(alloc, words)?;
-    Ok(Rounds {
+/// The rounds that the words ask for.
+pub fn rounds_of(words: &Words<'_>) -> Rounds {
+    Rounds {
         count: words.number(&ROUNDS),
         crew: Crew {
             workers: words.number(&WORKERS),
             yields: words.number(&YIELDS),
         },
-    })
+    }
 }
 
-static PROGRAM: Program = Program {
-    name: "server_bench",
-    version: "0.1.0",
-    about: "A server whose client waits for each answer before its next request",
-    commands: &[],
-    needs_command: false,
+pub const LOCKSTEP: ProgramCommand = ProgramCommand {
+    name: "lockstep",
+    about: "Serve a client that waits for each answer before its next request",
     options: &[
         CommandOption::Number(ROUNDS),
         CommandOption::Number(WORKERS),

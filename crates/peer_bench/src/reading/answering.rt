@@ -1,5 +1,6 @@
 //! A whole input, answered as it comes.
-use crate::answerer::Answerer;
+use super::answerer::Answerer;
+use crate::writing::written;
 use lsp_frames::End;
 use program_edge::Failure;
 use std::alloc::Global;
@@ -50,8 +51,4 @@ fn answer_pieces<I: Read, W: Write>(
         written(output.write_all(answers.as_slice()))?;
     }
     Err(Failure::Read)
-}
-
-fn written(outcome: std::io::Result<()>) -> Result<(), Failure> {
-    outcome.map_err(|_| Failure::Write)
 }

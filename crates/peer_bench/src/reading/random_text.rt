@@ -1,5 +1,5 @@
 //! Texts that are messages or near to one.
-use crate::chance::Chance;
+use super::chance::Chance;
 use program_edge::Failure;
 use std::alloc::Global;
 

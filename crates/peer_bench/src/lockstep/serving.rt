@@ -1,11 +1,11 @@
-//! The program over any two writers.
-use crate::command_line::{Rounds, read};
-use crate::lockstep::{Asking, Counting, Step};
+//! A server for the client's rounds.
+use super::client::{Asking, Counting, Step};
+use super::rounds::Rounds;
+use crate::writing::written;
 use lsp_frames::encode;
 use method_steps::Table;
-use peer_session::Limits;
-use program_edge::{Failure, answer_words, tell_end};
-use rpc_peer::{OpenGate, serve_by};
+use program_edge::Failure;
+use rpc_peer::{Limits, OpenGate, serve_by};
 use std::io::Write;
 use std::sync::atomic::AtomicU64;
 use std::sync::{Arc, Wait};
@@ -29,22 +29,8 @@ const REQUEST: &[u8] = br#"{"jsonrpc":"2.0","method":"add","params":[2,3],"id":1
 
 const ANSWER: &[u8] = br#"{"id":1,"jsonrpc":"2.0","result":5}"#;
 
-/// Does what the words ask for, of which the first is the program's name, and gives the exit status:
-/// 0, or 1 where something failed, or 2 where the words are refused.
-pub fn run<R, W, E>(rt: &R, words: &[String], output: &mut W, errors: &mut E) -> u8
-where
-    R: Threads + Wait + Sync + AllocGlobal,
-    W: Write,
-    E: Write,
-{
-    match read(rt.alloc(), words) {
-        Ok(rounds) => tell_end(go_round(rt, rounds, output), errors),
-        Err(refusal) => answer_words(&refusal, output, errors),
-    }
-}
-
 /// Goes all rounds, and tells how many requests were answered.
-fn go_round<R, W>(rt: &R, rounds: Rounds, output: &mut W) -> Result<(), Failure>
+pub fn go_round<R, W>(rt: &R, rounds: Rounds, output: &mut W) -> Result<(), Failure>
 where
     R: Threads + Wait + Sync + AllocGlobal,
     W: Write,
@@ -99,8 +85,4 @@ where
         Ok((report, _)) => Ok(report.answers),
         Err(_) => Err(Failure::Memory),
     }
-}
-
-fn written(outcome: std::io::Result<()>) -> Result<(), Failure> {
-    outcome.map_err(|_| Failure::Write)
 }

@@ -1,15 +1,24 @@
 //! Texts at random, each read in two ways, which give the same unit.
-use crate::chance::Chance;
-use crate::random_text::next_text;
-use crate::value_reading::read_by_value;
+use super::chance::Chance;
+use super::random_text::next_text;
+use super::value_reading::read_by_value;
+use crate::writing::written;
 use json_values::Items;
 use lsp_frames::Frame;
 use program_edge::Failure;
 use rpc_messages::{Unit, UnitReader};
 use std::alloc::Global;
+use std::io::Write;
+
+/// Compares two ways to read so many texts, and tells how many were alike.
+pub fn compare<W: Write>(alloc: Global, texts: u32, output: &mut W) -> Result<(), Failure> {
+    let alike = count_alike(alloc, texts)?;
+    written(writeln!(output, "compare: {alike} alike"))?;
+    written(output.flush())
+}
 
 /// Reads so many texts, and gives how many were read as the same unit in both ways.
-pub fn count_alike(alloc: Global, texts: u32) -> Result<usize, Failure> {
+fn count_alike(alloc: Global, texts: u32) -> Result<usize, Failure> {
     let mut reader = UnitReader::new(alloc);
     let counted = count_read(alloc, texts, &mut reader);
     drop(reader);

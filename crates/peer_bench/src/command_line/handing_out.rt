@@ -1,0 +1,70 @@
+//! The commands that hand jobs out to workers.
+use crate::crew::Crew;
+use crate::task::Task;
+use program_edge::{CommandOption, NumberOption, ProgramCommand, Words};
+
+/// The words' jobs, through job slots.
+pub fn slots_task(words: &Words<'_>) -> Task {
+    Task::Slots {
+        crew: crew(words),
+        jobs: words.number(&JOBS),
+    }
+}
+
+/// The words' jobs, through queues.
+pub fn queue_task(words: &Words<'_>) -> Task {
+    Task::Queue {
+        crew: crew(words),
+        jobs: words.number(&JOBS),
+    }
+}
+
+fn crew(words: &Words<'_>) -> Crew {
+    Crew::new(words.number(&WORKERS), words.number(&ROOM))
+}
+
+pub const SLOTS: ProgramCommand = ProgramCommand {
+    name: "slots",
+    about: "Send jobs from one owner through job slots to its workers and back",
+    options: HANDOFF,
+};
+
+pub const QUEUE: ProgramCommand = ProgramCommand {
+    name: "queue",
+    about: "Send the same jobs through two queues of crossbeam_queue",
+    options: HANDOFF,
+};
+
+/// The options of a hand-off, by whatever means.
+const HANDOFF: &[CommandOption] = &[
+    CommandOption::Number(WORKERS),
+    CommandOption::Number(JOBS),
+    CommandOption::Number(ROOM),
+];
+
+const WORKERS: NumberOption = NumberOption {
+    name: "workers",
+    value_name: "W",
+    help: "How many workers there are, 1 to 64",
+    least: 1,
+    greatest: 64,
+    usual: "1",
+};
+
+const JOBS: NumberOption = NumberOption {
+    name: "jobs",
+    value_name: "N",
+    help: "How many jobs there are, 0 to 1000000000",
+    least: 0,
+    greatest: 1_000_000_000,
+    usual: "100000",
+};
+
+const ROOM: NumberOption = NumberOption {
+    name: "room",
+    value_name: "R",
+    help: "How many jobs may be under way at a time, 1 to 128",
+    least: 1,
+    greatest: 128,
+    usual: "64",
+};

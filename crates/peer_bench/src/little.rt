@@ -1,0 +1,95 @@
+//! A little of each kind of work. It tells no times, so that it writes the same each time.
+use crate::crew::Crew;
+use crate::desk_run::Finishing;
+use crate::lockstep::{Rounds, go_round};
+use crate::reading::{answer_all, compare};
+use crate::task::Task;
+use crate::writing::written;
+use lsp_frames::put_frame;
+use program_edge::Failure;
+use std::alloc::Global;
+use std::io::Write;
+use std::sync::Wait;
+use std::thread::Threads;
+
+/// So many jobs are handed out, by either means.
+const JOBS: u32 = 1_000;
+
+/// So many units are finished, in each order.
+const UNITS: u32 = 2_500;
+
+/// So many texts are read in two ways.
+const TEXTS: u32 = 1_000;
+
+/// So many requests are sent in lockstep.
+const ROUNDS: u32 = 1_000;
+
+/// Contents that are answered: requests, and what else a peer may be sent.
+const CONTENTS: &[&str] = &[
+    r#"{"jsonrpc":"2.0","method":"nope","id":1}"#,
+    r#"{"jsonrpc":"2.0","method":"nope"}"#,
+    "{",
+    "[]",
+    r#"[{"jsonrpc":"2.0","method":"a","params":{"b":[1,"c"]},"id":"x"},1,{"jsonrpc":"2.0","id":"1.1","result":true},{"jsonrpc":"2.0","method":"a","id":null}]"#,
+];
+
+/// Does a little of each kind of work, and tells what came of it.
+pub fn run_little<R, W>(rt: &R, output: &mut W) -> Result<(), Failure>
+where
+    R: Threads + Wait + Sync + AllocGlobal,
+    W: Write,
+{
+    run_tasks(rt, output)?;
+    compare(rt.alloc(), TEXTS, output)?;
+    let crew = rpc_peer::Crew {
+        workers: 2,
+        yields: 0,
+    };
+    let rounds = Rounds {
+        count: ROUNDS,
+        crew,
+    };
+    go_round(rt, rounds, output)?;
+    answer_some(rt.alloc(), output)
+}
+
+/// Does a little of each task, and tells how much of it was done.
+fn run_tasks<R, W>(rt: &R, output: &mut W) -> Result<(), Failure>
+where
+    R: Threads + Wait + Sync + AllocGlobal,
+    W: Write,
+{
+    let (crew, jobs, units) = (Crew::new(2, 8), JOBS, UNITS);
+    for task in [Task::Slots { crew, jobs }, Task::Queue { crew, jobs }] {
+        tell(output, task, done(rt, task)?)?;
+    }
+    for finishing in Finishing::ALL {
+        let task = Task::Desk { finishing, units };
+        tell(output, task, done(rt, task)?)?;
+    }
+    Ok(())
+}
+
+/// Does the work, and gives how many jobs came home turned once, or how many answers were released.
+fn done<R>(rt: &R, task: Task) -> Result<usize, Failure>
+where
+    R: Threads + Wait + Sync + AllocGlobal,
+{
+    Ok(task.begin(rt.alloc())?.run(rt)?.count())
+}
+
+/// Says what became of each job or unit.
+fn tell<W: Write>(output: &mut W, task: Task, count: usize) -> Result<(), Failure> {
+    let (name, outcome) = (task.name(), task.outcome());
+    written(writeln!(output, "{name}: {count} {outcome}"))
+}
+
+/// Answers the contents.
+fn answer_some<W: Write>(alloc: Global, output: &mut W) -> Result<(), Failure> {
+    let mut frames = Vec::new(alloc);
+    for content in CONTENTS {
+        put_frame(&mut frames, content.as_bytes())?;
+    }
+    answer_all(alloc, &mut frames.as_slice(), output)?;
+    Ok(())
+}

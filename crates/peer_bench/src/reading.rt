@@ -1,0 +1,12 @@
+//! Reading and writing alone: frames are answered as a peer without methods does, and texts at random are read in two
+//! ways.
+mod answerer;
+mod answering;
+mod chance;
+mod comparing;
+mod random_text;
+mod refusing;
+mod value_reading;
+
+pub use answering::answer_all;
+pub use comparing::compare;
