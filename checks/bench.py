@@ -70,7 +70,7 @@ def check_work(words, name, number, outcome):
 
 def check_all():
     for workers, room in ((1, 1), (1, 128), (2, 3), (4, 8), (4, 128)):
-        for jobs in (0, 5_003, 10_000):
+        for jobs in (0, 5_003):
             for kind in ("slots", "queue"):
                 words = [kind, f"--workers={workers}", f"--room={room}", "--jobs", str(jobs)]
                 check_work(words, kind, jobs, "turned")

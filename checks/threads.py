@@ -1,33 +1,60 @@
-"""Runs the tests of job slots that start threads 50 times in a row: each ends by itself, and passes. And a server whose client waits for each
-answer before its next request: no wake-up is lost, however soon its threads go to sleep."""
+"""What starts threads, many times in a row: each run ends by itself. The tests of job slots that have two workers pass, and of 10,000 jobs
+that four workers turn each comes home once, turned once. And a server whose client waits for each answer before its next request: no wake-up
+is lost, however soon its threads go to sleep."""
 import subprocess
 
 from support import ran
 
-count = ran.Count()
-THREADED = ("two_workers_turn_each_job_at_most_once", "all_jobs_are_turned_before_the_stop", "ten_thousand_jobs_come_home_turned_once")
-for threaded in THREADED:
-    test = ran.test_named(threaded)
-    count.check(f"the gate built {threaded}", test is not None)
-    for turn in range(1, 51 if test else 1):
-        try:
-            status = subprocess.run(test, capture_output=True, timeout=60).returncode
-        except subprocess.TimeoutExpired:
-            status = "no end after 60 seconds"
-        count.check(f"{threaded}, run {turn}", status == 0, f"{status}")
-        if status:
-            break
+# How often each test, and each hand-out of jobs, is run.
+TURNS = 50
+THREADED = ("two_workers_turn_each_job_at_most_once", "all_jobs_are_turned_before_the_stop")
+JOBS, ROUNDS = 10_000, 20_000
 
-ROUNDS = 20_000
-bench = ran.gates_program("peer_bench")
-count.check("the gate built peer_bench", bench is not None)
-for workers in ("1", "4") if bench else ():
-    for yields in ("0", "5"):
-        words = ["lockstep", "--rounds", str(ROUNDS), "--workers", workers, "--yields", yields]
-        try:
-            ended = subprocess.run([bench, *words], capture_output=True, timeout=120)
-            told = (ended.returncode, ended.stdout)
-        except subprocess.TimeoutExpired:
-            told = "no end after 120 seconds"
-        count.check(f"peer_bench {' '.join(words)}", told == (0, b"%d requests answered\n" % ROUNDS), f"{told}")
+count = ran.Count()
+
+
+def told_by(words, seconds):
+    """The status and the output of a command, or that it didn't end."""
+    try:
+        ended = subprocess.run(words, capture_output=True, timeout=seconds, check=False)
+    except subprocess.TimeoutExpired:
+        return f"no end after {seconds} seconds", b""
+    return ended.returncode, ended.stdout
+
+
+def check_tests():
+    for threaded in THREADED:
+        test = ran.test_named(threaded)
+        count.check(f"the gate built {threaded}", test is not None)
+        for turn in range(1, TURNS + 1 if test else 1):
+            status, _ = told_by(test, 60)
+            count.check(f"{threaded}, run {turn}", status == 0, f"{status}")
+            if status:
+                break
+
+
+def check_jobs(bench):
+    for room in ("8", "128"):
+        for turn in range(1, TURNS + 1):
+            status, output = told_by([bench, "slots", "--workers", "4", "--room", room, "--jobs", str(JOBS)], 60)
+            well = status == 0 and output.startswith(b"slots: %d turned in " % JOBS)
+            count.check(f"{JOBS} jobs by way of {room} slots, run {turn}", well, f"{status}, {output!r}")
+            if not well:
+                break
+
+
+def check_wake_ups(bench):
+    for workers in ("1", "4"):
+        for yields in ("0", "5"):
+            words = ["lockstep", "--rounds", str(ROUNDS), "--workers", workers, "--yields", yields]
+            told = told_by([bench, *words], 120)
+            count.check(f"peer_bench {' '.join(words)}", told == (0, b"%d requests answered\n" % ROUNDS), f"{told}")
+
+
+check_tests()
+BENCH = ran.gates_program("peer_bench")
+count.check("the gate built peer_bench", BENCH is not None)
+if BENCH:
+    check_jobs(BENCH)
+    check_wake_ups(BENCH)
 count.end()
