@@ -21,12 +21,25 @@ where
     E: Write,
 {
     match read(rt.alloc(), words) {
-        Ok(Bench::Answer) => ended(answer_all(rt.alloc(), &mut input, output), errors),
-        Ok(Bench::Little) => tell_end(run_little(rt, output), errors),
-        Ok(Bench::Timed(task)) => tell_end(run_timed(rt, task, output), errors),
-        Ok(Bench::Compare { texts }) => tell_end(compare(rt.alloc(), texts, output), errors),
-        Ok(Bench::Lockstep(rounds)) => tell_end(go_round(rt, rounds, output), errors),
+        Ok(bench) => obey(rt, bench, &mut input, output, errors),
         Err(refusal) => answer_words(&refusal, output, errors),
+    }
+}
+
+/// Does the work, and gives the exit status.
+fn obey<R, I, W, E>(rt: &R, bench: Bench, input: &mut I, output: &mut W, errors: &mut E) -> u8
+where
+    R: Threads + Wait + Sync + Clock + AllocGlobal,
+    I: Read,
+    W: Write,
+    E: Write,
+{
+    match bench {
+        Bench::Little => tell_end(run_little(rt, output), errors),
+        Bench::Timed(task) => tell_end(run_timed(rt, task, output), errors),
+        Bench::Answer => ended(answer_all(rt.alloc(), input, output), errors),
+        Bench::Compare { texts } => tell_end(compare(rt.alloc(), texts, output), errors),
+        Bench::Lockstep(rounds) => tell_end(go_round(rt, rounds, output), errors),
     }
 }
 
