@@ -11,7 +11,7 @@ import tempfile
 import threading
 import time
 
-from tools import sources
+from tools import kit, sources
 from tools.repository import TOP, Fault, listing, read_text
 from tools.watching import checks_below
 
@@ -77,9 +77,8 @@ def prove(room, is_anew, functions, say):
         while not is_over.wait(EACH):
             say(progress.told(sorted({words[words.index("--crate-name") + 1] for words, _ in checks_below(process.pid)})))
 
-    words = ["rt", "ci", *["--anew"] * is_anew]
     how = {"cwd": room, "stdin": subprocess.DEVNULL, "stdout": subprocess.PIPE, "stderr": subprocess.STDOUT, "errors": "replace"}
-    with subprocess.Popen(words, **how) as process:
+    with subprocess.Popen(kit.gate(is_anew), **how) as process:
         teller = threading.Thread(target=tell, daemon=True)
         teller.start()
         try:

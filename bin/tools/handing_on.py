@@ -38,7 +38,7 @@ def hand(source, to, copied):
 
 class HandingOn:
     def __init__(self, folder):
-        self.folder = folder
+        self.folder, self.rooms = folder, {}
 
     def heard(self, line):
         """Hands on the library of a crate that the gate says is proved, by this run or an earlier one."""
@@ -46,13 +46,16 @@ class HandingOn:
         if proved and os.path.isdir(f"{TOP}/crates/{proved[1]}/out/rlib"):
             hand(f"{TOP}/crates/{proved[1]}/out/rlib", f"{self.folder}/{proved[1]}/rlib", link_or_copy)
 
-    def seen(self, words, _):
-        """Hands on what a crate's edits begin with, once one of them is at work: then it is whole."""
+    def seen(self, words, room):
+        """Hands on what a crate's edits begin with, once one of them is at work over it: then it is whole. That is a folder of its own, or,
+        in kits that try edits over one another's work, what the first one kept, once a second room is at work over it."""
         if "--incremental" in words[:-1] and "--crate-name" in words[:-1]:
             crate, kept = (words[words.index(it) + 1] for it in ("--crate-name", "--incremental"))
             seed, to = f"{os.path.dirname(kept)}/{SEED}", f"{self.folder}/{crate}/out/incremental"
-            if kept != seed and os.path.isdir(seed) and not os.path.isdir(to):
-                hand(seed, to, link_modules)
+            is_second = self.rooms.setdefault(kept, room) != room
+            whole = seed if kept != seed and os.path.isdir(seed) else kept if is_second else None
+            if whole and not os.path.isdir(to):
+                hand(whole, to, link_modules)
 
     def end(self):
         with open(f"{self.folder}/over", "w", encoding="utf-8"):

@@ -3,9 +3,8 @@ lines of crates.txt, and HANDLES."""
 import hashlib
 import os
 import re
-import shutil
-import subprocess
 
+from tools import kit
 from tools.repository import TOP, Fault, listing, read_bytes, read_text
 
 PROGRAM = "rpc_tool"
@@ -79,20 +78,9 @@ def sum_of(top=TOP):
     return told.hexdigest()
 
 
-def kit():
-    """The kit's version, or None where the command rt isn't there."""
-    if shutil.which("rt") is None:
-        return None
-    asked = subprocess.run(["rt", "version"], stdin=subprocess.DEVNULL, stdout=subprocess.PIPE, check=False)
-    told = asked.stdout.decode(errors="replace").strip()
-    if asked.returncode or not told or "\n" in told:
-        raise Fault(f"the kit's version can't be read: rt version ended with status {asked.returncode} and said {told!r}")
-    return told
-
-
 def stamp(top=TOP):
     """The lines of the stamp: the sum of the sources and, where the command rt is there, the kit's version."""
-    version = kit()
+    version = kit.version()
     return [sum_of(top), *([version] if version else [])]
 
 

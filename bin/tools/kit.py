@@ -1,0 +1,29 @@
+"""The Rattle kit, by its command rt: which one it is, and the words of its gate."""
+import shutil
+import subprocess
+
+from tools.repository import Fault
+
+# The word by which the gate takes nothing of what it has kept.
+ANEW = "--anew"
+
+
+def asked(*words):
+    """What the command rt says, and how it ended."""
+    ended = subprocess.run(["rt", *words], stdin=subprocess.DEVNULL, stdout=subprocess.PIPE, stderr=subprocess.STDOUT, check=False)
+    return ended.stdout.decode(errors="replace").strip(), ended.returncode
+
+
+def version():
+    """The kit's version, or None where the command rt isn't there."""
+    if shutil.which("rt") is None:
+        return None
+    told, status = asked("version")
+    if status or not told or "\n" in told:
+        raise Fault(f"the kit's version can't be read: rt version ended with status {status} and said {told!r}")
+    return told
+
+
+def gate(is_anew):
+    """The words of the gate. Some kits keep what it has proved, and have a word to take nothing of that; others keep nothing."""
+    return ["rt", "ci", *([ANEW] if is_anew and ANEW in asked("help")[0] else [])]
