@@ -1,24 +1,67 @@
 """Proves the crates that the program stands on, side by side where they don't stand on each other, and builds the program.
 
-The gate's own command does it, `rt ci`, in a copy of exactly the files that the stamp covers: so there are no tests and no must-fail
-edits to try. What it proves it keeps on this machine beside the kit, by the sums of all that was read, and takes from there what it has
-proved of the same files before, unless everything is to be proved anew."""
+All is proved from nothing, in a copy of exactly the files that the stamp covers. The later a crate can come, the further its proof stands
+back behind others; one that can't wait gets all processors."""
 import os
 import re
 import shutil
+import signal
 import subprocess
 import tempfile
-import threading
 import time
 
-from tools import kit, sources
+from tools import sources
+from tools.machine import MEMORY, free_memory, processors
+from tools.prover import Prover
 from tools.repository import TOP, Fault, listing, read_text
-from tools.watching import checks_below
 
-# After how many seconds each line of progress comes.
-EACH = 15
-# What the program is given and has to write where the gate runs it.
-RUN_BY = ("args", "stdin", "stdout", "status")
+# After how many seconds each line of progress comes, and how often those at work are looked at.
+EACH, LOOK = 15, 0.2
+# The memory that each further job of a check takes more than its first.
+FURTHER_JOB = 1_000_000_000
+# What a check costs however small its crate is, in lines; and a line of a proof costs as much as a tenth of one of the code.
+FIXED_LINES, PROOF_LINES = 400, 10
+# A crate that can come later by this part of the longest way holds up nothing, and takes one processor. By how far each stands back.
+SPARE, MOST_NICE = 1 / 5, 19
+
+
+class Run:
+    """A crate's proof: what it is likely to take, and what it has said so far."""
+
+    def __init__(self, name, files, log):
+        self.name, self.log, self.process, self.jobs, self.spare = name, log, None, 0, 0.0
+        self.functions, self.cost = estimate(files), cost(files)
+
+    def can_wait(self):
+        return self.spare > SPARE
+
+    def start(self, words, folder, jobs):
+        self.jobs = jobs
+        later = ["nice", "-n", str(round(MOST_NICE * self.spare))]
+        with open(self.log, "wb") as log:
+            how = {"stdin": subprocess.DEVNULL, "stdout": log, "stderr": subprocess.STDOUT, "process_group": 0}
+            self.process = subprocess.Popen([*later, *words], cwd=folder, **how)
+
+    def stop(self):
+        """Ends it, and the copies of itself that it has started."""
+        if self.is_running():
+            os.killpg(self.process.pid, signal.SIGKILL)
+            self.process.wait()
+
+    def is_running(self):
+        return self.process is not None and self.process.poll() is None
+
+    def has_ended(self):
+        return self.process is not None and self.process.poll() is not None
+
+    def told(self):
+        return read_text(self.log) if os.path.isfile(self.log) else ""
+
+    def take_end(self):
+        """Looks at how it ended; it fails where the crate isn't proved."""
+        if self.process.returncode:
+            raise Fault(f"{self.name} isn't proved, or doesn't build:\n{self.told()[-3000:]}")
+        self.functions = len(re.findall(r"^fn \S+: proved", self.told(), re.M))
 
 
 def estimate(files):
@@ -28,88 +71,107 @@ def estimate(files):
     return sum(len(re.findall(r"\bfn \w+", it)) for it in texts) + sum(len(it.split(",")) for it in derived)
 
 
+def cost(files):
+    """What a check of these files costs, in lines."""
+    lines = lambda ending: sum(read_text(it).count("\n") for it in files if it.endswith(ending))
+    return FIXED_LINES + lines(".rt") + lines(".antt") // PROOF_LINES
+
+
 def lay_out(room):
-    """Copies what the program is built from, and gives how many functions each crate seems to have."""
-    listed, functions = listing(), {}
+    """Copies what the program is built from, and gives a run for each crate, lowest first."""
+    listed = listing()
     with open(f"{room}/crates.txt", "w", encoding="utf-8") as it:
         it.writelines(f"{listed.lines[name]}\n" for name in sources.crates())
     shutil.copyfile(f"{TOP}/HANDLES", f"{room}/HANDLES")
-    for name in sources.crates():
-        files = sources.files_of(f"{TOP}/crates/{name}")
-        functions[name] = estimate(files)
-        for file in [*files, *(f"{TOP}/crates/{name}/{it}" for it in RUN_BY)]:
-            if os.path.isfile(file):
-                to = f"{room}/{os.path.relpath(file, TOP)}"
-                os.makedirs(os.path.dirname(to), exist_ok=True)
-                shutil.copyfile(file, to)
-    return functions
+    for file in (it for name in sources.crates() for it in sources.files_of(f"{TOP}/crates/{name}")):
+        to = f"{room}/{os.path.relpath(file, TOP)}"
+        os.makedirs(os.path.dirname(to), exist_ok=True)
+        shutil.copyfile(file, to)
+    return [Run(name, sources.files_of(f"{room}/crates/{name}"), f"{room}/{name}.log") for name in sources.crates()]
 
 
-class Progress:
-    """How many functions are proved, of how many, by what the gate prints: of each crate once it's done."""
-
-    def __init__(self, functions):
-        self.functions, self.proved, self.crate, self.begun = functions, {}, "", time.monotonic()
-
-    def heard(self, line):
-        if told := re.match(r"== (\w+)$", line):
-            self.crate = told[1]
-            self.proved[self.crate] = 0
-        elif re.match(r"fn \S+: proved", line) and self.crate:
-            self.proved[self.crate] += 1
-            self.functions[self.crate] = max(self.functions[self.crate], self.proved[self.crate])
-        elif told := re.match(r"rt: (\w+) proved$", line):
-            self.functions[told[1]] = self.proved.get(told[1], 0)
-        elif told := re.match(r"rt: (\w+) is kept:", line):
-            self.proved[told[1]] = self.functions[told[1]]
-
-    def told(self, at_work):
-        proved, minutes = sum(self.proved.values()), (time.monotonic() - self.begun) / 60
-        text = f"{proved} of some {sum(self.functions.values())} functions proved, {minutes:.1f} minutes so far"
-        return f"{text}; at work: {', '.join(at_work)}" if at_work else text
+def measure_ways(runs, listed):
+    """Finds by how much of the longest way of crates, each standing on the one before, a crate can come later. What `runs` has stands
+    above what comes before it there."""
+    ahead, behind = {}, {}
+    for run in runs:
+        ahead[run.name] = run.cost + max((ahead[it] for it in listed.libraries[run.name] if it in ahead), default=0)
+    for run in reversed(runs):
+        behind[run.name] = run.cost + max((behind[it.name] for it in runs if it.name in behind and run.name in listed.libraries[it.name]), default=0)
+    longest = max(ahead.values())
+    for run in runs:
+        run.spare = 1 - (ahead[run.name] + behind[run.name] - run.cost) / longest
 
 
-def prove(room, is_anew, functions, say):
-    """Runs the gate there, telling how far it is; gives whether all is well, and what it said."""
-    progress, lines, is_over = Progress(functions), [], threading.Event()
+class Building:
+    """The proofs under way, each of which starts once the libraries below its crate are built."""
 
-    def tell():
-        while not is_over.wait(EACH):
-            say(progress.told(sorted({words[words.index("--crate-name") + 1] for words, _ in checks_below(process.pid)})))
+    def __init__(self, room, say):
+        self.say, self.begun, self.said = say, time.monotonic(), 0.0
+        self.listed, self.memory = listing(), free_memory()
+        self.runs, self.prover = lay_out(room), Prover(room, self.listed)
+        self.left, self.done = [*self.runs], set()
+        measure_ways(self.runs, self.listed)
 
-    how = {"cwd": room, "stdin": subprocess.DEVNULL, "stdout": subprocess.PIPE, "stderr": subprocess.STDOUT, "errors": "replace"}
-    with subprocess.Popen(kit.gate(is_anew), **how) as process:
-        teller = threading.Thread(target=tell, daemon=True)
-        teller.start()
+    def prove(self):
+        """Proves and builds each crate."""
         try:
-            for line in process.stdout:
-                lines.append(line)
-                progress.heard(line)
-        except BaseException:
-            process.terminate()
-            raise
+            while len(self.done) < len(self.runs):
+                self.start_ready()
+                if time.monotonic() - self.begun >= self.said + EACH:
+                    self.said = time.monotonic() - self.begun
+                    self.say(f"{self.progress()}; at work: {', '.join(it.name for it in self.runs if it.is_running())}")
+                time.sleep(LOOK)
+                for run in (it for it in self.runs if it.has_ended() and it.name not in self.done):
+                    run.take_end()
+                    self.done.add(run.name)
+            self.say(self.progress())
         finally:
-            is_over.set()
-    teller.join()
-    say(progress.told([]))
-    return process.returncode == 0, "".join(lines)
+            for it in self.runs:
+                it.stop()
+
+    def start_ready(self):
+        """Starts each proof that can start now, as memory allows, first those that can wait the least."""
+        ready = [it for it in self.left if {*self.listed.below(it.name)} - {it.name} <= self.done]
+        running = [it for it in self.runs if it.is_running()]
+        for run in sorted(ready, key=lambda it: it.spare):
+            free = self.memory - sum(MEMORY + FURTHER_JOB * (it.jobs - 1) for it in running)
+            jobs = min(1 if run.can_wait() else processors(), 1 + (free - MEMORY) // FURTHER_JOB)
+            if jobs > 0 or not running:
+                run.start(self.prover.build(run.name, max(1, jobs)), self.prover.folder(run.name), max(1, jobs))
+                self.left.remove(run)
+                running.append(run)
+
+    def progress(self):
+        proved, functions = sum(it.functions for it in self.runs if it.name in self.done), sum(it.functions for it in self.runs)
+        minutes = (time.monotonic() - self.begun) / 60
+        return f"{proved} of some {functions} functions proved, {minutes:.1f} minutes so far"
+
+    def link(self):
+        """Links the program, and gives where it lies."""
+        linked = subprocess.run(self.prover.link(), stdin=subprocess.DEVNULL, capture_output=True, text=True, check=False)
+        if linked.returncode:
+            raise Fault(f"the program can't be linked:\n{linked.stdout}{linked.stderr}")
+        return self.prover.made
+
+    def told(self):
+        return "".join(f"== {it.name}\n{it.told()}" for it in self.runs)
 
 
-def build(log, is_anew, say, keep):
-    """Proves and builds the program, and hands it to `keep` with its stamp. What the gate said goes to the file `log`."""
+def build(log, say, keep):
+    """Proves and builds the program, and hands it to `keep` with its stamp. What the prover said goes to the file `log`."""
     if shutil.which("rt") is None:
         raise Fault("the Rattle kit's command rt isn't on the PATH, and no program that lies here is of these sources")
     say("proving and building the program, which takes some minutes (what the prover says is then in out/build.log)")
     stamp = sources.stamp()
     with tempfile.TemporaryDirectory(prefix=f"{sources.PROGRAM}-build-") as room:
-        functions = lay_out(room)
+        building = Building(room, say)
         if sources.sum_of(room) != stamp[0]:
             raise Fault("the sources changed while they were copied: try again")
-        is_well, told = prove(room, is_anew, functions, say)
-        os.makedirs(os.path.dirname(log), exist_ok=True)
-        with open(log, "w", encoding="utf-8") as it:
-            it.write(told)
-        made = f"{room}/crates/{sources.PROGRAM}/out/{sources.PROGRAM}"
-        if not is_well or not os.path.isfile(made):
-            raise Fault(f"the program isn't proved, or doesn't build:\n{told[-3000:]}")
-        keep(made, stamp)
+        try:
+            building.prove()
+            keep(building.link(), stamp)
+        finally:
+            os.makedirs(os.path.dirname(log), exist_ok=True)
+            with open(log, "w", encoding="utf-8") as it:
+                it.write(building.told())

@@ -1,4 +1,5 @@
-"""The Rattle kit, by its command rt: which one it is, and the words of its gate."""
+"""The Rattle kit, by its command rt: which one it is, where it lies, and the words of its gate."""
+import os
 import shutil
 import subprocess
 
@@ -22,6 +23,11 @@ def version():
     if status or not told or "\n" in told:
         raise Fault(f"the kit's version can't be read: rt version ended with status {status} and said {told!r}")
     return told
+
+
+def folder():
+    """The kit's folder, in whose bin/ the command rt lies."""
+    return os.path.dirname(os.path.dirname(os.path.realpath(shutil.which("rt"))))
 
 
 def gate(is_anew):

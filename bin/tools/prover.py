@@ -1,0 +1,40 @@
+"""The words by which the kit's prover is called for a crate that lies in a room, over the libraries that were built there.
+
+The kit's commands prove one crate after another in a checkout, or choose themselves how many processors each check gets."""
+import os
+
+from tools import kit, sources
+
+
+class Prover:
+    """Crates in a folder of their own, and beside them the libraries that are built of them."""
+
+    def __init__(self, room, listed):
+        self.room, self.listed, self.kit = room, listed, kit.folder()
+        self.made = f"{room}/{sources.PROGRAM}"
+        os.makedirs(f"{room}/libraries")
+
+    def folder(self, name):
+        return f"{self.room}/crates/{name}"
+
+    def library(self, name):
+        return f"{self.room}/libraries/{name}.rlib"
+
+    def build(self, name, jobs):
+        """A check of a crate from nothing by so many processors, which builds its library, of statements alone, or the program."""
+        is_program = name == sources.PROGRAM
+        used = ["std", *self.listed.libraries[name]]
+        at = {it: self.library(it) if it in self.listed.lines else f"{self.kit}/rlibs/{it}.rlib" for it in used}
+        words = [f"{self.kit}/bin/rattle", "build", "--crate-name", name, "src/main.rt" if is_program else "src/lib.rt"]
+        words += [word for it in used for word in ("--extern", f"{it}={at[it]}")]
+        words += ["-L", f"dependency={self.kit}/rlibs", "-L", f"dependency={self.room}/libraries"]
+        words += ["--antt-project", f"{self.kit}/rattle/logic/antt-project.json", "--logic-built", f"{self.kit}/logic_built"]
+        words += ["--links", f"{name}=", "--jobs", str(jobs)]
+        if is_program:
+            return [*words, "--toolchain", f"{self.kit}/toolchain", "--backend", "llvm", "-o", f"{self.made}.o"]
+        return [*words, "--statements", "-o", self.library(name)]
+
+    def link(self):
+        """Makes the program of what was built of it."""
+        words = [f"{self.kit}/bin/rattle-link", "--target", "x86_64-unknown-linux-gnu", "--toolchain", f"{self.kit}/toolchain"]
+        return [*words, "-o", self.made, f"{self.made}.o", f"{self.kit}/c/libos_c.a", f"{self.kit}/c/liblibc_c.a"]
