@@ -13,7 +13,7 @@ import time
 from tools import sources
 from tools.machine import MEMORY, free_memory, processors
 from tools.prover import Prover
-from tools.repository import TOP, Fault, listing, read_text
+from tools.repository import TOP, Fault, listing, read_bytes, read_text
 
 # After how many seconds each line of progress comes, and how often those at work are looked at.
 EACH, LOOK = 15, 0.2
@@ -55,7 +55,7 @@ class Run:
         return self.process is not None and self.process.poll() is not None
 
     def told(self):
-        return read_text(self.log) if os.path.isfile(self.log) else ""
+        return read_bytes(self.log).decode(errors="replace") if os.path.isfile(self.log) else ""
 
     def take_end(self):
         """Looks at how it ended; it fails where the crate isn't proved."""
