@@ -35,12 +35,12 @@ class Run:
     def can_wait(self):
         return self.spare > SPARE
 
-    def start(self, words, folder, jobs):
+    def start(self, prover, jobs):
         self.jobs = jobs
-        later = ["nice", "-n", str(round(MOST_NICE * self.spare))]
+        words = ["nice", "-n", str(round(MOST_NICE * self.spare)), *prover.build(self.name, jobs)]
         with open(self.log, "wb") as log:
             how = {"stdin": subprocess.DEVNULL, "stdout": log, "stderr": subprocess.STDOUT, "process_group": 0}
-            self.process = subprocess.Popen([*later, *words], cwd=folder, **how)
+            self.process = subprocess.Popen(words, cwd=prover.folder(self.name), **how)
 
     def stop(self):
         """Ends it, and the copies of itself that it has started."""
@@ -110,7 +110,7 @@ class Building:
         self.say, self.begun, self.said = say, time.monotonic(), 0.0
         self.listed, self.memory = listing(), free_memory()
         self.runs, self.prover = lay_out(room), Prover(room, self.listed)
-        self.left, self.done = [*self.runs], set()
+        self.done = set()
         measure_ways(self.runs, self.listed)
 
     def prove(self):
@@ -132,14 +132,13 @@ class Building:
 
     def start_ready(self):
         """Starts each proof that can start now, as memory allows, first those that can wait the least."""
-        ready = [it for it in self.left if {*self.listed.below(it.name)} - {it.name} <= self.done]
+        ready = [it for it in self.runs if it.process is None and {*self.listed.below(it.name)} - {it.name} <= self.done]
         running = [it for it in self.runs if it.is_running()]
         for run in sorted(ready, key=lambda it: it.spare):
             free = self.memory - sum(MEMORY + FURTHER_JOB * (it.jobs - 1) for it in running)
             jobs = min(1 if run.can_wait() else processors(), 1 + (free - MEMORY) // FURTHER_JOB)
             if jobs > 0 or not running:
-                run.start(self.prover.build(run.name, max(1, jobs)), self.prover.folder(run.name), max(1, jobs))
-                self.left.remove(run)
+                run.start(self.prover, max(1, jobs))
                 running.append(run)
 
     def progress(self):
