@@ -2,11 +2,13 @@
 """Has the prover refuse each wrong body of crates/*/wrong-bodies, many in one check, and accept the right ones.
 
 A wrong body is a change of a function's text after which a promise no longer holds, so the check must refuse that function. The
-wrong bodies of different functions are tried at once, in rounds, in copies of the crate over what its proof kept. A round looks at the
-functions that it changes and at what these call: each changed function must fall for a reason of its own, and every other is proved,
-or falls only because it calls one of those. What hurts more than that is tried singly, and what isn't refused on the whole crate. Control: that proof is one of the crate with its right bodies, which are written differently, and with a
-comment in each other function that has bodies. Beside a gate (--gate) it stands on what the gate has proved and kept. What became of a
-crate's bodies is kept on this machine: they are tried again once a file changes on which that rests, or with --anew.
+wrong bodies of different functions are tried at once, in rounds, in copies of the crate. A round looks at the functions that it changes
+and at what these call: each changed function must fall for a reason of its own, and every other is proved, or falls only because it
+calls one of those. What hurts more than that is tried singly, and what isn't refused on the whole crate. Control: right bodies, which
+are written differently, and a comment in each other function that has bodies must be proved, and the rounds stand on what that proof
+kept. Beside a gate (--gate) it stands on what the gate has proved and kept; a crate of which the gate keeps nothing has its first round
+from nothing, with the right bodies in it and without comments. What became of a crate's bodies is kept on this machine: they are tried
+again once a file changes on which that rests, or with --anew.
 
 For each wrong body a line says how it was refused: by which clauses or goals, or only because an answer by hand no longer fits
 (which says less: a right body could be refused so too). One that is proved is a failure, and so is one that doesn't compile, whose
@@ -25,6 +27,7 @@ import traceback
 from support.bodies import Body, Sources, read_bodies
 from support.kept import Kept
 from support.ran import TOP
+from support.rounds import in_turn
 from support.trees import Trees, crates_in, stop_all
 from support.trial import Crate, Trial, say
 
@@ -36,6 +39,7 @@ def arguments() -> argparse.Namespace:
     parser.add_argument("--stands", action="store_true", help="only look whether each old text stands once, in the function that is named, and whether docs/proofs.md names bodies that there are; proves nothing")
     parser.add_argument("--kept", action="store_true", help="use what is kept in crates/*/out where the crate is proved there, and prove the others")
     parser.add_argument("--anew", action="store_true", help="try all, also where an earlier run on this machine tried the same files")
+    parser.add_argument("--in-turn", action="store_true", help="try one wrong body of each function: which one changes with the sources of its crate and of those below")
     parser.add_argument("--gate", default="", metavar="FOLDER", help="take libraries and kept work from a gate that runs beside, as it hands them on there (bin/test does so)")
     parser.add_argument("--jobs", type=int, metavar="N", default=default_jobs(), help="checks side by side (default: %(default)s), each with up to 2.5 GB")
     parser.add_argument("--minutes", type=float, metavar="M", default=120, help="the most that one check may take (default: %(default)s)")
@@ -93,8 +97,7 @@ def report(crates: list[Crate], problems: list[str], names: list[str]) -> tuple[
         lost = [it.name for it in crate.bodies if lost.count(it) != 1]
         failures += [f"{crate.name}: {len(lost)} bodies were not judged: {', '.join(lost)}"] if lost else []
         failures += crate.failures
-        if crate.comments_are_proved:
-            passed += 1
+        passed += crate.comments == "proved"
     if not passed and not failures:
         failures.append("no body was judged")
     if not names and not any(it.wrong for it in crates):
@@ -115,7 +118,7 @@ def summary(crates: list[Crate], seconds: float, wall: float) -> None:
         say(
             f"== {crate.name}: {len(crate.wrong)} wrong bodies in {crate.checks} checks, {counts['refused']} refused by a clause or goal, "
             f"{counts['by hand answer']} only because a hand answer no longer fits; {right} of {len(crate.right)} right bodies proved; "
-            f"comments {'proved' if crate.comments_are_proved else 'NOT proved'}; {crate.seconds:.0f} processor seconds"
+            f"comments {crate.comments}; {crate.seconds:.0f} processor seconds"
         )
     say(f"== in all {seconds:.0f} processor seconds, {wall:.0f} s")
 
@@ -153,6 +156,9 @@ def attempt_anew(crates: list[Crate], given: argparse.Namespace) -> float:
     """Tries the bodies of those crates of which no earlier run knows all; gives the processor seconds that it took."""
     kept = Kept(TOP)
     whole = [it for it in crates if len(it.bodies) == len(read_bodies(it.sources)[0])]
+    if given.in_turn:
+        for it in whole:
+            it.bodies = in_turn(it.bodies, kept.of_crate(it.name, {}))
     known = [it for it in whole if kept.take(it, given.anew)]
     left = [it for it in crates if it not in known]
     seconds = attempt(left, given) if left else 0.0

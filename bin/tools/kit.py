@@ -25,6 +25,12 @@ def version():
     return told
 
 
+def logic(version):
+    """The logic by which a kit proves, as its version tells it: two kits of one logic accept the same proofs. A version that tells none
+    stands for itself."""
+    return version.partition(" logic ")[2] or version
+
+
 def folder():
     """The kit's folder, in whose bin/ the command rt lies."""
     return os.path.dirname(os.path.dirname(os.path.realpath(shutil.which("rt"))))

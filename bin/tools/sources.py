@@ -85,8 +85,9 @@ def stamp(top=TOP):
 
 
 def is_stamped(file, wanted):
-    """Whether a file holds this stamp; the kit's version is compared only where the stamp has it."""
+    """Whether a file holds this stamp. Of the kit's version only the logic is compared, and only where the stamp has one: by one logic the
+    same sources are proved, whatever the kit around it is called."""
     if not os.path.isfile(file):
         return False
     held = read_text(file).split("\n")
-    return all(held[at : at + 1] == [it] for at, it in enumerate(wanted))
+    return held[:1] == wanted[:1] and [*map(kit.logic, wanted[1:])] in ([], [*map(kit.logic, held[1:2])])

@@ -54,10 +54,6 @@ class Body:
         return f"{self.crate}/{self.name}"
 
     @property
-    def units(self) -> set[tuple[str, str]]:
-        return {it.unit for it in self.functions}
-
-    @property
     def said(self) -> str:
         return ", ".join(dict.fromkeys(it.name for it in self.functions))
 

@@ -21,11 +21,6 @@ class Function:
     opening: int  # the offset behind the brace that opens its body; 0 where it has none
     cycle: str  # the cycle of calls that it is in, as its attribute names it
 
-    @property
-    def unit(self) -> tuple[str, str]:
-        """What falls together: its cycle of calls, or the function alone."""
-        return self.file, f"#{self.cycle}" if self.cycle else f"{self.name} {self.start}"
-
     def holds(self, start: int, end: int) -> bool:
         return self.start <= start and end <= self.end
 

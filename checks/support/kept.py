@@ -84,24 +84,25 @@ class Kept:
         try:
             with open(entry, encoding="utf-8") as it:
                 found = json.load(it)
-            judged = [Judged(body, True, *map(str, found[body.name])) for body in crate.bodies]
+            judged = [Judged(body, True, *map(str, found["bodies"][body.name])) for body in crate.bodies]
+            comments = str(found["comments"])
             os.utime(entry)
         except (OSError, ValueError, KeyError, TypeError):
             return False
-        crate.judged, crate.comments_are_proved, crate.is_kept = judged, True, True
+        crate.judged, crate.comments, crate.is_kept = judged, comments, True
         return True
 
     def keep(self, crate: Crate) -> None:
         """Keeps what became of the bodies of a crate, where all is well and no file has changed meanwhile."""
         is_whole = len(crate.judged) == len(crate.bodies) and all(it.is_well for it in crate.judged)
-        if crate.is_kept or not is_whole or crate.failures or not crate.comments_are_proved:
+        if crate.is_kept or not is_whole or crate.failures or crate.comments == "NOT proved":
             return
         with contextlib.suppress(OSError):
             if self.name_of(crate.name) != self.names[crate.name]:
                 return
             os.makedirs(self.at, mode=0o700, exist_ok=True)
             with tempfile.NamedTemporaryFile("w", dir=self.at, delete=False, encoding="utf-8") as it:
-                json.dump({judged.body.name: (judged.word, judged.why) for judged in crate.judged}, it)
+                json.dump({"bodies": {judged.body.name: (judged.word, judged.why) for judged in crate.judged}, "comments": crate.comments}, it)
             os.replace(it.name, f"{self.at}/{crate.name}-{self.names[crate.name]}.json")
 
     def shrink(self) -> None:

@@ -1,4 +1,5 @@
 """Bodies of different functions in one check: how they are put together, and what the check's output says of each."""
+import hashlib
 import re
 from dataclasses import dataclass
 from typing import Iterable, Optional
@@ -22,20 +23,30 @@ class Judged:
 
 
 def rounds_of(bodies: Iterable[Body]) -> list[list[Body]]:
-    """Puts the bodies into rounds in which no function and no cycle of calls has two; one whose text stands in no function has a
-    round of its own."""
+    """Puts the bodies into rounds in which no function has two; one whose text stands in no function has a round of its own."""
     rounds: list[list[Body]] = []
     apart: list[list[Body]] = []
     for body in sorted(bodies, key=lambda it: -len(it.functions)):
         if body.is_apart:
             apart.append([body])
             continue
-        fitting = (it for it in rounds if not any(body.units & other.units for other in it))
+        fitting = (it for it in rounds if not any({*body.functions} & {*other.functions} for other in it))
         found = next(fitting, None)
         if found is None:
             rounds.append(found := [])
         found.append(body)
     return rounds + apart
+
+
+def in_turn(bodies: list[Body], seed: str) -> list[Body]:
+    """The right bodies and, of each function, one of its wrong ones: another seed gives another choice."""
+    picked = [it for it in bodies if it.is_right]
+    for function in dict.fromkeys(fn for it in bodies if not it.is_right for fn in it.functions):
+        having = [it for it in bodies if not it.is_right and function in it.functions]
+        if not any(it in picked for it in having):
+            told = hashlib.sha256(f"{seed} {function.file} {function.name}".encode()).digest()
+            picked.append(having[int.from_bytes(told[:8], "big") % len(having)])
+    return [it for it in bodies if it in picked]
 
 
 def is_inside(name: str, function: Function) -> bool:

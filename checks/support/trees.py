@@ -106,10 +106,7 @@ class Trees:
             for part in PARTS:
                 copy_folder(f"{root}/crates/{name}/{part}", f"{self.plain(name)}/{part}")
         for name in self.needed:
-            together = [name] if gate else [*self.below[name], name]
-            for it in together:
-                self.put_sources(it, f"{self.home(name)}/crates/{it}", texts.get(it, {}))
-            self.put_files(self.home(name), together)
+            self.put_home(name, texts)
 
     def plain(self, name: str) -> str:
         """The folder with a crate as it is."""
@@ -118,6 +115,15 @@ class Trees:
     def home(self, name: str) -> str:
         """The folder in which a crate is proved."""
         return f"{self.folder}/homes/{name}"
+
+    def put_home(self, name: str, texts: dict[str, dict[str, str]]) -> None:
+        """Makes the folder in which a crate is proved, with these texts in place of its own and of those of the crates below it; nothing
+        of an earlier one is left."""
+        shutil.rmtree(self.home(name), ignore_errors=True)
+        together = [name] if self.gate else [*self.below[name], name]
+        for it in together:
+            self.put_sources(it, f"{self.home(name)}/crates/{it}", texts.get(it, {}))
+        self.put_files(self.home(name), together)
 
     def put_sources(self, name: str, to: str, texts: dict[str, str]) -> None:
         """Copies a crate, with these texts in place of its own."""

@@ -38,7 +38,7 @@ class Crate:
     names: dict[Function, list[str]] = field(default_factory=dict)  # what the check calls those that bodies change
     judged: list[Judged] = field(default_factory=list)
     failures: list[str] = field(default_factory=list)
-    comments_are_proved: bool = False
+    comments: str = "NOT proved"  # what became of the comments: that, proved, or not tried
     is_kept: bool = False  # whether an earlier run found all of this
     checks: int = 0
     seconds: float = 0.0
@@ -65,6 +65,13 @@ class Crate:
     def with_bodies(self, bodies: list[Body]) -> dict[str, str]:
         """The texts with these bodies, of the files that they change."""
         return self.sources.with_changes([change for it in bodies for change in it.changes])
+
+    @property
+    def first(self) -> list[Body]:
+        """The wrong bodies that can be tried together with the right ones: of those, one for each function that no right body changes."""
+        rewritten = {fn for it in self.right for fn in it.functions}
+        rounds = rounds_of(it for it in self.wrong if not it.is_apart and not {*it.functions} & rewritten)
+        return rounds[0] if rounds else []
 
     def control(self, right: list[Body]) -> dict[str, str]:
         """The texts with these right bodies, and a comment more in each other function that has bodies."""
@@ -108,7 +115,7 @@ class Trial:
         self.crates = {it.name: it for it in crates}
         self.trees, self.jobs, self.logs = trees, jobs, logs
         self.unproved = list(trees.needed)
-        self.whole: set[str] = set()  # the crates whose modules with bodies can't be proved alone
+        self.whole: set[str] = set()  # the crates of which the unchanged text is proved before any wrong body is tried
         self.waiting: list[Turn] = []
         self.running: dict["Future[Ran]", tuple[int, Callable[[Ran], None]]] = {}
         self.seconds = 0.0
@@ -140,9 +147,11 @@ class Trial:
                 # (several jobs take more of the processors, for which a gate beside has work)
                 jobs = 1 if self.trees.gate else max(1, self.idle() // (len(ready) - at))
                 self.unproved.remove(name)
-                modules = self.modules_of(name)
-                future = pool.submit(self.trees.prove, name, jobs, modules)
-                self.running[future] = jobs, partial(self.after_proof, name, modules)
+                first = self.first_of(name)
+                if first:
+                    self.trees.put_home(name, {name: self.crates[name].with_bodies([*first, *self.crates[name].right])})
+                future = pool.submit(self.trees.prove, name, jobs, self.crates[name].modules if first else [])
+                self.running[future] = jobs, partial(self.after_first, self.crates[name], first) if first else partial(self.after_proof, name)
         self.waiting.sort(key=lambda it: it.cost * self.trees.lines[it.crate.name], reverse=True)
         # (as long as proofs are to come that others wait for, they find a processor free)
         kept_free = 1 if self.unproved and self.jobs > 1 and not self.trees.gate else 0
@@ -154,10 +163,11 @@ class Trial:
             self.running[future] = jobs, partial(self.after_turn, turn)
         return bool(self.running)
 
-    def modules_of(self, name: str) -> list[str]:
-        """The modules that are enough of a crate's proof: all, where the gate doesn't prove the rest or has kept its proof."""
+    def first_of(self, name: str) -> list[Body]:
+        """The wrong bodies that are tried from nothing, in place of a proof of the crate: beside a gate, which proves it, where that
+        hands on nothing that it has kept of the proof."""
         is_enough = self.trees.gate and name in self.crates and name not in self.whole and not self.trees.has_kept_edits(name)
-        return self.crates[name].modules if is_enough else []
+        return self.crates[name].first if is_enough else []
 
     def lose(self, name: str, why: str) -> None:
         if name in self.crates:
@@ -170,15 +180,36 @@ class Trial:
             with open(f"{self.logs}/{label}.log", "w", encoding="utf-8") as it:
                 it.write(ran.output)
 
-    def after_proof(self, name: str, modules: list[str], ran: Ran) -> None:
+    def after_first(self, crate: Crate, first: list[Body], ran: Ran) -> None:
+        """What a check from nothing says of wrong bodies and of the right ones beside them. Where it says too little, the crate is proved,
+        and all are tried over that. What it kept serves the other rounds."""
+        self.count(crate, "round-1", ran, f"{len(first)} wrong bodies and {len(crate.right)} right ones, from nothing")
+        output = read_output(ran.output)
+        why = no_verdict(ran, output) or no_line(crate, output)
+        beside = [] if why else hurt_beside(output, [*first, *crate.right], set())
+        judged = {} if why or beside else {it: judge_wrong(it, output, False) for it in first}
+        right = [] if why or beside else [judge_right(it, output) for it in crate.right]
+        if why or beside or not all(it.is_well for it in right):
+            say(f"== {crate.name} round-1 isn't enough, so the crate is proved: {(why or ', '.join(beside) or 'a right body is not proved beside it')[:300]}")
+            self.whole.add(crate.name)
+            self.trees.put_home(crate.name, {crate.name: crate.control(crate.right)})
+            self.unproved.append(crate.name)
+            return
+        crate.names, crate.comments = names_of(output, crate.functions), "not tried"
+        crate.known = {it.name for it in output.verdicts.values() if not it.is_by_compiler}
+        crate.judged += right
+        tried = [it for it in first if judged[it]]
+        self.settle(Turn(crate, first, "round-1"), [judged[it] for it in tried])
+        self.waiting += [Turn(crate, [it], f"alone-{it.name}") for it in first if it not in tried]
+        self.waiting += [Turn(crate, it, f"round-{at}") for at, it in enumerate(rounds_of(it for it in crate.wrong if it not in first), 2)]
+
+    def count(self, crate: Crate, label: str, ran: Ran, what: str) -> None:
+        crate.checks, crate.seconds = crate.checks + 1, crate.seconds + ran.seconds
+        self.log(f"{crate.name}-{label}", ran, what)
+
+    def after_proof(self, name: str, ran: Ran) -> None:
         """Once a crate is proved, with its right bodies and comments, its rounds come."""
         crate = self.crates.get(name)
-        if crate and modules and (ran.status or no_line(crate, read_output(ran.output))):
-            # (then its whole proof decides)
-            self.log(f"{name}-modules", ran, f"not proved in {', '.join(modules)} alone")
-            self.whole.add(name)
-            self.unproved.append(name)
-            return
         what = f", with {len(crate.right)} right bodies and comments" if crate else ""
         self.log(f"{name}-proof", ran, f"{'NOT proved' if ran.status else 'proved'}{what}")
         if crate:
@@ -199,7 +230,7 @@ class Trial:
         crate.known = {it.name for it in output.verdicts.values() if not it.is_by_compiler}
         crate.names = names_of(output, crate.functions)
         crate.judged += [judge_right(it, output) for it in crate.right]
-        crate.comments_are_proved = True
+        crate.comments = "proved"
         self.waiting += [Turn(crate, it, f"round-{at}") for at, it in enumerate(rounds_of(crate.wrong), 1)]
 
     def texts(self, turn: Turn) -> dict[str, str]:
@@ -207,8 +238,7 @@ class Trial:
 
     def after_turn(self, turn: Turn, ran: Ran) -> None:
         crate, count = turn.crate, len(turn.bodies)
-        crate.checks, crate.seconds = crate.checks + 1, crate.seconds + ran.seconds
-        self.log(f"{crate.name}-{turn.label}", ran, f"{count} right bodies, and comments" if turn.is_control else f"{count} wrong bodies")
+        self.count(crate, turn.label, ran, f"{count} right bodies, and comments" if turn.is_control else f"{count} wrong bodies")
         output = read_output(ran.output)
         why = no_verdict(ran, output)
         if turn.is_control:
