@@ -21,7 +21,7 @@ import re
 import sys
 import tempfile
 from concurrent.futures import ThreadPoolExecutor
-from dataclasses import dataclass, field
+from dataclasses import dataclass, field, replace
 from typing import Iterator, Optional
 
 from support import cases
@@ -199,7 +199,7 @@ def why_not(player: str, table: Optional[str], row: Row, way: str) -> str:
         return str(fault)
     for case, got in zip(tried, found):
         if not row.is_given(got):
-            return f"{case.how}, in pieces of {case.sizes[:20]}: {got.output[:500]!r}, {got.end}, {got}"
+            return f"{case.how}, in pieces of {case.sizes[:20] or 'all'}: {replace(got, output=got.output[:500])}"
     return ""
 
 
@@ -243,5 +243,4 @@ def main(words: list[str]) -> None:
     count.end()
 
 
-if __name__ == "__main__":
-    main(sys.argv[1:])
+main(sys.argv[1:])
