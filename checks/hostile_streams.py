@@ -79,7 +79,7 @@ def cut_streams(peer: Peer) -> None:
 
 
 def cut_in_three(peer: Peer) -> list[tuple]:
-    """Streams in three reads of a server, cut at pairs of places at random. (Each pair is played by the crate peer_rows.)"""
+    """Streams in three reads of a server, cut at pairs of places at random. (Each pair is played by checks/played_rows.py.)"""
     chance, runs = random.Random(20_261_123), []
     for name, given, output, end in STREAMS:
         if name in NAMED:

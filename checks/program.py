@@ -116,9 +116,14 @@ LIMITED = [
     ("both limits", ["--calls", "1", "--content", "40"], two, one, "Full"),
     ("the standard limits", ["--calls", "1000000", "--content", "16777216"], two, both, ""),
 ]
+CUT = ("a content of the limit", "a content over the limit", "a call more", "a batch with a call too many")
 for name, words, given, output, end in LIMITED:
+    told = f"input ended: {end}\n".encode() if end else b""
     for command in (["play"], ["play", "--piece", "1"], ["play", "--lazy", "--piece", "7"], ["serve"], ["serve", "--workers", "1"]):
-        expect(f"{name}, {command}", [*command, *words], given, output, f"input ended: {end}\n".encode() if end else b"", 1 if end else 0)
+        expect(f"{name}, {command}", [*command, *words], given, output, told, 1 if end else 0)
+    # (the first piece ends at each place of the stream)
+    for size in range(2, len(given)) if name in CUT else ():
+        expect(f"{name}, in pieces of {size}", ["play", "--piece", str(size), *words], given, output, told, 1 if end else 0)
 expect("a line over the limit", ["play", "--lines", "--content", "39"], line, b"", b"input ended: TooLarge\n", 1)
 expect("a line of the limit", ["play", "--lines", "--content", "40"], line, (rows.NOT_FOUND + "\n").encode())
 expect("notices over the limit of calls", ["play", "--calls", "999999"], notices, b"", b"input ended: Full\n", 1)

@@ -3,9 +3,7 @@ mod mem_source;
 mod std_devices;
 mod whole_writes;
 
-use crate::told::holds_at;
 use lsp_frames::{IoFault, PutFault, Sink, Source, put_all};
-use std::process::Abort;
 
 /// What a source's next call gives, or that it fails, and how many calls have failed then.
 type Given = (Result<&'static str, IoFault>, u64);
@@ -27,11 +25,14 @@ fn is_given<S: Source>(source: &mut S, most: usize, given: &Given) -> bool {
     is_wanted && source.failures() == given.1
 }
 
-/// Calls that have so much room, one after another, give these.
-fn gives<S: Source>(rt: &impl Abort, source: &mut S, most: usize, calls: &[Given]) {
-    for (at, given) in calls.iter().enumerate() {
-        holds_at(rt, is_given(source, most, given), "call", at as u64);
+/// Whether calls that have so much room, one after another, give these.
+fn are_given<S: Source>(source: &mut S, most: usize, calls: &[Given]) -> bool {
+    for given in calls {
+        if !is_given(source, most, given) {
+            return false;
+        }
     }
+    true
 }
 
 /// A call of a sink, and what it gives: of bytes that it may take some of, of bytes that are written whole, and of a flush.
@@ -54,9 +55,12 @@ fn is_taken<S: Sink>(sink: &mut S, taken: &Taken) -> bool {
     is_wanted && sink.failures() == taken.1
 }
 
-/// The calls, one after another, give what they say.
-fn takes<S: Sink>(rt: &impl Abort, sink: &mut S, calls: &[Taken]) {
-    for (at, taken) in calls.iter().enumerate() {
-        holds_at(rt, is_taken(sink, taken), "call", at as u64);
+/// Whether the calls, one after another, give what they say.
+fn are_taken<S: Sink>(sink: &mut S, calls: &[Taken]) -> bool {
+    for taken in calls {
+        if !is_taken(sink, taken) {
+            return false;
+        }
     }
+    true
 }

@@ -1,6 +1,6 @@
-//! Bytes in and bytes out: what sources give and sinks take, what the decoder makes of a stream, however it is cut, and what a
-//! peer writes for one, row by row, on one thread and as a server of several: that it writes while its input is open, that its
-//! workers turn jobs side by side, and what becomes of it where a device fails.
+//! Bytes in and bytes out, where no stream shows them from outside: what sources give and sinks take, that a decoder and a session
+//! go on after want of memory, limits, what becomes of a peer and of a server whose devices fail, and that a server's workers turn
+//! jobs side by side. What a peer writes for a stream is played by `checks/played_rows.py`.
 #![tactic(auto)]
 
 #[cfg(test)]
@@ -9,8 +9,6 @@ mod cuts;
 mod devices;
 #[cfg(test)]
 mod frames;
-#[cfg(test)]
-mod peer;
 #[cfg(test)]
 mod plays;
 #[cfg(test)]

@@ -1,13 +1,10 @@
-//! What no clause says: that a server ends, the bytes of each row, and that nothing waits for anything that it needn't wait for.
+//! What no clause says: that a server ends where its devices fail, and that nothing waits for anything that it needn't wait for.
 
 mod crew;
 mod devices;
-mod doubles;
-mod rows;
-mod while_open;
 
 use crate::cuts;
-use lsp_frames::{MemSink, MemSource, Sink, Source};
+use lsp_frames::{MemSink, MemSource};
 use method_steps::Table;
 use peer_session::{Close, Limits, Report};
 use rpc_peer::{ServeFault, serve};
@@ -98,26 +95,6 @@ struct Ended {
     written: Vec<u8>,
 }
 
-/// Serves by so many workers: how it ended, and the sink.
-fn by_workers<S, K, R>(
-    rt: &R,
-    alloc: Global,
-    table: &Table,
-    workers: u32,
-    source: S,
-    sink: K,
-) -> (Result<Report, ServeFault>, K)
-where
-    S: Source + Drop + Send,
-    K: Sink + Drop,
-    R: Threads + Wait + Sync,
-{
-    match serve(rt, alloc, table, Limits::standard(), workers, source, sink) {
-        Ok((report, sink)) => (Ok(report), sink),
-        Err((fault, sink)) => (Err(fault), sink),
-    }
-}
-
 impl Ended {
     /// Whether this was the end of the input, or why it wasn't served.
     fn has_outcome(&self, outcome: Result<Close, ServeFault>) -> bool {
@@ -174,7 +151,11 @@ impl Given<'_> {
     ) -> Result<Ended, AllocError> {
         let source = MemSource::new(self.pieces(alloc)?, self.fault_at);
         let sink = MemSink::new(alloc, self.stop);
-        let (outcome, sink) = by_workers(rt, alloc, table, self.workers, source, sink);
+        let limits = Limits::standard();
+        let (outcome, sink) = match serve(rt, alloc, table, limits, self.workers, source, sink) {
+            Ok((report, sink)) => (Ok(report), sink),
+            Err((fault, sink)) => (Err(fault), sink),
+        };
         Ok(Ended {
             outcome,
             written: sink.into_vec(),

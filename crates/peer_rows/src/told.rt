@@ -11,8 +11,3 @@ pub fn holds(rt: &impl Abort, is_so: bool, name: &str) {
 pub fn holds_at(rt: &impl Abort, is_so: bool, what: &str, number: u64) {
     assert!(rt; is_so, "{what} {number}");
 }
-
-/// The row of this name is as it should be, gone about in this way.
-pub fn holds_in_way(rt: &impl Abort, is_so: bool, name: &str, way: &str) {
-    assert!(rt; is_so, "{name}, {way}");
-}

@@ -1,6 +1,6 @@
 //! Readers and writers that fail, and that fail for a while.
 
-use super::{Call, Taken, gives, takes};
+use super::{Call, Taken, are_given, are_taken};
 use lsp_frames::{IoFault, PutFault, StdSink, StdSource};
 use std::io::{self, Read, Write};
 use std::test::Fail;
@@ -29,18 +29,14 @@ fn an_interrupted_read_is_a_failure(rt: HostRuntime) {
         calls: 0,
     });
     let calls = &[(Err(IoFault), 1), (Ok("ab"), 1), (Err(IoFault), 2)];
-    gives(&rt, &mut source, 2, calls);
+    assert!(rt; are_given(&mut source, 2, calls));
 }
 
 #[test]
 fn a_slice_is_a_source_of_its_bytes(rt: HostRuntime) {
     let mut source = StdSource::new(b"abc".as_slice());
-    gives(
-        &rt,
-        &mut source,
-        2,
-        &[(Ok("ab"), 0), (Ok("c"), 0), (Ok(""), 0)],
-    );
+    let calls = &[(Ok("ab"), 0), (Ok("c"), 0), (Ok(""), 0)];
+    assert!(rt; are_given(&mut source, 2, calls));
 }
 
 /// Takes two bytes, then none, then fails; and counts its flushes, of which the second fails.
@@ -83,7 +79,7 @@ fn a_write_of_no_bytes_and_an_interrupted_one_are_failures(rt: HostRuntime) {
         flushes: 0,
     };
     let mut sink = StdSink::new(&mut writer);
-    takes(&rt, &mut sink, FAINT);
+    assert!(rt; are_taken(&mut sink, FAINT));
     assert!(rt; writer.writes == 3 && writer.flushes == 2);
 }
 
@@ -93,6 +89,6 @@ const WHOLE: &[Taken] = &[(Call::PutAll("abc", Ok(())), 0), (Call::Flush(Ok(()))
 fn a_vector_takes_the_bytes(rt: HostRuntime) {
     let mut bytes = Vec::new(rt.alloc());
     let mut sink = StdSink::new(&mut bytes);
-    takes(&rt, &mut sink, WHOLE);
+    assert!(rt; are_taken(&mut sink, WHOLE));
     assert!(rt; bytes.as_slice() == b"abc".as_slice());
 }

@@ -2,8 +2,9 @@
 
 ghost use Rattle.std.specs.Prelude.{◌≤◌, length};
 
-use super::{Call, Taken, takes};
+use super::{Call, Taken, are_taken};
 use crate::cuts;
+use crate::told::holds_at;
 use lsp_frames::{IoFault, MemSink, PutFault, Sink};
 use std::alloc::Global;
 use std::process::Abort;
@@ -11,74 +12,82 @@ use std::process::Abort;
 const FRAME: &str =
     "Content-Length: 77\r\n\r\n{\"error\":{\"code\":-32601,\"message\":\"Method not found\"},\"id\":1,\"jsonrpc\":\"2.0\"}";
 
-const TWO_WRITES: &[Taken] = &[
-    (Call::PutAll(FRAME, Ok(())), 0),
-    (Call::PutAll("[]", Ok(())), 0),
+/// After how many bytes a sink stops, how many at most its puts take (0: any), its calls, and what it then holds.
+struct Row {
+    name: &'static str,
+    stop: Option<u64>,
+    mosts: &'static [u32],
+    calls: &'static [Taken],
+    bytes: &'static [&'static str],
+}
+
+const ROWS: &[Row] = &[
+    Row {
+        name: "two writes, in puts of at most",
+        stop: None,
+        mosts: &[1, 2, 7],
+        calls: &[
+            (Call::PutAll(FRAME, Ok(())), 0),
+            (Call::PutAll("[]", Ok(())), 0),
+        ],
+        bytes: &[FRAME, "[]"],
+    },
+    Row {
+        name: "a stop after nine bytes, in puts of at most",
+        stop: Some(9),
+        mosts: &[7],
+        calls: &[
+            (Call::Put(FRAME, Ok(7)), 0),
+            (Call::Put(FRAME, Ok(2)), 0),
+            (Call::Put(FRAME, Err(IoFault)), 1),
+            (Call::Flush(Ok(())), 1),
+        ],
+        bytes: &["ContentCo"],
+    },
+    Row {
+        name: "a stop after thirty bytes, in puts of at most",
+        stop: Some(30),
+        mosts: &[1, 2, 7, 30, 1000],
+        calls: &[
+            (Call::PutAll(FRAME, Err(PutFault { taken: 30 })), 1),
+            (Call::PutAll(FRAME, Err(PutFault { taken: 0 })), 2),
+            (Call::PutAll("", Ok(())), 2),
+        ],
+        bytes: &["Content-Length: 77\r\n\r\n{\"error\""],
+    },
+    Row {
+        name: "a stop behind the last byte, in puts of at most",
+        stop: Some(99),
+        mosts: &[0],
+        calls: &[(Call::PutAll(FRAME, Ok(())), 0)],
+        bytes: &[FRAME],
+    },
 ];
 
-/// Two writes into a sink of short puts, and what it then holds.
-fn goes_through(rt: &impl Abort, alloc: Global, most: u32)
-    requires { 1 ≤ most }
-{
-    let mut sink = MemSink::short(alloc, None, most);
-    takes(rt, &mut sink, TWO_WRITES);
-    assert!(rt; cuts::is_made_of(sink.bytes(), &[FRAME, "[]"]));
+/// Whether the calls of a sink with such puts give what the row says.
+fn is_filled(alloc: Global, row: &Row, most: u32) -> bool {
+    let mut sink = if most == 0 {
+        MemSink::new(alloc, row.stop)
+    } else {
+        MemSink::short(alloc, row.stop, most)
+    };
+    let is_filled = are_taken(&mut sink, row.calls) && cuts::is_made_of(sink.bytes(), row.bytes);
+    drop(sink);
+    is_filled
+}
+
+fn each_is_filled(rt: &impl Abort, alloc: Global, row: &Row) {
+    for most in row.mosts {
+        let is_filled = is_filled(alloc, row, *most);
+        holds_at(rt, is_filled, row.name, u64::from(*most));
+    }
 }
 
 #[test]
-fn all_bytes_come_through_short_writes(rt: HostRuntime) {
-    goes_through(&rt, rt.alloc(), 1);
-    goes_through(&rt, rt.alloc(), 2);
-    goes_through(&rt, rt.alloc(), 7);
-}
-
-const SHORT_PUTS: &[Taken] = &[
-    (Call::Put(FRAME, Ok(7)), 0),
-    (Call::Put(FRAME, Ok(2)), 0),
-    (Call::Put(FRAME, Err(IoFault)), 1),
-    (Call::Flush(Ok(())), 1),
-];
-
-#[test]
-fn a_put_takes_no_more_than_its_most(rt: HostRuntime) {
-    let mut sink = MemSink::short(rt.alloc(), Some(9), 7);
-    takes(&rt, &mut sink, SHORT_PUTS);
-    assert!(rt; sink.bytes() == b"ContentCo".as_slice());
-}
-
-const STOPS: &[Taken] = &[(Call::PutAll(FRAME, Err(PutFault { taken: 30 })), 1)];
-
-const HAS_STOPPED: &[Taken] = &[
-    (Call::PutAll(FRAME, Err(PutFault { taken: 0 })), 2),
-    (Call::PutAll("", Ok(())), 2),
-];
-
-/// Writes into a sink of short puts that stops after 30 bytes.
-fn stops_after_thirty(rt: &impl Abort, alloc: Global, most: u32)
-    requires { 1 ≤ most }
-{
-    let mut sink = MemSink::short(alloc, Some(30), most);
-    takes(rt, &mut sink, STOPS);
-    assert!(rt; sink.bytes() == b"Content-Length: 77\r\n\r\n{\"error\"".as_slice());
-    takes(rt, &mut sink, HAS_STOPPED);
-}
-
-#[test]
-fn a_sink_stops_after_thirty_bytes(rt: HostRuntime) {
-    stops_after_thirty(&rt, rt.alloc(), 1);
-    stops_after_thirty(&rt, rt.alloc(), 2);
-    stops_after_thirty(&rt, rt.alloc(), 7);
-    stops_after_thirty(&rt, rt.alloc(), 30);
-    stops_after_thirty(&rt, rt.alloc(), 1000);
-}
-
-const ALL: &[Taken] = &[(Call::PutAll(FRAME, Ok(())), 0)];
-
-#[test]
-fn a_sink_that_stops_behind_the_last_byte_takes_all(rt: HostRuntime) {
-    let mut sink = MemSink::new(rt.alloc(), Some(99));
-    takes(&rt, &mut sink, ALL);
-    assert!(rt; sink.into_vec().as_slice() == FRAME.as_bytes());
+fn bytes_come_through_short_puts_up_to_a_stop(rt: HostRuntime) {
+    for row in ROWS {
+        each_is_filled(&rt, rt.alloc(), row);
+    }
 }
 
 /// A put into a sink that has held so much and failed so often. Where it fails, the sink holds what it held.

@@ -1,6 +1,5 @@
 //! Workers turn jobs side by side, and no job waits for another's turn.
 
-use super::doubles::PATIENCE;
 use super::{ASK, CONFIRMED, Given, METHODS};
 use crate::cuts;
 use crate::plays::table;
@@ -17,6 +16,9 @@ use std::sync::{Arc, Wait};
 use std::test::Fail;
 use std::thread;
 use std::thread::Threads;
+
+/// So often a gate looks for what it waits for.
+const PATIENCE: u32 = 1_000_000;
 
 /// Holds the first handler until the second was let through so often, and notes whether it saw that.
 #[derive(Drop)]

@@ -1,7 +1,6 @@
-//! Devices that fail, at each place.
+//! Devices that fail, the source at each place. (`checks/serving.py` has the output fail at each place.)
 
 use super::{ASK, CONFIRM, CONFIRMED, Given, METHODS, NO_REPLY, NOT_FOUND, REPLY, UNKNOWN};
-use crate::cuts;
 use crate::told::{holds, holds_at};
 use peer_session::Close;
 use rpc_peer::ServeFault;
@@ -10,34 +9,6 @@ use std::process::Abort;
 use std::sync::Wait;
 use std::test::Fail;
 use std::thread::Threads;
-
-/// Whether a server whose sink stops after so many bytes writes these, and ends as it should.
-fn is_stopped<R: Threads + Wait + Sync>(rt: &R, alloc: Global, stop: usize) -> Result<bool, Fail> {
-    let given = Given {
-        stop: Some(stop as u64),
-        ..Given::whole(METHODS, 2, &[ASK, REPLY])
-    };
-    let ended = given.served(rt, alloc)?;
-    let outcome = match stop {
-        144 => Ok(Close::Clean),
-        _ => Err(ServeFault::Write),
-    };
-    Ok(
-        ended.has_outcome(outcome)
-            && ended.written.len() == stop
-            && cuts::is_front_of(ended.written.as_slice(), &[CONFIRM, CONFIRMED]),
-    )
-}
-
-#[test]
-fn a_sink_may_stop_at_each_byte(rt: HostRuntime) -> Result<(), Fail> {
-    assert!(rt; CONFIRM.len() + CONFIRMED.len() == 144);
-    for stop in 0..=144 {
-        let is_stopped = is_stopped(&rt, rt.alloc(), stop)?;
-        holds_at(&rt, is_stopped, "stopped at byte", stop as u64);
-    }
-    Ok(())
-}
 
 /// Whether a server whose source fails at this call of those that give a byte each writes and tells what it should.
 fn is_cut_off<R: Threads + Wait + Sync>(
