@@ -53,9 +53,13 @@ fn answers_of<'a>(
 
 /// How many of the entries may have an answer. A contract doesn't speak of room, so it says nothing here.
 fn count_answered(dues: &[Due]) -> usize {
-    dues.iter()
-        .filter(|due| !matches!(**due, Due::Nothing))
-        .count()
+    let mut count = 0;
+    for due in dues {
+        if !matches!(due, Due::Nothing) {
+            count += 1;
+        }
+    }
+    count
 }
 
 fn answer_of<'a>(numbers: &'a Numbers, due: Due) -> Option<Answer<'a>>

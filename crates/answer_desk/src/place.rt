@@ -1,7 +1,7 @@
 use rpc_messages::Id;
 
 /// One entry of a unit, as far as its answer is concerned.
-#[derive(Debug, Drop)]
+#[derive(Drop)]
 pub enum Place {
     /// A content that is no JSON: it is answered Parse error.
     Unreadable,

@@ -1,4 +1,4 @@
-ghost use Rattle.std.specs.Prelude.{◌≡◌, IfOk, replicate, is_some};
+ghost use Rattle.std.specs.Prelude.{◌≡◌, IfOk, replicate, is_some, option_copied};
 ghost use Rattle.answer_desk.specs.declared.slot.Slot.TheVariants.{Empty};
 ghost use Rattle.answer_desk.specs.Replies.{slot_at, put_into, given_by};
 ghost use Rattle.answer_desk.specs.Inner.Kept.{slots_with, slots_without};
@@ -73,10 +73,7 @@ impl Replies {
     pub fn has(&self, turn: u32, is_closed: bool) -> bool
         ensures { result ≡ is_some (given_by is_closed (slot_at self.now turn)) }
     {
-        if turn == 0 {
-            return false;
-        }
-        match self.slots.get(turn as usize - 1) {
+        match slot_of(self.slots.as_slice(), turn) {
             Some(Slot::Held(_)) => true,
             Some(Slot::Empty) => is_closed,
             Some(Slot::Given) | None => false,
@@ -87,12 +84,19 @@ impl Replies {
 fn put_of(slots: &[Slot], turn: u32) -> Put
     ensures { result ≡ put_into (slot_at slots.now turn) }
 {
-    if turn == 0 {
-        return Put::Unknown;
-    }
-    match slots.get(turn as usize - 1) {
+    match slot_of(slots, turn) {
         Some(Slot::Empty) => Put::Kept,
         Some(Slot::Held(_) | Slot::Given) => Put::Second,
         None => Put::Unknown,
     }
+}
+
+/// The slot of a turn, where it has one.
+fn slot_of(slots: &[Slot], turn: u32) -> Option<&Slot>
+    ensures { option_copied result ≡ slot_at slots.now turn }
+{
+    if turn == 0 {
+        return None;
+    }
+    slots.get(turn as usize - 1)
 }

@@ -3,7 +3,7 @@ use json_values::Items;
 use rpc_messages::Kind;
 
 /// A unit as the desk sees it: its kind and its entries in their order.
-#[derive(Debug, Drop)]
+#[derive(Drop)]
 pub struct Shape {
     pub kind: Kind,
     pub places: Items<Place>,

@@ -90,7 +90,12 @@ fn put_one_answer(alloc: Global, bytes: &mut Vec<u8>, answer: &Answer<'_>) -> Re
     match answer {
         Answer::Reply(id, reply) => put_answer(alloc, bytes, id, reply),
         Answer::Error(standard) => {
-            put_answer(alloc, bytes, &Id::Null, &Reply::Standard(*standard))
+            let reply = Reply::Standard(*standard);
+            let id = Id::Null;
+            let put = put_answer(alloc, bytes, &id, &reply);
+            drop(id);
+            drop(reply);
+            put
         }
     }
 }

@@ -12,6 +12,7 @@ ghost use Rattle.rpc_messages.specs.Held.{envelope_view, with_member};
 use json::Reader;
 use json_reading::{Piece, ReadFault, read_piece};
 use std::alloc::Global;
+use std::mem;
 
 /// Of each name that counts for a message, the last member (JSON-RPC 2.0, sections 4 and 5).
 #[derive(Drop)]
@@ -104,5 +105,5 @@ fn keep<'a>(envelope: &mut Envelope<'a>, name: &str, member: Piece<'a>)
 fn put<'a>(place: &mut Option<Piece<'a>>, member: Piece<'a>)
     ensures { place.new ≡ Some member.entry }
 {
-    *place = Some(member);
+    drop(mem::replace(place, Some(member)));
 }

@@ -9,4 +9,4 @@ returns-in-Reply-clause-text c =
 
 pub returns-in-Error-clause-text : goal.returns-in-Error-clause-text
 returns-in-Error-clause-text c =
-    OnOk-map c.put_answer-in-Error.result (λ put. put ∙ ap (λ answer. c.args.bytes.now.items ++ text_of (answer_seen answer)) (sym c.in-Error.is)) c.put_answer-in-Error.ensures.text
+    OnOk-map c.put_answer-put.result (λ put. put ∙ ap (λ answer. c.args.bytes.now.items ++ text_of (answer_seen answer)) (sym c.in-Error.is)) c.put_answer-put.ensures.text
