@@ -48,18 +48,6 @@ place-read [] i was read = refl
 place-read (x ∷ xs) zero was read = ap stage_in read
 place-read (x ∷ xs) (suc i) was read = place-read xs i was read
 
--- what such a place holds is the stage of its number
-pub stage-of-place : (first number i : ℕ) (items : List (Option (Box Stage))) (was : Option (Box Stage)) (stages : List Stage)
-    → first ≤ number → i ≡ number - first → i < length items → was ≡ get_or items i was → all_stages first (map stage_in items) ≡ stages
-    → stage_at stages number ≡ stage_in was
-stage-of-place first number i items was stages reached place below read seen =
-    let within : i < length (map stage_in items) = simp length-map below in
-    let there : stage_in was ≡ get_or (map stage_in items) i Gone = get_or_read (map stage_in items) i (stage_in was) within (place-read items i was read) Gone in
-    ap (λ s. stage_at s number) (sym seen)
-    ∙ get_or-append_right (replicate first Gone) (map stage_in items) first number Gone (length-replicate first Gone) reached
-    ∙ ap (λ k. get_or (map stage_in items) k Gone) (sym place)
-    ∙ sym there
-
 set-inside : (first n : ℕ) (window : List Stage) (stage : Stage) → first ≤ n
     → set (all_stages first window) n stage ≡ all_stages first (set window (n - first) stage)
 set-inside first n window stage reached = set-append_right (replicate first Gone) window first n stage (length-replicate first Gone) reached
