@@ -97,7 +97,13 @@ fn fill_members(
     let mut values = JsonObject::new(alloc);
     for (name, template) in templates.iter() {
         let value = fill(alloc, template, registers)?;
-        values.insert(Text::copy_of(alloc, name.as_str())?, value)?;
+        match Text::copy_of(alloc, name.as_str()) {
+            Ok(name) => values.insert(name, value)?,
+            Err(error) => {
+                drop(value);
+                return Err(FillFault::from(error));
+            }
+        }
     }
     Ok(values.finish())
 }

@@ -47,9 +47,16 @@ impl Registers {
         ensures ok { OnOk result (self.new ≡ put name.now value self.old) }
         ensures err { OnErr result (self.new ≡ self.old) }
     {
-        let name = String::from_str(self.alloc, name)?;
-        drop(self.values.insert(name, value)?);
-        Ok(())
+        match String::from_str(self.alloc, name) {
+            Ok(name) => {
+                drop(self.values.insert(name, value)?);
+                Ok(())
+            }
+            Err(error) => {
+                drop(value);
+                Err(error)
+            }
+        }
     }
 
     /// The value of a register, where it is set.

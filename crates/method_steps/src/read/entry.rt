@@ -1,6 +1,6 @@
 //! The fields that each table of the document may have.
 
-ghost use Rattle.std.specs.Prelude.{◌≡◌};
+ghost use Rattle.std.specs.Prelude.{◌≡◌, map};
 ghost use Rattle.toml.specs.View.{table_view};
 ghost use Rattle.method_steps.specs.Fields.{allows, is_one_of, fields_of, has_only};
 
@@ -9,7 +9,7 @@ use crate::read::version::Version;
 use toml::Table;
 
 /// What a table of the document is there for.
-#[derive(Clone, Copy, PartialEq, Eq)]
+#[derive(Clone, Copy)]
 pub enum Entry {
     Document(Version),
     Method,
@@ -34,26 +34,38 @@ fn allows(entry: Entry, name: &str) -> bool
     ensures { result ≡ allows entry name.now }
 {
     match entry {
-        Entry::Document(Version::One) => matches!(name, "version" | "method"),
-        Entry::Document(Version::Two) => matches!(name, "version" | "opening" | "method"),
-        Entry::Method => matches!(name, "name" | "step"),
-        Entry::Step(kind) => name == "kind" || allows_beside_kind(kind, name),
-        Entry::Call => matches!(name, "method" | "params"),
+        Entry::Document(Version::One) => is_one_of(&["version", "method"], name),
+        Entry::Document(Version::Two) => is_one_of(&["version", "opening", "method"], name),
+        Entry::Method => is_one_of(&["name", "step"], name),
+        Entry::Step(kind) => name == "kind" || is_one_of(fields_of(kind), name),
+        Entry::Call => is_one_of(&["method", "params"], name),
     }
 }
 
-fn allows_beside_kind(kind: Kind, name: &str) -> bool
-    ensures { result ≡ is_one_of (fields_of kind) name.now }
+/// The fields of a step of the kind, beside `kind`.
+fn fields_of(kind: Kind) -> &'static [&'static str]
+    ensures { map (λ field. field.now) result.now ≡ fields_of kind }
 {
     match kind {
-        Kind::Set => matches!(name, "to" | "value"),
-        Kind::Add => matches!(name, "to" | "left" | "right"),
-        Kind::Skip => matches!(name, "left" | "right" | "count"),
-        Kind::Call => matches!(name, "to" | "method" | "params" | "on_error"),
-        Kind::Calls => matches!(name, "to" | "list" | "on_error"),
-        Kind::Each => matches!(name, "to" | "over" | "method" | "on_error"),
-        Kind::Notify => matches!(name, "method" | "params"),
-        Kind::Answer => name == "value",
-        Kind::Fail => matches!(name, "code" | "message"),
+        Kind::Set => &["to", "value"],
+        Kind::Add => &["to", "left", "right"],
+        Kind::Skip => &["left", "right", "count"],
+        Kind::Call => &["to", "method", "params", "on_error"],
+        Kind::Calls => &["to", "list", "on_error"],
+        Kind::Each => &["to", "over", "method", "on_error"],
+        Kind::Notify => &["method", "params"],
+        Kind::Answer => &["value"],
+        Kind::Fail => &["code", "message"],
     }
+}
+
+fn is_one_of(fields: &[&str], name: &str) -> bool
+    ensures { result ≡ is_one_of (map (λ field. field.now) fields.now) name.now }
+{
+    for field in fields {
+        if name == *field {
+            return true;
+        }
+    }
+    false
 }

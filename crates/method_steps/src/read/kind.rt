@@ -9,7 +9,7 @@ use crate::read::version::Version;
 use toml::Table;
 
 /// A kind of steps, by the word that its `kind` is.
-#[derive(Clone, Copy, PartialEq, Eq)]
+#[derive(Clone, Copy)]
 pub enum Kind {
     Set,
     Add,
@@ -52,7 +52,7 @@ pub(crate) fn is_kind_of(version: Version, kind: Kind) -> bool
     ensures { result ≡ is_kind_of version kind }
 {
     match kind {
-        Kind::Each => version == Version::Two,
+        Kind::Each => matches!(version, Version::Two),
         _ => true,
     }
 }

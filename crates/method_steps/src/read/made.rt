@@ -145,12 +145,20 @@ fn each(
     ensures refused { IfErr result
         (IsRefused (items_view earlier.now) (Step.Each to.now over.now method.now on_error)) }
 {
-    Ok(Step::Each {
-        to: register(alloc, to)?,
-        over: template(alloc, over, earlier)?,
-        method: Text::copy_of(alloc, method)?,
-        on_error,
-    })
+    let to = register(alloc, to)?;
+    let over = template(alloc, over, earlier)?;
+    match Text::copy_of(alloc, method) {
+        Ok(method) => Ok(Step::Each {
+            to,
+            over,
+            method,
+            on_error,
+        }),
+        Err(error) => {
+            drop(over);
+            Err(FaultKind::from(error))
+        }
+    }
 }
 
 fn notify(alloc: Global, call: &Call<'_>, earlier: &[Value]) -> Result<Step, FaultKind>
@@ -228,7 +236,13 @@ fn templates(
         && is_place_known (items_view earlier.now) right.now)) }
 {
     let left = template(alloc, left, earlier)?;
-    Ok((left, template(alloc, right, earlier)?))
+    match template(alloc, right, earlier) {
+        Ok(right) => Ok((left, right)),
+        Err(fault) => {
+            drop(left);
+            Err(fault)
+        }
+    }
 }
 
 fn params(alloc: Global, call: &Call<'_>, earlier: &[Value]) -> Result<Option<Template>, FaultKind>

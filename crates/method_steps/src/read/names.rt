@@ -41,7 +41,7 @@ fn is_register_rest(bytes: &[u8]) -> bool
 fn are_register_bytes(bytes: &[u8]) -> bool
     ensures { result ≡ list_all is_register_byte bytes.now }
 {
-    bytes.iter().all(|byte| is_register_byte(*byte))
+    bytes.iter().all(is_register_byte)
 }
 
 /// Whether the name means something else in a template.
@@ -51,10 +51,10 @@ fn is_taken(name: &str) -> bool
     name == "params" || name == "null"
 }
 
-fn is_register_byte(byte: u8) -> bool
-    ensures { result ≡ is_register_byte byte }
+fn is_register_byte(byte: &u8) -> bool
+    ensures { result ≡ is_register_byte byte.now }
 {
-    byte.is_ascii_lowercase() || byte.is_ascii_digit() || byte == b'_'
+    byte.is_ascii_lowercase() || byte.is_ascii_digit() || *byte == b'_'
 }
 
 /// Whether each `~` is followed by `0` or `1` (RFC 6901, section 3).

@@ -93,7 +93,13 @@ fn member_templates_of(
     let mut templates = BTreeMap::new(alloc);
     for (name, member) in members.iter() {
         let template = template_of(alloc, member, earlier)?;
-        drop(templates.insert(name.clone()?, template)?);
+        match name.clone() {
+            Ok(name) => drop(templates.insert(name, template)?),
+            Err(error) => {
+                drop(template);
+                return Err(FaultKind::from(error));
+            }
+        }
     }
     Ok(templates)
 }

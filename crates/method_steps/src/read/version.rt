@@ -8,7 +8,7 @@ use crate::read::lookup::integer_at;
 use toml::Table;
 
 /// A version of tables: the second also has an opening, and steps of the kind `each`.
-#[derive(Clone, Copy, PartialEq, Eq)]
+#[derive(Clone, Copy)]
 pub enum Version {
     One,
     Two,

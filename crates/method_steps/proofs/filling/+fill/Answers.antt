@@ -54,7 +54,7 @@ fill_members-loop-name-preserved t c =
     let iter : c.loop-name.name-iterator ≡ e ∷ c.next.new.self = grind (arith, common_steps) in
     let before : FilledMembers c.args.registers.now c.args.templates.now.entries c.loop-name.values (e ∷ c.next.new.self) = rw iter at filled in
     let more = filled_members_more c.args.registers.now c.args.templates.now.entries c.loop-name.values e c.next.new.self c.in_ok-value.value c.iter-name-items.ensures.ordered before c.in_ok-value.ensures.ok in
-    (tt, tt, rw (c.in_ok-insert.ensures.ok, c.in_ok-copy_of.ensures, c.as_str.ensures.value) more)
+    (tt, tt, rw (c.in_ok-insert-in-Ok.ensures.ok, c.in-Ok.ensures, c.as_str.ensures.value) more)
 
 pub fill_members-returns-in_err-value-clause-refused : goal.fill_members-returns-in_err-value-clause-refused
 fill_members-returns-in_err-value-clause-refused t c =

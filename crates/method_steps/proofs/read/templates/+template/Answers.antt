@@ -18,10 +18,10 @@ member_templates_of-loop-name-preserved t c =
     let before : MadeMembers c.args.members.now.entries c.loop-name.templates.entries (e ∷ rest) = rw iter at c.loop-name.invariant.made in
     let typed : members_are_templates (members_view (e ∷ rest)) ≡ true = rw iter at c.loop-name.invariant.typed in
     let known : are_parts_known earlier (parts_from (members_view (e ∷ rest))) ≡ are_parts_known earlier (parts_from (members_view c.into_iter-name-iterator.result)) = rw iter at c.loop-name.invariant.known in
-    let named : string_bytes c.in_ok-clone.field-0 ≡ string_bytes e.0 = c.in_ok-clone.ensures.cases in
+    let named : string_bytes c.in-Ok.name ≡ string_bytes e.0 = c.in-Ok.ensures.cases in
     record {
-      made = made_more c.args.members.now.entries c.loop-name.templates.entries e rest c.in_ok-clone.field-0 c.in_ok-template.template
-          c.insert.new.self.entries c.iter-name-items.ensures.ordered before named c.in_ok-template.ensures.ok.0 c.in_ok-insert.ensures.entries;
+      made = made_more c.args.members.now.entries c.loop-name.templates.entries e rest c.in-Ok.name c.in_ok-template.template
+          c.insert.new.self.entries c.iter-name-items.ensures.ordered before named c.in_ok-template.ensures.ok.0 c.in_ok-insert-in-Ok.ensures.entries;
       typed = (and_parts (is_template (view e.1)) (members_are_templates (members_view rest)) typed).1;
       known = ap (λ b. b && are_parts_known earlier (parts_from (members_view rest))) (sym c.in_ok-template.ensures.ok.1) ∙ known;
     }
