@@ -14,7 +14,7 @@ pub const ANSWER: ProgramCommand = ProgramCommand {
 
 pub const COMPARE: ProgramCommand = ProgramCommand {
     name: "compare",
-    about: "Read texts at random as messages, by their tokens and by their values, and compare the units",
+    about: "Read texts at random as messages, as they stand and as serde_json writes them anew, and compare the units",
     options: &[CommandOption::Number(TEXTS)],
 };
 
