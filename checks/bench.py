@@ -79,7 +79,7 @@ def check_all():
             # (the first unit of the one is never finished, and the other is one unit)
             released = {"behind": max(0, units - 1), "batch": min(1, units)}.get(order, units)
             check_work(["desk", "--order", order, f"--units={units}"], f"desk {order}", released, "released")
-    for words in (["--help"], *([it, "--help"] for it in ("slots", "queue", "desk", "answer", "compare", "lockstep")), ["--version"]):
+    for words in (["--help"], *([it, "--help"] for it in ("slots", "queue", "desk", "answer", "compare", "lockstep", "cases")), ["--version"]):
         status, output, errors = ran.run(words, program=BENCH)
         count.check(f"{words}", status == 0 and b"peer_bench" in output and errors == b"", f"{status}, {errors!r}")
     for words in (
@@ -95,6 +95,7 @@ def check_all():
         ["lockstep", "--rounds", "0"],
         ["lockstep", "--workers", "65"],
         ["lockstep", "--room", "1"],
+        ["cases", "more"],
     ):
         status, output, errors = ran.run(words, program=BENCH)
         count.check(f"refused words {words}", status == 2 and output == b"" and errors.startswith(b"error: "), f"{status}, {errors!r}")

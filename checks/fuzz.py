@@ -16,28 +16,40 @@ from support import ran
 
 CASES = 5_000
 
+# A stream of one request, and what is written for it.
+REQUEST = b'Content-Length: 40\r\n\r\n{"jsonrpc":"2.0","method":"nope","id":1}'
+ANSWERED = b'Content-Length: 77\r\n\r\n{"error":{"code":-32601,"message":"Method not found"},"id":1,"jsonrpc":"2.0"}'
+
 
 def words_of(words: Iterable[str]) -> argparse.Namespace:
     parser = argparse.ArgumentParser(usage=__doc__.partition("\n\n")[0].removeprefix("usage: "))
     parser.add_argument("--cases", type=int, default=CASES)
     parser.add_argument("--seed", type=int, default=1)
-    parser.add_argument("--player", default=ran.gates_program("case_player"))
+    parser.add_argument("--player", default=ran.gates_program("peer_bench"))
     parser.add_argument("--replay")
     return parser.parse_args([*words])
+
+
+def check_worked(count: ran.Count, player: str) -> None:
+    """Cases one behind another: each is run as its line says, and the last of them is cut short."""
+    given = b"".join(b"%s 62\n%s" % (how, REQUEST) for how in (b"play eager first -", b"play lazy 1,0 7,30", b"serve 2 22,1"))
+    written = b"Clean 1 0 0 1 0 99\n" + ANSWERED
+    got = ran.run(["cases"], given + b"play eager last 61 61\n" + REQUEST[:-1], program=player)
+    count.check("four cases", got == (0, written * 3 + b"Truncated 0 0 0 0 0 0\n", b""), f"{got}")
 
 
 def check_refusals(count: ran.Count, player: str, file: str) -> None:
     """The player refuses what is no case, and what it can't run."""
     refused = (b"x", b"play\n", b"play eager\n", b"play eager first 0\n", b"play soon first - 0\n", b"play eager 1,x - 0\n", b"play eager first - 1\n")
     for given in (*refused, b"serve first - 0\n", b"serve 4 -1 0\n", b"serve 4 - 99999999999\n", b"turn 4 - 0\n", b"\xff - 0\n"):
-        got = ran.run([], given, program=player)
+        got = ran.run(["cases"], given, program=player)
         count.check(f"refused: {given!r}", got == (2, b"", b"a case cannot be read\n"), f"{got}")
     for workers in (0, 65):
-        got = ran.run([], b"serve %d - 0\n" % workers, program=player)
+        got = ran.run(["cases"], b"serve %d - 0\n" % workers, program=player)
         count.check(f"{workers} workers", got == (0, b"Workers 0 0 0 0 0 0\n", b""), f"{got}")
-    for words, wanted in ((["--table", file + "x"], b"table: cannot be read\n"), (["--table", __file__], b"table: refused\n")):
-        got = ran.run(words, b"", program=player)
-        count.check(f"refused: {words}", got == (2, b"", wanted), f"{got}")
+    for table, wanted in ((file + "x", b"table: cannot be read\n"), (__file__, b"table: refused\n")):
+        got = ran.run(["cases", "--table", table], b"", program=player)
+        count.check(f"refused: {table}", got == (2, b"", wanted), f"{got}")
 
 
 def main(words: list[str]) -> None:
@@ -45,11 +57,12 @@ def main(words: list[str]) -> None:
     ran.built()
     with tempfile.TemporaryDirectory() as room:
         fuzzer = fuzzing.Fuzzer(partial(cases.run, options.player), room)
-        fuzzer.count.check("the gate built case_player", options.player is not None)
+        fuzzer.count.check("the gate built peer_bench", options.player is not None)
         if options.player and options.replay:
             why = fuzzer.breaks(fuzzing.trial_in(options.replay))
             fuzzer.count.check(options.replay, why is None, why or "")
         elif options.player:
+            check_worked(fuzzer.count, options.player)
             check_refusals(fuzzer.count, options.player, fuzzer.tables.files["traced"])
             fuzzer.try_all(options.seed, options.cases)
             fuzzer.check_floors()

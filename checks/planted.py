@@ -2,10 +2,10 @@
 
 The fuzzer finds bugs that are planted in the proved code. Each NAME is a wrong body, as CRATE/BODY: of crates/*/wrong-bodies, or of
 checks/planted, whose files look like those; --all tries all of checks/planted and some of the others. The sources with the one bug are
-compiled to a case_player without any proof, which takes some minutes of a processor; it then plays streams until one breaks a law, at most
-N (20,000), and that stream is made as small as it goes. Control, behind them: nothing is found in the unchanged sources, compiled alike, in
-as many streams as the slowest bug took, and in 3,000 at least. Where nothing is named, it is only seen whether the texts of --all still
-stand; so `bin/test` runs it."""
+compiled to a peer_bench without any proof, which takes some minutes of a processor; its command `cases` then plays streams until one breaks
+a law, at most N (20,000), and that stream is made as small as it goes. Control, behind them: nothing is found in the unchanged sources,
+compiled alike, in as many streams as the slowest bug took, and in 3,000 at least. Where nothing is named, it is only seen whether the texts
+of --all still stand; so `bin/test` runs it."""
 import argparse
 import os
 import shutil
@@ -24,7 +24,7 @@ from support import unproved
 from support.bodies import Body, Sources, read_bodies
 from tools.repository import listing
 
-PLAYER = "case_player"
+PLAYER = "peer_bench"
 MOST, CONTROL, SEED = 20_000, 3_000, 4
 # A control is a bug that changes nothing.
 NOTHING = "the unchanged sources"

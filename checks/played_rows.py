@@ -1,7 +1,7 @@
 """usage: python3 checks/played_rows.py [--player FILE] [FILE ..]      plays the rows of the files, all of checks/played_rows where none is named
 
 A row says what the peer writes for a stream, byte for byte, how its input ends and what is counted. It is played by each of its schedules,
-and served where it says so, in one process of the proved program case_player: whole and byte by byte, and where it is played eagerly, cut
+and served where it says so, in one process of the proved program peer_bench: whole and byte by byte, and where it is played eagerly, cut
 in two at each place and, if it is short, in three at each pair of places.
 
 The first line of a file says what its rows are about, and the second by the methods of which tables they are played. Behind that come the
@@ -230,11 +230,11 @@ def play_all(count: ran.Count, player: str, files: list[str], room: str) -> None
 
 def main(words: list[str]) -> None:
     parser = argparse.ArgumentParser(usage=__doc__.partition("\n\n")[0].removeprefix("usage: "))
-    parser.add_argument("--player", default=ran.gates_program("case_player"))
+    parser.add_argument("--player", default=ran.gates_program("peer_bench"))
     parser.add_argument("files", nargs="*")
     options, count = parser.parse_args(words), ran.Count()
     files = options.files or sorted(glob.glob(f"{FOLDER}/*.txt"))
-    count.check("the gate built case_player", options.player is not None)
+    count.check("the gate built peer_bench", options.player is not None)
     count.check("there are rows", len(files) > 0)
     check_refusals(count)
     if options.player:

@@ -1,4 +1,4 @@
-"""Runs many cases in one process of the proved program case_player: streams of bytes, each with how it is run."""
+"""Runs many cases in one process, by the command `cases` of the proved program peer_bench: streams of bytes, each with how it is run."""
 import subprocess
 from dataclasses import dataclass
 from functools import cached_property
@@ -48,7 +48,7 @@ def ran_from(records: bytes) -> list[Ran]:
 
 def run(program: str, table: Optional[str], cases: Sequence[Case], patience: float) -> list[Ran]:
     """Runs the cases, all with the methods of the table in this file. Raises ValueError where the program doesn't run them all."""
-    words = [program, *(["--table", table] if table else [])]
+    words = [program, "cases", *(["--table", table] if table else [])]
     given = b"".join(it.record for it in cases)
     try:
         ended = subprocess.run(words, input=given, capture_output=True, timeout=patience, check=False)

@@ -41,6 +41,18 @@ impl Finishing {
         Finishing::Behind,
         Finishing::Batch,
     ];
+
+    /// What is worked on.
+    pub fn name(self) -> &'static str {
+        match self {
+            Finishing::Straight => "desk straight",
+            Finishing::Windows => "desk windows",
+            Finishing::Cancels => "desk cancels",
+            Finishing::Stream => "desk stream",
+            Finishing::Behind => "desk behind",
+            Finishing::Batch => "desk batch",
+        }
+    }
 }
 
 /// Opens so many units of one call each, at most 1,000,000, or a batch of so many, finishes them in some order, and releases
@@ -120,11 +132,11 @@ fn open(alloc: Global, desk: &mut Desk, id: Option<Id>) -> Result<u32, Failure> 
     if desk.next_number() > MOST_NUMBERS {
         return Err(Failure::Memory);
     }
-    let call = Place::Numbered { id, most: 0 };
-    let places = Items::from(vec![in alloc; call]?);
+    let mut places = Vec::new(alloc);
+    places.push(Place::Numbered { id, most: 0 })?;
     Ok(desk.open_unit(Shape {
         kind: Kind::Single,
-        places,
+        places: Items::from(places),
     })?)
 }
 

@@ -60,26 +60,26 @@ where
     W: Write,
 {
     let (crew, jobs, units) = (Crew::new(2, 8), JOBS, UNITS);
-    for task in [Task::Slots { crew, jobs }, Task::Queue { crew, jobs }] {
-        tell(output, task, done(rt, task)?)?;
-    }
-    for finishing in Finishing::ALL {
-        let task = Task::Desk { finishing, units };
-        tell(output, task, done(rt, task)?)?;
+    tell(rt, Task::Slots { crew, jobs }, output)?;
+    tell(rt, Task::Queue { crew, jobs }, output)?;
+    for finishing in &Finishing::ALL {
+        let finishing = *finishing;
+        tell(rt, Task::Desk { finishing, units }, output)?;
     }
     Ok(())
 }
 
-/// Does the work, and gives how many jobs came home turned once, or how many answers were released.
-fn done<R>(rt: &R, task: Task) -> Result<usize, Failure>
+/// Does the task, and says what became of each job or unit.
+fn tell<R, W>(rt: &R, task: Task, output: &mut W) -> Result<(), Failure>
 where
     R: Threads + Wait + Sync + AllocGlobal,
+    W: Write,
 {
-    Ok(task.begin(rt.alloc())?.run(rt)?.count())
-}
-
-/// Says what became of each job or unit.
-fn tell<W: Write>(output: &mut W, task: Task, count: usize) -> Result<(), Failure> {
+    let mut tally = task.tally(rt.alloc())?;
+    let released = task.run(rt, &mut tally);
+    let once = tally.once();
+    drop(tally);
+    let count = released?.saturating_add(once);
     let (name, outcome) = (task.name(), task.outcome());
     written(writeln!(output, "{name}: {count} {outcome}"))
 }

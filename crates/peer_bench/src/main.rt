@@ -1,24 +1,24 @@
 //! The program `peer_bench`: work of one kind alone, at size. The libraries that have no program of their own, reading and
-//! writing without a session, and a server whose client waits for each answer.
+//! writing without a session, a server whose client waits for each answer, and streams, many in one process.
 #![tactic(auto)]
 
+mod cases;
 mod command_line;
 mod crew;
 mod desk_run;
 mod handoff;
-mod homecomings;
 mod job;
 mod little;
 mod lockstep;
 mod program;
 mod queue_handoff;
 mod reading;
+mod run_failure;
 mod slots_handoff;
-mod stopwatch;
+mod table_file;
 mod tally;
 mod task;
 mod timing;
-mod work;
 mod writing;
 
 use program_edge::{read_words, tell_end};

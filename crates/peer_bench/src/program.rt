@@ -1,56 +1,71 @@
-//! The program over any clock, any reader and any two writers.
+//! The program over any clock, any files, any reader and any two writers.
+use crate::cases::run_cases;
 use crate::command_line::{Bench, read};
 use crate::little::run_little;
 use crate::lockstep::go_round;
 use crate::reading::{answer_all, compare};
+use crate::run_failure::RunFailure;
+use crate::table_file::table_in;
 use crate::timing::run_timed;
 use lsp_frames::End;
-use program_edge::{Failure, answer_words, tell_end};
+use program_edge::{answer_words, tell_end};
 use std::io::{Read, Write};
+use std::rt::Files;
 use std::sync::Wait;
 use std::thread::Threads;
 use std::time::Clock;
 
 /// Does what the words ask for, of which the first is the program's name, and gives the exit status:
-/// 0, or 1 where an input did not end cleanly or something failed, or 2 where the words are refused.
+/// 0, or 1 where an input of frames did not end cleanly or something failed, or 2 where the words, the table or a case are
+/// refused.
 pub fn run<R, I, W, E>(rt: &R, words: &[String], mut input: I, output: &mut W, errors: &mut E) -> u8
 where
-    R: Threads + Wait + Sync + Clock + AllocGlobal,
+    R: Files + Threads + Wait + Sync + Clock + AllocGlobal,
     I: Read + Drop,
     W: Write,
     E: Write,
 {
     match read(rt.alloc(), words) {
-        Ok(bench) => obey(rt, bench, &mut input, output, errors),
+        Ok(bench) => ended(obey(rt, bench, &mut input, output), errors),
         Err(refusal) => answer_words(&refusal, output, errors),
     }
 }
 
-/// Does the work, and gives the exit status.
-fn obey<R, I, W, E>(rt: &R, bench: Bench, input: &mut I, output: &mut W, errors: &mut E) -> u8
+/// Does the work.
+fn obey<R, I, W>(rt: &R, bench: Bench<'_>, input: &mut I, output: &mut W) -> Result<(), RunFailure>
 where
-    R: Threads + Wait + Sync + Clock + AllocGlobal,
+    R: Files + Threads + Wait + Sync + Clock + AllocGlobal,
     I: Read,
     W: Write,
-    E: Write,
 {
     match bench {
-        Bench::Little => tell_end(run_little(rt, output), errors),
-        Bench::Timed(task) => tell_end(run_timed(rt, task, output), errors),
-        Bench::Answer => ended(answer_all(rt.alloc(), input, output), errors),
-        Bench::Compare { texts } => tell_end(compare(rt.alloc(), texts, output), errors),
-        Bench::Lockstep(rounds) => tell_end(go_round(rt, rounds, output), errors),
+        Bench::Little => Ok(run_little(rt, output)?),
+        Bench::Timed(task) => Ok(run_timed(rt, task, output)?),
+        Bench::Answer => match answer_all(rt.alloc(), input, output)? {
+            End::Clean => Ok(()),
+            End::Fault(fault) => Err(RunFailure::Ended(fault)),
+        },
+        Bench::Compare { texts } => Ok(compare(rt.alloc(), texts, output)?),
+        Bench::Lockstep(rounds) => Ok(go_round(rt, rounds, output)?),
+        Bench::Cases { table } => {
+            let table = table_in(rt, table)?;
+            run_cases(rt, &table, input, output)
+        }
     }
 }
 
-/// Tells how the input ended, where it isn't cleanly, or why it wasn't answered, and gives the status.
-fn ended<E: Write>(outcome: Result<End, Failure>, errors: &mut E) -> u8 {
+/// Tells why the work wasn't done to its end, where it wasn't, and gives the status.
+fn ended<E: Write>(outcome: Result<(), RunFailure>, errors: &mut E) -> u8 {
     match outcome {
-        Ok(End::Clean) => 0,
-        Ok(End::Fault(fault)) => {
+        Ok(()) => 0,
+        Err(RunFailure::Program(failure)) => tell_end(Err(failure), errors),
+        Err(RunFailure::Ended(fault)) => {
             let _ = writeln!(errors, "input ended: {fault:?}");
             1
         }
-        Err(failure) => tell_end(Err(failure), errors),
+        Err(RunFailure::Refused(why)) => {
+            let _ = writeln!(errors, "{why}");
+            2
+        }
     }
 }

@@ -1,7 +1,6 @@
 //! The way through two queues of `crossbeam_queue`: one of jobs out, one of turned jobs home.
 use crate::crew::Crew;
-use crate::handoff::{Owner, Worker, own, work};
-use crate::homecomings::Homecomings;
+use crate::handoff::{Owner, Worker, hand_out};
 use crate::job::Job;
 use crate::tally::Tally;
 use crossbeam_queue::ArrayQueue;
@@ -10,7 +9,6 @@ use program_edge::Failure;
 use std::alloc::Global;
 use std::sync::Wait;
 use std::sync::atomic::AtomicBool;
-use std::sync::atomic::Ordering::SeqCst;
 use std::thread;
 use std::thread::Threads;
 
@@ -29,7 +27,13 @@ struct Clerk<'a> {
     under_way: u32,
 }
 
-impl Owner for Clerk<'_> {
+impl<'a> Owner<Hand<'a>> for Clerk<'a> {
+    fn hire(&mut self) -> Result<Hand<'a>, Failure> {
+        Ok(Hand {
+            queues: self.queues,
+        })
+    }
+
     fn offer<R: Wait>(&mut self, rt: &R, job: Job) -> Result<(), Job> {
         if self.under_way >= self.room {
             return Err(job);
@@ -79,51 +83,23 @@ fn send_home<R: Wait>(rt: &R, home: &ArrayQueue<Job>, job: Job) {
     }
 }
 
-/// Sends jobs through the queues to workers and back, and gives how often each came home turned once.
+/// Sends jobs through the queues to workers and back.
 pub fn through_queues<R: Threads + Wait + Sync>(
     rt: &R,
     alloc: Global,
     crew: Crew,
-    jobs: u32,
-    homecomings: Homecomings,
-) -> Result<Homecomings, Failure> {
+    tally: &mut Tally,
+) -> Result<(), Failure> {
     let room = crew.room as usize;
     let queues = Queues {
         out: ArrayQueue::new(alloc, room)?,
         home: ArrayQueue::new(alloc, room)?,
     };
     let stop = AtomicBool::new(false);
-    run_with(rt, &queues, &stop, crew, jobs, homecomings)
-}
-
-/// Starts the workers in a scope, and hands the jobs to them.
-fn run_with<R: Threads + Wait + Sync>(
-    rt: &R,
-    queues: &Queues,
-    stop: &AtomicBool,
-    crew: Crew,
-    jobs: u32,
-    homecomings: Homecomings,
-) -> Result<Homecomings, Failure> {
-    thread::scope(
-        thread::scope_env(),
-        rt,
-        move |scope| -> Result<Homecomings, Failure> {
-            for _ in 0..crew.workers {
-                let hand = Hand { queues };
-                if scope.spawn(move || work(rt, hand, stop)).is_err() {
-                    stop.store(true, SeqCst);
-                    return Err(Failure::Thread);
-                }
-            }
-            let mut owner = Clerk {
-                queues,
-                room: crew.room,
-                under_way: 0,
-            };
-            let homecomings = own(rt, &mut owner, jobs, homecomings);
-            stop.store(true, SeqCst);
-            Ok(homecomings)
-        },
-    )
+    let mut clerk = Clerk {
+        queues: &queues,
+        room: crew.room,
+        under_way: 0,
+    };
+    hand_out(rt, &mut clerk, crew.workers, tally, &stop)
 }

@@ -2,8 +2,7 @@
 ghost use Rattle.job_slots.specs.Seats.{IsClerkOf, IsWorkerOf};
 
 use crate::crew::Crew;
-use crate::handoff::{Owner, Worker, own, work};
-use crate::homecomings::Homecomings;
+use crate::handoff::{Owner, Worker, hand_out};
 use crate::job::Job;
 use crate::tally::Tally;
 use job_slots::{ClerkSeat, JobSlots, Ran, WorkerSeat};
@@ -11,8 +10,6 @@ use program_edge::Failure;
 use std::alloc::Global;
 use std::sync::Wait;
 use std::sync::atomic::AtomicBool;
-use std::sync::atomic::Ordering::SeqCst;
-use std::thread;
 use std::thread::Threads;
 
 /// The clerk of some slots.
@@ -24,7 +21,17 @@ struct Clerk<'a> {
     ghost same_table: { IsClerkOf slots.now seat },
 }
 
-impl Owner for Clerk<'_> {
+impl<'a> Owner<Hand<'a>> for Clerk<'a> {
+    fn hire(&mut self) -> Result<Hand<'a>, Failure> {
+        match self.slots.split(&mut self.seat) {
+            Ok(seat) => Ok(Hand {
+                slots: self.slots,
+                seat,
+            }),
+            Err(_) => Err(Failure::Memory),
+        }
+    }
+
     fn offer<R: Wait>(&mut self, _rt: &R, job: Job) -> Result<(), Job> {
         match self.slots.offer(&mut self.seat, job) {
             Ok(_) => Ok(()),
@@ -58,59 +65,23 @@ impl Worker for Hand<'_> {
     }
 }
 
-/// Sends jobs through slots to workers and back, and gives how often each came home turned once.
+/// Sends jobs through slots to workers and back.
 pub fn through_slots<R: Threads + Wait + Sync>(
     rt: &R,
     alloc: Global,
     crew: Crew,
-    jobs: u32,
-    homecomings: Homecomings,
-) -> Result<Homecomings, Failure> {
-    let Ok((slots, clerk)) = JobSlots::make(alloc, crew.room) else {
+    tally: &mut Tally,
+) -> Result<(), Failure> {
+    let Ok((slots, seat)) = JobSlots::make(alloc, crew.room) else {
         return Err(Failure::Memory);
     };
     let stop = AtomicBool::new(false);
-    run_with(rt, &slots, clerk, &stop, crew, jobs, homecomings)
-}
-
-/// Starts the workers in a scope, and hands the jobs to them.
-fn run_with<R: Threads + Wait + Sync>(
-    rt: &R,
-    slots: &JobSlots<Job>,
-    clerk: ClerkSeat<Job>,
-    stop: &AtomicBool,
-    crew: Crew,
-    jobs: u32,
-    homecomings: Homecomings,
-) -> Result<Homecomings, Failure>
-    requires { IsClerkOf slots.now clerk }
-{
-    thread::scope(
-        thread::scope_env(),
-        rt,
-        move |scope| -> Result<Homecomings, Failure>
-            requires { IsClerkOf slots.now clerk }
-        {
-            let mut clerk = clerk;
-            for _ in 0..crew.workers {
-                let Ok(seat) = slots.split(&mut clerk) else {
-                    stop.store(true, SeqCst);
-                    return Err(Failure::Memory);
-                };
-                let hand = Hand { slots, seat };
-                if scope.spawn(move || work(rt, hand, stop)).is_err() {
-                    stop.store(true, SeqCst);
-                    return Err(Failure::Thread);
-                }
-            }
-            let mut owner = Clerk {
-                slots,
-                seat: clerk,
-                count: crew.room,
-            };
-            let homecomings = own(rt, &mut owner, jobs, homecomings);
-            stop.store(true, SeqCst);
-            Ok(homecomings)
-        },
-    )
+    let mut clerk = Clerk {
+        slots: &slots,
+        seat,
+        count: crew.room,
+    };
+    let handed = hand_out(rt, &mut clerk, crew.workers, tally, &stop);
+    drop(clerk);
+    handed
 }

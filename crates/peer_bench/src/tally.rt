@@ -1,24 +1,25 @@
-use crate::homecomings::Homecomings;
 use crate::job::Job;
+use std::alloc::{AllocError, Global};
 
-/// How far one owner is with its jobs.
+/// How far one owner is with its jobs, and how often each came home turned once, by its number. That is a list and no sum, so
+/// that one job that is lost and another that comes twice can't cancel out.
 #[derive(Drop)]
 pub struct Tally {
     jobs: u32,
     handed_out: u32,
     home: u32,
-    homecomings: Homecomings,
+    times: Vec<u8>,
 }
 
 impl Tally {
-    /// Of so many jobs none is handed out yet.
-    pub fn new(jobs: u32, homecomings: Homecomings) -> Tally {
-        Tally {
+    /// Of so many jobs none is handed out yet. All memory is taken here.
+    pub fn new(alloc: Global, jobs: u32) -> Result<Tally, AllocError> {
+        Ok(Tally {
             jobs,
             handed_out: 0,
             home: 0,
-            homecomings,
-        }
+            times: Vec::from_elem(alloc, 0, jobs as usize)?,
+        })
     }
 
     /// The next job to be handed out, if one is left.
@@ -35,10 +36,13 @@ impl Tally {
         self.handed_out = self.handed_out.saturating_add(1);
     }
 
-    /// A job came home.
+    /// A job came home. One that wasn't turned once is noted nowhere, nor is one beyond the jobs there are.
     pub fn take_home(&mut self, job: &Job) {
         self.home = self.home.saturating_add(1);
-        self.homecomings.note(job);
+        let number = job.number as usize;
+        if job.turns == 1 && number < self.times.len() {
+            self.times[number] = self.times[number].saturating_add(1);
+        }
     }
 
     /// How many jobs were handed out, and how many came home.
@@ -51,14 +55,14 @@ impl Tally {
         self.home >= self.jobs
     }
 
-    /// How often each job came home turned once.
-    pub fn into_homecomings(self) -> Homecomings {
-        let Tally {
-            jobs: _,
-            handed_out: _,
-            home: _,
-            homecomings,
-        } = self;
-        homecomings
+    /// How many jobs came home turned once, and came only once.
+    pub fn once(&self) -> usize {
+        let mut once = 0usize;
+        for times in &self.times {
+            if *times == 1 {
+                once = once.saturating_add(1);
+            }
+        }
+        once
     }
 }

@@ -1,9 +1,13 @@
+//! Work of one kind, from where all is ready to where what came of it can be counted. The time between is what is told.
 use crate::crew::Crew;
-use crate::desk_run::Finishing;
-use crate::homecomings::Homecomings;
-use crate::work::Work;
+use crate::desk_run::{Finishing, run_desk};
+use crate::queue_handoff::through_queues;
+use crate::slots_handoff::through_slots;
+use crate::tally::Tally;
 use program_edge::Failure;
-use std::alloc::Global;
+use std::alloc::{AllocError, Global};
+use std::sync::Wait;
+use std::thread::Threads;
 
 /// Work of one kind, and how much of it.
 #[derive(Clone, Copy)]
@@ -17,21 +21,25 @@ pub enum Task {
 }
 
 impl Task {
-    /// Makes all ready, so that no more than the work itself is timed.
-    pub fn begin(self, alloc: Global) -> Result<Work, Failure> {
-        Ok(match self {
-            Task::Slots { crew, jobs } => Work::Slots {
-                crew,
-                jobs,
-                homecomings: Homecomings::new(alloc, jobs)?,
-            },
-            Task::Queue { crew, jobs } => Work::Queue {
-                crew,
-                jobs,
-                homecomings: Homecomings::new(alloc, jobs)?,
-            },
-            Task::Desk { finishing, units } => Work::Desk { finishing, units },
-        })
+    /// Makes the tally of its jobs, so that no more than the work itself is timed. Units have none.
+    pub fn tally(self, alloc: Global) -> Result<Tally, AllocError> {
+        match self {
+            Task::Slots { jobs, .. } | Task::Queue { jobs, .. } => Tally::new(alloc, jobs),
+            Task::Desk { .. } => Tally::new(alloc, 0),
+        }
+    }
+
+    /// Does the work. Jobs are counted by the tally, and how many answers were released is the result.
+    pub fn run<R>(self, rt: &R, tally: &mut Tally) -> Result<usize, Failure>
+    where
+        R: Threads + Wait + Sync + AllocGlobal,
+    {
+        match self {
+            Task::Slots { crew, .. } => through_slots(rt, rt.alloc(), crew, tally)?,
+            Task::Queue { crew, .. } => through_queues(rt, rt.alloc(), crew, tally)?,
+            Task::Desk { finishing, units } => return run_desk(rt.alloc(), finishing, units),
+        }
+        Ok(0)
     }
 
     /// What is worked on.
@@ -39,14 +47,7 @@ impl Task {
         match self {
             Task::Slots { .. } => "slots",
             Task::Queue { .. } => "queue",
-            Task::Desk { finishing, .. } => match finishing {
-                Finishing::Straight => "desk straight",
-                Finishing::Windows => "desk windows",
-                Finishing::Cancels => "desk cancels",
-                Finishing::Stream => "desk stream",
-                Finishing::Behind => "desk behind",
-                Finishing::Batch => "desk batch",
-            },
+            Task::Desk { finishing, .. } => finishing.name(),
         }
     }
 

@@ -2,5 +2,5 @@ use program_edge::Failure;
 
 /// What a write to standard output came to.
 pub fn written(outcome: std::io::Result<()>) -> Result<(), Failure> {
-    outcome.map_err(|_| Failure::Write)
+    outcome.or(Err(Failure::Write))
 }

@@ -28,10 +28,6 @@ impl Chance {
     /// One of the choices, or the empty one where there is none.
     pub fn one_of(&mut self, choices: &[&'static str]) -> &'static str {
         let place = self.below(choices.len());
-        if place < choices.len() {
-            choices[place]
-        } else {
-            ""
-        }
+        choices.get(place).copied().unwrap_or("")
     }
 }

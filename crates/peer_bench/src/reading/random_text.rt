@@ -1,12 +1,50 @@
-//! Texts that are messages or near to one.
+//! Texts that are messages or near to one. They are written by a grammar: in a form, `%` and a letter stand for any form of
+//! that letter's rule, and all else for itself.
 use super::chance::Chance;
 use program_edge::Failure;
 use std::alloc::Global;
 
-const NAMES: &[&str] = &[
-    "jsonrpc", "jsonrpc", "jsonrpc", "method", "method", "params", "params", "id", "id", "result",
-    "error", "data", "x", "", "i\\u0064", "Method",
+/// So many bytes and rules of a text are written at most.
+const MOST_STEPS: u32 = 100_000;
+
+const TEXTS: &[&str] = &[
+    "%m%_", "%m%_", "%m%_", "%m%_", "%m%_", "%v%_", "[%l]%_", "[%l]%_",
 ];
+
+const LISTS: &[&str] = &["", "%m", "%m,%m", "%m,%m,%m"];
+
+const MESSAGES: &[&str] = &[
+    "{}",
+    "{%e}",
+    "{%e,%e}",
+    "{%e,%e,%e}",
+    "{%e,%e,%e,%e}",
+    "{%e,%e,%e,%e,%e}",
+    "{%e,%e,%e,%e,%e,%e}",
+];
+
+const MEMBERS: &[&str] = &[
+    r#"%_"jsonrpc"%_:%2"#,
+    r#"%_"jsonrpc"%_:%2"#,
+    r#"%_"jsonrpc"%_:%2"#,
+    r#"%_"method"%_:%f"#,
+    r#"%_"method"%_:%f"#,
+    r#"%_"params"%_:%v"#,
+    r#"%_"params"%_:%v"#,
+    r#"%_"id"%_:%i"#,
+    r#"%_"id"%_:%i"#,
+    r#"%_"result"%_:%v"#,
+    r#"%_"error"%_:%x"#,
+    r#"%_"data"%_:%v"#,
+    r#"%_"x"%_:%v"#,
+    r#"%_""%_:%v"#,
+    r#"%_"i\u0064"%_:%v"#,
+    r#"%_"Method"%_:%v"#,
+    r#"%_"%n"%_:%v"#,
+    r#"%_"%n"%_:%v"#,
+];
+
+const NAMES: &[&str] = &["jsonrpc", "method", "id", "error"];
 
 const VERSIONS: &[&str] = &[r#""2.0""#, r#""2.0""#, r#""2\u002e0""#, r#""2""#, "2.0"];
 
@@ -39,6 +77,35 @@ const ERRORS: &[&str] = &[
     r#"{"message":"m"}"#,
 ];
 
+/// Scalars within some arrays and objects, now and then about as deep as a content may nest.
+const VALUES: &[&str] = &[
+    "%s",
+    "%s",
+    "%s",
+    "[%v]",
+    "[%s,%v]",
+    r#"{"id":1,"b":%v}"#,
+    r#"{"id":1,"b":%v}"#,
+    "%d",
+];
+
+const DEPTHS: &[&str] = &[
+    "%s",
+    "%s",
+    "%s",
+    "%s",
+    "%s",
+    "%s",
+    "%s",
+    "%(%(%(%([[[%v]]]%)%)%)%)",
+];
+
+const OPENINGS: &[&str] = &[
+    r#"[{"b":[[{"b":[[{"b":[[{"b":[[{"b":[[{"b":[[{"b":[[{"b":[[{"b":[[{"b":["#,
+];
+
+const CLOSINGS: &[&str] = &["]}]]}]]}]]}]]}]]}]]}]]}]]}]]}]"];
+
 const SCALARS: &[&str] = &[
     "null",
     "true",
@@ -65,20 +132,24 @@ const BYTES: &[u8] = b"{}[]\",:\\ 0129eE+-.ntfu\xe9\xff\x00";
 
 /// The next text. Two in three are written by the grammar, and the others changed at some places.
 pub fn next_text(alloc: Global, chance: &mut Chance) -> Result<Vec<u8>, Failure> {
-    let mut text = Vec::new(alloc);
-    put_text(alloc, chance, &mut text)?;
+    let (mut text, mut ahead) = (Vec::new(alloc), Vec::new(alloc));
+    put_text(chance, &mut text, &mut ahead)?;
     Ok(text)
 }
 
-fn put_text(alloc: Global, chance: &mut Chance, text: &mut Vec<u8>) -> Result<(), Failure> {
-    if chance.once_in(4) {
-        put_batch(alloc, chance, text)?;
-    } else if chance.once_in(8) {
-        put_value(alloc, chance, text)?;
-    } else {
-        put_message(alloc, chance, text)?;
+/// Writes a text, with room for what of its forms is ahead, the last byte first.
+fn put_text(chance: &mut Chance, text: &mut Vec<u8>, ahead: &mut Vec<u8>) -> Result<(), Failure> {
+    put_ahead(ahead, chance.one_of(TEXTS))?;
+    for _ in 0..MOST_STEPS {
+        match ahead.pop() {
+            None => break,
+            Some(b'%') => {
+                let rule = ahead.pop();
+                put_ahead(ahead, chance.one_of(forms(rule)))?;
+            }
+            Some(byte) => text.push(byte)?,
+        }
     }
-    put(text, chance.one_of(BLANKS))?;
     if chance.once_in(3) {
         for _ in 0..chance.below(3) {
             change(chance, text)?;
@@ -87,80 +158,31 @@ fn put_text(alloc: Global, chance: &mut Chance, text: &mut Vec<u8>) -> Result<()
     Ok(())
 }
 
-fn put(text: &mut Vec<u8>, part: &str) -> Result<(), Failure> {
-    Ok(text.extend_from_slice(part.as_bytes())?)
-}
-
-fn put_batch(alloc: Global, chance: &mut Chance, text: &mut Vec<u8>) -> Result<(), Failure> {
-    put(text, "[")?;
-    for index in 0..chance.below(4) {
-        if index > 0 {
-            put(text, ",")?;
-        }
-        put_message(alloc, chance, text)?;
-    }
-    put(text, "]")
-}
-
-fn put_message(alloc: Global, chance: &mut Chance, text: &mut Vec<u8>) -> Result<(), Failure> {
-    put(text, "{")?;
-    for index in 0..chance.below(7) {
-        if index > 0 {
-            put(text, ",")?;
-        }
-        put_member(alloc, chance, text)?;
-    }
-    put(text, "}")
-}
-
-fn put_member(alloc: Global, chance: &mut Chance, text: &mut Vec<u8>) -> Result<(), Failure> {
-    let name = chance.one_of(NAMES);
-    let (before, behind) = (chance.one_of(BLANKS), chance.one_of(BLANKS));
-    for part in [before, "\"", name, "\"", behind, ":"] {
-        put(text, part)?;
-    }
-    if chance.once_in(8) {
-        return put_value(alloc, chance, text);
-    }
-    match name {
-        "jsonrpc" => put(text, chance.one_of(VERSIONS)),
-        "method" => put(text, chance.one_of(METHODS)),
-        "id" => put(text, chance.one_of(IDS)),
-        "error" => put(text, chance.one_of(ERRORS)),
-        _ => put_value(alloc, chance, text),
-    }
-}
-
-/// A scalar within some arrays and objects, now and then about as deep as a content may nest.
-fn put_value(alloc: Global, chance: &mut Chance, text: &mut Vec<u8>) -> Result<(), Failure> {
-    let levels = if chance.once_in(64) {
-        chance.below(5).saturating_add(123)
-    } else {
-        chance.below(4)
-    };
-    let mut closing = Vec::with_capacity(alloc, levels)?;
-    for _ in 0..levels {
-        closing.push(opened(chance, text)?)?;
-    }
-    put(text, chance.one_of(SCALARS))?;
-    for bracket in closing.iter().rev() {
-        text.push(*bracket)?;
+fn put_ahead(ahead: &mut Vec<u8>, form: &str) -> Result<(), Failure> {
+    for byte in form.as_bytes().iter().rev() {
+        ahead.push(*byte)?;
     }
     Ok(())
 }
 
-/// Begins an array or an object, and gives the byte that ends it.
-fn opened(chance: &mut Chance, text: &mut Vec<u8>) -> Result<u8, Failure> {
-    if !chance.once_in(2) {
-        put(text, "{\"id\":1,\"b\":")?;
-        return Ok(b'}');
+/// The forms of a rule.
+fn forms(rule: Option<u8>) -> &'static [&'static str] {
+    match rule {
+        Some(b'l') => LISTS,
+        Some(b'm') => MESSAGES,
+        Some(b'e') => MEMBERS,
+        Some(b'n') => NAMES,
+        Some(b'2') => VERSIONS,
+        Some(b'f') => METHODS,
+        Some(b'i') => IDS,
+        Some(b'x') => ERRORS,
+        Some(b'v') => VALUES,
+        Some(b'd') => DEPTHS,
+        Some(b'(') => OPENINGS,
+        Some(b')') => CLOSINGS,
+        Some(b's') => SCALARS,
+        _ => BLANKS,
     }
-    put(text, "[")?;
-    if chance.once_in(2) {
-        put(text, chance.one_of(SCALARS))?;
-        put(text, ",")?;
-    }
-    Ok(b']')
 }
 
 /// One byte is changed, left out or put in, or the text ends there.

@@ -1,8 +1,8 @@
 //! Cases, read from the bytes of standard input.
-use crate::case::{Case, Way};
+use super::case::{Case, Way};
 use crate::run_failure::{BROKEN_CASE, RunFailure};
 use json_values::Items;
-use peer_player::Picks;
+use rpc_peer::Picks;
 use std::alloc::Global;
 use std::str::from_utf8;
 

@@ -1,12 +1,15 @@
 //! Why a run of the program failed.
+use lsp_frames::FrameFault;
 use program_edge::Failure;
 use std::alloc::{AllocError, AllocFailed};
 
-/// Why the cases weren't run to the last.
+/// Why a command wasn't done to its end.
 #[derive(Clone, Copy)]
 pub enum RunFailure {
     /// The program itself failed.
     Program(Failure),
+    /// The input's frames ended so.
+    Ended(FrameFault),
     /// The table or a case is refused. This is the one line on standard error.
     Refused(&'static str),
 }
