@@ -1,8 +1,8 @@
 //! The texts of calls, notices and withdrawals.
 
 use super::answers::{INVALID_REQUEST, ONE_INVALID, PARSE_ERROR};
-use super::{is_same, message, outgoing};
-use crate::rows::{each_row, holds};
+use super::{message, outgoing};
+use crate::rows::{each_row, holds, is_same};
 use json_values::Json;
 use rpc_messages::{
     Id, Outgoing, Reply, call_text, calls_text, notice_text, put_answer, put_call, put_calls,
@@ -58,7 +58,7 @@ fn is_written(alloc: Global, text: &str, row: &Row) -> Result<bool, Fail> {
         notice_text(alloc, &message)
     };
     drop(message);
-    Ok(is_same(written, text)?)
+    Ok(is_same(written, text.as_bytes())?)
 }
 
 #[test]
@@ -82,7 +82,7 @@ fn is_withdrawn(
     text: &str,
     (number, turn): &(u32, u32),
 ) -> Result<bool, AllocError> {
-    is_same(withdraw_text(alloc, *number, *turn), text)
+    is_same(withdraw_text(alloc, *number, *turn), text.as_bytes())
 }
 
 #[test]
@@ -116,7 +116,7 @@ fn are_turns(alloc: Global, calls: &[Outgoing]) -> Result<bool, AllocError> {
     if calls.len() != 2 {
         return Ok(false);
     }
-    is_same(calls_text(alloc, 1, 1, calls), TURNS)
+    is_same(calls_text(alloc, 1, 1, calls), TURNS.as_bytes())
 }
 
 fn count_up(alloc: Global) -> Result<bool, AllocError> {
@@ -160,7 +160,7 @@ fn go_behind(alloc: Global) -> Result<bool, Fail> {
     let calls = with_b(alloc, outgoing(alloc, "a\"", Some(r#"{"k":[1]}"#))?)?;
     let bytes = behind_others(alloc, calls.as_slice());
     drop(calls);
-    Ok(is_same(bytes, BEHIND_OTHERS)?)
+    Ok(is_same(bytes, BEHIND_OTHERS.as_bytes())?)
 }
 
 #[test]

@@ -8,7 +8,7 @@ mod opening;
 mod orders;
 mod polls;
 
-use crate::rows::{holds, is_text};
+use crate::rows::{holds, is_same};
 use futures::executor::block_on;
 use handler_future::{Handler, Message, Outcome, Rehearsal};
 use json_values::Items;
@@ -353,7 +353,7 @@ fn is_sent(
     lines: &str,
 ) -> Result<bool, Fail> {
     let want = sent_lines(alloc, lines)?;
-    is_text(told(alloc, handler, id, answer), want.as_bytes())
+    is_same(told(alloc, handler, id, answer), want.as_bytes())
 }
 
 /// Whether the handler sends and answers what the lines say, where it hears the replies in that order.
@@ -479,7 +479,7 @@ fn rehearsed_by<R: Wait + RandomSource + AllocGlobal>(
 /// Whether the outcome is an answer that is sent so to the request of that id.
 fn is_answer(alloc: Global, outcome: &Outcome, id: &Id, want: &str) -> Result<bool, Fail> {
     match outcome {
-        Outcome::Answer(answer) => is_text(answer_text(alloc, id, answer), want.as_bytes()),
+        Outcome::Answer(answer) => Ok(is_same(answer_text(alloc, id, answer), want.as_bytes())?),
         Outcome::Failed => Err("a poll found no memory".into()),
     }
 }

@@ -1,5 +1,5 @@
-use super::{is_same, json};
-use crate::rows::{each_row, holds, is_text};
+use super::json;
+use crate::rows::{each_row, holds, is_same, is_text};
 use json_values::{Json, JsonArray, JsonObject, Negative, Text};
 use rpc_messages::Id;
 use serde_json::Value;
@@ -62,7 +62,7 @@ const OBJECT: &str = r#"{"a":"t","b":[null,false,2,-3]}"#;
 fn has_bytes(alloc: Global, value: Json) -> Result<bool, AllocError> {
     let bytes = value.to_bytes(alloc);
     drop(value);
-    is_same(bytes, OBJECT)
+    is_same(bytes, OBJECT.as_bytes())
 }
 
 /// Whether the object and its copy have their text.

@@ -1,8 +1,7 @@
 //! The texts of answers.
 
-use super::is_same;
 use crate::reading::unit;
-use crate::rows::{each_line, each_row};
+use crate::rows::{each_line, each_row, is_same};
 use rpc_messages::{Entry, Id, Reply, Standard, Unit, answer_text, batch_text};
 use std::alloc::{AllocError, Global};
 use std::test::Fail;
@@ -66,7 +65,7 @@ fn is_fixed(
     text: &str,
     (standard, id): &(Standard, Option<u64>),
 ) -> Result<bool, AllocError> {
-    is_same(fixed(alloc, *standard, *id), text)
+    is_same(fixed(alloc, *standard, *id), text.as_bytes())
 }
 
 #[test]
@@ -107,7 +106,7 @@ fn reply_of(unit: &Unit) -> Option<&Reply> {
 
 fn is_answer(alloc: Global, request: &Unit, reply: &Unit, text: &str) -> Result<bool, AllocError> {
     match (id_of(request), reply_of(reply)) {
-        (Some(id), Some(reply)) => is_same(answer_text(alloc, id, reply), text),
+        (Some(id), Some(reply)) => is_same(answer_text(alloc, id, reply), text.as_bytes()),
         _ => Ok(false),
     }
 }
@@ -153,7 +152,7 @@ fn is_batch(alloc: Global, text: &str, count: &u32) -> Result<bool, AllocError> 
     if texts.is_empty() {
         return Ok(false);
     }
-    is_same(batch_text(alloc, texts.as_slice()), text)
+    is_same(batch_text(alloc, texts.as_slice()), text.as_bytes())
 }
 
 pub const ONE_INVALID: &str =

@@ -31,8 +31,3 @@ fn outgoing(alloc: Global, method: &str, params: Option<&str>) -> Result<Outgoin
     };
     Ok(message(alloc, method, params?)?)
 }
-
-/// Whether a text that was written is that one.
-fn is_same(written: Result<Vec<u8>, AllocError>, want: &str) -> Result<bool, AllocError> {
-    Ok(written?.as_slice() == want.as_bytes())
-}

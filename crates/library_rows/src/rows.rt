@@ -8,6 +8,11 @@ pub fn is_text(written: Result<String, AllocError>, want: &[u8]) -> Result<bool,
     Ok(written?.as_bytes() == want)
 }
 
+/// Whether bytes that were written are these.
+pub fn is_same<E>(written: Result<Vec<u8>, E>, want: &[u8]) -> Result<bool, E> {
+    Ok(written?.as_slice() == want)
+}
+
 /// Fails by this name where it isn't so.
 pub fn holds<E>(rt: &impl Abort, name: &str, is_so: Result<bool, E>) -> Result<(), Fail>
 where
