@@ -1,89 +1,74 @@
 //! Units at the desk: their numbers, their replies, their cancels and their answers.
 mod acts;
+mod again;
 mod large;
+mod units;
 
+use crate::rows::each_act;
 use acts::Act::{
-    self, Batch, Close, Empty, Finish, FinishAll, Frames, Has, Mark, Marked, NoneMarked, Open,
-    OpenNumber, Put, Release, ReleaseBytes, Requests, Take, TakeMarked,
+    self, Batch, Close, ComeAndGo, Empty, Finish, FinishAll, Frames, Has, Mark, Marked, NoneMarked,
+    Open, OpenNumber, Put, Release, ReleaseBatch, Requests, Take, TakeMarked,
 };
-use acts::Entry::{Invalid, Notification, Request, Silent, Unreadable};
-use acts::Name::{Null, Number, Text};
-use acts::Said;
-use answer_desk::{Desk, Kind, Place, Put as Stored, Shape};
-use json_values::{Items, Json};
-use rpc_messages::{Id, Reply};
-use std::alloc::Global;
+use acts::comes_out;
+use answer_desk::{Desk, Kind, Put as Stored};
+use std::alloc::{AllocError, Global};
 use std::process::Abort;
 use std::test::Fail;
+use units::Entry::{Invalid, Notification, Request, Silent, Unreadable};
+use units::Name::{Null, Number, Text};
+use units::Said;
 
-fn open(rt: &impl Abort, desk: &mut Desk, kind: Kind, places: Vec<Place>) -> Result<u32, Fail> {
-    assert!(rt; desk.next_number() as usize + places.len() <= 1_000_001);
-    let places = Items::from(places);
-    Ok(desk.open_unit(Shape { kind, places })?)
+/// Acts at a new desk, and what they show.
+struct Row {
+    name: &'static str,
+    /// How many calls the opening makes at most, where there is one.
+    opening: Option<u32>,
+    acts: &'static [Act],
 }
 
-fn finish(rt: &impl Abort, desk: &mut Desk, number: u32, value: Json) {
-    assert!(rt; desk.is_open(number));
-    desk.finish(number, Reply::Done(value));
-}
-
-fn request(id: u64, most: u32) -> Place {
-    Place::Numbered {
-        id: Some(Id::Unsigned(id)),
-        most,
+fn desk(alloc: Global, opening: Option<u32>) -> Result<Desk, AllocError> {
+    match opening {
+        Some(most) => Desk::with_opening(alloc, most),
+        None => Ok(Desk::new(alloc)),
     }
 }
 
-fn are_texts(texts: &Items<Items<u8>>, want: &[&str]) -> bool {
-    if texts.len() != want.len() {
-        return false;
-    }
-    for (text, want) in texts.as_slice().iter().zip(want) {
-        if text.as_slice() != want.as_bytes() {
-            return false;
-        }
-    }
-    true
-}
-
-/// The acts at this desk come out, or the name of their row is told.
-fn played_at(
-    rt: &impl Abort,
-    alloc: Global,
-    mut desk: Desk,
-    name: &str,
-    acts: &[Act],
-) -> Result<(), Fail> {
-    let played = acts::play(rt, alloc, &mut desk, name, acts);
+/// Each act comes out as it says.
+fn play(rt: &impl Abort, alloc: Global, row: &Row) -> Result<(), Fail> {
+    let mut desk = desk(alloc, row.opening)?;
+    let played = each_act(rt, alloc, row.name, &mut desk, row.acts, comes_out);
     drop(desk);
     played
 }
 
-const FIRST_REPLY: &[Act] = &[
-    Open(Kind::Single, &[Request(Number(1), 1)], 1),
-    Open(Kind::Single, &[Request(Number(2), 0)], 2),
-    Finish(2, Said::Number(5)),
-    Release(&[]),
-    Put(1, 1, Stored::Kept),
-    Put(1, 1, Stored::Second),
-    Put(1, 2, Stored::Unknown),
-    Put(3, 1, Stored::Unknown),
-    Has(1, 1, true),
-    Take(1, 1, Said::True),
-    Take(1, 1, Said::Nothing),
-    Put(1, 1, Stored::Second),
-    Finish(1, Said::True),
-    Release(&[
-        r#"{"id":1,"jsonrpc":"2.0","result":true}"#,
-        r#"{"id":2,"jsonrpc":"2.0","result":5}"#,
-    ]),
-    Release(&[]),
-];
+const FIRST_REPLY: Row = Row {
+    name: "replies",
+    opening: None,
+    acts: &[
+        Open(Kind::Single, &[Request(Number(1), 1)], 1),
+        Open(Kind::Single, &[Request(Number(2), 0)], 2),
+        Finish(2, Said::Number(5)),
+        Release(&[]),
+        Put(1, 1, Stored::Kept),
+        Put(1, 1, Stored::Second),
+        Put(1, 2, Stored::Unknown),
+        Put(3, 1, Stored::Unknown),
+        Has(1, 1, true),
+        Take(1, 1, "Some(Done(true))"),
+        Take(1, 1, "None"),
+        Put(1, 1, Stored::Second),
+        Finish(1, Said::True),
+        Release(&[
+            r#"{"id":1,"jsonrpc":"2.0","result":true}"#,
+            r#"{"id":2,"jsonrpc":"2.0","result":5}"#,
+        ]),
+        Release(&[]),
+    ],
+};
 
 #[test]
 fn first_reply_is_kept_and_answers_wait_for_earlier_units(rt: HostRuntime) -> Result<(), Fail> {
-    let desk = Desk::new(rt.alloc());
-    played_at(&rt, rt.alloc(), desk, "replies", FIRST_REPLY)
+    play(&rt, rt.alloc(), &FIRST_REPLY)
 }
 
 const NOTIFICATION: &[Act] = &[
@@ -154,12 +139,12 @@ const CLOSED: &[Act] = &[
     Close,
     Put(1, 2, Stored::Unknown),
     Has(1, 2, true),
-    Take(1, 1, Said::True),
-    Take(1, 2, Said::NoReply),
-    Take(1, 1, Said::Nothing),
-    Take(1, 2, Said::Nothing),
-    Take(1, 3, Said::Nothing),
-    Take(1, 0, Said::Nothing),
+    Take(1, 1, "Some(Done(true))"),
+    Take(1, 2, "Some(Standard(NoReply))"),
+    Take(1, 1, "None"),
+    Take(1, 2, "None"),
+    Take(1, 3, "None"),
+    Take(1, 0, "None"),
 ];
 
 const SHARED: &[Act] = &[
@@ -184,54 +169,6 @@ const SHARED: &[Act] = &[
     Marked(41, false),
 ];
 
-/// Cancels the request of that number, whose id is 7, before it and then twice behind it.
-fn is_marked_again(desk: &mut Desk, number: u32) -> bool {
-    desk.mark(&Id::Unsigned(7), number);
-    let before = desk.take_marked();
-    desk.mark(&Id::Unsigned(7), number.saturating_add(1));
-    desk.mark(&Id::Unsigned(7), number.saturating_add(1));
-    before.is_none() && (number % 2 != 0 || desk.take_marked() == Some(number))
-}
-
-/// Whether the desk gives one answer.
-fn releases_one(desk: &mut Desk) -> Result<bool, Fail> {
-    let texts = desk.release()?;
-    let is_one = texts.len() == 1;
-    drop(texts);
-    Ok(is_one)
-}
-
-/// A request of the id 7 is marked again, is answered, and nothing is left of it.
-fn comes_and_goes(
-    rt: &impl Abort,
-    alloc: Global,
-    desk: &mut Desk,
-    number: u32,
-) -> Result<bool, Fail> {
-    acts::requests(rt, alloc, desk, 7, 1)?;
-    let is_marked = is_marked_again(desk, number);
-    finish(rt, desk, number, Json::null());
-    if !is_marked || desk.take_marked().is_some() {
-        return Ok(false);
-    }
-    releases_one(desk)
-}
-
-fn come_and_go(rt: &impl Abort, alloc: Global, desk: &mut Desk) -> Result<(), Fail> {
-    for number in 1..100 {
-        assert!(rt; comes_and_goes(rt, alloc, desk, number)?, "{number}");
-    }
-    Ok(())
-}
-
-#[test]
-fn id_that_is_used_again_is_marked_again(rt: HostRuntime) -> Result<(), Fail> {
-    let mut desk = Desk::new(rt.alloc());
-    let come = come_and_go(&rt, rt.alloc(), &mut desk);
-    drop(desk);
-    come
-}
-
 const TEXTS: &[Act] = &[
     Open(Kind::Single, &[Request(Text("7"), 0)], 1),
     Open(Kind::Single, &[Request(Text(""), 0)], 2),
@@ -250,8 +187,6 @@ const TEXTS: &[Act] = &[
     Marked(6, false),
 ];
 
-const NO_OPENING: &[Act] = &[OpenNumber(0, false)];
-
 const OPENING: &[Act] = &[
     OpenNumber(0, true),
     Empty(true),
@@ -269,19 +204,13 @@ const OPENING: &[Act] = &[
     Release(&[r#"{"id":7,"jsonrpc":"2.0","result":true}"#]),
     Empty(true),
     OpenNumber(0, true),
-    Take(0, 1, Said::True),
+    Take(0, 1, "Some(Done(true))"),
     Close,
-    Take(0, 2, Said::NoReply),
+    Take(0, 2, "Some(Standard(NoReply))"),
     Finish(0, Said::Null),
     OpenNumber(0, false),
     Release(&[]),
 ];
-
-#[test]
-fn opening_is_open_before_any_call_and_no_unit_waits_for_it(rt: HostRuntime) -> Result<(), Fail> {
-    let desk = Desk::with_opening(rt.alloc(), 2)?;
-    played_at(&rt, rt.alloc(), desk, "an opening", OPENING)
-}
 
 const FRAMED: &str = concat!(
     "before",
@@ -300,71 +229,101 @@ const FRAMES: &[Act] = &[
     Frames(0, "before"),
 ];
 
-/// So many requests without calls of their own, whose ids count up from this one.
-fn numbered(alloc: Global, first: u32, count: u32) -> Result<Vec<Place>, Fail> {
-    let mut places = Vec::new(alloc);
-    for index in 0..count {
-        places.push(request(first.saturating_add(index) as u64, 0))?;
-    }
-    Ok(places)
-}
-
 const HUNDRED: &[Act] = &[
-    Batch(0, 100),
-    FinishAll(1, 100),
-    ReleaseBytes(10 * 38 + 90 * 39 + 101),
+    Batch(0, 100, 1),
+    FinishAll(100, false, Said::Null),
+    ReleaseBatch(0, 100, "null", 10 * 38 + 90 * 39 + 101),
 ];
 
-/// Acts at a new desk, and what they show.
-struct Row {
-    name: &'static str,
-    acts: &'static [Act],
-}
+/// How many bytes the answers to ten thousand requests have, whose ids count up from 1.
+const MANY_BYTES: usize = 9 * 38 + 90 * 39 + 900 * 40 + 9_000 * 41 + 42 + 10_001;
+
+const MANY: &[Act] = &[
+    Batch(1, 10_000, 1),
+    FinishAll(10_000, false, Said::True),
+    ReleaseBatch(1, 10_000, "true", MANY_BYTES),
+    Release(&[]),
+];
+
+const MANY_REVERSED: &[Act] = &[
+    Batch(1, 10_000, 1),
+    FinishAll(10_000, true, Said::True),
+    ReleaseBatch(1, 10_000, "true", MANY_BYTES),
+    Release(&[]),
+];
 
 const ROWS: &[Row] = &[
     Row {
         name: "notification runs on after its batch was answered",
+        opening: None,
         acts: NOTIFICATION,
     },
     Row {
         name: "batch is one array in the order of its entries",
+        opening: None,
         acts: BATCH,
     },
     Row {
         name: "cancel reaches open requests of its id before it",
+        opening: None,
         acts: CANCELS,
     },
     Row {
         name: "closed board gives no reply once",
+        opening: None,
         acts: CLOSED,
     },
     Row {
         name: "cancels reach each request of a shared id once",
+        opening: None,
         acts: SHARED,
     },
     Row {
         name: "text ids and number ids are apart",
+        opening: None,
         acts: TEXTS,
     },
     Row {
         name: "frames stand behind the bytes and notifications have none",
+        opening: None,
         acts: FRAMES,
     },
     Row {
         name: "batch of a hundred answers is one text",
+        opening: None,
         acts: HUNDRED,
     },
     Row {
         name: "opening is closed at a desk without one",
-        acts: NO_OPENING,
+        opening: None,
+        acts: &[OpenNumber(0, false)],
+    },
+    Row {
+        name: "opening is open before any call and no unit waits for it",
+        opening: Some(2),
+        acts: OPENING,
+    },
+    Row {
+        name: "id that is used again is marked again",
+        opening: None,
+        acts: &[ComeAndGo(100)],
+    },
+    Row {
+        name: "a batch of ten thousand is answered once the last is",
+        opening: None,
+        acts: MANY,
+    },
+    Row {
+        name: "a batch of ten thousand is answered once the first is, as the last",
+        opening: None,
+        acts: MANY_REVERSED,
     },
 ];
 
 #[test]
 fn units_come_out_of_a_new_desk(rt: HostRuntime) -> Result<(), Fail> {
     for row in ROWS {
-        let desk = Desk::new(rt.alloc());
-        played_at(&rt, rt.alloc(), desk, row.name, row.acts)?;
+        play(&rt, rt.alloc(), row)?;
     }
     Ok(())
 }

@@ -1,7 +1,8 @@
 //! A set of numbers: what is in, at which place, as its room moves on.
+use crate::rows::each_act;
 use Act::{Contains, HasRoom, Holds, Put, Remove, Room};
 use number_set::NumberSet;
-use std::process::Abort;
+use std::alloc::Global;
 use std::test::Fail;
 
 enum Act {
@@ -44,7 +45,7 @@ fn puts(set: &mut NumberSet, number: u32) -> bool {
     true
 }
 
-fn comes_out(set: &mut NumberSet, act: &Act) -> Result<bool, Fail> {
+fn comes_out(_alloc: Global, set: &mut NumberSet, act: &Act) -> Result<bool, Fail> {
     match act {
         Act::Room(first, end) => makes_room(set, *first, *end),
         Act::Put(number) => Ok(puts(set, *number)),
@@ -56,14 +57,6 @@ fn comes_out(set: &mut NumberSet, act: &Act) -> Result<bool, Fail> {
         Act::HasRoom(number, has) => Ok(set.has_room(*number) == *has),
         Act::Holds(numbers) => Ok(holds(set, numbers)),
     }
-}
-
-/// Each act at the set comes out as it says.
-fn play(rt: &impl Abort, set: &mut NumberSet, acts: &[Act]) -> Result<(), Fail> {
-    for (index, act) in acts.iter().enumerate() {
-        assert!(rt; comes_out(set, act)?, "act {index}");
-    }
-    Ok(())
 }
 
 const PLACES: &[Act] = &[
@@ -83,11 +76,6 @@ const PLACES: &[Act] = &[
     Holds(&[1, 7]),
 ];
 
-#[test]
-fn numbers_stand_at_their_places(rt: HostRuntime) -> Result<(), Fail> {
-    play(&rt, &mut NumberSet::new(rt.alloc()), PLACES)
-}
-
 const MOVES: &[Act] = &[
     Room(0, 3),
     Put(0),
@@ -102,7 +90,19 @@ const MOVES: &[Act] = &[
     Holds(&[]),
 ];
 
+/// Acts at a new set, and what they show.
+const ROWS: &[(&str, &[Act])] = &[
+    ("numbers stand at their places", PLACES),
+    ("room moves on with the numbers in it", MOVES),
+];
+
 #[test]
-fn room_moves_on_with_the_numbers_in_it(rt: HostRuntime) -> Result<(), Fail> {
-    play(&rt, &mut NumberSet::new(rt.alloc()), MOVES)
+fn numbers_stand_in_their_room(rt: HostRuntime) -> Result<(), Fail> {
+    for (name, acts) in ROWS {
+        let mut set = NumberSet::new(rt.alloc());
+        let played = each_act(&rt, rt.alloc(), name, &mut set, acts, comes_out);
+        drop(set);
+        played?;
+    }
+    Ok(())
 }

@@ -8,9 +8,12 @@ pub fn is_text(written: Result<String, AllocError>, want: &[u8]) -> Result<bool,
     Ok(written?.as_bytes() == want)
 }
 
-/// Whether bytes that were written are these.
-pub fn is_same<E>(written: Result<Vec<u8>, E>, want: &[u8]) -> Result<bool, E> {
-    Ok(written?.as_slice() == want)
+/// Whether bytes that were written are those of a text.
+pub fn is_same<E>(written: Result<Vec<u8>, E>, want: &str) -> Result<bool, Fail>
+where
+    Fail: From<E>,
+{
+    Ok(written?.as_slice() == want.as_bytes())
 }
 
 /// Fails by this name where it isn't so.
@@ -53,6 +56,23 @@ where
 {
     for (name, row) in rows {
         holds(rt, name, is_so(alloc, name, row))?;
+    }
+    Ok(())
+}
+
+/// Fails by this name and the index of the first act that doesn't come out.
+pub fn each_act<S, A, F: FnOnce(Global, &mut S, &A) -> Result<bool, Fail> + Copy>(
+    rt: &impl Abort,
+    alloc: Global,
+    name: &str,
+    state: &mut S,
+    acts: &[A],
+    comes_out: F,
+) -> Result<(), Fail>
+    requires { F.IsAlwaysCallable comes_out }
+{
+    for (index, act) in acts.iter().enumerate() {
+        assert!(rt; comes_out(alloc, state, act)?, "{name}: act {index}");
     }
     Ok(())
 }

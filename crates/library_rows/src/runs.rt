@@ -7,6 +7,7 @@ mod large;
 mod opening;
 mod orders;
 mod polls;
+mod rows;
 
 use crate::rows::{holds, is_same};
 use futures::executor::block_on;
@@ -15,8 +16,8 @@ use json_values::Items;
 use lsp_frames::Frame;
 use method_steps::Table;
 use rpc_messages::{
-    Call, Entry, Id, Outgoing, Params, Reply, Standard, Unit, answer_text, call_text, calls_text,
-    notice_text, read_unit,
+    Call, Entry, Id, Outgoing, Params, Reply, Standard, Unit, answer_text, put_answer, put_call,
+    put_calls, put_notice, read_unit,
 };
 use std::alloc::{AllocError, AllocGlobal, Global};
 use std::process::Abort;
@@ -203,18 +204,32 @@ fn opened(alloc: Global, table: &Table) -> Result<Handler, Fail> {
     }
 }
 
-fn message_text(alloc: Global, number: u32, message: &Message) -> Result<Vec<u8>, Fail> {
-    match message {
-        Message::Call(turn, outgoing) => Ok(call_text(alloc, number, *turn, outgoing)?),
-        Message::Calls(first, list) => batch(alloc, number, *first, list.as_slice()),
-        Message::Notice(outgoing) => Ok(notice_text(alloc, outgoing)?),
+/// Puts a batch of calls behind the bytes.
+fn put_batch(
+    alloc: Global,
+    bytes: &mut Vec<u8>,
+    number: u32,
+    first: u32,
+    list: &[Outgoing],
+) -> Result<(), Fail> {
+    if list.is_empty() || list.len() > 16 || first > 1_009 {
+        return Err("a batch of calls out of range".into());
     }
+    Ok(put_calls(alloc, bytes, number, first, list)?)
 }
 
-fn push_line(lines: &mut Vec<u8>, line: Vec<u8>) -> Result<(), AllocError> {
-    lines.extend_from_slice(line.as_slice())?;
-    lines.push(b'\n')?;
-    Ok(())
+/// Puts a message behind the bytes, as it is sent.
+fn put_message(
+    alloc: Global,
+    bytes: &mut Vec<u8>,
+    number: u32,
+    message: &Message,
+) -> Result<(), Fail> {
+    match message {
+        Message::Call(turn, outgoing) => Ok(put_call(alloc, bytes, number, *turn, outgoing)?),
+        Message::Calls(first, list) => put_batch(alloc, bytes, number, *first, list.as_slice()),
+        Message::Notice(outgoing) => Ok(put_notice(alloc, bytes, outgoing)?),
+    }
 }
 
 /// Adds the handler's messages and its answer as they are sent, one on each line; what has no id has no answer.
@@ -225,21 +240,15 @@ fn tell(
     answer: &Reply,
     lines: &mut Vec<u8>,
 ) -> Result<(), Fail> {
-    let number = handler.number();
     for message in handler.messages() {
-        push_line(lines, message_text(alloc, number, message)?)?;
+        put_message(alloc, lines, handler.number(), message)?;
+        lines.push(b'\n')?;
     }
     if let Some(id) = id {
-        push_line(lines, answer_text(alloc, id, answer)?)?;
+        put_answer(alloc, lines, id, answer)?;
+        lines.push(b'\n')?;
     }
     Ok(())
-}
-
-fn batch(alloc: Global, number: u32, first: u32, list: &[Outgoing]) -> Result<Vec<u8>, Fail> {
-    if list.is_empty() || list.len() > 16 || first > 1_009 {
-        return Err("a batch of calls out of range")?;
-    }
-    Ok(calls_text(alloc, number, first, list)?)
 }
 
 /// In which order a handler hears the replies to the calls that it awaits.
@@ -353,7 +362,7 @@ fn is_sent(
     lines: &str,
 ) -> Result<bool, Fail> {
     let want = sent_lines(alloc, lines)?;
-    is_same(told(alloc, handler, id, answer), want.as_bytes())
+    is_same(told(alloc, handler, id, answer), want.as_str())
 }
 
 /// Whether the handler sends and answers what the lines say, where it hears the replies in that order.
@@ -479,7 +488,7 @@ fn rehearsed_by<R: Wait + RandomSource + AllocGlobal>(
 /// Whether the outcome is an answer that is sent so to the request of that id.
 fn is_answer(alloc: Global, outcome: &Outcome, id: &Id, want: &str) -> Result<bool, Fail> {
     match outcome {
-        Outcome::Answer(answer) => Ok(is_same(answer_text(alloc, id, answer), want.as_bytes())?),
+        Outcome::Answer(answer) => is_same(answer_text(alloc, id, answer), want),
         Outcome::Failed => Err("a poll found no memory".into()),
     }
 }

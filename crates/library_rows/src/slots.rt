@@ -51,31 +51,26 @@ fn seat(
     slots.split(clerk).ok().expect(rt, "a seat")
 }
 
-// Offers the job of that number, which goes into that slot.
-fn offer_to(
+// Offers the job of that number, which goes into that slot, or comes back since none is free.
+fn offer(
     rt: &impl Abort,
     slots: &JobSlots<Counted>,
     clerk: &mut ClerkSeat<Counted>,
     number: u32,
-    slot: u32,
+    want: Result<u32, Counted>,
 )
     requires { IsClerkOf slots.now clerk.old }
     ensures { IsClerkOf slots.now clerk.new }
 {
-    assert!(rt; slots.offer(clerk, fresh(number)) == Ok(slot));
+    assert!(rt; slots.offer(clerk, fresh(number)) == want);
 }
 
-// Offers the job of that number, which comes back since no slot is free.
-fn offer_to_none(
-    rt: &impl Abort,
-    slots: &JobSlots<Counted>,
-    clerk: &mut ClerkSeat<Counted>,
-    number: u32,
-)
-    requires { IsClerkOf slots.now clerk.old }
-    ensures { IsClerkOf slots.now clerk.new }
+// Runs one job, or none where none waits.
+fn run(rt: &impl Abort, slots: &JobSlots<Counted>, worker: &mut WorkerSeat<Counted>, want: Ran)
+    requires { IsWorkerOf slots.now worker.old }
+    ensures { IsWorkerOf slots.now worker.new }
 {
-    assert!(rt; slots.offer(clerk, fresh(number)) == Err(fresh(number)));
+    assert!(rt; slots.run_one(worker) == want);
 }
 
 // Collects from that slot, which gives this.
@@ -114,11 +109,11 @@ fn fill_two_and_run_one(
     requires { IsClerkOf slots.now clerk.old × IsWorkerOf slots.now worker.old }
     ensures { IsClerkOf slots.now clerk.new × IsWorkerOf slots.now worker.new }
 {
-    assert!(rt; slots.run_one(worker) == Ran::Nothing);
-    offer_to(rt, slots, clerk, 10, 0);
-    offer_to(rt, slots, clerk, 11, 1);
-    offer_to_none(rt, slots, clerk, 12);
-    assert!(rt; slots.run_one(worker) == Ran::One(0));
+    run(rt, slots, worker, Ran::Nothing);
+    offer(rt, slots, clerk, 10, Ok(0));
+    offer(rt, slots, clerk, 11, Ok(1));
+    offer(rt, slots, clerk, 12, Err(fresh(12)));
+    run(rt, slots, worker, Ran::One(0));
 }
 
 #[test]
@@ -128,7 +123,7 @@ fn a_job_comes_home_turned_once_and_its_slot_is_filled_again(rt: HostRuntime) ->
     fill_two_and_run_one(&rt, &slots, &mut clerk, &mut worker);
     collect_from(&rt, &slots, &mut clerk, 1, None);
     collect_from(&rt, &slots, &mut clerk, 0, Some(turned(10)));
-    offer_to(&rt, &slots, &mut clerk, 12, 0);
+    offer(&rt, &slots, &mut clerk, 12, Ok(0));
     slots.join(&mut clerk, worker);
     close_with(&rt, slots, clerk, &[fresh(12), fresh(11)]);
     Ok(())
@@ -149,7 +144,7 @@ fn offer_each(rt: &impl Abort, slots: &JobSlots<Counted>, clerk: &mut ClerkSeat<
     ensures { IsClerkOf slots.now clerk.new }
 {
     for number in 0..jobs {
-        offer_to(rt, slots, clerk, number, number);
+        offer(rt, slots, clerk, number, Ok(number));
     }
 }
 
@@ -159,7 +154,7 @@ fn run_each(rt: &impl Abort, slots: &JobSlots<Counted>, worker: &mut WorkerSeat<
     ensures { IsWorkerOf slots.now worker.new }
 {
     for number in 0..jobs {
-        assert!(rt; slots.run_one(worker) == Ran::One(number));
+        run(rt, slots, worker, Ran::One(number));
     }
 }
 
@@ -183,9 +178,9 @@ fn each_of_128_slots_is_filled_run_and_collected(rt: HostRuntime) -> Result<(), 
     let (slots, mut clerk) = JobSlots::make(rt.alloc(), 128)?;
     let mut worker = seat(&rt, &slots, &mut clerk);
     offer_each(&rt, &slots, &mut clerk, 128);
-    offer_to_none(&rt, &slots, &mut clerk, 128);
+    offer(&rt, &slots, &mut clerk, 128, Err(fresh(128)));
     run_each(&rt, &slots, &mut worker, 128);
-    assert!(rt; slots.run_one(&mut worker) == Ran::Nothing);
+    run(&rt, &slots, &mut worker, Ran::Nothing);
     collect_each(&rt, &slots, &mut clerk, 128);
     collect_from(&rt, &slots, &mut clerk, 127, None);
     collect_from(&rt, &slots, &mut clerk, 128, None);

@@ -1,11 +1,12 @@
 //! Contents whose reading was refused memory.
 
 use super::shown_unit;
-use crate::rows::is_text;
+use crate::rows::{each_act, is_text};
 use json_values::Items;
 use lsp_frames::Frame;
 use rpc_messages::UnitReader;
 use std::alloc::{AllocError, Global};
+use std::test::Fail;
 
 /// A content: so many letters `a` between a front and a back; and what `Debug` shows of its unit, with as many.
 struct Row {
@@ -50,24 +51,27 @@ const ROWS: &[Row] = &[
 /// A content whose reading found no memory is read by the same reader again. `bin/test` runs this test with each request for
 /// memory refused in turn.
 #[test]
-fn a_content_is_read_again_after_memory(rt: HostRuntime) {
+fn a_content_is_read_again_after_memory(rt: HostRuntime) -> Result<(), Fail> {
     let mut reader = UnitReader::new(rt.alloc());
-    for row in ROWS {
-        assert!(rt;
-            is_read_at_last(rt.alloc(), &mut reader, row),
-            "{}",
-            row.front
-        );
-    }
+    let read = each_act(
+        &rt,
+        rt.alloc(),
+        "contents",
+        &mut reader,
+        ROWS,
+        is_read_at_last,
+    );
+    drop(reader);
+    read
 }
 
-fn is_read_at_last(alloc: Global, reader: &mut UnitReader, row: &Row) -> bool {
+fn is_read_at_last(alloc: Global, reader: &mut UnitReader, row: &Row) -> Result<bool, Fail> {
     for _ in 0..4 {
         if let Ok(is_read) = is_read(alloc, reader, row) {
-            return is_read;
+            return Ok(is_read);
         }
     }
-    false
+    Ok(false)
 }
 
 fn is_read(alloc: Global, reader: &mut UnitReader, row: &Row) -> Result<bool, AllocError> {

@@ -1,16 +1,17 @@
 //! Contents that are texts of one line.
 
-use super::shown;
+use super::{shown, shown_target};
 use crate::rows::{each_line, is_text};
 use std::alloc::{AllocError, Global};
 use std::process::Abort;
 use std::test::Fail;
 
-/// Contents, each with what `Debug` shows of its unit. `content` and `unit` are what all of a group have about them:
-/// the parts before and behind a ` => ` of each line stand there in the places of `@`.
+/// Contents, each with what `Debug` shows of its unit, or of the target of its call. `content` and `unit` are what all of a
+/// group have about them: the parts before and behind a ` => ` of each line stand there in the places of `@`.
 struct Group {
     name: &'static str,
     content: &'static str,
+    is_target: bool,
     unit: &'static str,
     lines: &'static str,
 }
@@ -19,6 +20,7 @@ const GROUPS: &[Group] = &[
     Group {
         name: "a call without id is a notification",
         content: r#"{"jsonrpc":"2.0","method":"f",@}"#,
+        is_target: false,
         unit: r#"Single(Call(Call { id: @, method: "f", params: Omitted, target: None }))"#,
         lines: r#""more":[1.5] => None
 "id":null => Some(Null)
@@ -34,6 +36,7 @@ const GROUPS: &[Group] = &[
     Group {
         name: "params are omitted, whole or fractional",
         content: r#"{"jsonrpc":"2.0","method":"f","params":@}"#,
+        is_target: false,
         unit: r#"Single(Call(Call { id: None, method: "f", params: @, target: None }))"#,
         lines: r#"null => Omitted
 [] => Whole([])
@@ -51,6 +54,7 @@ const GROUPS: &[Group] = &[
     Group {
         name: "a method with other parts amiss is invalid",
         content: "@",
+        is_target: false,
         unit: "Single(Invalid)",
         lines: r#"{"method":"f","id":1}
 {"jsonrpc":"1.0","method":"f","id":1}
@@ -72,6 +76,7 @@ const GROUPS: &[Group] = &[
     Group {
         name: "a reply has a result or an error",
         content: r#"{"jsonrpc":"2.0","id":"1.1",@}"#,
+        is_target: false,
         unit: "Single(Reply { number: 1, turn: 1, reply: @ })",
         lines: r#""result":1 => Done(1)
 "result":1,"error":null => Done(1)
@@ -84,6 +89,7 @@ const GROUPS: &[Group] = &[
     Group {
         name: "a faulty reply counts as the error `Invalid reply`",
         content: r#"{"jsonrpc":"2.0","id":"1.1",@}"#,
+        is_target: false,
         unit: "Single(Reply { number: 1, turn: 1, reply: Standard(InvalidReply) })",
         lines: r#""error":null
 "jsonrpc":"1.0","result":1
@@ -104,6 +110,7 @@ const GROUPS: &[Group] = &[
     Group {
         name: "a reply to no call is stray",
         content: "@",
+        is_target: false,
         unit: "Single(Stray)",
         lines: r#"{"jsonrpc":"2.0","id":5,"result":1}
 {"jsonrpc":"2.0","id":null,"error":{"code":1,"message":"x"}}
@@ -114,6 +121,7 @@ const GROUPS: &[Group] = &[
     Group {
         name: "a reply that names a method is invalid",
         content: "@",
+        is_target: false,
         unit: "Single(Invalid)",
         lines: r#"{"method":"x","result":1}
 {"jsonrpc":"2.0","id":"1.1","method":null,"result":1}"#,
@@ -121,6 +129,7 @@ const GROUPS: &[Group] = &[
     Group {
         name: "a value that is no message is invalid",
         content: "@",
+        is_target: false,
         unit: "Single(Invalid)",
         lines: r#"null
 true
@@ -132,6 +141,7 @@ true
     Group {
         name: "what is no JSON is unreadable",
         content: "@",
+        is_target: false,
         unit: "Unreadable",
         lines: r#"{
 {} {}
@@ -144,11 +154,34 @@ nul
     Group {
         name: "a batch has its entries in order, and an empty array is one invalid entry",
         content: "@",
+        is_target: false,
         unit: "@",
         lines: r#"[] => Single(Invalid)
 [1] => Batch(Items { items: [Invalid] })
 [[]] => Batch(Items { items: [Invalid] })
 [{"id":5,"result":1},{"jsonrpc":"2.0","method":"f"},{"foo":"boo"},{"jsonrpc":"2.0","id":"3.4","result":1}] => Batch(Items { items: [Stray, Call(Call { id: None, method: "f", params: Omitted, target: None }), Invalid, Reply { number: 3, turn: 4, reply: Done(1) }] })"#,
+    },
+    // A cancel names a whole number or a text, and a request or another method is no cancel.
+    Group {
+        name: "cancels have targets",
+        content: "@",
+        is_target: true,
+        unit: "@",
+        lines: r#"{"jsonrpc":"2.0","method":"$/cancelRequest","params":{"id":7}} => Some(Unsigned(7))
+{"jsonrpc":"2.0","method":"$/cancelRequest","params":{"id":-7}} => Some(Signed(Negative { number: -7 }))
+{"jsonrpc":"2.0","method":"$/cancelRequest","params":{"id":"7","more":1}} => Some(Text("7"))
+{"jsonrpc":"2.0","method":"$/cancelRequest","params":{"id":6,"id":7}} => Some(Unsigned(7))
+{"jsonrpc":"2.0","method":"$/cancelRequest","params":{"id":null}} => None
+{"jsonrpc":"2.0","method":"$/cancelRequest","params":{"id":1.0}} => None
+{"jsonrpc":"2.0","method":"$/cancelRequest","params":{"id":7,"more":1.5}} => None
+{"jsonrpc":"2.0","method":"$/cancelRequest","params":{"id":[7]}} => None
+{"jsonrpc":"2.0","method":"$/cancelRequest","params":{}} => None
+{"jsonrpc":"2.0","method":"$/cancelRequest","params":[7]} => None
+{"jsonrpc":"2.0","method":"$/cancelRequest","params":null} => None
+{"jsonrpc":"2.0","method":"$/cancelRequest","params":{"id":7},"id":8} => None
+{"jsonrpc":"2.0","method":"$/cancelRequest","params":{"id":7},"id":null} => None
+{"jsonrpc":"2.0","method":"$/cancelrequest","params":{"id":7}} => None
+{"jsonrpc":"2.0","method":"$/cancelRequest"} => None"#,
     },
 ];
 
@@ -162,7 +195,12 @@ fn is_read(alloc: Global, group: &Group, line: &str) -> Result<bool, AllocError>
     let (part, wanted) = line.split_once(" => ").unwrap_or((line, ""));
     let content = filled(alloc, group.content, part)?;
     let wanted = filled(alloc, group.unit, wanted)?;
-    is_text(shown(alloc, content.as_bytes(), false), wanted.as_bytes())
+    let shown = if group.is_target {
+        shown_target(alloc, content.as_bytes())
+    } else {
+        shown(alloc, content.as_bytes(), false)
+    };
+    is_text(shown, wanted.as_bytes())
 }
 
 /// Reads each content of a group.

@@ -1,11 +1,20 @@
 //! What is done with a handler, and what comes of it.
 
 use super::{answers, handler_of, hears, reply};
+use crate::rows::each_act;
 use handler_future::{Handler, Outcome};
 use rpc_messages::Reply;
 use std::alloc::Global;
 use std::process::Abort;
 use std::test::Fail;
+
+/// A call of one of a table's methods, and acts with its handler.
+pub struct Row {
+    pub name: &'static str,
+    pub table: &'static str,
+    pub call: &'static str,
+    pub acts: &'static [Act],
+}
 
 pub enum Act {
     /// A poll gives nothing, since a reply is awaited.
@@ -23,33 +32,14 @@ pub enum Act {
 }
 
 /// The acts with the handler of this call, by the methods of this table.
-pub fn played(
-    rt: &impl Abort,
-    alloc: Global,
-    text: &str,
-    content: &str,
-    acts: &[Act],
-) -> Result<(), Fail> {
-    let mut handler = handler_of(alloc, text, content)?;
-    let played = play(rt, alloc, &mut handler, acts);
+pub fn played(rt: &impl Abort, alloc: Global, row: &Row) -> Result<(), Fail> {
+    let mut handler = handler_of(alloc, row.table, row.call)?;
+    let played = each_act(rt, alloc, row.name, &mut handler, row.acts, comes_out);
     drop(handler);
     played
 }
 
-/// Each act comes out as it says.
-pub fn play(
-    rt: &impl Abort,
-    alloc: Global,
-    handler: &mut Handler,
-    acts: &[Act],
-) -> Result<(), Fail> {
-    for (index, act) in acts.iter().enumerate() {
-        assert!(rt; comes_out(alloc, handler, act)?, "act {index}");
-    }
-    Ok(())
-}
-
-fn comes_out(alloc: Global, handler: &mut Handler, act: &Act) -> Result<bool, Fail> {
+pub fn comes_out(alloc: Global, handler: &mut Handler, act: &Act) -> Result<bool, Fail> {
     match act {
         Act::Waits => waits(handler),
         Act::Fails => Ok(ends(handler) == Some(false)),

@@ -1,10 +1,7 @@
 //! The courses of single calls, as they are sent: sums and their faults, calls that wait for their own reply, a gate, error
 //! replies, a kept error, and notifications.
 
-use super::{TABLE, Way, compare};
-use std::test::Fail;
-
-const ROWS: &str = r#"{"jsonrpc":"2.0","method":"add","params":[2,3],"id":8}
+pub const ROWS: &str = r#"{"jsonrpc":"2.0","method":"add","params":[2,3],"id":8}
 > {"id":8,"jsonrpc":"2.0","result":5}
 
 {"jsonrpc":"2.0","method":"add","params":[1,2],"id":null}
@@ -65,8 +62,3 @@ const ROWS: &str = r#"{"jsonrpc":"2.0","method":"add","params":[2,3],"id":8}
 > {"jsonrpc":"2.0","method":"log","params":["x"]}
 > {"id":1,"jsonrpc":"2.0","result":null}
 "#;
-
-#[test]
-fn calls_run_their_courses(rt: HostRuntime) -> Result<(), Fail> {
-    compare(&rt, TABLE, ROWS, Way::Polls)
-}

@@ -1,11 +1,8 @@
 //! Courses of a step that makes one call for each element.
 
 use super::acts::Act::{self, Answers, Has};
-use super::acts::played;
-use super::{Way, compare};
-use std::test::Fail;
 
-const ALL: &str = r#"version = 2
+pub const ALL: &str = r#"version = 2
 
 [[method]]
 name = "all"
@@ -57,7 +54,7 @@ value = "$r"
 "#;
 
 /// Among them values that are no list of at most 16.
-const ROWS: &str = r#"{"jsonrpc":"2.0","method":"all","params":[1,2],"id":1}
+pub const ROWS: &str = r#"{"jsonrpc":"2.0","method":"all","params":[1,2],"id":1}
 < {"jsonrpc":"2.0","id":"1.2","result":20}
 < {"jsonrpc":"2.0","id":"1.1","result":10}
 > [{"id":"1.1","jsonrpc":"2.0","method":"f","params":[1]},{"id":"1.2","jsonrpc":"2.0","method":"f","params":[2]}]
@@ -101,30 +98,15 @@ const ROWS: &str = r#"{"jsonrpc":"2.0","method":"all","params":[1,2],"id":1}
 > {"error":{"code":-32603,"message":"Internal error"},"id":1,"jsonrpc":"2.0"}
 "#;
 
-#[test]
-fn one_call_for_each_element(rt: HostRuntime) -> Result<(), Fail> {
-    compare(&rt, ALL, ROWS, Way::Polls)
-}
-
-const REHEARSED: &str = r#"{"jsonrpc":"2.0","method":"all","params":[1,2],"id":1}
+pub const REHEARSED: &str = r#"{"jsonrpc":"2.0","method":"all","params":[1,2],"id":1}
 < {"jsonrpc":"2.0","id":"1.2","result":20}
 < {"jsonrpc":"2.0","id":"1.1","result":10}
 > {"id":1,"jsonrpc":"2.0","result":[10,20]}
 "#;
 
-#[test]
-fn one_call_for_each_element_in_a_rehearsal(rt: HostRuntime) -> Result<(), Fail> {
-    compare(&rt, ALL, REHEARSED, Way::Rehearsal)
-}
+pub const NONE: &str = r#"{"jsonrpc":"2.0","method":"all","params":[],"id":1}"#;
 
-const NONE: &str = r#"{"jsonrpc":"2.0","method":"all","params":[],"id":1}"#;
-
-const ENDED: &[Act] = &[
+pub const ENDED: &[Act] = &[
     Answers(r#"{"id":7,"jsonrpc":"2.0","result":[]}"#),
     Has(0, &[], 0),
 ];
-
-#[test]
-fn no_call_for_no_element(rt: HostRuntime) -> Result<(), Fail> {
-    played(&rt, rt.alloc(), ALL, NONE, ENDED)
-}

@@ -1,16 +1,16 @@
 //! Methods at their limits.
 
-use super::acts::Act::{self, Answers, Has, Hears, Waits};
-use super::acts::played;
-use super::{ORDERS, Order, TABLE, compare_answer, handler_of, rehearsed, rehearsed_with, run};
+use super::{ORDERS, Order, handler_of, rehearsed, rehearsed_with, run};
 use crate::rows::holds;
-use handler_future::{Handler, Message};
+use handler_future::{Handler, Message, Outcome};
 use json_values::Json;
 use rpc_messages::Reply;
-use std::alloc::{AllocError, Global};
+use std::alloc::{AllocError, AllocGlobal, Global};
+use std::random::RandomSource;
+use std::sync::Wait;
 use std::test::Fail;
 
-const M: &str = r#"{"jsonrpc":"2.0","method":"m","id":1}"#;
+pub const M: &str = r#"{"jsonrpc":"2.0","method":"m","id":1}"#;
 
 /// Adds the one method `m`, with as many steps of the first text, and then the last.
 fn push_method(text: &mut String, step: &str, count: u32, last: &str) -> Result<(), AllocError> {
@@ -91,12 +91,9 @@ fn most_calls_without_a_reply(rt: HostRuntime) -> Result<(), Fail> {
     Ok(())
 }
 
-const NULL: &str = r#"{"id":7,"jsonrpc":"2.0","result":null}"#;
-
-#[test]
-fn most_calls_without_a_reply_in_a_rehearsal(rt: HostRuntime) -> Result<(), Fail> {
-    let outcome = rehearsed(&rt, most_calls(rt.alloc())?, Vec::new(rt.alloc()))?;
-    compare_answer(&rt, rt.alloc(), outcome, NULL)
+/// How the handler of the most calls ends in a rehearsal without replies.
+pub fn rehearsed_most_calls<R: Wait + RandomSource + AllocGlobal>(rt: &R) -> Result<Outcome, Fail> {
+    rehearsed(rt, most_calls(rt.alloc())?, Vec::new(rt.alloc()))
 }
 
 /// To each call, its turn.
@@ -108,51 +105,8 @@ fn turns(alloc: Global) -> Result<Vec<(u32, Reply)>, Fail> {
     Ok(listed)
 }
 
-const LAST_TURNS: &str =
-    r#"{"id":7,"jsonrpc":"2.0","result":[286,287,288,289,290,291,292,293,294,295,296,297,298,299,300]}"#;
-
-#[test]
-fn three_hundred_replies_are_heard_in_a_rehearsal(rt: HostRuntime) -> Result<(), Fail> {
+/// How the handler of 300 calls ends in a rehearsal that hears the turn of each.
+pub fn rehearsed_turns<R: Wait + RandomSource + AllocGlobal>(rt: &R) -> Result<Outcome, Fail> {
     let handler = three_hundred_calls(rt.alloc())?;
-    let outcome = rehearsed_with(&rt, handler, turns(rt.alloc()))?;
-    compare_answer(&rt, rt.alloc(), outcome, LAST_TURNS)
-}
-
-const TWO: &str = r#"{"jsonrpc":"2.0","method":"two","id":1}"#;
-
-const SECOND: &str = r#"{"jsonrpc":"2.0","id":"1.2","result":"B"}"#;
-
-const FIRST: &str = r#"{"jsonrpc":"2.0","id":"1.1","result":"A"}"#;
-
-const OUT_OF_ORDER: &[Act] = &[
-    Waits,
-    Has(1, &[1, 2], 0),
-    Hears(SECOND),
-    Waits,
-    Has(1, &[1], 1),
-    Hears(FIRST),
-    Answers(r#"{"id":7,"jsonrpc":"2.0","result":["A","B"]}"#),
-    Has(1, &[], 2),
-];
-
-#[test]
-fn replies_to_two_calls_come_out_of_order(rt: HostRuntime) -> Result<(), Fail> {
-    played(&rt, rt.alloc(), TABLE, TWO, OUT_OF_ORDER)
-}
-
-const PAST_THE_END: &str = r#"version = 1
-[[method]]
-name = "m"
-[[method.step]]
-kind = "skip"
-left = 1
-right = 1
-count = 64
-"#;
-
-const SKIPPED: &[Act] = &[Answers(NULL), Has(0, &[], 0)];
-
-#[test]
-fn a_skip_past_the_last_step_answers_null(rt: HostRuntime) -> Result<(), Fail> {
-    played(&rt, rt.alloc(), PAST_THE_END, M, SKIPPED)
+    rehearsed_with(rt, handler, turns(rt.alloc()))
 }

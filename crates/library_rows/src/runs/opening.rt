@@ -1,14 +1,14 @@
 //! Courses of a table's opening.
 
-use super::{TABLE, Way, compare, compare_answer, opened, rehearsed_by, table};
-use crate::rows::holds;
+use super::{TABLE, opened, rehearsed_by, table};
+use crate::rows::each_row;
 use handler_future::{Handler, Outcome};
 use std::alloc::{AllocGlobal, Global};
 use std::random::RandomSource;
 use std::sync::Wait;
 use std::test::Fail;
 
-const OPENING: &str = r#"version = 2
+pub const OPENING: &str = r#"version = 2
 
 [[opening]]
 kind = "call"
@@ -23,21 +23,15 @@ params = ["$r"]
 const ANSWER: &str = r#"< {"jsonrpc":"2.0","id":"0.1","result":true}"#;
 
 /// How the opening of the usual such table ends in a rehearsal.
-fn rehearsed_opening<R: Wait + RandomSource + AllocGlobal>(rt: &R) -> Result<Outcome, Fail> {
+pub fn rehearsed_opening<R: Wait + RandomSource + AllocGlobal>(rt: &R) -> Result<Outcome, Fail> {
     let table = table(rt.alloc(), OPENING)?;
     let opening = opened(rt.alloc(), &table);
     drop(table);
     rehearsed_by(rt, opening?, ANSWER)
 }
 
-#[test]
-fn an_opening_is_rehearsed(rt: HostRuntime) -> Result<(), Fail> {
-    let want = r#"{"id":7,"jsonrpc":"2.0","result":null}"#;
-    compare_answer(&rt, rt.alloc(), rehearsed_opening(&rt)?, want)
-}
-
 /// Params are null in an opening.
-const BEGUN: &str = r#"version = 2
+pub const BEGUN: &str = r#"version = 2
 
 [[opening]]
 kind = "notify"
@@ -45,7 +39,7 @@ method = "begun"
 params = ["$params"]
 "#;
 
-const GREETINGS: &str = r#"opening
+pub const GREETINGS: &str = r#"opening
 < {"jsonrpc":"2.0","id":"0.1","result":true}
 > {"id":"0.1","jsonrpc":"2.0","method":"hello"}
 > {"jsonrpc":"2.0","method":"ready","params":[true]}
@@ -54,17 +48,11 @@ opening
 > {"id":"0.1","jsonrpc":"2.0","method":"hello"}
 "#;
 
-const TOLD: &str = r#"opening
+pub const TOLD: &str = r#"opening
 > {"jsonrpc":"2.0","method":"begun","params":[null]}
 "#;
 
-#[test]
-fn openings_run_as_handler_0(rt: HostRuntime) -> Result<(), Fail> {
-    compare(&rt, OPENING, GREETINGS, Way::Polls)?;
-    compare(&rt, BEGUN, TOLD, Way::Polls)
-}
-
-fn has_no_opening(alloc: Global, text: &str) -> Result<bool, Fail> {
+fn has_no_opening(alloc: Global, _name: &str, text: &&str) -> Result<bool, Fail> {
     let table = table(alloc, text)?;
     let opening = Handler::opening(alloc, &table);
     drop(table);
@@ -74,10 +62,12 @@ fn has_no_opening(alloc: Global, text: &str) -> Result<bool, Fail> {
     Ok(has_none)
 }
 
+const WITHOUT: &[(&str, &str)] = &[
+    ("a table of methods", TABLE),
+    ("an empty table of version 2", "version = 2\n"),
+];
+
 #[test]
 fn a_table_without_an_opening_has_no_handler_0(rt: HostRuntime) -> Result<(), Fail> {
-    for text in [TABLE, "version = 2\n"] {
-        holds(&rt, text, has_no_opening(rt.alloc(), text))?;
-    }
-    Ok(())
+    each_row(&rt, rt.alloc(), WITHOUT, has_no_opening)
 }

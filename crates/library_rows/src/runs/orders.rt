@@ -1,9 +1,6 @@
 //! One method with every kind of step, whose replies are heard in different orders.
 
-use super::{Way, compare};
-use std::test::Fail;
-
-const EVERY_KIND: &str = r#"version = 1
+pub const EVERY_KIND: &str = r#"version = 1
 
 [[method]]
 name = "all"
@@ -59,7 +56,7 @@ value = ["$sum", "$kept"]
 
 /// A course to its end; two where the first error in the order of the calls ends a batch, or a kept error is told; and one
 /// where a skipped register is missing.
-const ROWS: &str = r#"{"jsonrpc":"2.0","method":"all","params":["x"],"id":1}
+pub const ROWS: &str = r#"{"jsonrpc":"2.0","method":"all","params":["x"],"id":1}
 < {"jsonrpc":"2.0","id":"1.1","result":null}
 < {"jsonrpc":"2.0","id":"1.4","result":10}
 < {"jsonrpc":"2.0","id":"1.2","result":3}
@@ -99,8 +96,3 @@ const ROWS: &str = r#"{"jsonrpc":"2.0","method":"all","params":["x"],"id":1}
 > [{"id":"1.2","jsonrpc":"2.0","method":"pick","params":[1]},{"id":"1.3","jsonrpc":"2.0","method":"pick","params":{"of":["x"]}},{"id":"1.4","jsonrpc":"2.0","method":"more"}]
 > {"error":{"code":-32603,"message":"Internal error"},"id":1,"jsonrpc":"2.0"}
 "#;
-
-#[test]
-fn every_kind_of_step_in_every_order(rt: HostRuntime) -> Result<(), Fail> {
-    compare(&rt, EVERY_KIND, ROWS, Way::Polls)
-}

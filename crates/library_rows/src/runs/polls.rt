@@ -1,16 +1,19 @@
 //! Handlers as futures.
 
 use super::acts::Act::{self, Answers, Fails, GivesBack, Has, Hears, Waits};
-use super::acts::{play, played};
+use super::acts::{Row, comes_out, played};
 use super::{TABLE, Way, compare, compare_answer, handler_of, rehearsed_by};
+use crate::rows::each_act;
 use futures::Future;
 use futures::executor::block_on;
 use futures::task::{Context, Poll, Source};
 use handler_future::{Awaiting, Handler, Outcome};
 use json_values::Json;
 use rpc_messages::Reply;
-use std::alloc::Global;
+use std::alloc::{AllocGlobal, Global};
 use std::process::Abort;
+use std::random::RandomSource;
+use std::sync::Wait;
 use std::test::Fail;
 
 const ASK: &str = r#"{"jsonrpc":"2.0","method":"ask","params":["x"],"id":7}"#;
@@ -34,9 +37,16 @@ const POLLED: &[Act] = &[
     Fails,
 ];
 
+const POLL: Row = Row {
+    name: "a poll",
+    table: TABLE,
+    call: ASK,
+    acts: POLLED,
+};
+
 #[test]
 fn a_poll_waits_until_its_reply_is_heard(rt: HostRuntime) -> Result<(), Fail> {
-    played(&rt, rt.alloc(), TABLE, ASK, POLLED)
+    played(&rt, rt.alloc(), &POLL)
 }
 
 /// A rehearsal with its reply and without, and one that takes the first listed.
@@ -66,7 +76,7 @@ const BEGUN: &[Act] = &[Waits, Hears(TRUE)];
 /// A handler that has heard the first of its two replies.
 fn begun(rt: &impl Abort, alloc: Global) -> Result<Handler, Fail> {
     let mut handler = handler_of(alloc, TABLE, TWO)?;
-    match play(rt, alloc, &mut handler, BEGUN) {
+    match each_act(rt, alloc, "begun", &mut handler, BEGUN, comes_out) {
         Ok(()) => Ok(handler),
         Err(fail) => {
             drop(handler);
@@ -79,11 +89,11 @@ const LISTED: &str = r#"< {"jsonrpc":"2.0","id":"1.2","result":2}
 < {"jsonrpc":"2.0","id":"1.1","result":1}
 < {"jsonrpc":"2.0","id":"1.2","result":3}"#;
 
-#[test]
-fn a_rehearsal_takes_what_was_heard(rt: HostRuntime) -> Result<(), Fail> {
-    let outcome = rehearsed_by(&rt, begun(&rt, rt.alloc())?, LISTED)?;
-    let want = r#"{"id":7,"jsonrpc":"2.0","result":[true,2]}"#;
-    compare_answer(&rt, rt.alloc(), outcome, want)
+/// How a handler ends in a rehearsal that takes what it has heard before.
+pub fn rehearsed_begun<R: Wait + RandomSource + AllocGlobal + Abort>(
+    rt: &R,
+) -> Result<Outcome, Fail> {
+    rehearsed_by(rt, begun(rt, rt.alloc())?, LISTED)
 }
 
 fn truth() -> Reply {

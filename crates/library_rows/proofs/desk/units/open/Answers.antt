@@ -2,7 +2,7 @@ use Rattle.std.proofs.Common.{◌≤◌, List, [], ◌∷◌, length, arith}
 use Rattle.answer_desk.specs.declared.place.Place.{Place}
 use Rattle.answer_desk.specs.declared.place.Place.TheVariants.{Unreadable, Invalid, Silent, Numbered}
 use Rattle.answer_desk.specs.Places.{new_numbers}
-use Rattle.library_rows.proofs.desk.open.Goals as goal
+use Rattle.library_rows.proofs.desk.units.open.Goals as goal
 
 no_more_calls_than_places : (places : List Place) → length (new_numbers places) ≤ length places
 no_more_calls_than_places [] = omega arith
