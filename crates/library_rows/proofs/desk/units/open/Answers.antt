@@ -12,5 +12,5 @@ no_more_calls_than_places (Silent ∷ places) = omega (arith, no_more_calls_than
 no_more_calls_than_places (Numbered id most ∷ places) = omega (arith, no_more_calls_than_places places)
 
 pub open_unit-requires : goal.open_unit-requires
-open_unit-requires g c =
+open_unit-requires c =
     rw c.from-places.ensures (omega (arith, no_more_calls_than_places c.args.places.items, c.next_number.ensures, c.len.ensures, c.args.places.ok))
