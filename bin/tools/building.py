@@ -1,7 +1,7 @@
 """Proves the crates that the program stands on, side by side where they don't stand on each other, and builds the program.
 
 All is proved from nothing, in a copy of exactly the files that the stamp covers. The later a crate can come, the further its proof stands
-back behind others; those that can't wait share the processors."""
+back behind others; one that can't wait gets all processors."""
 import os
 import re
 import shutil
@@ -21,9 +21,8 @@ EACH, LOOK = 15, 0.2
 FURTHER_JOB = 1_000_000_000
 # What a check costs however small its crate is, in lines; and a line of a proof costs as much as a tenth of one of the code.
 FIXED_LINES, PROOF_LINES = 400, 10
-# A crate that can come later by this part of the longest way holds up nothing, and takes one processor: a proof by several costs half as
-# much again. By how far each stands back.
-SPARE, MOST_NICE = 1 / 10, 19
+# A crate that can come later by this part of the longest way holds up nothing, and takes one processor. By how far each stands back.
+SPARE, MOST_NICE = 1 / 5, 19
 
 
 class Run:
@@ -137,8 +136,7 @@ class Building:
         running = [it for it in self.runs if it.is_running()]
         for run in sorted(ready, key=lambda it: it.spare):
             free = self.memory - sum(MEMORY + FURTHER_JOB * (it.jobs - 1) for it in running)
-            share = max(1, processors() // (1 + sum(not it.can_wait() for it in running)))
-            jobs = min(1 if run.can_wait() else share, 1 + (free - MEMORY) // FURTHER_JOB)
+            jobs = min(1 if run.can_wait() else processors(), 1 + (free - MEMORY) // FURTHER_JOB)
             if jobs > 0 or not running:
                 run.start(self.prover, max(1, jobs))
                 running.append(run)
