@@ -8,7 +8,8 @@ calls one of those. What hurts more than that is tried singly, and what isn't re
 are written differently, and a comment in each other function that has bodies must be proved, and the rounds stand on what that proof
 kept. Beside a gate (--gate) it stands on what the gate has proved and kept; a crate of which the gate keeps nothing has its first round
 from nothing, with the right bodies in it and without comments. What became of a crate's bodies is kept on this machine: they are tried
-again once a file changes on which that rests, or with --anew.
+again once a file changes on which that rests, or with --anew. checks/tried.txt tells of which crates all bodies were tried as they stand,
+on whatever machine: a landing (--in-turn) tries all other crates, and of these some, in turn.
 
 For each wrong body a line says how it was refused: by which clauses or goals, or only because an answer by hand no longer fits
 (which says less: a right body could be refused so too). One that is proved is a failure, and so is one that doesn't compile, whose
@@ -27,6 +28,7 @@ import traceback
 from support.bodies import Body, Sources, read_bodies
 from support.kept import Kept
 from support.ran import TOP
+from support.record import Record
 from support.rounds import in_turn
 from support.trees import Trees, crates_in, stop_all
 from support.trial import Crate, Trial, say
@@ -39,12 +41,17 @@ def arguments() -> argparse.Namespace:
     parser.add_argument("--stands", action="store_true", help="only look whether each old text stands once, in the function that is named, and whether docs/proofs.md names bodies that there are; proves nothing")
     parser.add_argument("--kept", action="store_true", help="use what is kept in crates/*/out where the crate is proved there, and prove the others")
     parser.add_argument("--anew", action="store_true", help="try all, also where an earlier run on this machine tried the same files")
-    parser.add_argument("--in-turn", action="store_true", help="try one wrong body of each function: which one changes with the sources of its crate and of those below")
+    how = parser.add_mutually_exclusive_group()
+    how.add_argument("--in-turn", action="store_true", help="what a landing has to pass: try one wrong body of each function, another one as the sources change; of the crates that checks/tried.txt has as they stand, only some, in turn")
+    how.add_argument("--record", action="store_true", help="try all bodies of the crates that checks/tried.txt doesn't have as they stand, and write it")
     parser.add_argument("--gate", default="", metavar="FOLDER", help="take libraries and kept work from a gate that runs beside, as it hands them on there (bin/test does so)")
     parser.add_argument("--jobs", type=int, metavar="N", default=default_jobs(), help="checks side by side (default: %(default)s), each with up to 2.5 GB")
     parser.add_argument("--minutes", type=float, metavar="M", default=120, help="the most that one check may take (default: %(default)s)")
     parser.add_argument("--logs", metavar="FOLDER", help="keep the output of each check there")
-    return parser.parse_args()
+    given = parser.parse_args()
+    if given.record and given.names:
+        parser.error("--record is of all crates")
+    return given
 
 
 def default_jobs() -> int:
@@ -94,11 +101,11 @@ def report(crates: list[Crate], problems: list[str], names: list[str]) -> tuple[
             else:
                 failures.append(f"{it.body.label}: {'PROVED' if it.word == 'proved' else it.word}: {it.why}")
         lost = [it.body for it in crate.judged]
-        lost = [it.name for it in crate.bodies if lost.count(it) != 1]
+        lost = [it.name for it in crate.bodies if lost.count(it) != 1 and not crate.is_recorded]
         failures += [f"{crate.name}: {len(lost)} bodies were not judged: {', '.join(lost)}"] if lost else []
         failures += crate.failures
         passed += crate.comments == "proved"
-    if not passed and not failures:
+    if not passed and not failures and not all(it.is_recorded for it in crates):
         failures.append("no body was judged")
     if not names and not any(it.wrong for it in crates):
         failures.append("no crate has a wrong body")
@@ -109,7 +116,9 @@ def report(crates: list[Crate], problems: list[str], names: list[str]) -> tuple[
 
 def summary(crates: list[Crate], seconds: float, wall: float) -> None:
     """How many were refused and how, by crate, and what it took."""
-    for crate in crates:
+    for crate in (it for it in crates if it.is_recorded):
+        say(f"== {crate.name}: not tried: all its bodies were, as they stand, when checks/tried.txt was written")
+    for crate in (it for it in crates if not it.is_recorded):
         if crate.is_kept:
             say(f"== {crate.name}: kept: an earlier run on this machine tried the same bodies of the same files")
         wrong = [it for it in crate.judged if not it.body.is_right]
@@ -156,16 +165,29 @@ def attempt_anew(crates: list[Crate], given: argparse.Namespace) -> float:
     """Tries the bodies of those crates of which no earlier run knows all; gives the processor seconds that it took."""
     kept = Kept(TOP)
     whole = [it for it in crates if len(it.bodies) == len(read_bodies(it.sources)[0])]
+    record = Record(TOP, kept)
+    if given.in_turn or given.record:
+        leave_out(whole, record, given)
     if given.in_turn:
         for it in whole:
             it.bodies = in_turn(it.bodies, kept.of_crate(it.name, {}))
-    known = [it for it in whole if kept.take(it, given.anew)]
+    known = [it for it in whole if it.is_recorded or kept.take(it, given.anew)]
     left = [it for it in crates if it not in known]
     seconds = attempt(left, given) if left else 0.0
     for it in whole:
         kept.keep(it)
     kept.shrink()
+    if given.record:
+        record.write(whole)
     return seconds
+
+
+def leave_out(crates: list[Crate], record: Record, given: argparse.Namespace) -> None:
+    """Has the crates not tried that the record has as they stand; for a landing some of them are, in turn."""
+    recorded = [] if given.anew else [it for it in crates if record.has(it)]
+    drawn = record.in_turn(recorded) if given.in_turn else []
+    for it in recorded:
+        it.is_recorded = it not in drawn
 
 
 def attempt(crates: list[Crate], given: argparse.Namespace) -> float:
@@ -195,7 +217,7 @@ def main() -> int:
     passed, failed = report(crates, problems, given.names)
     summary(crates, seconds, time.monotonic() - began)
     say(f"{passed} passed, {failed} failed")
-    return 1 if failed or not passed else 0
+    return 1 if failed else 0
 
 
 if __name__ == "__main__":

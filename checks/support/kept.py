@@ -58,7 +58,7 @@ def sum_of_judges(root: str) -> str:
 class Kept:
     def __init__(self, root: str) -> None:
         self.root, self.at = root, f"{cache()}/{FOLDER}"
-        self.common = f"{sum_of_kit()} {sum_of_judges(root)}"
+        self.kit, self.judges = sum_of_kit(), sum_of_judges(root)
         self.direct, self.libraries = crates_in(root), named_in(root)
         self.names: dict[str, str] = {}  # those of the entries, as the files were when this run began
 
@@ -70,10 +70,14 @@ class Kept:
             known[name] = hashlib.sha256(repr((name, self.libraries[name], own, below)).encode()).hexdigest()
         return known[name]
 
+    def of_verdicts(self, name: str, by: str) -> str:
+        """A sum of all on which the verdicts on a crate's bodies rest, where this is the prover."""
+        bodies = sum_of_files(files_of([f"{self.root}/crates/{name}/wrong-bodies"]), self.root)
+        return hashlib.sha256(repr((by, self.judges, self.of_crate(name, {}), bodies)).encode()).hexdigest()
+
     def name_of(self, name: str) -> str:
         """The name of a crate's entry."""
-        bodies = sum_of_files(files_of([f"{self.root}/crates/{name}/wrong-bodies"]), self.root)
-        return hashlib.sha256(repr((self.common, self.of_crate(name, {}), bodies)).encode()).hexdigest()
+        return self.of_verdicts(name, self.kit)
 
     def take(self, crate: Crate, is_anew: bool) -> bool:
         """Takes what an earlier run found of all bodies of a crate, unless all is to be tried anew; says whether it has."""
@@ -92,13 +96,16 @@ class Kept:
         crate.judged, crate.comments, crate.is_kept = judged, comments, True
         return True
 
+    def is_same(self, crate: Crate) -> bool:
+        """Whether all files of a crate are as they were when this run began."""
+        return self.name_of(crate.name) == self.names[crate.name]
+
     def keep(self, crate: Crate) -> None:
         """Keeps what became of the bodies of a crate, where all is well and no file has changed meanwhile."""
-        is_whole = len(crate.judged) == len(crate.bodies) and all(it.is_well for it in crate.judged)
-        if crate.is_kept or not is_whole or crate.failures or crate.comments == "NOT proved":
+        if crate.is_kept or crate.is_recorded or not crate.is_well:
             return
         with contextlib.suppress(OSError):
-            if self.name_of(crate.name) != self.names[crate.name]:
+            if not self.is_same(crate):
                 return
             os.makedirs(self.at, mode=0o700, exist_ok=True)
             with tempfile.NamedTemporaryFile("w", dir=self.at, delete=False, encoding="utf-8") as it:

@@ -40,12 +40,19 @@ class Crate:
     failures: list[str] = field(default_factory=list)
     comments: str = "NOT proved"  # what became of the comments: that, proved, or not tried
     is_kept: bool = False  # whether an earlier run found all of this
+    is_recorded: bool = False  # whether it isn't tried, since the record says that all was as it should be
     checks: int = 0
     seconds: float = 0.0
 
     @property
     def wrong(self) -> list[Body]:
         return [it for it in self.bodies if not it.is_right]
+
+    @property
+    def is_well(self) -> bool:
+        """Whether all of its bodies were tried, and became what they should."""
+        is_whole = len(self.judged) == len(self.bodies) and all(it.is_well for it in self.judged)
+        return is_whole and not self.failures and self.comments != "NOT proved"
 
     @property
     def functions(self) -> list[Function]:
