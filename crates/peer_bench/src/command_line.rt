@@ -6,7 +6,7 @@ mod rounds;
 mod texts;
 
 use crate::lockstep::Rounds;
-use crate::task::Task;
+use bench_work::Task;
 use cases::{CASES, table_of};
 use desk::{DESK, desk_task};
 use handing_out::{QUEUE, SLOTS, queue_task, slots_task};

@@ -1,10 +1,7 @@
 //! A little of each kind of work. It tells no times, so that it writes the same each time.
-use crate::crew::Crew;
-use crate::desk_run::Finishing;
 use crate::lockstep::{Rounds, go_round};
-use crate::reading::{answer_all, compare};
-use crate::task::Task;
-use crate::writing::written;
+use bench_reading::{answer_all, compare};
+use bench_work::{Crew, Finishing, Task, written};
 use lsp_frames::put_frame;
 use program_edge::Failure;
 use std::alloc::Global;

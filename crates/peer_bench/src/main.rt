@@ -4,22 +4,11 @@
 
 mod cases;
 mod command_line;
-mod crew;
-mod desk_run;
-mod handoff;
-mod job;
 mod little;
 mod lockstep;
 mod program;
-mod queue_handoff;
-mod reading;
 mod run_failure;
-mod slots_handoff;
 mod table_file;
-mod tally;
-mod task;
-mod timing;
-mod writing;
 
 use program_edge::{read_words, tell_end};
 use std::process::ExitCode;

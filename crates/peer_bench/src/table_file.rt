@@ -1,6 +1,6 @@
 //! The table of methods, read from its file.
 use crate::run_failure::RunFailure;
-use method_steps::{FaultKind, Table};
+use method_steps::{FaultKind, Table, TableFault};
 use program_edge::Failure;
 use std::fs;
 use std::io::ErrorKind;
@@ -12,7 +12,7 @@ pub fn table_in<R: Files + AllocGlobal>(rt: &R, path: Option<&str>) -> Result<Ta
         return Ok(Table::empty(rt.alloc()));
     };
     match fs::read(rt, path) {
-        Ok(bytes) => read_table(rt, bytes.as_slice()),
+        Ok(bytes) => Table::read(rt.alloc(), bytes.as_slice()).map_err(refused),
         Err(error) if error.kind() == ErrorKind::OutOfMemory => {
             Err(RunFailure::Program(Failure::Memory))
         }
@@ -20,10 +20,10 @@ pub fn table_in<R: Files + AllocGlobal>(rt: &R, path: Option<&str>) -> Result<Ta
     }
 }
 
-fn read_table<R: AllocGlobal>(rt: &R, bytes: &[u8]) -> Result<Table, RunFailure> {
-    match Table::read(rt.alloc(), bytes) {
-        Ok(table) => Ok(table),
-        Err(fault) if fault.kind == FaultKind::Memory => Err(RunFailure::Program(Failure::Memory)),
-        Err(_) => Err(RunFailure::Refused("table: refused")),
+/// Why there is no table.
+fn refused(fault: TableFault) -> RunFailure {
+    match fault.kind {
+        FaultKind::Memory => RunFailure::Program(Failure::Memory),
+        _ => RunFailure::Refused("table: refused"),
     }
 }

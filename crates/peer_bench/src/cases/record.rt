@@ -1,5 +1,5 @@
 //! What is written of a case.
-use crate::writing::written;
+use bench_work::written;
 use program_edge::Failure;
 use rpc_peer::{Close, Report};
 use std::fmt::Debug;

@@ -1,6 +1,5 @@
 //! The command that finishes requests at the desk.
-use crate::desk_run::Finishing;
-use crate::task::Task;
+use bench_work::{Finishing, Task};
 use program_edge::{ChoiceOption, CommandOption, NumberOption, ProgramCommand, Words};
 
 /// The words' units, through the desk in their order.

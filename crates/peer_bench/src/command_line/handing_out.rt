@@ -1,6 +1,5 @@
 //! The commands that hand jobs out to workers.
-use crate::crew::Crew;
-use crate::task::Task;
+use bench_work::{Crew, Task};
 use program_edge::{CommandOption, NumberOption, ProgramCommand, Words};
 
 /// The words' jobs, through job slots.

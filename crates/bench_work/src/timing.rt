@@ -8,7 +8,10 @@ use std::sync::Wait;
 use std::thread::Threads;
 use std::time::{Clock, Instant};
 
-/// Does the work, and says how long it took.
+/// Does the work, and says how long it took, in microseconds.
+///
+/// # Errors
+/// Those of the work, `Clock` where the clock can't be read, and `Write` where the output fails.
 pub fn run_timed<R, W>(rt: &R, task: Task, output: &mut W) -> Result<(), Failure>
 where
     R: Threads + Wait + Sync + Clock + AllocGlobal,

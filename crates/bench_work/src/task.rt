@@ -21,7 +21,8 @@ pub enum Task {
 }
 
 impl Task {
-    /// Makes the tally of its jobs, so that no more than the work itself is timed. Units have none.
+    /// Makes the tally of its jobs, so that no more than the work itself is timed. Units have none. Refused where the memory
+    /// of a byte for each job is.
     pub fn tally(self, alloc: Global) -> Result<Tally, AllocError> {
         match self {
             Task::Slots { jobs, .. } | Task::Queue { jobs, .. } => Tally::new(alloc, jobs),
@@ -30,6 +31,9 @@ impl Task {
     }
 
     /// Does the work. Jobs are counted by the tally, and how many answers were released is the result.
+    ///
+    /// # Errors
+    /// `Memory` where a growth is refused, and `Thread` where a worker's thread can't be started.
     pub fn run<R>(self, rt: &R, tally: &mut Tally) -> Result<usize, Failure>
     where
         R: Threads + Wait + Sync + AllocGlobal,

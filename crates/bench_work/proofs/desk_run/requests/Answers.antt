@@ -3,7 +3,7 @@ use Rattle.rpc_messages.specs.declared.id.Id.{Id}
 use Rattle.answer_desk.specs.declared.place.Place.{Place}
 use Rattle.answer_desk.specs.declared.place.Place.TheVariants.{Unreadable, Invalid, Silent, Numbered}
 use Rattle.answer_desk.specs.Places.{new_numbers}
-use Rattle.peer_bench.proofs.desk_run.requests.Goals as goal
+use Rattle.bench_work.proofs.desk_run.requests.Goals as goal
 
 one_more : (places : List Place) (id : Option Id) (most : ℕ) → length (new_numbers (places ++ Numbered id most ∷ [])) ≡ length (new_numbers places) + 1
 one_more [] id most = omega arith

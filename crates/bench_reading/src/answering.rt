@@ -1,6 +1,5 @@
 //! A whole input, answered as it comes.
-use super::answerer::Answerer;
-use crate::writing::written;
+use crate::answerer::Answerer;
 use lsp_frames::End;
 use program_edge::Failure;
 use std::alloc::Global;
@@ -43,12 +42,14 @@ fn answer_pieces<I: Read, W: Write>(
             return Err(Failure::Read);
         };
         if count == 0 {
-            written(output.flush())?;
+            output.flush().or(Err(Failure::Write))?;
             return Ok(answerer.end());
         }
         answers.clear();
         answerer.take(&room[..count], answers)?;
-        written(output.write_all(answers.as_slice()))?;
+        output
+            .write_all(answers.as_slice())
+            .or(Err(Failure::Write))?;
     }
     Err(Failure::Read)
 }

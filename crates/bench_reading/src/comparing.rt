@@ -1,8 +1,7 @@
 //! Texts at random, each read in two ways, which give the same unit.
-use super::chance::Chance;
-use super::random_text::next_text;
-use super::value_reading::read_by_value;
-use crate::writing::written;
+use crate::chance::Chance;
+use crate::random_text::next_text;
+use crate::value_reading::read_by_value;
 use json_values::Items;
 use lsp_frames::Frame;
 use program_edge::Failure;
@@ -11,10 +10,13 @@ use std::alloc::Global;
 use std::io::Write;
 
 /// Compares two ways to read so many texts, and tells how many were alike.
+///
+/// # Errors
+/// `Memory` where a growth is refused, and `Write` where the output fails.
 pub fn compare<W: Write>(alloc: Global, texts: u32, output: &mut W) -> Result<(), Failure> {
     let alike = count_alike(alloc, texts)?;
-    written(writeln!(output, "compare: {alike} alike"))?;
-    written(output.flush())
+    writeln!(output, "compare: {alike} alike").or(Err(Failure::Write))?;
+    output.flush().or(Err(Failure::Write))
 }
 
 /// Reads so many texts, and gives how many were read as the same unit in both ways.

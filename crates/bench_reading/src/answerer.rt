@@ -1,5 +1,5 @@
 //! A peer that has no methods, and keeps nothing of what it has answered.
-use super::refusing::put_answer;
+use crate::refusing::put_answer;
 use lsp_frames::{Decoder, End, FeedFault, Frame, LARGEST_CONTENT, put_frame};
 use rpc_messages::{Reply, Standard, Unit, UnitReader};
 use std::alloc::{AllocError, Global};

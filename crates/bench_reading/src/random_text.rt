@@ -1,6 +1,6 @@
 //! Texts that are messages or near to one. They are written by a grammar: in a form, `%` and a letter stand for any form of
 //! that letter's rule, and all else for itself.
-use super::chance::Chance;
+use crate::chance::Chance;
 use program_edge::Failure;
 use std::alloc::Global;
 
