@@ -1,7 +1,7 @@
 """Proves the crates that the program stands on, side by side where they don't stand on each other, and builds the program.
 
 All is proved from nothing, in a copy of exactly the files that the stamp covers. The later a crate can come, the further its proof stands
-back behind others; one that can't wait gets all processors."""
+back behind others; those that can't wait share the processors."""
 import os
 import re
 import shutil
@@ -21,8 +21,9 @@ EACH, LOOK = 15, 0.2
 FURTHER_JOB = 1_000_000_000
 # What a check costs however small its crate is, in lines; and a line of a proof costs as much as a tenth of one of the code.
 FIXED_LINES, PROOF_LINES = 400, 10
-# A crate that can come later by this part of the longest way holds up nothing, and takes one processor. By how far each stands back.
-SPARE, MOST_NICE = 1 / 5, 19
+# A crate that can come later by this part of the longest way holds up nothing, and takes one processor; any other two at least. By how far
+# each stands back.
+SPARE, LEAST, MOST_NICE = 1 / 5, 2, 19
 
 
 class Run:
@@ -134,9 +135,11 @@ class Building:
         """Starts each proof that can start now, as memory allows, first those that can wait the least."""
         ready = [it for it in self.runs if it.process is None and {*self.listed.below(it.name)} - {it.name} <= self.done]
         running = [it for it in self.runs if it.is_running()]
+        # (a check by several jobs takes a sixth more for each: what others have work for is lost by that)
+        share = max(min(LEAST, processors()), processors() // max(1, sum(not it.can_wait() for it in (*ready, *running))))
         for run in sorted(ready, key=lambda it: it.spare):
             free = self.memory - sum(MEMORY + FURTHER_JOB * (it.jobs - 1) for it in running)
-            jobs = min(1 if run.can_wait() else processors(), 1 + (free - MEMORY) // FURTHER_JOB)
+            jobs = min(1 if run.can_wait() else share, 1 + (free - MEMORY) // FURTHER_JOB)
             if jobs > 0 or not running:
                 run.start(self.prover, max(1, jobs))
                 running.append(run)
