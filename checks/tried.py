@@ -12,6 +12,7 @@ import tempfile
 from typing import Callable, Iterable, Optional
 
 from support import ran
+from support.record import FILE
 from tools import kit
 from tools.repository import TOP, listing
 
@@ -33,9 +34,6 @@ drawn = record.in_turn(held)
 print(json.dumps({"held": [it.name for it in held], "drawn": [it.name for it in drawn],
     "bodies": sum(len(it.bodies) for it in drawn), "most": sum(len(it.bodies) for it in held) // PART}))
 """
-
-
-RECORD = "checks/tried.txt"
 
 
 class Copy:
@@ -100,15 +98,15 @@ def check_edits(count: ran.Count, copy: Copy, every: list[str]) -> None:
         check_held(count, f"an edit of {script}", edited(copy, script, longer), held)
     told = edited(copy, "crates.txt", lambda it: it.replace(b"\njob_slots: ", b"\njob_slots: itoa "))
     check_held(count, "another library below job_slots", told, without(*listing().above(["job_slots"])))
-    told = edited(copy, RECORD, lambda it: it.partition(b"\n")[2])
+    told = edited(copy, FILE, lambda it: it.partition(b"\n")[2])
     check_held(count, "a line that is missing", told, every[1:])
-    told = edited(copy, RECORD, lambda it: it.partition(b"\n")[0])
+    told = edited(copy, FILE, lambda it: it.partition(b"\n")[0])
     check_held(count, "one line alone", told, every[:1])
     count.check("the only one is drawn", told["drawn"] == every[:1], f"{told}")
-    told = edited(copy, RECORD, lambda it: it.replace(b" ", b" 1", 1))
+    told = edited(copy, FILE, lambda it: it.replace(b" ", b" 1", 1))
     check_held(count, "a line of more bodies", told, every[1:])
-    check_held(count, "a record that is gone", edited(copy, RECORD, lambda it: None), [])
-    check_held(count, "a record that is no text", edited(copy, RECORD, lambda it: b"\xff" + it), [])
+    check_held(count, "a record that is gone", edited(copy, FILE, lambda it: None), [])
+    check_held(count, "a record that is no text", edited(copy, FILE, lambda it: b"\xff" + it), [])
     check_held(count, "no edit at last", copy.ask(), every)
 
 

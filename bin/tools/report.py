@@ -15,23 +15,25 @@ SHOWN = 10
 
 
 class Part(NamedTuple):
-    """A command of the test. One that tallies ends with the line 'N passed, M failed'; another counts by its status."""
+    """A command of the test. One that tallies ends with the line 'N passed, M failed', and passes at least so many; another counts by its
+    status."""
 
     name: str
     words: List[str]
     folder: str = TOP
     tallies: bool = True
+    least: int = 0
 
 
 def tally(part, status, lines):
-    """What a part that ended counts as: passed and failed. One that dies, or lacks its last line, counts as failed."""
+    """What a part that ended counts as: passed and failed. One that dies, lacks its last line or passes too few counts as failed."""
     if not part.tallies:
         return (0, 1) if status else (1, 0)
     told = TALLY.fullmatch(lines[-1]) if lines else None
     if not told:
         return 0, 1
     passed, failed = int(told[1]), int(told[2])
-    return passed, failed or int(status != 0)
+    return passed, failed or int(status != 0 or passed < part.least)
 
 
 class Report:

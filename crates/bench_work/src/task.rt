@@ -21,8 +21,8 @@ pub enum Task {
 }
 
 impl Task {
-    /// Makes the tally of its jobs, so that no more than the work itself is timed. Units have none. Refused where the memory
-    /// of a byte for each job is.
+    /// Makes the tally of its jobs, so that no more than the work itself is timed. Units have none. Refused where
+    /// there is no memory for a byte of each job.
     pub fn tally(self, alloc: Global) -> Result<Tally, AllocError> {
         match self {
             Task::Slots { jobs, .. } | Task::Queue { jobs, .. } => Tally::new(alloc, jobs),
