@@ -1,0 +1,83 @@
+-- The texts of the messages that go out (JSON-RPC 2.0, sections 4 to 6): compact, an object's members in the byte order of
+-- their names.
+use Rattle.std.specs.Prelude.{ℕ, ◌+◌, List, [], ◌∷◌, ◌++◌, codes, decimal, Option, Some, None}
+use Rattle.std.specs.Fmt.{signed_decimal}
+use Rattle.std.specs.List.{join_with_byte}
+use Rattle.json.specs.Print.{quoted}
+use Rattle.rpc_messages.specs.Standard.{code_of, message_of}
+use Rattle.rpc_messages.specs.declared.id.Id.{Id}
+use Rattle.rpc_messages.specs.declared.id.Id.TheVariants.{Null, Text, Signed, Unsigned}
+use Rattle.rpc_messages.specs.declared.standard.Standard.{Standard}
+use Rattle.connection_messages.specs.declared.answer.Answer.{Answer}
+use Rattle.connection_messages.specs.declared.answer.Answer.TheVariants.{Result, Error, Standard as Fixed}
+use Rattle.connection_messages.specs.declared.answer.AnswerError.{AnswerError}
+use Rattle.connection_messages.specs.declared.outgoing.Outgoing.{Outgoing}
+
+-- ---- parts
+
+-- an id as JSON
+abbrev pub id_text : Id → List ℕ
+id_text Null = codes "null"
+id_text (Text s) = quoted s
+id_text (Signed z) = signed_decimal z
+id_text (Unsigned n) = decimal n
+
+-- a member with the text of its value and the comma after it, where there is one
+abbrev pub member_before : List ℕ → Option (List ℕ) → List ℕ
+member_before name None = []
+member_before name (Some text) = quoted name ++ codes ":" ++ text ++ codes ","
+
+-- the same with the comma before it
+abbrev pub member_after : List ℕ → Option (List ℕ) → List ℕ
+member_after name None = []
+member_after name (Some text) = codes "," ++ quoted name ++ codes ":" ++ text
+
+-- an error object (section 5.1)
+abbrev pub error_text : AnswerError → List ℕ
+error_text e =
+    codes "{\"code\":" ++ signed_decimal e.code ++ codes "," ++ member_before (codes "data") e.data ++ codes "\"message\":" ++ quoted e.message ++ codes "}"
+
+-- a fixed error, which has no data
+abbrev pub fixed_error : Standard → AnswerError
+fixed_error s = record { code = code_of s; message = message_of s; data = None }
+
+-- ---- messages
+
+-- a response with an error (section 5)
+abbrev pub error_answer_text : Id → AnswerError → List ℕ
+error_answer_text id e = codes "{\"error\":" ++ error_text e ++ codes ",\"id\":" ++ id_text id ++ codes ",\"jsonrpc\":\"2.0\"}"
+
+-- a response (section 5)
+abbrev pub answer_text : Id → Answer → List ℕ
+answer_text id (Result text) = codes "{\"id\":" ++ id_text id ++ codes ",\"jsonrpc\":\"2.0\",\"result\":" ++ text ++ codes "}"
+answer_text id (Error e) = error_answer_text id e
+answer_text id (Fixed s) = error_answer_text id (fixed_error s)
+
+-- the texts in one array (section 6)
+abbrev pub batch_text : List (List ℕ) → List ℕ
+batch_text texts = codes "[" ++ join_with_byte 44 texts ++ codes "]"
+
+-- the members `method` and `params` and the end of a call or notification; without params the member `params` is absent
+abbrev pub method_text : Outgoing → List ℕ
+method_text o = codes ",\"method\":" ++ quoted o.method ++ member_after (codes "params") o.params ++ codes "}"
+
+-- our call with the key k, a request whose id is the number k (section 4)
+abbrev pub call_text : ℕ → Outgoing → List ℕ
+call_text k o = codes "{\"id\":" ++ decimal k ++ codes ",\"jsonrpc\":\"2.0\"" ++ method_text o
+
+-- the texts of calls whose keys count up from k
+abbrev pub call_texts : ℕ → List Outgoing → List (List ℕ)
+call_texts k [] = []
+call_texts k (o ∷ os) = call_text k o ∷ call_texts (k + 1) os
+
+-- a batch of calls, one array even of one (section 6)
+abbrev pub calls_text : ℕ → List Outgoing → List ℕ
+calls_text k os = batch_text (call_texts k os)
+
+-- a notification (section 4.1)
+abbrev pub notice_text : Outgoing → List ℕ
+notice_text o = codes "{\"jsonrpc\":\"2.0\"" ++ method_text o
+
+-- the notification that withdraws our call k (LSP 3.17, "Cancellation Support")
+abbrev pub withdrawal_text : ℕ → List ℕ
+withdrawal_text k = codes "{\"jsonrpc\":\"2.0\",\"method\":\"$/cancelRequest\",\"params\":{\"id\":" ++ decimal k ++ codes "}}"

@@ -1,0 +1,30 @@
+ghost use Rattle.std.specs.Prelude.{◌≡◌};
+
+use json_texts::JsonText;
+use std::marker::Model;
+
+/// The params of a call or a notification that goes out: the text of an array or an object (JSON-RPC 2.0, section 4.2).
+#[derive(Debug, Drop)]
+pub struct Params {
+    text: JsonText,
+}
+
+impl Model for Params {
+    ghost use Rattle.std.specs.Prelude.{◌≡◌, ℕ, List, true};
+    ghost use Rattle.connection_messages.specs.Params.{is_structured};
+
+    ghost Value = { List ℕ };
+
+    ghost view = { λ p. p.text };
+
+    ghost invariant = { λ p. is_structured p.text ≡ true };
+}
+
+impl Params {
+    /// The text, lent.
+    pub fn as_str(&self) -> &str
+        ensures { result.now ≡ self.now }
+    {
+        self.text.as_str()
+    }
+}

@@ -1,0 +1,7 @@
+//! The texts of JSON values: a text is taken only where it is one value, and held in its compact form, with every digit
+//! of its numbers.
+#![tactic(auto)]
+
+mod json_text;
+
+pub use json_text::{JsonText, MOST_LEVELS};
