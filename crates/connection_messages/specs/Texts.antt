@@ -35,11 +35,11 @@ member_after name (Some text) = codes "," ++ quoted name ++ codes ":" ++ text
 -- an error object (section 5.1)
 abbrev pub error_text : AnswerError → List ℕ
 error_text e =
-    codes "{\"code\":" ++ signed_decimal e.code ++ codes "," ++ member_before (codes "data") e.data ++ codes "\"message\":" ++ quoted e.message ++ codes "}"
+    codes "{\"code\":" ++ signed_decimal e.code ++ codes "," ++ member_before (codes "data") e.«data» ++ codes "\"message\":" ++ quoted e.message ++ codes "}"
 
 -- a fixed error, which has no data
 abbrev pub fixed_error : Standard → AnswerError
-fixed_error s = record { code = code_of s; message = message_of s; data = None }
+fixed_error s = record { code = code_of s; message = message_of s; «data» = None }
 
 -- ---- messages
 
