@@ -1,1 +1,9 @@
+mod CallsTold
+pub mod Dues
+mod Growth
+pub mod Histories
+pub mod Outs
 mod Rows
+pub mod Streams
+pub mod Tests
+mod Written

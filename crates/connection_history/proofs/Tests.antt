@@ -1,0 +1,63 @@
+-- Tests, and options.
+use Rattle.std.proofs.Common.{◌≡◌, ◌≢◌, ℕ, ◌==◌, Bool, true, false, cond, ◌&&◌, ◌||◌, not, Option, Some, None, refl}
+use Rattle.std.proofs.lemmas.Bool.Decides.{Decides-eqb, not_from_Decides}
+use Rattle.std.specs.Prelude.{is_some}
+use Rattle.std.specs.Option.{is_none}
+use Rattle.connection_history.specs.History.{or_else}
+
+-- ---- numbers
+
+pub same : (a b : ℕ) → (a == b) ≡ true → a ≡ b
+same a b h = (Decides-eqb a b).0 h
+
+pub same_test : (a b : ℕ) → a ≡ b → (a == b) ≡ true
+same_test a b h = (Decides-eqb a b).1 h
+
+pub apart : (a b : ℕ) → (a == b) ≡ false → a ≢ b
+apart a b h = not_from_Decides (a == b) (Decides-eqb a b) h
+
+-- ---- two tests
+
+pub and-left : (a b : Bool) → (a && b) ≡ true → a ≡ true
+and-left true b h = refl
+and-left false b h = h
+
+pub and-right : (a b : Bool) → (a && b) ≡ true → b ≡ true
+and-right true b h = h
+and-right false b h = absurd (cc)
+
+pub or_assoc : (a b c : Bool) → ((a || b) || c) ≡ (a || (b || c))
+or_assoc true b c = refl
+or_assoc false b c = refl
+
+pub or-false : (a : Bool) → (a || false) ≡ a
+or-false true = refl
+or-false false = refl
+
+pub not-true : (a : Bool) → not a ≡ true → a ≡ false
+not-true true h = absurd (cc)
+not-true false h = refl
+
+-- ---- options
+
+pub is_none-none : {A : Type 0} (o : Option A) → is_none o ≡ true → o ≡ None
+is_none-none None h = refl
+is_none-none (Some x) h = absurd (cc)
+
+pub is_some-some : {A : Type 0} (o : Option A) → is_some o ≡ true → (x : A) × (o ≡ Some x)
+is_some-some None h = absurd (cc)
+is_some-some (Some x) h = (x, refl)
+
+-- nothing comes later
+pub or_else-none : {A : Type 0} (o : Option A) → or_else o None ≡ o
+or_else-none None = refl
+or_else-none (Some x) = refl
+
+pub or_else_assoc : {A : Type 0} (o p q : Option A) → or_else (or_else o p) q ≡ or_else o (or_else p q)
+or_else_assoc None p q = refl
+or_else_assoc (Some x) p q = refl
+
+-- where neither part gives anything, the earlier doesn't
+pub or_else-none_left : {A : Type 0} (o p : Option A) → or_else o p ≡ None → o ≡ None
+or_else-none_left None p h = refl
+or_else-none_left (Some x) p h = h
