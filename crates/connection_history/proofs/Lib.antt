@@ -3,6 +3,8 @@ pub mod Dues
 mod Growth
 pub mod Histories
 pub mod Outs
+mod Owed
+mod Places
 mod Rows
 pub mod Streams
 pub mod Tests

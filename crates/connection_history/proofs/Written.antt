@@ -63,7 +63,7 @@ stands (w ∷ xs) ys (v ∷ front) x rest h =
 
 -- ---- what stands before an answer
 
-said-no_places : (past : History) (h : Happening) → places_in (said_at past h) ≡ []
+pub said-no_places : (past : History) (h : Happening) → places_in (said_at past h) ≡ []
 said-no_places past (came u) = refl
 said-no_places past (called n o) = refl
 said-no_places past (called_all n os) = refl
