@@ -2,9 +2,11 @@ mod CallsTold
 pub mod Dues
 mod Growth
 pub mod Histories
+pub mod Numbers
 pub mod Outs
 mod Owed
 mod Places
+mod RepliesTold
 mod Rows
 pub mod Streams
 pub mod Tests
