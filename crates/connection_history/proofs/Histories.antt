@@ -1,5 +1,6 @@
 -- A history, after one thing more happened.
 use Rattle.std.proofs.Common.{◌≡◌, ℕ, zero, suc, ◌+◌, ◌<◌, ◌≤◌, List, [], ◌∷◌, ◌++◌, length, Option, Some, None, Bool, true, false, cond, ◌&&◌, not, refl, sym, ap, ◌∙◌, append_assoc, append-nil, arith}
+use Rattle.std.proofs.lemmas.Option.{slice_get_within}
 use Rattle.std.specs.Prelude.{slice_get, is_some}
 use Rattle.std.specs.Option.{is_none, option_map_or}
 use Rattle.connection_messages.specs.declared.answer.Answer.{Answer}
@@ -69,6 +70,15 @@ open-came (suc n) past u h =
     let known = open_known n past h in
     open-from (suc n) (came u ∷ past) known.0 (call_numbered-more (suc n) past (came u) known.0 known.1) (answer_to-came (suc n) past u ∙ open_unanswered n past h)
 
+-- nor does one entry more in an array that comes
+pub open-entry : (n : ℕ) (past : History) (front : List Entry) (e : Entry) → is_open n (came (Batch front) ∷ past) ≡ true → is_open n (came (Batch (front ++ e ∷ [])) ∷ past) ≡ true
+open-entry zero past front e h = refl
+open-entry (suc n) past front e h =
+    let known = open_known n (came (Batch front) ∷ past) h in
+    open-from (suc n) (came (Batch (front ++ e ∷ [])) ∷ past) known.0
+    (ap (call_numbered (suc n)) (stream-entry past front e) ∙ call_numbered-kept (suc n) (stream (came (Batch front) ∷ past)) (e ∷ []) known.0 known.1)
+    (open_unanswered n (came (Batch front) ∷ past) h)
+
 -- ---- calls of ours
 
 -- a call keeps its key
@@ -79,6 +89,11 @@ caller_of-kept (suc k) past h n known = slice_get-kept (callers past) (callers_a
 pub caller_of-came : (k : ℕ) (past : History) (u : Unit) → caller_of k (came u ∷ past) ≡ caller_of k past
 caller_of-came zero past u = refl
 caller_of-came (suc k) past u = ap (λ ns. slice_get ns k) (append-nil (callers past))
+
+-- a call of ours has one of the keys
+pub caller_of-within : (k : ℕ) (history : History) (n : ℕ) → caller_of k history ≡ Some n → (0 < k) × (k ≤ key_count history)
+caller_of-within zero history n h = absurd (cc)
+caller_of-within (suc k) history n h = (omega arith, omega (arith, slice_get_within (callers history) k n h))
 
 -- ---- replies
 
@@ -94,14 +109,14 @@ shared : {A : Type 0} (b : Bool) (o p q : Option A) → or_else o (cond b (or_el
 shared true o p q = sym (or_else_assoc o p q)
 shared false o p q = sym (or_else_assoc o None None)
 
--- one entry more in an array that comes
-pub reply_to-entry : (k : ℕ) (past : History) (front : List Entry) (e : Entry)
-    → reply_to k (came (Batch (front ++ e ∷ [])) ∷ past) ≡ or_else (reply_to k (came (Batch front) ∷ past)) (cond (is_some (caller_of k past)) (first_reply k (e ∷ [])) None)
-reply_to-entry k past front e =
-    reply_to-came k past (Batch (front ++ e ∷ []))
-    ∙ ap (λ o. or_else (reply_to k past) (cond (is_some (caller_of k past)) o None)) (first_reply-append k front (e ∷ []))
-    ∙ shared (is_some (caller_of k past)) (reply_to k past) (first_reply k front) (first_reply k (e ∷ []))
-    ∙ ap (λ o. or_else o (cond (is_some (caller_of k past)) (first_reply k (e ∷ [])) None)) (sym (reply_to-came k past (Batch front)))
+-- more entries in an array that comes
+pub reply_to-entries : (k : ℕ) (past : History) (front more : List Entry)
+    → reply_to k (came (Batch (front ++ more)) ∷ past) ≡ or_else (reply_to k (came (Batch front) ∷ past)) (cond (is_some (caller_of k past)) (first_reply k more) None)
+reply_to-entries k past front more =
+    reply_to-came k past (Batch (front ++ more))
+    ∙ ap (λ o. or_else (reply_to k past) (cond (is_some (caller_of k past)) o None)) (first_reply-append k front more)
+    ∙ shared (is_some (caller_of k past)) (reply_to k past) (first_reply k front) (first_reply k more)
+    ∙ ap (λ o. or_else o (cond (is_some (caller_of k past)) (first_reply k more) None)) (sym (reply_to-came k past (Batch front)))
 
 -- ---- calls that wait
 

@@ -1,7 +1,9 @@
 mod CallsTold
+mod CancelsTold
 pub mod Dues
 mod Growth
 pub mod Histories
+pub mod Lawful
 pub mod Numbers
 pub mod Outs
 mod Owed

@@ -1,5 +1,5 @@
 -- Tests, and options.
-use Rattle.std.proofs.Common.{◌≡◌, ◌≢◌, ℕ, ◌==◌, Bool, true, false, cond, ◌&&◌, ◌||◌, not, Option, Some, None, refl}
+use Rattle.std.proofs.Common.{◌≡◌, ◌≢◌, ℕ, ◌==◌, Bool, true, false, cond, ◌&&◌, ◌||◌, not, ◌⊎◌, inl, inr, Option, Some, None, refl}
 use Rattle.std.proofs.lemmas.Bool.Decides.{Decides-eqb, not_from_Decides}
 use Rattle.std.specs.Prelude.{is_some}
 use Rattle.std.specs.Option.{is_none}
@@ -16,6 +16,12 @@ same_test a b h = (Decides-eqb a b).1 h
 pub apart : (a b : ℕ) → (a == b) ≡ false → a ≢ b
 apart a b h = not_from_Decides (a == b) (Decides-eqb a b) h
 
+-- ---- one test
+
+pub two : (b : Bool) → (b ≡ true) ⊎ (b ≡ false)
+two true = inl refl
+two false = inr refl
+
 -- ---- two tests
 
 pub and-left : (a b : Bool) → (a && b) ≡ true → a ≡ true
@@ -25,6 +31,14 @@ and-left false b h = h
 pub and-right : (a b : Bool) → (a && b) ≡ true → b ≡ true
 and-right true b h = h
 and-right false b h = absurd (cc)
+
+pub or-left : (a b : Bool) → (a || b) ≡ false → a ≡ false
+or-left true b h = h
+or-left false b h = refl
+
+pub or-right : (a b : Bool) → (a || b) ≡ false → b ≡ false
+or-right true b h = absurd (cc)
+or-right false b h = h
 
 pub or_assoc : (a b c : Bool) → ((a || b) || c) ≡ (a || (b || c))
 or_assoc true b c = refl
