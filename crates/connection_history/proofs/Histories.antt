@@ -11,8 +11,8 @@ use Rattle.connection_messages.specs.declared.unit.Unit.{Unit}
 use Rattle.connection_messages.specs.declared.unit.Unit.TheVariants.{Batch}
 use Rattle.connection_history.specs.Stream.{entries_in, entries_along, call_in, calls_in, call_numbered, first_reply}
 use Rattle.connection_history.specs.Events.{call_count}
-use Rattle.connection_history.specs.History.{Happening, came, called, called_all, noticed, withdrew, answered, ended, History, or_else, units_of, units_at, stream, is_over, answer_at, answer_to, is_open, callers, callers_at, key_count, caller_of, reply_at, reply_to, is_waiting}
-use Rattle.connection_history.proofs.Streams.{entries_along-append, calls_in-append, length-calls_in-append, slice_get-kept, call_numbered-kept, first_reply-append}
+use Rattle.connection_history.specs.History.{Happening, came, History, or_else, units_of, units_at, stream, is_over, answer_at, answer_to, is_open, callers, callers_at, key_count, caller_of, reply_at, reply_to, is_waiting}
+use Rattle.connection_history.proofs.Streams.{entries_along-append, length-calls_in-append, slice_get-kept, call_numbered-kept, first_reply-append}
 use Rattle.connection_history.proofs.Tests.{and-left, and-right, not-true, is_none-none, is_some-some, or_else-none, or_else_assoc}
 
 -- ---- the stream

@@ -1,5 +1,5 @@
 -- What is owed where no call is open.
-use Rattle.std.proofs.Common.{◌≡◌, ◌≢◌, ℕ, zero, suc, ◌+◌, ◌<◌, ◌≤◌, List, [], ◌∷◌, ◌++◌, map, length, Option, Some, None, Bool, true, false, ◌&&◌, refl, sym, ap, ◌∙◌, append-nil, length-append, arith}
+use Rattle.std.proofs.Common.{◌≡◌, ◌≢◌, ℕ, zero, suc, ◌+◌, ◌<◌, ◌≤◌, List, [], ◌∷◌, ◌++◌, map, length, Option, Some, None, false, ◌&&◌, refl, ap, length-append, arith}
 use Rattle.std.specs.Prelude.{⊤, slice_get, option_map, is_some}
 use Rattle.std.specs.Option.{is_none}
 use Rattle.rpc_messages.specs.declared.id.Id.{Id}
@@ -13,7 +13,7 @@ use Rattle.connection_messages.specs.declared.unit.Unit.TheVariants.{Unreadable,
 use Rattle.connection_history.specs.declared.order.Order.{Order}
 use Rattle.connection_history.specs.declared.order.Order.TheVariants.{AsAnswered, AsCame}
 use Rattle.connection_history.specs.Stream.{entries_in, entries_along, call_in, calls_in, call_numbered}
-use Rattle.connection_history.specs.Answers.{Texts, both, call_texts, entry_texts, texts_along, unit_texts, Due, open_yet, nothing, text, joined, due_from, due_of, dues_along, dues}
+use Rattle.connection_history.specs.Answers.{Texts, both, call_texts, entry_texts, texts_along, unit_texts, Due, open_yet, nothing, text, joined, due_from, dues_along, dues}
 use Rattle.connection_history.specs.Events.{call_count}
 use Rattle.connection_history.specs.History.{History, units_of, stream, answer_to, is_open}
 use Rattle.connection_history.specs.Items.{text_if_due, out}

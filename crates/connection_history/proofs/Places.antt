@@ -1,12 +1,12 @@
 -- As they came, the places of the answers go up.
-use Rattle.std.proofs.Common.{◌≡◌, ℕ, zero, suc, ◌+◌, ◌<◌, ◌≤◌, List, [], ◌∷◌, ◌++◌, map, length, get_or, Option, Some, None, refl, sym, ap, subst, ◌∙◌, arith}
+use Rattle.std.proofs.Common.{◌≡◌, ℕ, zero, suc, ◌+◌, ◌<◌, ◌≤◌, List, [], ◌∷◌, ◌++◌, map, get_or, Option, Some, None, refl, sym, ap, subst, ◌∙◌, arith}
 use Rattle.std.specs.List.Sorted.{IsStrictlyIncreasing}
 use Rattle.connection_history.specs.declared.order.Order.TheVariants.{AsCame}
 use Rattle.connection_history.specs.Answers.{Due, open_yet, nothing, text, dues}
 use Rattle.connection_history.specs.History.{Happening, History}
 use Rattle.connection_history.specs.Items.{Item, said, answer, said_at, out, newly_at, newly_out, answers_at, items_at, items_of}
 use Rattle.connection_history.specs.Written.{places_in}
-use Rattle.connection_history.proofs.Dues.{DueStays, DuesStay, dues-stay}
+use Rattle.connection_history.proofs.Dues.{DuesStay, dues-stay}
 use Rattle.connection_history.proofs.Written.{said-no_places}
 
 -- ---- numbers that go up

@@ -1,9 +1,6 @@
 -- The replies that are told, and the calls that are told to have none.
-use Rattle.std.proofs.Common.{◌≡◌, ℕ, zero, suc, ◌+◌, ◌<◌, ◌≤◌, ◌==◌, List, [], ◌∷◌, ◌++◌, length, map, Bool, true, false, cond, ◌&&◌, not, ◌⊎◌, inl, inr, Option, Some, None, refl, sym, ap, subst, ◌∙◌, append_assoc, append-nil, arith}
-use Rattle.std.proofs.lemmas.Option.{slice_get_within}
-use Rattle.std.specs.Prelude.{slice_get, is_some, filter}
-use Rattle.std.specs.Option.{is_none, option_map_or}
-use Rattle.connection_messages.specs.declared.call.Call.{Call as Came}
+use Rattle.std.proofs.Common.{◌≡◌, ℕ, ◌+◌, ◌==◌, List, [], ◌∷◌, ◌++◌, map, Bool, true, false, cond, inl, inr, Option, Some, None, refl, sym, ap, subst, ◌∙◌, append_assoc, append-nil, arith}
+use Rattle.std.specs.Prelude.{is_some}
 use Rattle.connection_messages.specs.declared.entry.Entry.{Entry}
 use Rattle.connection_messages.specs.declared.entry.Entry.TheVariants.{Call, Cancel, Reply, Stray, Invalid}
 use Rattle.connection_messages.specs.declared.reply.Reply.{Reply as Replied}
@@ -12,9 +9,9 @@ use Rattle.connection_messages.specs.declared.unit.Unit.TheVariants.{Batch}
 use Rattle.connection_history.specs.declared.close.Close.{Close}
 use Rattle.connection_history.specs.declared.event.Event.{Event}
 use Rattle.connection_history.specs.declared.event.Event.TheVariants as event
-use Rattle.connection_history.specs.Stream.{entries_in, entries_along, calls_in, call_numbered, first_reply}
+use Rattle.connection_history.specs.Stream.{entries_in, first_reply}
 use Rattle.connection_history.specs.Events.{reached, events_of_entry, events_along, events_at, events_of}
-use Rattle.connection_history.specs.History.{Happening, came, called, called_all, noticed, withdrew, answered, ended, History, or_else, units_at, stream, ends, is_over, is_open, callers, key_count, caller_of, reply_at, reply_to, is_waiting, waiting, numbers_to}
+use Rattle.connection_history.specs.History.{Happening, came, called, called_all, noticed, withdrew, answered, ended, History, or_else, ends, is_over, key_count, caller_of, reply_at, reply_to, is_waiting, waiting}
 use Rattle.connection_history.specs.Refusals.{IsLawful}
 use Rattle.connection_history.specs.Told.{replies_told, unanswered_told, AtMost}
 use Rattle.connection_history.proofs.Histories.{caller_of-came, caller_of-within, reply_to-came, reply_to-entries, open-came, open-entry, Waits, waits, waiting-from}

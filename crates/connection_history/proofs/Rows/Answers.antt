@@ -1,14 +1,13 @@
 -- Worked rows of answers, in both orders.
-use Rattle.std.proofs.Common.{◌≡◌, List, [], ◌∷◌, ◌++◌, codes, Option, Some, None, refl}
+use Rattle.std.proofs.Common.{◌≡◌, List, [], ◌∷◌, ◌++◌, codes, Some, None, refl}
 use Rattle.std.specs.Fmt.{digits}
 use Rattle.json.specs.Print.{escape_byte}
-use Rattle.connection_messages.specs.declared.answer.Answer.TheVariants as answers
 use Rattle.connection_messages.specs.declared.entry.Entry.TheVariants.{Invalid, Stray}
 use Rattle.connection_messages.specs.declared.unit.Unit.TheVariants.{Unreadable}
 use Rattle.connection_history.specs.declared.event.Event.TheVariants as event
 use Rattle.connection_history.specs.declared.order.Order.TheVariants.{AsAnswered, AsCame}
 use Rattle.connection_history.specs.declared.refused.Refused.TheVariants.{NotOpen}
-use Rattle.connection_history.specs.History.{Happening, came, answered}
+use Rattle.connection_history.specs.History.{Happening, came}
 use Rattle.connection_history.proofs.Rows.Words.{told, written, refused, add, note, request, notification, one, array, gives}
 
 -- ---- two requests, answered in the other order

@@ -1,5 +1,5 @@
 -- Worked rows of cancels, by the other side and by the host.
-use Rattle.std.proofs.Common.{◌≡◌, List, [], ◌∷◌, ◌++◌, codes, true, false, Option, Some, None, refl}
+use Rattle.std.proofs.Common.{◌≡◌, List, [], ◌∷◌, ◌++◌, codes, true, false, Some, refl}
 use Rattle.std.specs.Fmt.{digits}
 use Rattle.json.specs.Print.{escape_byte}
 use Rattle.connection_messages.specs.declared.answer.Answer.TheVariants as answers
@@ -10,7 +10,7 @@ use Rattle.connection_history.specs.declared.order.Order.TheVariants.{AsAnswered
 use Rattle.connection_history.specs.declared.refused.Refused.TheVariants.{NotOpen}
 use Rattle.connection_history.specs.History.{Happening, called, called_all, withdrew, answered, ended}
 use Rattle.connection_history.specs.Refusals.{after, cancel_of}
-use Rattle.connection_history.proofs.Rows.Words.{told, written, refused, add, note, request, notification, cancel, reply, yes, one, array, ask, gives}
+use Rattle.connection_history.proofs.Rows.Words.{told, written, refused, add, request, notification, cancel, reply, yes, one, array, ask, gives}
 
 -- ---- cancels that come
 
