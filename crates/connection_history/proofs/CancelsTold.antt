@@ -1,4 +1,4 @@
--- The cancels that are told.
+-- The cancels that are told: of each request one at most.
 use Rattle.std.proofs.Common.{◌≡◌, ◌↔◌, ℕ, zero, suc, ◌+◌, ◌<◌, ◌≤◌, ◌==◌, List, [], ◌∷◌, ◌++◌, map, Bool, true, false, cond, ◌&&◌, ◌||◌, not, Option, Some, None, refl, sym, ap, subst, ◌∙◌, append_assoc, append-nil, arith}
 use Rattle.std.specs.Prelude.{option_and_then}
 use Rattle.rpc_messages.specs.Ids.{has_id}
@@ -19,13 +19,10 @@ use Rattle.connection_history.proofs.Histories.{stream-came, stream-entry, strea
 use Rattle.connection_history.proofs.Numbers.{one_if, occurs, occurs-passing}
 use Rattle.connection_history.proofs.Streams.{call_numbered-within, is_cancelled-push}
 use Rattle.connection_history.proofs.Tests.{and-left, and-right, not-true, or_else-none_left}
-
--- an array of entries as far as it has come
-abbrev so_far : History → List Entry → History
-so_far past front = came (Batch front) ∷ past
+use Rattle.connection_history.proofs.Along.{so_far}
 
 -- whether the request n is cancelled by what has come
-abbrev is_hit : ℕ → History → Bool
+abbrev pub is_hit : ℕ → History → Bool
 is_hit n history = is_cancelled n (stream history)
 
 -- ---- lists of events
@@ -42,11 +39,11 @@ cancels_told-numbers : (n : ℕ) (ns : List ℕ) → cancels_told n (map event.C
 cancels_told-numbers n [] = refl
 cancels_told-numbers n (m ∷ ns) = ap (λ k. one_if (m == n) + k) (cancels_told-numbers n ns)
 
-cancels_told-unanswered : (n : ℕ) (ks : List ℕ) (told : List Event) → cancels_told n (map event.Unanswered ks ++ told) ≡ cancels_told n told
+pub cancels_told-unanswered : (n : ℕ) (ks : List ℕ) (told : List Event) → cancels_told n (map event.Unanswered ks ++ told) ≡ cancels_told n told
 cancels_told-unanswered n [] told = refl
 cancels_told-unanswered n (k ∷ ks) told = cancels_told-unanswered n ks told
 
-cancels_told-reply : (n : ℕ) (b : Bool) (j : ℕ) (r : Replied) → cancels_told n (cond b (event.Replied j r ∷ []) []) ≡ 0
+pub cancels_told-reply : (n : ℕ) (b : Bool) (j : ℕ) (r : Replied) → cancels_told n (cond b (event.Replied j r ∷ []) []) ≡ 0
 cancels_told-reply n true j r = refl
 cancels_told-reply n false j r = refl
 
@@ -57,7 +54,7 @@ has_id-call id None h = absurd (cc)
 has_id-call id (Some c) h = (c, refl)
 
 -- what has an id is a call that has come
-identified : (id : Id) (n : ℕ) (history : History) → has_id id (request_id n (stream history)) ≡ true → (c : Came) × (call_numbered n (stream history) ≡ Some c)
+pub identified : (id : Id) (n : ℕ) (history : History) → has_id id (request_id n (stream history)) ≡ true → (c : Came) × (call_numbered n (stream history) ≡ Some c)
 identified id n history h = has_id-call id (call_numbered n (stream history)) h
 
 reached-id : (id : Id) (history : History) (n : ℕ) → is_reached id history n ≡ true → has_id id (request_id n (stream history)) ≡ true
@@ -68,17 +65,17 @@ reached-first : (id : Id) (history : History) (n : ℕ) → is_reached id histor
 reached-first id history n h = not-true (is_hit n history) (and-right (has_id id (request_id n (stream history)) && is_open n history) (not (is_hit n history)) h)
 
 -- a cancel is told once to each request that it reaches
-told_of_cancel : (n : ℕ) (id : Id) (history : History) → cancels_told n (map event.Cancelled (reached id history)) ≡ one_if (is_reached id history n)
+pub told_of_cancel : (n : ℕ) (id : Id) (history : History) → cancels_told n (map event.Cancelled (reached id history)) ≡ one_if (is_reached id history n)
 told_of_cancel n id history =
     cancels_told-numbers n (reached id history)
     ∙ occurs-passing (is_reached id history) n (call_count history) (λ h.
     let c = identified id n history (reached-id id history n h) in call_numbered-within n (stream history) c.0 c.1)
 
 -- whether an entry cancels the request n
-abbrev hits : ℕ → History → Entry → Bool
+abbrev pub hits : ℕ → History → Entry → Bool
 hits n history e = cancels (request_id n (stream history)) (e ∷ [])
 
-hit-entry : (n : ℕ) (past : History) (front : List Entry) (e : Entry) → is_hit n (so_far past (front ++ e ∷ [])) ≡ (is_hit n (so_far past front) || hits n (so_far past front) e)
+pub hit-entry : (n : ℕ) (past : History) (front : List Entry) (e : Entry) → is_hit n (so_far past (front ++ e ∷ [])) ≡ (is_hit n (so_far past front) || hits n (so_far past front) e)
 hit-entry n past front e = ap (is_cancelled n) (stream-entry past front e) ∙ is_cancelled-push n (stream (so_far past front)) e
 
 -- ---- at most once
@@ -109,7 +106,7 @@ entry_once n told past front (Reply j r) h =
 entry_once n told past front Stray h = kept_once told (is_hit n (so_far past front)) false h
 entry_once n told past front Invalid h = kept_once told (is_hit n (so_far past front)) false h
 
-entries_once : (n told : ℕ) (past : History) (front es : List Entry) → told ≤ one_if (is_hit n (so_far past front))
+pub entries_once : (n told : ℕ) (past : History) (front es : List Entry) → told ≤ one_if (is_hit n (so_far past front))
     → told + cancels_told n (events_along past front es) ≤ one_if (is_hit n (so_far past (front ++ es)))
 entries_once n told past front [] h = subst (λ l. told + 0 ≤ one_if (is_hit n (so_far past l))) (sym (append-nil front)) (omega arith)
 entries_once n told past front (e ∷ es) h =
@@ -121,10 +118,10 @@ entries_once n told past front (e ∷ es) h =
     subst (λ l. told + here + rest ≤ one_if (is_hit n (so_far past l))) (append_assoc front (e ∷ []) es) all in
     omega (arith, cancels_told-append n (events_of_entry (so_far past front) e) (events_along past (front ++ e ∷ []) es))
 
-hit-none : (n : ℕ) (past : History) → is_hit n (so_far past []) ≡ is_hit n past
+pub hit-none : (n : ℕ) (past : History) → is_hit n (so_far past []) ≡ is_hit n past
 hit-none n past = ap (is_cancelled n) (stream-came past (Batch []) ∙ append-nil (stream past))
 
-hit-unit : (n : ℕ) (past : History) (u : Unit) → is_hit n (so_far past (entries_in u)) ≡ is_hit n (came u ∷ past)
+pub hit-unit : (n : ℕ) (past : History) (u : Unit) → is_hit n (so_far past (entries_in u)) ≡ is_hit n (came u ∷ past)
 hit-unit n past u = ap (is_cancelled n) (stream-came past (Batch (entries_in u)) ∙ sym (stream-came past u))
 
 -- nothing came
@@ -134,7 +131,7 @@ idle n past h e = ap (is_cancelled n) e
 stays_once : (n told : ℕ) (past : History) (h : Happening) → is_hit n (h ∷ past) ≡ is_hit n past → told ≤ one_if (is_hit n past) → told + 0 ≤ one_if (is_hit n (h ∷ past))
 stays_once n told past h e before = subst (λ b. told + 0 ≤ one_if b) (sym e) (omega arith)
 
-same_stream : (past : History) (h : Happening) → stream (h ∷ past) ≡ stream past ++ [] → stream (h ∷ past) ≡ stream past
+pub same_stream : (past : History) (h : Happening) → stream (h ∷ past) ≡ stream past ++ [] → stream (h ∷ past) ≡ stream past
 same_stream past h e = e ∙ append-nil (stream past)
 
 happening_once : (n told : ℕ) (past : History) (h : Happening) → told ≤ one_if (is_hit n past) → told + cancels_told n (events_at past h) ≤ one_if (is_hit n (h ∷ past))
@@ -157,7 +154,7 @@ told_if_hit (h ∷ past) n =
     let now = happening_once n (cancels_told n (events_of past)) past h (told_if_hit past n) in
     omega (arith, cancels_told-append n (events_of past) (events_at past h))
 
-at_most_one : (k : ℕ) (b : Bool) → k ≤ one_if b → k ≤ 1
+pub at_most_one : (k : ℕ) (b : Bool) → k ≤ one_if b → k ≤ 1
 at_most_one k true h = h
 at_most_one k false h = omega arith
 
@@ -172,148 +169,3 @@ told_once history n = at_most_one _ (is_hit n history) (told_if_hit history n)
 -- what is told to be cancelled is
 pub told_cancelled : (history : History) (n : ℕ) → 0 < cancels_told n (events_of history) → is_cancelled n (stream history) ≡ true
 told_cancelled history n some = some_if _ (is_hit n history) (told_if_hit history n) some
-
--- ---- each open request
-
-adds_none : (told : ℕ) (b : Bool) → told ≡ one_if b → told + 0 ≡ one_if (b || false)
-adds_none told true h = omega arith
-adds_none told false h = omega arith
-
-adds_reached : (told : ℕ) (b id : Bool) → told ≡ one_if b → told + one_if (id && true && not b) ≡ one_if (b || (id || false))
-adds_reached told true true h = omega arith
-adds_reached told true false h = omega arith
-adds_reached told false true h = omega arith
-adds_reached told false false h = omega arith
-
--- where the request has an id it is open, since it isn't answered
-reached_if : (id : Id) (history : History) (n : ℕ) (b : Bool) → has_id id (request_id n (stream history)) ≡ b → answer_to n history ≡ None
-    → is_reached id history n ≡ (has_id id (request_id n (stream history)) && true && not (is_hit n history))
-reached_if id history n true is none =
-    let c = identified id n history is in
-    ap (λ o. has_id id (request_id n (stream history)) && o && not (is_hit n history)) (open-from n history c.0 c.1 none)
-reached_if id history n false is none = ap (λ b. b && is_open n history && not (is_hit n history)) is ∙ sym (ap (λ b. b && true && not (is_hit n history)) is)
-
-entry_open : (n told : ℕ) (past : History) (front : List Entry) (e : Entry) → answer_to n (so_far past front) ≡ None → told ≡ one_if (is_hit n (so_far past front))
-    → told + cancels_told n (events_of_entry (so_far past front) e) ≡ one_if (is_hit n (so_far past front) || hits n (so_far past front) e)
-entry_open n told past front (Call c) none h = adds_none told (is_hit n (so_far past front)) h
-entry_open n told past front (Cancel id) none h =
-    ap (λ m. told + m) (told_of_cancel n id (so_far past front) ∙ ap one_if (reached_if id (so_far past front) n (has_id id (request_id n (stream (so_far past front)))) refl none))
-    ∙ adds_reached told (is_hit n (so_far past front)) (has_id id (request_id n (stream (so_far past front)))) h
-entry_open n told past front (Reply j r) none h = ap (λ m. told + m) (cancels_told-reply n (is_waiting j (so_far past front)) j r) ∙ adds_none told (is_hit n (so_far past front)) h
-entry_open n told past front Stray none h = adds_none told (is_hit n (so_far past front)) h
-entry_open n told past front Invalid none h = adds_none told (is_hit n (so_far past front)) h
-
-entries_open : (n told : ℕ) (past : History) (front es : List Entry) → answer_to n past ≡ None → told ≡ one_if (is_hit n (so_far past front))
-    → told + cancels_told n (events_along past front es) ≡ one_if (is_hit n (so_far past (front ++ es)))
-entries_open n told past front [] none h = let zero_more : told + 0 ≡ told = omega arith in zero_more ∙ h ∙ ap (λ l. one_if (is_hit n (so_far past l))) (sym (append-nil front))
-entries_open n told past front (e ∷ es) none h =
-    let here = cancels_told n (events_of_entry (so_far past front) e) in
-    let rest = cancels_told n (events_along past (front ++ e ∷ []) es) in
-    let now : told + here ≡ one_if (is_hit n (so_far past (front ++ e ∷ []))) =
-    entry_open n told past front e (answer_to-came n past (Batch front) ∙ none) h ∙ ap one_if (sym (hit-entry n past front e)) in
-    let sums : told + (here + rest) ≡ told + here + rest = omega arith in
-    ap (λ m. told + m) (cancels_told-append n (events_of_entry (so_far past front) e) (events_along past (front ++ e ∷ []) es))
-    ∙ sums ∙ entries_open n (told + here) past (front ++ e ∷ []) es none now
-    ∙ ap (λ l. one_if (is_hit n (so_far past l))) (append_assoc front (e ∷ []) es)
-
-stays_told : (n told : ℕ) (past : History) (h : Happening) → stream (h ∷ past) ≡ stream past ++ [] → told ≡ one_if (is_hit n past) → told + 0 ≡ one_if (is_hit n (h ∷ past))
-stays_told n told past h e before = let same : told + 0 ≡ told = omega arith in same ∙ before ∙ ap (λ es. one_if (is_cancelled n es)) (sym (same_stream past h e))
-
-happening_open : (n told : ℕ) (past : History) (h : Happening) → answer_to n past ≡ None → told ≡ one_if (is_hit n past) → told + cancels_told n (events_at past h) ≡ one_if (is_hit n (h ∷ past))
-happening_open n told past (came u) none before =
-    entries_open n told past [] (entries_in u) none (before ∙ ap one_if (sym (hit-none n past))) ∙ ap one_if (hit-unit n past u)
-happening_open n told past (called m o) none before = stays_told n told past (called m o) (stream-more past (called m o)) before
-happening_open n told past (called_all m os) none before = stays_told n told past (called_all m os) (stream-more past (called_all m os)) before
-happening_open n told past (noticed o) none before = stays_told n told past (noticed o) (stream-more past (noticed o)) before
-happening_open n told past (withdrew k) none before = stays_told n told past (withdrew k) (stream-more past (withdrew k)) before
-happening_open n told past (answered m a) none before = stays_told n told past (answered m a) (stream-more past (answered m a)) before
-happening_open n told past (ended close) none before =
-    ap (λ m. told + m) (cancels_told-unanswered n (waiting past) (event.Over close ∷ [])) ∙ stays_told n told past (ended close) (stream-more past (ended close)) before
-
-told_unanswered : (history : History) (n : ℕ) → answer_to n history ≡ None → cancels_told n (events_of history) ≡ one_if (is_hit n history)
-told_unanswered [] n none = refl
-told_unanswered (h ∷ past) n none =
-    cancels_told-append n (events_of past) (events_at past h)
-    ∙ happening_open n (cancels_told n (events_of past)) past h (or_else-none_left (answer_to n past) (answer_at n h) none) (told_unanswered past n (or_else-none_left (answer_to n past) (answer_at n h) none))
-
--- an open request is told to be cancelled exactly where it is
-pub open_told : (history : History) (n : ℕ) → 0 < n → is_open n history ≡ true → cancels_told n (events_of history) ≡ one_if (is_cancelled n (stream history))
-open_told history zero some h = absurd (omega arith)
-open_told history (suc n) some h = told_unanswered history (suc n) (open_unanswered n history h)
-
--- ---- which cancel it is
-
--- a cancel among the entries after a front reaches the request
-pub record ReachedAmong (past : History) (front es : List Entry) (n : ℕ) : Type 0 where
-  pub earlier : List Entry
-  pub id : Id
-  pub rest : List Entry
-  pub place : es ≡ earlier ++ Cancel id ∷ rest
-  pub reached : is_reached id (so_far past (front ++ earlier)) n ≡ true
-
-further : (past : History) (front : List Entry) (e : Entry) (es : List Entry) (n : ℕ) → ReachedAmong past (front ++ e ∷ []) es n → ReachedAmong past front (e ∷ es) n
-further past front e es n r = record {
-  earlier = e ∷ r.earlier;
-  id = r.id;
-  rest = r.rest;
-  place = ap (λ l. e ∷ l) r.place;
-  reached = ap (λ l. is_reached r.id (so_far past l) n) (sym (append_assoc front (e ∷ []) r.earlier)) ∙ r.reached;
-}
-
-one_there : (b : Bool) → 0 < one_if b → b ≡ true
-one_there true h = refl
-one_there false h = absurd (omega arith)
-
-in_either : (n : ℕ) (past : History) (front : List Entry) (id : Id) (es : List Entry) (b : Bool) → is_reached id (so_far past front) n ≡ b
-    → (0 < cancels_told n (events_along past (front ++ Cancel id ∷ []) es) → ReachedAmong past (front ++ Cancel id ∷ []) es n)
-    → 0 < cancels_told n (events_along past front (Cancel id ∷ es)) → ReachedAmong past front (Cancel id ∷ es) n
-in_either n past front id es true here later some = record {
-  earlier = [];
-  id = id;
-  rest = es;
-  place = refl;
-  reached = ap (λ l. is_reached id (so_far past l) n) (append-nil front) ∙ here;
-}
-in_either n past front id es false here later some =
-    let none : cancels_told n (map event.Cancelled (reached id (so_far past front))) ≡ 0 = told_of_cancel n id (so_far past front) ∙ ap one_if here in
-    further past front (Cancel id) es n (later (omega (arith, cancels_told-append n (map event.Cancelled (reached id (so_far past front))) (events_along past (front ++ Cancel id ∷ []) es))))
-
-found : (n : ℕ) (past : History) (front es : List Entry) → 0 < cancels_told n (events_along past front es) → ReachedAmong past front es n
-found n past front [] some = absurd (omega arith)
-found n past front (Call c ∷ es) some = further past front (Call c) es n (found n past (front ++ Call c ∷ []) es some)
-found n past front (Cancel id ∷ es) some = in_either n past front id es (is_reached id (so_far past front) n) refl (found n past (front ++ Cancel id ∷ []) es) some
-found n past front (Reply j r ∷ es) some =
-    further past front (Reply j r) es n
-    (found n past (front ++ Reply j r ∷ []) es
-    (omega (arith, cancels_told-append n (events_of_entry (so_far past front) (Reply j r)) (events_along past (front ++ Reply j r ∷ []) es), cancels_told-reply n (is_waiting j (so_far past front)) j r)))
-found n past front (Stray ∷ es) some = further past front Stray es n (found n past (front ++ Stray ∷ []) es some)
-found n past front (Invalid ∷ es) some = further past front Invalid es n (found n past (front ++ Invalid ∷ []) es some)
-
-events_along-append : (past : History) (front es more : List Entry) → events_along past front (es ++ more) ≡ events_along past front es ++ events_along past (front ++ es) more
-events_along-append past front [] more = ap (λ l. events_along past l more) (sym (append-nil front))
-events_along-append past front (e ∷ es) more =
-    ap (λ l. events_of_entry (so_far past front) e ++ l)
-    (events_along-append past (front ++ e ∷ []) es more ∙ ap (λ l. events_along past (front ++ e ∷ []) es ++ events_along past l more) (append_assoc front (e ∷ []) es))
-    ∙ sym (append_assoc (events_of_entry (so_far past front) e) (events_along past (front ++ e ∷ []) es) (events_along past (front ++ e ∷ es) more))
-
-unit_at_most : (past : History) (u : Unit) (n : ℕ) → cancels_told n (events_at past (came u)) ≤ 1
-unit_at_most past u n =
-    let all : 0 + cancels_told n (events_at past (came u)) ≤ 1 = at_most_one _ (is_hit n (so_far past (entries_in u))) (entries_once n 0 past [] (entries_in u) (omega arith)) in
-    omega arith
-
-told_there : (past : History) (u : Unit) (n : ℕ) → ReachedBy past u n → 0 < cancels_told n (events_at past (came u))
-told_there past u n r =
-    let front = r.front in
-    let all = ap (λ es. cancels_told n (events_along past [] es)) r.place ∙ ap (cancels_told n) (events_along-append past [] front (Cancel r.id ∷ r.rest)) in
-    let here : cancels_told n (map event.Cancelled (reached r.id (so_far past front))) ≡ 1 = told_of_cancel n r.id (so_far past front) ∙ ap one_if r.reached in
-    omega (arith, all, cancels_told-append n (events_along past [] front) (events_along past front (Cancel r.id ∷ r.rest)), cancels_told-append n (map event.Cancelled (reached r.id (so_far past front))) (events_along past (front ++ Cancel r.id ∷ []) r.rest))
-
-by_among : (past : History) (u : Unit) (n : ℕ) → ReachedAmong past [] (entries_in u) n → ReachedBy past u n
-by_among past u n r = record { front = r.earlier; id = r.id; rest = r.rest; place = r.place; reached = r.reached }
-
--- a unit tells that a request is cancelled exactly where one of its cancels reaches it
-pub reached_told : (past : History) (u : Unit) (n : ℕ) → (cancels_told n (events_at past (came u)) ≡ 1) ↔ ReachedBy past u n
-reached_told past u n = (
-  (λ one. by_among past u n (found n past [] (entries_in u) (omega arith))),
-  (λ r. let some = told_there past u n r in omega (arith, unit_at_most past u n)),
-)

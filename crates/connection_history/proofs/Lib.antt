@@ -1,4 +1,7 @@
+pub mod Along
 mod CallsTold
+mod CancelsOpen
+mod CancelsReached
 mod CancelsTold
 pub mod Dues
 mod Growth
@@ -9,7 +12,9 @@ pub mod Outs
 mod Owed
 mod Places
 mod RepliesTold
+mod RepliesWaiting
 mod Rows
 pub mod Streams
 pub mod Tests
+mod Unanswered
 mod Written

@@ -18,6 +18,7 @@ use Rattle.connection_history.proofs.Histories.{caller_of-came, caller_of-within
 use Rattle.connection_history.proofs.Lawful.{caller_known, open_before}
 use Rattle.connection_history.proofs.Numbers.{one_if, occurs, occurs-passing}
 use Rattle.connection_history.proofs.Tests.{two, same, same_test, or-left, or-right, or_else-none, or_else-none_left}
+use Rattle.connection_history.proofs.Along.{so_far}
 
 -- ---- lists of events
 
@@ -33,11 +34,11 @@ replies_told-append k (event.Replied j r ∷ told) more = told_on (j == k) r (re
 replies_told-append k (event.Unanswered j ∷ told) more = replies_told-append k told more
 replies_told-append k (event.Over close ∷ told) more = replies_told-append k told more
 
-replies_told-cancelled : (k : ℕ) (ns : List ℕ) → replies_told k (map event.Cancelled ns) ≡ []
+pub replies_told-cancelled : (k : ℕ) (ns : List ℕ) → replies_told k (map event.Cancelled ns) ≡ []
 replies_told-cancelled k [] = refl
 replies_told-cancelled k (n ∷ ns) = replies_told-cancelled k ns
 
-replies_told-unanswered : (k : ℕ) (ks : List ℕ) (told : List Event) → replies_told k (map event.Unanswered ks ++ told) ≡ replies_told k told
+pub replies_told-unanswered : (k : ℕ) (ks : List ℕ) (told : List Event) → replies_told k (map event.Unanswered ks ++ told) ≡ replies_told k told
 replies_told-unanswered k [] told = refl
 replies_told-unanswered k (j ∷ ks) told = replies_told-unanswered k ks told
 
@@ -52,10 +53,6 @@ at_most-later : (told : List Replied) (o later : Option Replied) → AtMost told
 at_most-later [] o later h = tt
 at_most-later (r ∷ []) o later h = ap (λ p. or_else p later) h
 at_most-later (r ∷ s ∷ told) o later h = h
-
--- an array of entries as far as it has come
-abbrev so_far : History → List Entry → History
-so_far past front = came (Batch front) ∷ past
 
 -- the reply, as far as it is known, with one entry more
 abbrev with_entry : ℕ → History → Entry → Option Replied
@@ -105,7 +102,7 @@ entries-told k past front (e ∷ es) told h =
     subst (λ l. AtMost l (reply_to k (so_far past (front ++ e ∷ es)))) (append_assoc told here (replies_told k rest) ∙ ap (λ l. told ++ l) (sym (replies_told-append k (events_of_entry (so_far past front) e) rest)))
     (subst (λ l. AtMost ((told ++ here) ++ replies_told k rest) (reply_to k (so_far past l))) (append_assoc front (e ∷ []) es) after_all)
 
-no_more : (b : Bool) (o : Option Replied) → or_else o (cond b None None) ≡ o
+pub no_more : (b : Bool) (o : Option Replied) → or_else o (cond b None None) ≡ o
 no_more true o = or_else-none o
 no_more false o = or_else-none o
 
@@ -129,200 +126,3 @@ first_told [] k = tt
 first_told (h ∷ past) k =
     subst (λ l. AtMost l (reply_to k (h ∷ past))) (sym (replies_told-append k (events_of past) (events_at past h)))
     (happening-told k past h (replies_told k (events_of past)) (first_told past k))
-
--- ---- a call that has its reply
-
-if_other : (b : Bool) (j : ℕ) (k : ℕ) (r : Replied) → (j == k) ≡ false → replies_told k (cond b (event.Replied j r ∷ []) []) ≡ []
-if_other true j k r h = ap (λ d. cond d (r ∷ []) []) h
-if_other false j k r h = refl
-
-not_waiting-told : (j k : ℕ) (r : Replied) (b : Bool) → b ≡ false → replies_told k (cond b (event.Replied j r ∷ []) []) ≡ []
-not_waiting-told j k r true h = absurd (cc)
-not_waiting-told j k r false h = refl
-
--- an entry tells nothing to a call that doesn't wait
-quiet_reply : (k : ℕ) (history : History) (j : ℕ) (r : Replied) (c : Bool) → (j == k) ≡ c → is_waiting k history ≡ false → replies_told k (events_of_entry history (Reply j r)) ≡ []
-quiet_reply k history j r true is h = not_waiting-told j k r (is_waiting j history) (ap (λ i. is_waiting i history) (same j k is) ∙ h)
-quiet_reply k history j r false is h = if_other (is_waiting j history) j k r is
-
-quiet_entry : (k : ℕ) (history : History) (e : Entry) → is_waiting k history ≡ false → replies_told k (events_of_entry history e) ≡ []
-quiet_entry k history (Call c) h = refl
-quiet_entry k history (Cancel id) h = replies_told-cancelled k (reached id history)
-quiet_entry k history (Reply j r) h = quiet_reply k history j r (j == k) refl h
-quiet_entry k history Stray h = refl
-quiet_entry k history Invalid h = refl
-
--- where the call waits no more, nothing is told to it
-quiet_along : (k : ℕ) (past : History) (front es : List Entry) → ((more : List Entry) → is_waiting k (so_far past (front ++ more)) ≡ false) → replies_told k (events_along past front es) ≡ []
-quiet_along k past front [] h = refl
-quiet_along k past front (e ∷ es) h =
-    replies_told-append k (events_of_entry (so_far past front) e) (events_along past (front ++ e ∷ []) es)
-    ∙ (λ i. quiet_entry k (so_far past front) e (ap (λ l. is_waiting k (so_far past l)) (sym (append-nil front)) ∙ h []) i
-    ++ quiet_along k past (front ++ e ∷ []) es (λ more. ap (λ l. is_waiting k (so_far past l)) (append_assoc front (e ∷ []) more) ∙ h (e ∷ more)) i)
-
--- it is false where it can't be true
-never : (b : Bool) → (b ≡ true → ⊥) → b ≡ false
-never true h = absurd (h refl)
-never false h = refl
-
--- a call that has its reply waits no more
-has_reply : (k : ℕ) (past : History) (front : List Entry) (r : Replied) → reply_to k (so_far past front) ≡ Some r → (more : List Entry) → is_waiting k (so_far past (front ++ more)) ≡ false
-has_reply k past front r told more = never (is_waiting k (so_far past (front ++ more))) (λ waiting_still.
-    let w = waits k (so_far past (front ++ more)) waiting_still in
-    let none = w.none in
-    let some = reply_to-entries k past front more in
-    let kept : or_else (reply_to k (so_far past front)) (cond (is_some (caller_of k past)) (first_reply k more) None) ≡ Some r = ap (λ o. or_else o (cond (is_some (caller_of k past)) (first_reply k more) None)) told in
-    cc)
-
--- ---- a call that waits
-
-neither : (b : Bool) → cond {A = Option Replied} b None None ≡ None
-neither true = refl
-neither false = refl
-
--- It waits on where the entry is no reply to it.
-waits_on : (k : ℕ) (past : History) (front : List Entry) (e : Entry) → Waits k (so_far past front) → first_reply k (e ∷ []) ≡ None → Waits k (so_far past (front ++ e ∷ []))
-waits_on k past front e w none = record {
-  number = w.number;
-  caller = caller_of-came k past (Batch (front ++ e ∷ [])) ∙ sym (caller_of-came k past (Batch front)) ∙ w.caller;
-  opened = open-entry w.number past front e w.opened;
-  none =
-      reply_to-entries k past front (e ∷ [])
-      ∙ (λ i. or_else (w.none i) (cond (is_some (caller_of k past)) (none i) None))
-      ∙ neither (is_some (caller_of k past));
-  going_on = w.going_on;
-}
-
--- the reply that is told to it
-the_reply : (k : ℕ) (past : History) (front : List Entry) (j : ℕ) (r : Replied) → j ≡ k → Waits k (so_far past front) → reply_to k (so_far past (front ++ Reply j r ∷ [])) ≡ Some r
-the_reply k past front j r key w =
-    let made : is_some (caller_of k past) ≡ true = ap is_some (sym (caller_of-came k past (Batch front)) ∙ w.caller) in
-    let is : first_reply k (Reply j r ∷ []) ≡ Some r = ap (λ b. cond b (Some r) None) (same_test j k key) in
-    reply_to-entries k past front (Reply j r ∷ []) ∙ (λ i. or_else (w.none i) (cond (made i) (is i) None))
-
-told-here : (k : ℕ) (history : History) (j : ℕ) (r : Replied) → j ≡ k → is_waiting k history ≡ true → replies_told k (events_of_entry history (Reply j r)) ≡ r ∷ []
-told-here k history j r key h =
-    ap (λ b. replies_told k (cond b (event.Replied j r ∷ []) [])) (ap (λ i. is_waiting i history) key ∙ h)
-    ∙ ap (λ b. cond b (r ∷ []) []) (same_test j k key)
-
-skipped : (k : ℕ) (past : History) (front : List Entry) (e : Entry) (es : List Entry) (r : Replied) → replies_told k (events_of_entry (so_far past front) e) ≡ []
-    → replies_told k (events_along past (front ++ e ∷ []) es) ≡ r ∷ [] → replies_told k (events_along past front (e ∷ es)) ≡ r ∷ []
-skipped k past front e es r none rest =
-    replies_told-append k (events_of_entry (so_far past front) e) (events_along past (front ++ e ∷ []) es) ∙ (λ i. none i ++ rest i)
-
-waiting-along : (k : ℕ) (past : History) (front es : List Entry) (r : Replied) → Waits k (so_far past front) → first_reply k es ≡ Some r → replies_told k (events_along past front es) ≡ r ∷ []
-waiting-along k past front [] r w is = absurd (cc)
-waiting-along k past front (Call c ∷ es) r w is = skipped k past front (Call c) es r refl (waiting-along k past (front ++ Call c ∷ []) es r (waits_on k past front (Call c) w refl) is)
-waiting-along k past front (Cancel id ∷ es) r w is =
-    skipped k past front (Cancel id) es r (replies_told-cancelled k (reached id (so_far past front))) (waiting-along k past (front ++ Cancel id ∷ []) es r (waits_on k past front (Cancel id) w refl) is)
-waiting-along k past front (Reply j s ∷ es) r w is = elim (two (j == k)) [
-  | inl it ↦
-      let key : j ≡ k = same j k it in
-      let first : s ≡ r = let found : cond true (Some s) (first_reply k es) ≡ Some r = ap (λ b. cond b (Some s) (first_reply k es)) (sym it) ∙ is in cc in
-      replies_told-append k (events_of_entry (so_far past front) (Reply j s)) (events_along past (front ++ Reply j s ∷ []) es)
-      ∙ (λ i. told-here k (so_far past front) j s key (waiting-from k (so_far past front) w) i
-      ++ quiet_along k past (front ++ Reply j s ∷ []) es (has_reply k past (front ++ Reply j s ∷ []) s (the_reply k past front j s key w)) i)
-      ∙ ap (λ t. t ∷ []) first
-  | inr other ↦
-      skipped k past front (Reply j s) es r (if_other (is_waiting j (so_far past front)) j k s other)
-      (waiting-along k past (front ++ Reply j s ∷ []) es r (waits_on k past front (Reply j s) w (ap (λ b. cond b (Some s) None) other))
-      (ap (λ b. cond b (Some s) (first_reply k es)) (sym other) ∙ is))
-]
-waiting-along k past front (Stray ∷ es) r w is = skipped k past front Stray es r refl (waiting-along k past (front ++ Stray ∷ []) es r (waits_on k past front Stray w refl) is)
-waiting-along k past front (Invalid ∷ es) r w is = skipped k past front Invalid es r refl (waiting-along k past (front ++ Invalid ∷ []) es r (waits_on k past front Invalid w refl) is)
-
--- a call that waits when a unit comes waits at the unit's first entry
-waits_at_first : (k : ℕ) (past : History) → Waits k past → Waits k (so_far past [])
-waits_at_first k past w = record {
-  number = w.number;
-  caller = caller_of-came k past (Batch []) ∙ w.caller;
-  opened = open-came w.number past (Batch []) w.opened;
-  none = reply_to-came k past (Batch []) ∙ no_more (is_some (caller_of k past)) (reply_to k past) ∙ w.none;
-  going_on = w.going_on;
-}
-
--- a call that waits is told its reply
-pub waiting_told : (past : History) (u : Unit) (k : ℕ) (r : Replied) → is_waiting k past ≡ true → first_reply k (entries_in u) ≡ Some r → replies_told k (events_at past (came u)) ≡ r ∷ []
-waiting_told past u k r waiting_now is = waiting-along k past [] (entries_in u) r (waits_at_first k past (waits k past waiting_now)) is
-
--- ---- a call that doesn't wait
-
--- It waits at no entry of a unit either.
-waited_before : (cancels : Bool) (k : ℕ) (past : History) (front : List Entry) → IsLawful cancels past → Waits k (so_far past front) → Waits k past
-waited_before cancels k past front lawful w =
-    let caller : caller_of k past ≡ Some w.number = sym (caller_of-came k past (Batch front)) ∙ w.caller in
-    record {
-      number = w.number;
-      caller = caller;
-      opened = open_before w.number past front (caller_known cancels k past w.number lawful caller) w.opened;
-      none = or_else-none_left (reply_to k past) _ (sym (reply_to-came k past (Batch front)) ∙ w.none);
-      going_on = w.going_on;
-    }
-
--- a call that doesn't wait is told no reply
-pub not_waiting_told : (cancels : Bool) (past : History) (h : Happening) (k : ℕ) → IsLawful cancels past → is_waiting k past ≡ false → replies_told k (events_at past h) ≡ []
-not_waiting_told cancels past (came u) k lawful idle =
-    quiet_along k past [] (entries_in u) (λ more. never (is_waiting k (so_far past more)) (λ waiting_now.
-    let before = waiting-from k past (waited_before cancels k past more lawful (waits k (so_far past more) waiting_now)) in
-    cc))
-not_waiting_told cancels past (called n o) k lawful idle = refl
-not_waiting_told cancels past (called_all n os) k lawful idle = refl
-not_waiting_told cancels past (noticed o) k lawful idle = refl
-not_waiting_told cancels past (withdrew j) k lawful idle = refl
-not_waiting_told cancels past (answered n a) k lawful idle = refl
-not_waiting_told cancels past (ended close) k lawful idle = replies_told-unanswered k (waiting past) (event.Over close ∷ [])
-
--- ---- calls that are told to have no reply
-
-pub unanswered_told-append : (k : ℕ) (told more : List Event) → unanswered_told k (told ++ more) ≡ unanswered_told k told + unanswered_told k more
-unanswered_told-append k [] more = omega arith
-unanswered_told-append k (event.Call n c ∷ told) more = unanswered_told-append k told more
-unanswered_told-append k (event.Cancelled n ∷ told) more = unanswered_told-append k told more
-unanswered_told-append k (event.Replied j r ∷ told) more = unanswered_told-append k told more
-unanswered_told-append k (event.Unanswered j ∷ told) more = omega (arith, unanswered_told-append k told more)
-unanswered_told-append k (event.Over close ∷ told) more = unanswered_told-append k told more
-
-unanswered_told-waiting : (k : ℕ) (ks : List ℕ) (close : Close) → unanswered_told k (map event.Unanswered ks ++ event.Over close ∷ []) ≡ occurs k ks
-unanswered_told-waiting k [] close = refl
-unanswered_told-waiting k (j ∷ ks) close = ap (λ m. one_if (j == k) + m) (unanswered_told-waiting k ks close)
-
--- at the end each call that waits is told to have no reply, once
-pub ended_told : (past : History) (close : Close) (k : ℕ) → unanswered_told k (events_at past (ended close)) ≡ one_if (is_waiting k past)
-ended_told past close k =
-    unanswered_told-waiting k (waiting past) close
-    ∙ occurs-passing (λ j. is_waiting j past) k (key_count past) (λ waiting_now. let w = waits k past waiting_now in caller_of-within k past w.number w.caller)
-
-unanswered_told-cancelled : (k : ℕ) (ns : List ℕ) → unanswered_told k (map event.Cancelled ns) ≡ 0
-unanswered_told-cancelled k [] = refl
-unanswered_told-cancelled k (n ∷ ns) = unanswered_told-cancelled k ns
-
-unanswered_told-reply : (k : ℕ) (b : Bool) (j : ℕ) (r : Replied) → unanswered_told k (cond b (event.Replied j r ∷ []) []) ≡ 0
-unanswered_told-reply k true j r = refl
-unanswered_told-reply k false j r = refl
-
-unanswered_told-entry : (k : ℕ) (history : History) (e : Entry) → unanswered_told k (events_of_entry history e) ≡ 0
-unanswered_told-entry k history (Call c) = refl
-unanswered_told-entry k history (Cancel id) = unanswered_told-cancelled k (reached id history)
-unanswered_told-entry k history (Reply j r) = unanswered_told-reply k (is_waiting j history) j r
-unanswered_told-entry k history Stray = refl
-unanswered_told-entry k history Invalid = refl
-
-unanswered_told-along : (k : ℕ) (past : History) (front es : List Entry) → unanswered_told k (events_along past front es) ≡ 0
-unanswered_told-along k past front [] = refl
-unanswered_told-along k past front (e ∷ es) =
-    omega (arith, unanswered_told-append k (events_of_entry (so_far past front) e) (events_along past (front ++ e ∷ []) es), unanswered_told-entry k (so_far past front) e, unanswered_told-along k past (front ++ e ∷ []) es)
-
-unanswered_told-before : (k : ℕ) (past : History) (h : Happening) → ends h ≡ false → unanswered_told k (events_at past h) ≡ 0
-unanswered_told-before k past (came u) h = unanswered_told-along k past [] (entries_in u)
-unanswered_told-before k past (called n o) h = refl
-unanswered_told-before k past (called_all n os) h = refl
-unanswered_told-before k past (noticed o) h = refl
-unanswered_told-before k past (withdrew j) h = refl
-unanswered_told-before k past (answered n a) h = refl
-unanswered_told-before k past (ended close) h = absurd (cc)
-
--- until the end no call is told to have no reply
-pub none_unanswered : (history : History) (k : ℕ) → is_over history ≡ false → unanswered_told k (events_of history) ≡ 0
-none_unanswered [] k going_on = refl
-none_unanswered (h ∷ past) k going_on =
-    omega (arith, unanswered_told-append k (events_of past) (events_at past h), unanswered_told-before k past h (or-left (ends h) (is_over past) going_on), none_unanswered past k (or-right (ends h) (is_over past) going_on))

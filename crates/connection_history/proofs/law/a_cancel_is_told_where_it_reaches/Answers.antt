@@ -1,4 +1,6 @@
-use Rattle.connection_history.proofs.CancelsTold.{told_once, reached_told, open_told, told_cancelled}
+use Rattle.connection_history.proofs.CancelsOpen.{open_told}
+use Rattle.connection_history.proofs.CancelsReached.{reached_told}
+use Rattle.connection_history.proofs.CancelsTold.{told_once, told_cancelled}
 use Rattle.connection_history.proofs.law.a_cancel_is_told_where_it_reaches.Goals as goal
 
 pub returns-clause-once : goal.returns-clause-once

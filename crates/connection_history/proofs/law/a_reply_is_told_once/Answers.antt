@@ -1,4 +1,6 @@
-use Rattle.connection_history.proofs.RepliesTold.{first_told, waiting_told, not_waiting_told, ended_told, none_unanswered}
+use Rattle.connection_history.proofs.RepliesTold.{first_told}
+use Rattle.connection_history.proofs.RepliesWaiting.{waiting_told, not_waiting_told}
+use Rattle.connection_history.proofs.Unanswered.{ended_told, none_unanswered}
 use Rattle.connection_history.proofs.law.a_reply_is_told_once.Goals as goal
 
 pub returns-clause-first : goal.returns-clause-first
