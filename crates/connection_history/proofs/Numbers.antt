@@ -1,10 +1,14 @@
 -- How often a number stands in a list, and in what passes of the numbers to n.
-use Rattle.std.proofs.Common.{◌≡◌, ℕ, zero, suc, ◌+◌, ◌<◌, ◌≤◌, ◌==◌, List, [], ◌∷◌, ◌++◌, Bool, true, false, cond, inl, inr, refl, sym, ap, ◌∙◌, arith}
+use Rattle.std.proofs.Common.{◌≡◌, ℕ, zero, suc, ◌+◌, ◌<◌, ◌≤◌, ◌==◌, List, [], ◌∷◌, ◌++◌, length, Bool, true, false, cond, inl, inr, refl, sym, ap, subst, ◌∙◌, length-append, arith}
 use Rattle.std.proofs.lemmas.Bool.{cases_lt}
-use Rattle.std.proofs.lemmas.List.Elements.{filter-append}
+use Rattle.std.proofs.lemmas.List.Elements.{filter-append, Contains-append_left, Contains-push, Contains-push_cases}
+use Rattle.std.proofs.lemmas.List.Kept.{IsStrictlyIncreasing-filter}
+use Rattle.std.specs.List.{Contains}
+use Rattle.std.specs.List.Sorted.{IsStrictlyIncreasing}
 use Rattle.std.specs.Prelude.{filter}
 use Rattle.connection_history.specs.History.{numbers_to}
-use Rattle.connection_history.proofs.Tests.{same, same_test}
+use Rattle.connection_history.proofs.Rise.{Rise, rise-append, strict}
+use Rattle.connection_history.proofs.Tests.{same_test, different}
 
 -- 1 where the test holds
 abbrev pub one_if : Bool → ℕ
@@ -39,22 +43,18 @@ here : (b c : Bool) → c ≡ true → cond b (one_if c) 0 ≡ one_if b
 here b true h = refl
 here b false h = absurd (cc)
 
-differ : (n k : ℕ) (b : Bool) → (n == k) ≡ b → (n ≡ k → ⊥) → (n == k) ≡ false
-differ n k true h apart = absurd (apart (same n k h))
-differ n k false h apart = h
-
 -- a number beyond them doesn't stand there
 pub occurs-beyond : (p : ℕ → Bool) (k n : ℕ) → n < k → occurs k (filter p (numbers_to n)) ≡ 0
 occurs-beyond p k zero h = refl
 occurs-beyond p k (suc n) h =
-    let last = other (p (suc n)) (suc n == k) (differ (suc n) k (suc n == k) refl (λ e. omega arith)) in
+    let last = other (p (suc n)) (suc n == k) (different (suc n) k (λ e. omega arith)) in
     omega (arith, occurs-more p k n, occurs-beyond p k n (omega arith), last)
 
 -- nor does 0
 pub occurs-zero : (p : ℕ → Bool) (n : ℕ) → occurs 0 (filter p (numbers_to n)) ≡ 0
 occurs-zero p zero = refl
 occurs-zero p (suc n) =
-    let last = other (p (suc n)) (suc n == 0) (differ (suc n) 0 (suc n == 0) refl (λ e. omega arith)) in
+    let last = other (p (suc n)) (suc n == 0) (different (suc n) 0 (λ e. omega arith)) in
     omega (arith, occurs-more p 0 n, occurs-zero p n, last)
 
 at_last : (p : ℕ → Bool) (k n : ℕ) → k ≡ suc n → occurs k (filter p (numbers_to (suc n))) ≡ one_if (p k)
@@ -65,7 +65,7 @@ at_last p k n e =
 
 before_last : (p : ℕ → Bool) (k n : ℕ) → k ≤ n → occurs k (filter p (numbers_to n)) ≡ one_if (p k) → occurs k (filter p (numbers_to (suc n))) ≡ one_if (p k)
 before_last p k n h before =
-    let last = other (p (suc n)) (suc n == k) (differ (suc n) k (suc n == k) refl (λ e. omega arith)) in
+    let last = other (p (suc n)) (suc n == k) (different (suc n) k (λ e. omega arith)) in
     omega (arith, occurs-more p k n, before, last)
 
 -- one of them stands there once, if it passes
@@ -90,3 +90,40 @@ by_test p k n false passes range = fails p k n passes
 -- What passes only where it is one of these numbers stands among those that pass once.
 pub occurs-passing : (p : ℕ → Bool) (k n : ℕ) → (p k ≡ true → (0 < k) × (k ≤ n)) → occurs k (filter p (numbers_to n)) ≡ one_if (p k)
 occurs-passing p k n range = by_test p k n (p k) refl range
+
+-- ---- the numbers to n
+
+pub length-numbers_to : (n : ℕ) → length (numbers_to n) ≡ n
+length-numbers_to zero = refl
+length-numbers_to (suc n) = omega (arith, length-append (numbers_to n) (suc n ∷ []), length-numbers_to n)
+
+-- they begin with 1, and go up
+pub numbers_to-rise : (n : ℕ) → Rise 1 (n + 1) (numbers_to n)
+numbers_to-rise zero = omega arith
+numbers_to-rise (suc n) = rise-append 1 (n + 1) (suc n + 1) (numbers_to n) (suc n ∷ []) (numbers_to-rise n) (omega arith, omega arith)
+
+-- what passes of them goes up
+pub passing-rise : (p : ℕ → Bool) (n : ℕ) → IsStrictlyIncreasing (filter p (numbers_to n))
+passing-rise p n = IsStrictlyIncreasing-filter p (numbers_to n) (strict 1 (n + 1) (numbers_to n) (numbers_to-rise n))
+
+pub numbers_to-has : (n k : ℕ) → 0 < k → k ≤ n → Contains (numbers_to n) k
+numbers_to-has zero k some h = absurd (omega arith)
+numbers_to-has (suc n) k some h = elim (cases_lt n k) [
+  inl last ↦ let it : suc n ≡ k = omega arith in subst (Contains (numbers_to (suc n))) it (Contains-push (numbers_to n) (suc n))
+  | inr front ↦ Contains-append_left (numbers_to n) (suc n ∷ []) k (numbers_to-has n k some front)
+]
+
+pub numbers_to-within : (n k : ℕ) → Contains (numbers_to n) k → (0 < k) × (k ≤ n)
+numbers_to-within zero k h = let none = h.1 in absurd (omega arith)
+numbers_to-within (suc n) k h = elim (Contains-push_cases (numbers_to n) (suc n) k h) [
+  inl front ↦ let before = numbers_to-within n k front in (before.0, omega (arith, before.1))
+  | inr last ↦ (omega arith, omega arith)
+]
+
+-- tests that agree on them let the same pass
+pub passing-agree : (p q : ℕ → Bool) (n : ℕ) → ((k : ℕ) → 0 < k → k ≤ n → p k ≡ q k) → filter p (numbers_to n) ≡ filter q (numbers_to n)
+passing-agree p q zero agree = refl
+passing-agree p q (suc n) agree =
+    filter-append p (numbers_to n) (suc n ∷ [])
+    ∙ (λ i. passing-agree p q n (λ k some h. agree k some (omega arith)) i ++ cond (agree (suc n) (omega arith) (omega arith) i) (suc n ∷ []) [])
+    ∙ sym (filter-append q (numbers_to n) (suc n ∷ []))

@@ -9,7 +9,7 @@ use Rattle.connection_history.specs.Items.{Item, said, answer, said_at, text_if_
 use Rattle.connection_history.specs.History.{Happening, came, called, called_all, noticed, withdrew, answered, ended, History}
 use Rattle.connection_history.specs.Written.{answers_of}
 use Rattle.connection_history.proofs.Dues.{DueStays, DuesStay, dues-stay}
-use Rattle.connection_history.proofs.Tests.{same, same_test}
+use Rattle.connection_history.proofs.Tests.{different, same_test}
 
 -- what a list of outs has at a place
 abbrev pub out_at : List (Option (List ℕ)) → ℕ → Option (List ℕ)
@@ -83,10 +83,6 @@ newly-elsewhere place i (Some s) after h = refl
 newly-elsewhere place i None None h = refl
 newly-elsewhere place i None (Some t) h = passed (i == place) t h
 
-different : (i place : ℕ) (b : Bool) → (i == place) ≡ b → (i ≡ place → ⊥) → (i == place) ≡ false
-different i place true h other = absurd (other (same i place h))
-different i place false h other = h
-
 fresh_none : (o : Option (List ℕ)) → fresh o None ≡ None
 fresh_none None = refl
 fresh_none (Some t) = refl
@@ -96,10 +92,10 @@ newly_out-before : (place i : ℕ) (before after : List (Option (List ℕ))) →
 newly_out-before place i before [] h = refl
 newly_out-before place i [] (a ∷ after) h =
     answers_of-append place (newly_at i None a) (newly_out (i + 1) [] after)
-    ∙ (λ k. newly-elsewhere place i None a (different i place (i == place) refl (λ e. omega arith)) k ++ newly_out-before place (i + 1) [] after (omega arith) k)
+    ∙ (λ k. newly-elsewhere place i None a (different i place (λ e. omega arith)) k ++ newly_out-before place (i + 1) [] after (omega arith) k)
 newly_out-before place i (b ∷ before) (a ∷ after) h =
     answers_of-append place (newly_at i b a) (newly_out (i + 1) before after)
-    ∙ (λ k. newly-elsewhere place i b a (different i place (i == place) refl (λ e. omega arith)) k ++ newly_out-before place (i + 1) before after (omega arith) k)
+    ∙ (λ k. newly-elsewhere place i b a (different i place (λ e. omega arith)) k ++ newly_out-before place (i + 1) before after (omega arith) k)
 
 -- the answer that newly is out at a place
 pub newly_out-at : (i place : ℕ) (at : ℕ) (before after : List (Option (List ℕ))) → i + place ≡ at
@@ -110,13 +106,13 @@ newly_out-at i zero at [] (a ∷ after) h =
     ∙ (λ k. newly-here at i None a (omega arith) k ++ newly_out-before at (i + 1) [] after (omega arith) k) ∙ append-nil (option_to_list a)
 newly_out-at i (suc place) at [] (a ∷ after) h =
     answers_of-append at (newly_at i None a) (newly_out (i + 1) [] after)
-    ∙ (λ k. newly-elsewhere at i None a (different i at (i == at) refl (λ e. omega arith)) k ++ newly_out-at (i + 1) place at [] after (omega arith) k)
+    ∙ (λ k. newly-elsewhere at i None a (different i at (λ e. omega arith)) k ++ newly_out-at (i + 1) place at [] after (omega arith) k)
 newly_out-at i zero at (b ∷ before) (a ∷ after) h =
     answers_of-append at (newly_at i b a) (newly_out (i + 1) before after)
     ∙ (λ k. newly-here at i b a (omega arith) k ++ newly_out-before at (i + 1) before after (omega arith) k) ∙ append-nil (option_to_list (fresh b a))
 newly_out-at i (suc place) at (b ∷ before) (a ∷ after) h =
     answers_of-append at (newly_at i b a) (newly_out (i + 1) before after)
-    ∙ (λ k. newly-elsewhere at i b a (different i at (i == at) refl (λ e. omega arith)) k ++ newly_out-at (i + 1) place at before after (omega arith) k)
+    ∙ (λ k. newly-elsewhere at i b a (different i at (λ e. omega arith)) k ++ newly_out-at (i + 1) place at before after (omega arith) k)
 
 -- ---- a unit's answer in all that is written
 

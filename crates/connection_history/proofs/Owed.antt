@@ -17,7 +17,7 @@ use Rattle.connection_history.specs.Answers.{Texts, both, call_texts, entry_text
 use Rattle.connection_history.specs.Events.{call_count}
 use Rattle.connection_history.specs.History.{History, units_of, stream, answer_to, is_open}
 use Rattle.connection_history.specs.Items.{text_if_due, out}
-use Rattle.connection_history.proofs.Streams.{length-calls_in-append}
+use Rattle.connection_history.proofs.Streams.{length-calls_in-append, call_numbered-known}
 
 -- ---- units whose calls are answered
 
@@ -91,19 +91,11 @@ answered-if None a c some h = absurd (cc)
 answered-if (Some d) None c some h = absurd (cc)
 answered-if (Some d) (Some b) c some h = (b, refl)
 
-there : {X : Type 0} (xs : List X) (k : ℕ) → k < length xs → (x : X) × (slice_get xs k ≡ Some x)
-there [] k h = absurd (omega arith)
-there (x ∷ xs) zero h = (x, refl)
-there (x ∷ xs) (suc k) h = there xs k (omega arith)
-
-call_there : (history : History) (k : ℕ) → k < length (calls_in (stream history)) → (c : Came) × (call_numbered (suc k) (stream history) ≡ Some c)
-call_there history k h = there (calls_in (stream history)) k h
-
 -- a call that came and isn't open is answered
 closed : (history : History) → ((n : ℕ) → 0 < n → is_open n history ≡ false) → (k : ℕ) → 1 ≤ k → k < 1 + call_count history → IsAnswered history k
 closed history none zero from below = absurd (omega arith)
 closed history none (suc k) from below =
-    let c = call_there history k (omega arith) in
+    let c = call_numbered-known (suc k) (stream history) (omega arith) (omega arith) in
     answered-if (call_numbered (suc k) (stream history)) (answer_to (suc k) history) c.0 c.1 (none (suc k) (omega arith))
 
 all_settled : (history : History) → ((n : ℕ) → 0 < n → is_open n history ≡ false) → AllSettled (dues history)

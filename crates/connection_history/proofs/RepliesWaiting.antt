@@ -15,7 +15,7 @@ use Rattle.connection_history.specs.History.{Happening, came, called, called_all
 use Rattle.connection_history.specs.Refusals.{IsLawful}
 use Rattle.connection_history.specs.Told.{replies_told, unanswered_told, AtMost}
 use Rattle.connection_history.proofs.Histories.{caller_of-came, caller_of-within, reply_to-came, reply_to-entries, open-came, open-entry, Waits, waits, waiting-from}
-use Rattle.connection_history.proofs.Lawful.{caller_known, open_before}
+use Rattle.connection_history.proofs.Waiting.{never, waited_before}
 use Rattle.connection_history.proofs.Numbers.{one_if, occurs, occurs-passing}
 use Rattle.connection_history.proofs.Tests.{two, same, same_test, or-left, or-right, or_else-none, or_else-none_left}
 use Rattle.connection_history.proofs.Along.{so_far}
@@ -50,11 +50,6 @@ quiet_along k past front (e ∷ es) h =
     replies_told-append k (events_of_entry (so_far past front) e) (events_along past (front ++ e ∷ []) es)
     ∙ (λ i. quiet_entry k (so_far past front) e (ap (λ l. is_waiting k (so_far past l)) (sym (append-nil front)) ∙ h []) i
     ++ quiet_along k past (front ++ e ∷ []) es (λ more. ap (λ l. is_waiting k (so_far past l)) (append_assoc front (e ∷ []) more) ∙ h (e ∷ more)) i)
-
--- it is false where it can't be true
-never : (b : Bool) → (b ≡ true → ⊥) → b ≡ false
-never true h = absurd (h refl)
-never false h = refl
 
 -- a call that has its reply waits no more
 has_reply : (k : ℕ) (past : History) (front : List Entry) (r : Replied) → reply_to k (so_far past front) ≡ Some r → (more : List Entry) → is_waiting k (so_far past (front ++ more)) ≡ false
@@ -138,23 +133,11 @@ waiting_told past u k r waiting_now is = waiting-along k past [] (entries_in u) 
 
 -- ---- a call that doesn't wait
 
--- It waits at no entry of a unit either.
-waited_before : (cancels : Bool) (k : ℕ) (past : History) (front : List Entry) → IsLawful cancels past → Waits k (so_far past front) → Waits k past
-waited_before cancels k past front lawful w =
-    let caller : caller_of k past ≡ Some w.number = sym (caller_of-came k past (Batch front)) ∙ w.caller in
-    record {
-      number = w.number;
-      caller = caller;
-      opened = open_before w.number past front (caller_known cancels k past w.number lawful caller) w.opened;
-      none = or_else-none_left (reply_to k past) _ (sym (reply_to-came k past (Batch front)) ∙ w.none);
-      going_on = w.going_on;
-    }
-
 -- a call that doesn't wait is told no reply
 pub not_waiting_told : (cancels : Bool) (past : History) (h : Happening) (k : ℕ) → IsLawful cancels past → is_waiting k past ≡ false → replies_told k (events_at past h) ≡ []
 not_waiting_told cancels past (came u) k lawful idle =
     quiet_along k past [] (entries_in u) (λ more. never (is_waiting k (so_far past more)) (λ waiting_now.
-    let before = waiting-from k past (waited_before cancels k past more lawful (waits k (so_far past more) waiting_now)) in
+    let before = waiting-from k past (waited_before cancels k past (Batch more) lawful (waits k (so_far past more) waiting_now)) in
     cc))
 not_waiting_told cancels past (called n o) k lawful idle = refl
 not_waiting_told cancels past (called_all n os) k lawful idle = refl

@@ -42,6 +42,16 @@ slice_get-beyond (x ∷ xs) ys i = let one_on : length (x ∷ xs) + i ≡ suc (l
 pub slice_get-kept : {X : Type 0} (xs ys : List X) (i : ℕ) (x : X) → slice_get xs i ≡ Some x → slice_get (xs ++ ys) i ≡ Some x
 slice_get-kept xs ys i x h = slice_get-front xs ys i (slice_get_within xs i x h) ∙ h
 
+pub slice_get-known : {X : Type 0} (xs : List X) (i : ℕ) → i < length xs → (x : X) × (slice_get xs i ≡ Some x)
+slice_get-known [] i h = absurd (omega arith)
+slice_get-known (x ∷ xs) zero h = (x, refl)
+slice_get-known (x ∷ xs) (suc i) h = slice_get-known xs i (omega arith)
+
+-- each of so many numbers has a call
+pub call_numbered-known : (n : ℕ) (es : List Entry) → 0 < n → n ≤ length (calls_in es) → (c : Came) × (call_numbered n es ≡ Some c)
+call_numbered-known zero es some h = absurd (omega arith)
+call_numbered-known (suc n) es some h = slice_get-known (calls_in es) n (omega arith)
+
 -- a call that has come keeps its number
 pub call_numbered-front : (n : ℕ) (es fs : List Entry) → n ≤ length (calls_in es) → call_numbered n (es ++ fs) ≡ call_numbered n es
 call_numbered-front zero es fs h = refl

@@ -16,6 +16,13 @@ same_test a b h = (Decides-eqb a b).1 h
 pub apart : (a b : ℕ) → (a == b) ≡ false → a ≢ b
 apart a b h = not_from_Decides (a == b) (Decides-eqb a b) h
 
+different_if : (a b : ℕ) (test : Bool) → (a == b) ≡ test → a ≢ b → (a == b) ≡ false
+different_if a b true is other = absurd (other (same a b is))
+different_if a b false is other = is
+
+pub different : (a b : ℕ) → a ≢ b → (a == b) ≡ false
+different a b other = different_if a b (a == b) refl other
+
 -- ---- one test
 
 pub two : (b : Bool) → (b ≡ true) ⊎ (b ≡ false)

@@ -1,0 +1,131 @@
+-- Which calls of ours wait after one more thing happened, by its kind.
+use Rattle.std.proofs.Common.{◌≡◌, ◌≢◌, ℕ, zero, suc, ◌+◌, ◌<◌, ◌≤◌, List, [], ◌∷◌, ◌++◌, length, Option, Some, None, Bool, true, false, cond, ◌&&◌, ◌||◌, not, refl, sym, ap, ◌∙◌, arith}
+use Rattle.std.specs.Prelude.{is_some}
+use Rattle.std.specs.Option.{is_none, option_map_or}
+use Rattle.connection_messages.specs.declared.answer.Answer.{Answer}
+use Rattle.connection_messages.specs.declared.outgoing.Outgoing.{Outgoing}
+use Rattle.connection_messages.specs.declared.reply.Reply.{Reply}
+use Rattle.connection_messages.specs.declared.unit.Unit.{Unit}
+use Rattle.connection_history.specs.declared.close.Close.{Close}
+use Rattle.connection_history.specs.Stream.{entries_in, first_reply}
+use Rattle.connection_history.specs.History.{Happening, came, called, called_all, noticed, withdrew, answered, ended, History, or_else, units_at, ends, is_over, is_open, callers_at, key_count, caller_of, reply_to, is_waiting}
+use Rattle.connection_history.specs.Refusals.{IsLawful}
+use Rattle.connection_history.proofs.Histories.{caller_of-came, reply_to-came, open-came, Waits, waits, waiting-from}
+use Rattle.connection_history.proofs.Lawful.{caller_known, open_before}
+use Rattle.connection_history.proofs.OpenCalls.{open-other, open-called, open-called_all, open-noticed, open-withdrew, open-ended, open-answered, open-answered_other}
+use Rattle.connection_history.proofs.OurCalls.{caller_of-made, caller_of-other, caller_of-unmade, caller_of-called, caller_of-called_all, reply_to-said, reply_to-unmade}
+use Rattle.connection_history.proofs.Tests.{or_else-none_left}
+
+-- it is false where it can't be true
+pub never : (b : Bool) → (b ≡ true → ⊥) → b ≡ false
+never true h = absurd (h refl)
+never false h = refl
+
+and-false : (b : Bool) → (b && false) ≡ false
+and-false true = refl
+and-false false = refl
+
+and-true : (b : Bool) → (b && true) ≡ b
+and-true true = refl
+and-true false = refl
+
+-- ---- what the host says
+
+same_open : (k : ℕ) (past : History) (h : Happening) (o : Option ℕ) → caller_of k past ≡ o → ((n : ℕ) → caller_of k past ≡ Some n → is_open n (h ∷ past) ≡ is_open n past)
+    → option_map_or (λ n. is_open n (h ∷ past)) o false ≡ option_map_or (λ n. is_open n past) o false
+same_open k past h None is opened = refl
+same_open k past h (Some n) is opened = opened n is
+
+-- what changes none of its parts leaves it as it is
+pub waiting-other : (k : ℕ) (past : History) (h : Happening) → units_at h ≡ [] → ends h ≡ false → caller_of k (h ∷ past) ≡ caller_of k past
+    → ((n : ℕ) → caller_of k past ≡ Some n → is_open n (h ∷ past) ≡ is_open n past) → is_waiting k (h ∷ past) ≡ is_waiting k past
+waiting-other k past h none going_on caller opened =
+    (λ i. option_map_or (λ n. is_open n (h ∷ past)) (caller i) false && is_none (reply_to-said k past h none i) && not (going_on i || is_over past))
+    ∙ ap (λ b. b && is_none (reply_to k past) && not (is_over past)) (same_open k past h (caller_of k past) refl opened)
+
+pub waiting-noticed : (k : ℕ) (past : History) (o : Outgoing) → is_waiting k (noticed o ∷ past) ≡ is_waiting k past
+waiting-noticed k past o = waiting-other k past (noticed o) refl refl (caller_of-other k past (noticed o) refl) (λ n is. open-noticed n past o)
+
+-- a call that is withdrawn still waits
+pub waiting-withdrew : (k : ℕ) (past : History) (j : ℕ) → is_waiting k (withdrew j ∷ past) ≡ is_waiting k past
+waiting-withdrew k past j = waiting-other k past (withdrew j) refl refl (caller_of-other k past (withdrew j) refl) (λ n is. open-withdrew n past j)
+
+-- a call that was made before
+pub waiting-called_made : (k : ℕ) (past : History) (n : ℕ) (o : Outgoing) → k ≤ key_count past → is_waiting k (called n o ∷ past) ≡ is_waiting k past
+waiting-called_made k past n o made = waiting-other k past (called n o) refl refl (caller_of-made k past (called n o) made) (λ m is. open-called m past n o)
+
+pub waiting-called_all_made : (k : ℕ) (past : History) (n : ℕ) (os : List Outgoing) → k ≤ key_count past → is_waiting k (called_all n os ∷ past) ≡ is_waiting k past
+waiting-called_all_made k past n os made = waiting-other k past (called_all n os) refl refl (caller_of-made k past (called_all n os) made) (λ m is. open-called_all m past n os)
+
+-- a call that is made waits
+pub waiting-called : (past : History) (n : ℕ) (o : Outgoing) → is_open n past ≡ true → is_over past ≡ false → is_waiting (key_count past + 1) (called n o ∷ past) ≡ true
+waiting-called past n o opened going_on =
+    let k = key_count past + 1 in
+    waiting-from k (called n o ∷ past)
+    (record {
+      number = n;
+      caller = caller_of-called past n o;
+      opened = open-called n past n o ∙ opened;
+      none = reply_to-said k past (called n o) refl ∙ reply_to-unmade k past (caller_of-unmade k past (omega arith));
+      going_on = going_on;
+    })
+
+pub waiting-called_all : (k : ℕ) (past : History) (n : ℕ) (os : List Outgoing) → is_open n past ≡ true → is_over past ≡ false → key_count past < k → k ≤ key_count past + length os
+    → is_waiting k (called_all n os ∷ past) ≡ true
+waiting-called_all k past n os opened going_on new h =
+    waiting-from k (called_all n os ∷ past)
+    (record {
+      number = n;
+      caller = caller_of-called_all k past n os new h;
+      opened = open-called_all n past n os ∙ opened;
+      none = reply_to-said k past (called_all n os) refl ∙ reply_to-unmade k past (caller_of-unmade k past new);
+      going_on = going_on;
+    })
+
+-- the answer to another number leaves it as it is
+pub waiting-answered_other : (k : ℕ) (past : History) (m : ℕ) (a : Answer) → ((n : ℕ) → caller_of k past ≡ Some n → m ≢ n) → is_waiting k (answered m a ∷ past) ≡ is_waiting k past
+waiting-answered_other k past m a other =
+    waiting-other k past (answered m a) refl refl (caller_of-other k past (answered m a) refl) (λ n is. open-answered_other n m past a (other n is))
+
+-- once its number is answered, a call waits no more
+pub waiting-answered : (k : ℕ) (past : History) (m : ℕ) (a : Answer) → 0 < m → caller_of k past ≡ Some m → is_waiting k (answered m a ∷ past) ≡ false
+waiting-answered k past m a some is =
+    let caller : caller_of k (answered m a ∷ past) ≡ Some m = caller_of-other k past (answered m a) refl ∙ is in
+    (λ i. option_map_or (λ n. is_open n (answered m a ∷ past)) (caller i) false && is_none (reply_to k (answered m a ∷ past)) && not (is_over past))
+    ∙ ap (λ b. b && is_none (reply_to k (answered m a ∷ past)) && not (is_over past)) (open-answered m past a some)
+
+-- at the end no call waits
+pub waiting-ended : (k : ℕ) (past : History) (close : Close) → is_waiting k (ended close ∷ past) ≡ false
+waiting-ended k past close = and-false _
+
+-- ---- what comes
+
+-- Where nothing was refused, what comes makes no call wait.
+pub waited_before : (cancels : Bool) (k : ℕ) (past : History) (u : Unit) → IsLawful cancels past → Waits k (came u ∷ past) → Waits k past
+waited_before cancels k past u lawful w =
+    let caller : caller_of k past ≡ Some w.number = sym (caller_of-came k past u) ∙ w.caller in
+    record {
+      number = w.number;
+      caller = caller;
+      opened = open_before w.number past u (caller_known cancels k past w.number lawful caller) w.opened;
+      none = or_else-none_left (reply_to k past) _ (sym (reply_to-came k past u) ∙ w.none);
+      going_on = w.going_on;
+    }
+
+came_if : (cancels : Bool) (k : ℕ) (past : History) (u : Unit) (b : Bool) → IsLawful cancels past → is_waiting k past ≡ b → is_waiting k (came u ∷ past) ≡ (b && is_none (first_reply k (entries_in u)))
+came_if cancels k past u true lawful is =
+    let w = waits k past is in
+    let caller : caller_of k (came u ∷ past) ≡ Some w.number = caller_of-came k past u ∙ w.caller in
+    let reply : reply_to k (came u ∷ past) ≡ first_reply k (entries_in u) =
+        reply_to-came k past u ∙ (λ i. or_else (w.none i) (cond (is_some (w.caller i)) (first_reply k (entries_in u)) None)) in
+    (λ i. option_map_or (λ n. is_open n (came u ∷ past)) (caller i) false && is_none (reply i) && not (w.going_on i))
+    ∙ ap (λ b. b && is_none (first_reply k (entries_in u)) && true) (open-came w.number past u w.opened)
+    ∙ and-true (is_none (first_reply k (entries_in u)))
+came_if cancels k past u false lawful is =
+    never (is_waiting k (came u ∷ past)) (λ waiting_now.
+        let before = waiting-from k past (waited_before cancels k past u lawful (waits k (came u ∷ past) waiting_now)) in
+        cc)
+
+-- when a unit comes, a call waits on unless its reply is there
+pub waiting-came : (cancels : Bool) (k : ℕ) (past : History) (u : Unit) → IsLawful cancels past → is_waiting k (came u ∷ past) ≡ (is_waiting k past && is_none (first_reply k (entries_in u)))
+waiting-came cancels k past u lawful = came_if cancels k past u (is_waiting k past) lawful refl
