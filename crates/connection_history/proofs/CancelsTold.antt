@@ -4,6 +4,9 @@ use Rattle.std.specs.Prelude.{option_and_then}
 use Rattle.rpc_messages.specs.Ids.{has_id}
 use Rattle.rpc_messages.specs.declared.id.Id.{Id}
 use Rattle.connection_messages.specs.declared.call.Call.{Call as Came}
+use Rattle.std.specs.Prelude.{is_some}
+use Rattle.std.specs.Option.{is_none}
+use Rattle.connection_messages.specs.declared.answer.Answer.{Answer}
 use Rattle.connection_messages.specs.declared.entry.Entry.{Entry}
 use Rattle.connection_messages.specs.declared.entry.Entry.TheVariants.{Call, Cancel, Reply, Stray, Invalid}
 use Rattle.connection_messages.specs.declared.reply.Reply.{Reply as Replied}
@@ -169,3 +172,39 @@ told_once history n = at_most_one _ (is_hit n history) (told_if_hit history n)
 -- what is told to be cancelled is
 pub told_cancelled : (history : History) (n : ℕ) → 0 < cancels_told n (events_of history) → is_cancelled n (stream history) ≡ true
 told_cancelled history n some = some_if _ (is_hit n history) (told_if_hit history n) some
+
+-- ---- a request that is answered
+
+none_passes : (known id : Bool) (a : Answer) (o : Option Answer) (rest : Bool) → o ≡ Some a → (id && (known && is_none o) && rest) ≡ false
+none_passes known id a None rest is = absurd (cc)
+none_passes true true a (Some b) rest is = refl
+none_passes false true a (Some b) rest is = refl
+none_passes known false a (Some b) rest is = refl
+
+not_reached : (id : Id) (n : ℕ) (history : History) (a : Answer) → answer_to n history ≡ Some a → is_reached id history n ≡ false
+not_reached id zero history a is = refl
+not_reached id (suc n) history a is =
+    none_passes (is_some (call_numbered (suc n) (stream history))) (has_id id (request_id (suc n) (stream history))) a (answer_to (suc n) history) (not (is_hit (suc n) history)) is
+
+answered_entry : (n : ℕ) (history : History) (a : Answer) (e : Entry) → answer_to n history ≡ Some a → cancels_told n (events_of_entry history e) ≡ 0
+answered_entry n history a (Call c) is = refl
+answered_entry n history a (Cancel id) is = told_of_cancel n id history ∙ ap one_if (not_reached id n history a is)
+answered_entry n history a (Reply j r) is = cancels_told-reply n (is_waiting j history) j r
+answered_entry n history a Stray is = refl
+answered_entry n history a Invalid is = refl
+
+answered_along : (n : ℕ) (past : History) (a : Answer) (front es : List Entry) → answer_to n past ≡ Some a → cancels_told n (events_along past front es) ≡ 0
+answered_along n past a front [] is = refl
+answered_along n past a front (e ∷ es) is =
+    omega (arith, cancels_told-append n (events_of_entry (so_far past front) e) (events_along past (front ++ e ∷ []) es),
+      answered_entry n (so_far past front) a e (answer_to-came n past (Batch front) ∙ is), answered_along n past a (front ++ e ∷ []) es is)
+
+-- nothing of it is told
+pub answered_told : (past : History) (h : Happening) (n : ℕ) (a : Answer) → answer_to n past ≡ Some a → cancels_told n (events_at past h) ≡ 0
+answered_told past (came u) n a is = answered_along n past a [] (entries_in u) is
+answered_told past (called m o) n a is = refl
+answered_told past (called_all m os) n a is = refl
+answered_told past (noticed o) n a is = refl
+answered_told past (withdrew k) n a is = refl
+answered_told past (answered m b) n a is = refl
+answered_told past (ended close) n a is = cancels_told-unanswered n (waiting past) (event.Over close ∷ [])

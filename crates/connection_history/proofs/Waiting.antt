@@ -82,6 +82,32 @@ waiting-called_all k past n os opened going_on new h =
       going_on = going_on;
     })
 
+key_made : (k : ℕ) (past : History) (h : Happening) (n : ℕ) → callers_at h ≡ [] → key_count past < k → caller_of k (h ∷ past) ≡ Some n → ⊥
+key_made k past h n none new is = let unmade : caller_of k (h ∷ past) ≡ None = caller_of-other k past h none ∙ caller_of-unmade k past new in cc
+
+-- what is newly made waits, for a number that is open
+new_waits : (k : ℕ) (past : History) (h : Happening) (n : ℕ) → units_at h ≡ [] → ends h ≡ false → is_open n (h ∷ past) ≡ is_open n past → key_count past < k → caller_of k (h ∷ past) ≡ Some n
+    → is_open n past ≡ true → is_over past ≡ false → is_waiting k (h ∷ past) ≡ true
+new_waits k past h n none on opens new is opened going_on =
+    waiting-from k (h ∷ past)
+    (record {
+      number = n;
+      caller = is;
+      opened = opens ∙ opened;
+      none = reply_to-said k past h none ∙ reply_to-unmade k past (caller_of-unmade k past new);
+      going_on = ap (λ b. b || is_over past) on ∙ going_on;
+    })
+
+-- a call that is made waits, whatever came before it
+pub made_waits : (past : History) (h : Happening) (k n : ℕ) → key_count past < k → caller_of k (h ∷ past) ≡ Some n → is_open n past ≡ true → is_over past ≡ false → is_waiting k (h ∷ past) ≡ true
+made_waits past (came u) k n new is opened going_on = absurd (key_made k past (came u) n refl new is)
+made_waits past (called m o) k n new is opened going_on = new_waits k past (called m o) n refl refl (open-called n past m o) new is opened going_on
+made_waits past (called_all m os) k n new is opened going_on = new_waits k past (called_all m os) n refl refl (open-called_all n past m os) new is opened going_on
+made_waits past (noticed o) k n new is opened going_on = absurd (key_made k past (noticed o) n refl new is)
+made_waits past (withdrew j) k n new is opened going_on = absurd (key_made k past (withdrew j) n refl new is)
+made_waits past (answered m a) k n new is opened going_on = absurd (key_made k past (answered m a) n refl new is)
+made_waits past (ended close) k n new is opened going_on = absurd (key_made k past (ended close) n refl new is)
+
 -- the answer to another number leaves it as it is
 pub waiting-answered_other : (k : ℕ) (past : History) (m : ℕ) (a : Answer) → ((n : ℕ) → caller_of k past ≡ Some n → m ≢ n) → is_waiting k (answered m a ∷ past) ≡ is_waiting k past
 waiting-answered_other k past m a other =

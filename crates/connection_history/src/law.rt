@@ -3,6 +3,7 @@
 ghost use Rattle.std.specs.Prelude.{◌≡◌, ◌≢◌, ◌≤◌, ◌<◌, ◌+◌, ◌^◌, ◌-◌, ◌↔◌, ℕ, List, [], ◌∷◌, ◌++◌, Bool, true, false, map, length, slice_get, Some, None, if◌then◌else◌, unwrap_or};
 ghost use Rattle.std.specs.Option.{option_to_list};
 ghost use Rattle.std.specs.List.Sorted.{IsStrictlyIncreasing};
+ghost use Rattle.connection_messages.specs.declared.answer.Answer.{Answer};
 ghost use Rattle.connection_messages.specs.declared.reply.Reply.{Reply};
 ghost use Rattle.connection_messages.specs.declared.unit.Unit.{Unit};
 ghost use Rattle.connection_history.specs.declared.close.Close.{Close};
@@ -10,7 +11,7 @@ ghost use Rattle.connection_history.specs.declared.event.Event.{Event};
 ghost use Rattle.connection_history.specs.declared.order.Order.{Order};
 ghost use Rattle.connection_history.specs.declared.order.Order.TheVariants.{AsCame};
 ghost use Rattle.connection_history.specs.Stream.{calls_in, entries_in, first_reply, is_cancelled};
-ghost use Rattle.connection_history.specs.History.{Happening, came, ended, History, stream, is_open, is_waiting, is_over, reply_to, numbers_to};
+ghost use Rattle.connection_history.specs.History.{Happening, came, ended, History, stream, is_open, is_waiting, is_over, answer_to, caller_of, key_count, reply_to, numbers_to};
 ghost use Rattle.connection_history.specs.Refusals.{IsLawful, most_keys};
 ghost use Rattle.connection_history.specs.Events.{events_at, events_of, call_count};
 ghost use Rattle.connection_history.specs.Answers.{dues, open_yet};
@@ -33,10 +34,13 @@ pub fn each_call_is_told_once()
 {}
 
 /// A reply that is told is the first with its key that came after the call, and is told once. It is told where the call
-/// waits for it. A call that waits when the input ends is told to have no reply, once.
+/// waits for it. A call that is made waits. One that waits when the input ends is told to have no reply, once.
 pub fn a_reply_is_told_once()
     ensures first { (history : History) (key : ℕ) →
         AtMost (replies_told key (events_of history)) (reply_to key history) }
+    ensures made { (past : History) (happening : Happening) (key number : ℕ) →
+        key_count past < key → caller_of key (happening ∷ past) ≡ Some number →
+        is_open number past ≡ true → is_over past ≡ false → is_waiting key (happening ∷ past) ≡ true }
     ensures waiting { (past : History) (unit : Unit) (key : ℕ) (reply : Reply) →
         is_waiting key past ≡ true → first_reply key (entries_in unit) ≡ Some reply →
         replies_told key (events_at past (came unit)) ≡ reply ∷ [] }
@@ -49,6 +53,7 @@ pub fn a_reply_is_told_once()
 {}
 
 /// A cancel is told exactly where it reaches an open request with its id that came before it, and once for each request.
+/// Nothing of a request that is answered is told.
 pub fn a_cancel_is_told_where_it_reaches()
     ensures once { (history : History) (number : ℕ) → cancels_told number (events_of history) ≤ 1 }
     ensures reached { (past : History) (unit : Unit) (number : ℕ) →
@@ -58,6 +63,8 @@ pub fn a_cancel_is_told_where_it_reaches()
         ≡ (if is_cancelled number (stream history) then 1 else 0) }
     ensures cancelled { (history : History) (number : ℕ) →
         0 < cancels_told number (events_of history) → is_cancelled number (stream history) ≡ true }
+    ensures answered { (past : History) (happening : Happening) (number : ℕ) (given : Answer) →
+        answer_to number past ≡ Some given → cancels_told number (events_at past happening) ≡ 0 }
 {}
 
 /// A unit whose requests are all answered has its one text once, with the answers that the host gave; no other unit has
