@@ -1,24 +1,15 @@
 -- Which cancel reaches a request.
-use Rattle.std.proofs.Common.{◌≡◌, ◌↔◌, ℕ, zero, suc, ◌+◌, ◌<◌, ◌≤◌, ◌==◌, List, [], ◌∷◌, ◌++◌, map, Bool, true, false, cond, ◌&&◌, ◌||◌, not, Option, Some, None, refl, sym, ap, subst, ◌∙◌, append_assoc, append-nil, arith}
-use Rattle.std.specs.Prelude.{option_and_then}
-use Rattle.rpc_messages.specs.Ids.{has_id}
+use Rattle.std.proofs.Common.{◌≡◌, ◌↔◌, ℕ, ◌+◌, ◌<◌, ◌≤◌, List, [], ◌∷◌, ◌++◌, map, Bool, true, false, refl, sym, ap, ◌∙◌, append_assoc, append-nil, arith}
 use Rattle.rpc_messages.specs.declared.id.Id.{Id}
-use Rattle.connection_messages.specs.declared.call.Call.{Call as Came}
 use Rattle.connection_messages.specs.declared.entry.Entry.{Entry}
 use Rattle.connection_messages.specs.declared.entry.Entry.TheVariants.{Call, Cancel, Reply, Stray, Invalid}
-use Rattle.connection_messages.specs.declared.reply.Reply.{Reply as Replied}
 use Rattle.connection_messages.specs.declared.unit.Unit.{Unit}
-use Rattle.connection_messages.specs.declared.unit.Unit.TheVariants.{Batch}
-use Rattle.connection_history.specs.declared.event.Event.{Event}
 use Rattle.connection_history.specs.declared.event.Event.TheVariants as event
-use Rattle.connection_history.specs.Stream.{entries_in, call_numbered, request_id, cancels, is_cancelled}
-use Rattle.connection_history.specs.Events.{call_count, is_reached, reached, events_of_entry, events_along, events_at, events_of}
-use Rattle.connection_history.specs.History.{Happening, came, called, called_all, noticed, withdrew, answered, ended, History, stream, answer_at, answer_to, is_open, is_waiting, waiting}
+use Rattle.connection_history.specs.Stream.{entries_in}
+use Rattle.connection_history.specs.Events.{is_reached, reached, events_of_entry, events_along, events_at}
+use Rattle.connection_history.specs.History.{came, History, is_waiting}
 use Rattle.connection_history.specs.Told.{cancels_told, ReachedBy}
-use Rattle.connection_history.proofs.Histories.{stream-came, stream-entry, stream-more, answer_to-came, open_unanswered, open-from}
-use Rattle.connection_history.proofs.Numbers.{one_if, occurs, occurs-passing}
-use Rattle.connection_history.proofs.Streams.{call_numbered-within, is_cancelled-push}
-use Rattle.connection_history.proofs.Tests.{and-left, and-right, not-true, or_else-none_left}
+use Rattle.connection_history.proofs.Numbers.{one_if}
 use Rattle.connection_history.proofs.Along.{so_far, events_along-append}
 use Rattle.connection_history.proofs.CancelsTold.{is_hit, cancels_told-append, cancels_told-reply, told_of_cancel, entries_once, at_most_one}
 

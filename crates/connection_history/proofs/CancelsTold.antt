@@ -1,5 +1,5 @@
 -- The cancels that are told: of each request one at most.
-use Rattle.std.proofs.Common.{◌≡◌, ◌↔◌, ℕ, zero, suc, ◌+◌, ◌<◌, ◌≤◌, ◌==◌, List, [], ◌∷◌, ◌++◌, map, Bool, true, false, cond, ◌&&◌, ◌||◌, not, Option, Some, None, refl, sym, ap, subst, ◌∙◌, append_assoc, append-nil, arith}
+use Rattle.std.proofs.Common.{◌≡◌, ℕ, zero, suc, ◌+◌, ◌<◌, ◌≤◌, ◌==◌, List, [], ◌∷◌, ◌++◌, map, Bool, true, false, cond, ◌&&◌, ◌||◌, not, Option, Some, None, refl, sym, ap, subst, ◌∙◌, append_assoc, append-nil, arith}
 use Rattle.std.specs.Prelude.{option_and_then}
 use Rattle.rpc_messages.specs.Ids.{has_id}
 use Rattle.rpc_messages.specs.declared.id.Id.{Id}
@@ -16,12 +16,12 @@ use Rattle.connection_history.specs.declared.event.Event.{Event}
 use Rattle.connection_history.specs.declared.event.Event.TheVariants as event
 use Rattle.connection_history.specs.Stream.{entries_in, call_numbered, request_id, cancels, is_cancelled}
 use Rattle.connection_history.specs.Events.{call_count, is_reached, reached, events_of_entry, events_along, events_at, events_of}
-use Rattle.connection_history.specs.History.{Happening, came, called, called_all, noticed, withdrew, answered, ended, History, stream, answer_at, answer_to, is_open, is_waiting, waiting}
-use Rattle.connection_history.specs.Told.{cancels_told, ReachedBy}
-use Rattle.connection_history.proofs.Histories.{stream-came, stream-entry, stream-more, answer_to-came, open_unanswered, open-from}
+use Rattle.connection_history.specs.History.{Happening, came, called, called_all, noticed, withdrew, answered, ended, History, stream, answer_to, is_open, is_waiting, waiting}
+use Rattle.connection_history.specs.Told.{cancels_told}
+use Rattle.connection_history.proofs.Histories.{stream-came, stream-entry, stream-more, answer_to-came}
 use Rattle.connection_history.proofs.Numbers.{one_if, occurs, occurs-passing}
 use Rattle.connection_history.proofs.Streams.{call_numbered-within, is_cancelled-push}
-use Rattle.connection_history.proofs.Tests.{and-left, and-right, not-true, or_else-none_left}
+use Rattle.connection_history.proofs.Tests.{and-left, and-right, not-true}
 use Rattle.connection_history.proofs.Along.{so_far}
 
 -- whether the request n is cancelled by what has come
@@ -196,8 +196,12 @@ answered_entry n history a Invalid is = refl
 answered_along : (n : ℕ) (past : History) (a : Answer) (front es : List Entry) → answer_to n past ≡ Some a → cancels_told n (events_along past front es) ≡ 0
 answered_along n past a front [] is = refl
 answered_along n past a front (e ∷ es) is =
-    omega (arith, cancels_told-append n (events_of_entry (so_far past front) e) (events_along past (front ++ e ∷ []) es),
-      answered_entry n (so_far past front) a e (answer_to-came n past (Batch front) ∙ is), answered_along n past a (front ++ e ∷ []) es is)
+    omega (
+      arith,
+      cancels_told-append n (events_of_entry (so_far past front) e) (events_along past (front ++ e ∷ []) es),
+      answered_entry n (so_far past front) a e (answer_to-came n past (Batch front) ∙ is),
+      answered_along n past a (front ++ e ∷ []) es is,
+    )
 
 -- nothing of it is told
 pub answered_told : (past : History) (h : Happening) (n : ℕ) (a : Answer) → answer_to n past ≡ Some a → cancels_told n (events_at past h) ≡ 0

@@ -109,14 +109,14 @@ passing-rise p n = IsStrictlyIncreasing-filter p (numbers_to n) (strict 1 (n + 1
 pub numbers_to-has : (n k : ℕ) → 0 < k → k ≤ n → Contains (numbers_to n) k
 numbers_to-has zero k some h = absurd (omega arith)
 numbers_to-has (suc n) k some h = elim (cases_lt n k) [
-  inl last ↦ let it : suc n ≡ k = omega arith in subst (Contains (numbers_to (suc n))) it (Contains-push (numbers_to n) (suc n))
+  | inl last ↦ let it : suc n ≡ k = omega arith in subst (Contains (numbers_to (suc n))) it (Contains-push (numbers_to n) (suc n))
   | inr front ↦ Contains-append_left (numbers_to n) (suc n ∷ []) k (numbers_to-has n k some front)
 ]
 
 pub numbers_to-within : (n k : ℕ) → Contains (numbers_to n) k → (0 < k) × (k ≤ n)
 numbers_to-within zero k h = let none = h.1 in absurd (omega arith)
 numbers_to-within (suc n) k h = elim (Contains-push_cases (numbers_to n) (suc n) k h) [
-  inl front ↦ let before = numbers_to-within n k front in (before.0, omega (arith, before.1))
+  | inl front ↦ let before = numbers_to-within n k front in (before.0, omega (arith, before.1))
   | inr last ↦ (omega arith, omega arith)
 ]
 

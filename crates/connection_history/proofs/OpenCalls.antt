@@ -1,5 +1,5 @@
 -- Which calls are open after one more thing happened, by its kind.
-use Rattle.std.proofs.Common.{◌≡◌, ◌≢◌, ℕ, zero, suc, ◌+◌, ◌<◌, ◌≤◌, ◌==◌, List, [], ◌∷◌, ◌++◌, length, Option, Some, None, Bool, true, false, cond, ◌&&◌, refl, sym, ap, ◌∙◌, append-nil, arith}
+use Rattle.std.proofs.Common.{◌≡◌, ◌≢◌, ℕ, zero, suc, ◌<◌, ◌≤◌, List, [], ◌∷◌, ◌++◌, Option, Some, None, Bool, true, false, cond, ◌&&◌, refl, ap, ◌∙◌, append-nil, arith}
 use Rattle.std.specs.Prelude.{is_some}
 use Rattle.std.specs.Option.{is_none}
 use Rattle.connection_messages.specs.declared.answer.Answer.{Answer}
@@ -66,7 +66,7 @@ pub open-came_known : (n : ℕ) (past : History) (u : Unit) → n ≤ call_count
 open-came_known zero past u h = refl
 open-came_known (suc n) past u h =
     let known : call_numbered (suc n) (stream (came u ∷ past)) ≡ call_numbered (suc n) (stream past) =
-        ap (call_numbered (suc n)) (stream-came past u) ∙ call_numbered-front (suc n) (stream past) (entries_in u) h in
+    ap (call_numbered (suc n)) (stream-came past u) ∙ call_numbered-front (suc n) (stream past) (entries_in u) h in
     λ i. is_some (known i) && is_none (answer_to-came (suc n) past u i)
 
 -- a call that hasn't come isn't open

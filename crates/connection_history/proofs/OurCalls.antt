@@ -1,12 +1,12 @@
 -- The keys of our calls, and the replies to them, after one more thing happened, by its kind.
-use Rattle.std.proofs.Common.{◌≡◌, ℕ, zero, suc, ◌+◌, ◌-◌, ◌<◌, ◌≤◌, List, [], ◌∷◌, ◌++◌, length, map, Option, Some, None, Bool, true, false, cond, refl, sym, ap, ◌∙◌, append-nil, length-append, arith}
+use Rattle.std.proofs.Common.{◌≡◌, ℕ, zero, suc, ◌+◌, ◌-◌, ◌<◌, ◌≤◌, List, [], ◌∷◌, ◌++◌, length, Option, Some, None, Bool, true, false, cond, refl, ap, ◌∙◌, append-nil, length-append, arith}
 use Rattle.std.proofs.lemmas.List.{length-map}
 use Rattle.std.proofs.lemmas.Option.{slice_get_past, slice_get-map}
 use Rattle.std.specs.Prelude.{slice_get, is_some, option_map}
 use Rattle.connection_messages.specs.declared.outgoing.Outgoing.{Outgoing}
 use Rattle.connection_messages.specs.declared.reply.Reply.{Reply}
 use Rattle.connection_history.specs.Stream.{entries_along, first_reply}
-use Rattle.connection_history.specs.History.{Happening, called, called_all, History, or_else, units_at, callers, callers_at, key_count, caller_of, reply_at, reply_to}
+use Rattle.connection_history.specs.History.{Happening, called, called_all, History, or_else, units_at, callers, callers_at, key_count, caller_of, reply_to}
 use Rattle.connection_history.proofs.Histories.{caller_of-kept}
 use Rattle.connection_history.proofs.Streams.{slice_get-front, slice_get-beyond, slice_get-known}
 use Rattle.connection_history.proofs.Tests.{or_else-none}

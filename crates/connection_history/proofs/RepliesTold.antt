@@ -1,23 +1,18 @@
 -- The replies that are told, and the calls that are told to have none.
-use Rattle.std.proofs.Common.{◌≡◌, ℕ, ◌+◌, ◌==◌, List, [], ◌∷◌, ◌++◌, map, Bool, true, false, cond, inl, inr, Option, Some, None, refl, sym, ap, subst, ◌∙◌, append_assoc, append-nil, arith}
+use Rattle.std.proofs.Common.{◌≡◌, ℕ, ◌==◌, List, [], ◌∷◌, ◌++◌, map, Bool, true, false, cond, Option, Some, None, refl, sym, ap, subst, ◌∙◌, append_assoc, append-nil}
 use Rattle.std.specs.Prelude.{is_some}
 use Rattle.connection_messages.specs.declared.entry.Entry.{Entry}
 use Rattle.connection_messages.specs.declared.entry.Entry.TheVariants.{Call, Cancel, Reply, Stray, Invalid}
 use Rattle.connection_messages.specs.declared.reply.Reply.{Reply as Replied}
-use Rattle.connection_messages.specs.declared.unit.Unit.{Unit}
 use Rattle.connection_messages.specs.declared.unit.Unit.TheVariants.{Batch}
-use Rattle.connection_history.specs.declared.close.Close.{Close}
 use Rattle.connection_history.specs.declared.event.Event.{Event}
 use Rattle.connection_history.specs.declared.event.Event.TheVariants as event
 use Rattle.connection_history.specs.Stream.{entries_in, first_reply}
 use Rattle.connection_history.specs.Events.{reached, events_of_entry, events_along, events_at, events_of}
-use Rattle.connection_history.specs.History.{Happening, came, called, called_all, noticed, withdrew, answered, ended, History, or_else, ends, is_over, key_count, caller_of, reply_at, reply_to, is_waiting, waiting}
-use Rattle.connection_history.specs.Refusals.{IsLawful}
-use Rattle.connection_history.specs.Told.{replies_told, unanswered_told, AtMost}
-use Rattle.connection_history.proofs.Histories.{caller_of-came, caller_of-within, reply_to-came, reply_to-entries, open-came, open-entry, Waits, waits, waiting-from}
-use Rattle.connection_history.proofs.Lawful.{caller_known, open_before}
-use Rattle.connection_history.proofs.Numbers.{one_if, occurs, occurs-passing}
-use Rattle.connection_history.proofs.Tests.{two, same, same_test, or-left, or-right, or_else-none, or_else-none_left}
+use Rattle.connection_history.specs.History.{Happening, came, called, called_all, noticed, withdrew, answered, ended, History, or_else, caller_of, reply_at, reply_to, is_waiting, waiting}
+use Rattle.connection_history.specs.Told.{replies_told, AtMost}
+use Rattle.connection_history.proofs.Histories.{caller_of-came, reply_to-came, reply_to-entries, waits}
+use Rattle.connection_history.proofs.Tests.{same, or_else-none}
 use Rattle.connection_history.proofs.Along.{so_far}
 
 -- ---- lists of events

@@ -1,10 +1,9 @@
 -- Which calls of ours wait after one more thing happened, by its kind.
-use Rattle.std.proofs.Common.{◌≡◌, ◌≢◌, ℕ, zero, suc, ◌+◌, ◌<◌, ◌≤◌, List, [], ◌∷◌, ◌++◌, length, Option, Some, None, Bool, true, false, cond, ◌&&◌, ◌||◌, not, refl, sym, ap, ◌∙◌, arith}
+use Rattle.std.proofs.Common.{◌≡◌, ◌≢◌, ℕ, ◌+◌, ◌<◌, ◌≤◌, List, [], ◌∷◌, length, Option, Some, None, Bool, true, false, cond, ◌&&◌, ◌||◌, not, refl, sym, ap, ◌∙◌, arith}
 use Rattle.std.specs.Prelude.{is_some}
 use Rattle.std.specs.Option.{is_none, option_map_or}
 use Rattle.connection_messages.specs.declared.answer.Answer.{Answer}
 use Rattle.connection_messages.specs.declared.outgoing.Outgoing.{Outgoing}
-use Rattle.connection_messages.specs.declared.reply.Reply.{Reply}
 use Rattle.connection_messages.specs.declared.unit.Unit.{Unit}
 use Rattle.connection_history.specs.declared.close.Close.{Close}
 use Rattle.connection_history.specs.Stream.{entries_in, first_reply}
@@ -12,7 +11,7 @@ use Rattle.connection_history.specs.History.{Happening, came, called, called_all
 use Rattle.connection_history.specs.Refusals.{IsLawful}
 use Rattle.connection_history.proofs.Histories.{caller_of-came, reply_to-came, open-came, Waits, waits, waiting-from}
 use Rattle.connection_history.proofs.Lawful.{caller_known, open_before}
-use Rattle.connection_history.proofs.OpenCalls.{open-other, open-called, open-called_all, open-noticed, open-withdrew, open-ended, open-answered, open-answered_other}
+use Rattle.connection_history.proofs.OpenCalls.{open-called, open-called_all, open-noticed, open-withdrew, open-answered, open-answered_other}
 use Rattle.connection_history.proofs.OurCalls.{caller_of-made, caller_of-other, caller_of-unmade, caller_of-called, caller_of-called_all, reply_to-said, reply_to-unmade}
 use Rattle.connection_history.proofs.Tests.{or_else-none_left}
 
@@ -143,14 +142,14 @@ came_if cancels k past u true lawful is =
     let w = waits k past is in
     let caller : caller_of k (came u ∷ past) ≡ Some w.number = caller_of-came k past u ∙ w.caller in
     let reply : reply_to k (came u ∷ past) ≡ first_reply k (entries_in u) =
-        reply_to-came k past u ∙ (λ i. or_else (w.none i) (cond (is_some (w.caller i)) (first_reply k (entries_in u)) None)) in
+    reply_to-came k past u ∙ (λ i. or_else (w.none i) (cond (is_some (w.caller i)) (first_reply k (entries_in u)) None)) in
     (λ i. option_map_or (λ n. is_open n (came u ∷ past)) (caller i) false && is_none (reply i) && not (w.going_on i))
     ∙ ap (λ b. b && is_none (first_reply k (entries_in u)) && true) (open-came w.number past u w.opened)
     ∙ and-true (is_none (first_reply k (entries_in u)))
 came_if cancels k past u false lawful is =
     never (is_waiting k (came u ∷ past)) (λ waiting_now.
-        let before = waiting-from k past (waited_before cancels k past u lawful (waits k (came u ∷ past) waiting_now)) in
-        cc)
+    let before = waiting-from k past (waited_before cancels k past u lawful (waits k (came u ∷ past) waiting_now)) in
+    cc)
 
 -- when a unit comes, a call waits on unless its reply is there
 pub waiting-came : (cancels : Bool) (k : ℕ) (past : History) (u : Unit) → IsLawful cancels past → is_waiting k (came u ∷ past) ≡ (is_waiting k past && is_none (first_reply k (entries_in u)))

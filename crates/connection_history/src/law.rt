@@ -53,7 +53,7 @@ pub fn a_reply_is_told_once()
 {}
 
 /// A cancel is told exactly where it reaches an open request with its id that came before it, and once for each request.
-/// Nothing of a request that is answered is told.
+/// No cancel of an answered request is told.
 pub fn a_cancel_is_told_where_it_reaches()
     ensures once { (history : History) (number : ℕ) → cancels_told number (events_of history) ≤ 1 }
     ensures reached { (past : History) (unit : Unit) (number : ℕ) →
