@@ -1,8 +1,13 @@
 pub mod Arrivals
 pub mod Answered
 pub mod Calls
+pub mod Cancels
+pub mod Counts
 pub mod Dues
 pub mod Grows
 pub mod Owed
+pub mod Replies
 pub mod Said
+pub mod Standing
 pub mod Streams
+pub mod Waiting
