@@ -1,2 +1,4 @@
+pub mod Numbers
 pub mod Params
+pub mod Reading
 pub mod Texts

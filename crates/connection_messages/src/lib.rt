@@ -6,6 +6,7 @@ mod call;
 mod entry;
 mod outgoing;
 mod params;
+mod read;
 mod reply;
 mod unit;
 
@@ -14,5 +15,6 @@ pub use call::Call;
 pub use entry::Entry;
 pub use outgoing::Outgoing;
 pub use params::Params;
+pub use read::unit::{MOST_DEPTH, UnitReader};
 pub use reply::{Reply, ReplyError};
 pub use unit::Unit;

@@ -11,9 +11,13 @@ use Rattle.json_texts.specs.declared.json_text.TheConstants.{MOST_LEVELS}
 unfoldable pub json_text : Json → List ℕ
 json_text j = print (json_tokens j)
 
--- the value that bytes are, where they are UTF-8 and one value whose arrays and objects nest no deeper than `levels`
+-- the value that a text is, where it is one whose arrays and objects nest no deeper than `levels`
+abbrev pub text_value : ℕ → List ℕ → Option Json
+text_value levels text = option_and_then (λ p. if_last p.0 p.1) (value levels (tokens text))
+
+-- the value that bytes are, where they are UTF-8
 unfoldable pub value_of : ℕ → List ℕ → Option Json
-value_of levels bytes = if is_utf8 bytes then option_and_then (λ p. if_last p.0 p.1) (value levels (tokens bytes)) else None
+value_of levels bytes = if is_utf8 bytes then text_value levels bytes else None
 
 -- the compact text of the value that bytes are
 abbrev pub compact_text : ℕ → List ℕ → Option (List ℕ)

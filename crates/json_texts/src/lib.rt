@@ -3,5 +3,7 @@
 #![tactic(auto)]
 
 mod json_text;
+mod reading;
 
-pub use json_text::{JsonText, MOST_LEVELS};
+pub use json_text::{JsonText, MOST_LEVELS, limits_of_texts_in_figures};
+pub use reading::{TextReader, read_value, text_of};

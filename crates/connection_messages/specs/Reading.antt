@@ -1,0 +1,163 @@
+-- What a content is (JSON-RPC 2.0, sections 4 to 6), and what a cancel names (LSP 3.17, "Cancellation Support").
+use Rattle.std.specs.Prelude.{ℕ, ◌==◌, ◌&&◌, ◌||◌, List, [], ◌∷◌, Bool, true, false, Option, Some, None, option_map, option_and_then, unwrap_or, is_some, codes, if◌then◌else◌, ℤ, negsuc}
+use Rattle.std.specs.Option.{option_map_or, is_none}
+use Rattle.std.specs.Str.{bytes_eq}
+use Rattle.json.specs.Json.{Json, null, boolean, number, string, array, object, Items, no_items, item}
+use Rattle.json.specs.Find.{get, as_str, as_number}
+use Rattle.json_texts.specs.Texts.{json_text, value_of}
+use Rattle.rpc_messages.specs.declared.id.Id.{Id}
+use Rattle.rpc_messages.specs.declared.id.Id.TheVariants.{Null, Text, Signed, Unsigned}
+use Rattle.connection_messages.specs.Numbers.{unsigned_of, negative_of, integer_of}
+use Rattle.connection_messages.specs.declared.call.Call.{Call as Came}
+use Rattle.connection_messages.specs.declared.entry.Entry.{Entry}
+use Rattle.connection_messages.specs.declared.entry.Entry.TheVariants.{Call, Cancel, Reply, Stray, Invalid}
+use Rattle.connection_messages.specs.declared.read.unit.TheConstants.{MOST_DEPTH}
+use Rattle.connection_messages.specs.declared.reply.Reply.{Reply as Replied}
+use Rattle.connection_messages.specs.declared.reply.Reply.TheVariants.{Result, Error}
+use Rattle.connection_messages.specs.declared.reply.ReplyError.{ReplyError}
+use Rattle.connection_messages.specs.declared.unit.Unit.{Unit as Units}
+use Rattle.connection_messages.specs.declared.unit.Unit.TheVariants.{Unreadable, Single, Batch}
+
+-- ---- members
+
+-- null counts as absent
+abbrev pub unless_null : Option Json → Option Json
+unless_null (Some null) = None
+unless_null member = member
+
+-- section 4: the member `jsonrpc` is exactly "2.0"
+abbrev pub is_version_2 : Json → Bool
+is_version_2 j = option_map_or (bytes_eq (codes "2.0")) (option_and_then as_str (get (codes "jsonrpc") j)) false
+
+-- a whole number as an id, which is one of u64, or one of i64 below 0
+abbrev pub signed_id : Option ℤ → Option Id
+signed_id None = None
+signed_id (Some z) = Some (Signed z)
+
+abbrev pub number_id_of : Option ℕ → Option ℤ → Option Id
+number_id_of (Some n) negative = Some (Unsigned n)
+number_id_of None negative = signed_id negative
+
+abbrev pub number_id : List ℕ → Option Id
+number_id s = number_id_of (unsigned_of s) (negative_of s)
+
+-- section 4: an id is a string, a whole number or null
+abbrev pub id_of : Json → Option Id
+id_of null = Some Null
+id_of (number s) = number_id s
+id_of (string s) = Some (Text s)
+id_of _ = None
+
+-- section 4.1: a call without the member `id` is a notification
+abbrev pub call_id : Option Json → Option (Option Id)
+call_id None = Some None
+call_id (Some j) = option_map Some (id_of j)
+
+-- section 4.2: `params` may be omitted, and is an array or an object; null counts as omitted
+abbrev pub call_params : Option Json → Option (Option (List ℕ))
+call_params None = Some None
+call_params (Some null) = Some None
+call_params (Some (array js)) = Some (Some (json_text (array js)))
+call_params (Some (object ms)) = Some (Some (json_text (object ms)))
+call_params (Some _) = None
+
+-- ---- calls and cancels
+
+-- a call has the version, a string as its method, and params and an id as said
+abbrev pub call_from : Bool → Option (List ℕ) → Option (Option (List ℕ)) → Option (Option Id) → Option Came
+call_from true (Some method) (Some params) (Some id) = Some (record { id = id; method = method; params = params })
+call_from _ _ _ _ = None
+
+abbrev pub call_in : Json → Option Came
+call_in j = call_from (is_version_2 j) (option_and_then as_str (get (codes "method") j)) (call_params (get (codes "params") j)) (call_id (get (codes "id") j))
+
+-- LSP: the id to cancel is a string or an integer
+abbrev pub cancelled_id : Json → Option Id
+cancelled_id (number s) = number_id s
+cancelled_id (string s) = Some (Text s)
+cancelled_id _ = None
+
+-- the id that the params name
+abbrev pub target_in : Json → Option Id
+target_in j = option_and_then (λ params. option_and_then cancelled_id (get (codes "id") params)) (get (codes "params") j)
+
+-- LSP: a notification `$/cancelRequest` with such an id is a cancel
+abbrev pub is_cancel : Came → Bool
+is_cancel c = is_none c.id && bytes_eq c.method (codes "$/cancelRequest")
+
+abbrev pub cancel_or_call : Came → Option Id → Entry
+cancel_or_call c None = Call c
+cancel_or_call c (Some target) = if is_cancel c then Cancel target else Call c
+
+abbrev pub call_entry : Bool → Option Came → Option Id → Entry
+call_entry cancels None target = Invalid
+call_entry true (Some c) target = cancel_or_call c target
+call_entry false (Some c) target = Call c
+
+-- ---- replies
+
+-- a reply that is none
+abbrev pub invalid_reply : Replied
+invalid_reply = Error (record { code = negsuc 32602; message = codes "Invalid reply"; «data» = None })
+
+-- section 5.1: an error has a whole number as its code and a string as its message, and may have data
+abbrev pub error_from : Option ℤ → Option (List ℕ) → Option (List ℕ) → Replied
+error_from (Some c) (Some m) extra = Error (record { code = c; message = m; «data» = extra })
+error_from _ _ _ = invalid_reply
+
+abbrev pub error_in : Json → Replied
+error_in j =
+    error_from (option_and_then integer_of (option_and_then as_number (get (codes "code") j))) (option_and_then as_str (get (codes "message") j))
+    (option_map json_text (get (codes "data") j))
+
+-- section 5: either an error or a result, and not both
+abbrev pub outcome_of : Option Json → Option Json → Replied
+outcome_of None None = invalid_reply
+outcome_of None (Some result) = Result (json_text result)
+outcome_of (Some error) result = if is_some (unless_null result) then invalid_reply else error_in error
+
+abbrev pub reply_in : Json → Replied
+reply_in j = if is_version_2 j then outcome_of (unless_null (get (codes "error") j)) (get (codes "result") j) else invalid_reply
+
+-- our calls have whole numbers from 1 on as their ids
+abbrev pub own_key : Option ℕ → Option ℕ
+own_key None = None
+own_key (Some k) = if k == 0 then None else Some k
+
+abbrev pub key_in : Json → Option ℕ
+key_in j = own_key (option_and_then unsigned_of (option_and_then as_number (get (codes "id") j)))
+
+abbrev pub reply_entry : Option ℕ → Replied → Entry
+reply_entry None r = Stray
+reply_entry (Some k) r = Reply k r
+
+-- ---- entries and units
+
+-- What has a member `method` is a call or invalid; what has `result` or `error` is a reply; anything else is invalid.
+abbrev pub entry_of : Bool → Json → Entry
+entry_of cancels j =
+    if is_some (get (codes "method") j) then call_entry cancels (call_in j) (target_in j)
+    else (if is_some (get (codes "result") j) || is_some (get (codes "error") j) then reply_entry (key_in j) (reply_in j) else Invalid)
+
+abbrev pub entries_of : Bool → Items → List Entry
+entries_of cancels no_items = []
+entries_of cancels (item j js) = entry_of cancels j ∷ entries_of cancels js
+
+-- section 6: an empty array is no batch, but one invalid entry
+abbrev pub batch_of : List Entry → Units
+batch_of [] = Single Invalid
+batch_of (e ∷ es) = Batch (e ∷ es)
+
+abbrev pub value_unit : Bool → Json → Units
+value_unit cancels (array js) = batch_of (entries_of cancels js)
+value_unit cancels j = Single (entry_of cancels j)
+
+abbrev pub unit_of_reading : Bool → Option Json → Units
+unit_of_reading cancels None = Unreadable
+unit_of_reading cancels (Some j) = value_unit cancels j
+
+-- The content of a foreign frame, and one that is no JSON of at most 127 levels, are unreadable. The first truth value says
+-- whether cancels are told apart, the second whether the frame is foreign.
+abbrev pub unit_of : Bool → Bool → List ℕ → Units
+unit_of cancels true content = Unreadable
+unit_of cancels false content = unit_of_reading cancels (value_of MOST_DEPTH content)

@@ -1,0 +1,7 @@
+//! From contents to units.
+
+pub(crate) mod call;
+pub(crate) mod entry;
+pub(crate) mod number;
+pub(crate) mod reply;
+pub(crate) mod unit;

@@ -1,0 +1,160 @@
+//! Calls and cancels.
+
+ghost use Rattle.std.specs.Prelude.{◌≡◌, IfOk, IfSome, Some, codes, option_and_then, option_map};
+ghost use Rattle.json.specs.Find.{get, as_str};
+ghost use Rattle.json.specs.Tree.{HasNumbers};
+ghost use Rattle.json.specs.Value.{value_view};
+ghost use Rattle.json_texts.specs.Texts.{json_text};
+ghost use Rattle.connection_messages.specs.Reading.{is_version_2, number_id, id_of, call_id, call_params, call_in, cancelled_id, target_in, is_cancel, cancel_or_call, call_entry};
+
+use super::number::{negative, unsigned};
+use crate::call::Call;
+use crate::entry::Entry;
+use json::Value;
+use json_texts::text_of;
+use json_values::{Negative, Text};
+use rpc_messages::Id;
+use std::alloc::{AllocError, Global};
+
+/// The method of a cancel (LSP 3.17, "Cancellation Support").
+const CANCEL: &str = "$/cancelRequest";
+
+/// Whether the member `jsonrpc` is exactly "2.0".
+pub(crate) fn is_version_2(value: &Value<'_>) -> bool
+    ensures { result ≡ is_version_2 (value_view value.now) }
+{
+    match value.get("jsonrpc") {
+        Some(version) => version.as_str() == Some("2.0"),
+        None => false,
+    }
+}
+
+/// A value with a member `method`: a call, a cancel, or invalid.
+pub(crate) fn read_call(alloc: Global, cancels: bool, value: &Value<'_>) -> Result<Entry, AllocError>
+    requires { HasNumbers (value_view value.now) }
+    ensures { IfOk result (λ e. e
+        ≡ call_entry cancels (call_in (value_view value.now)) (target_in (value_view value.now))) }
+{
+    let Some(call) = read_members(alloc, value)? else {
+        return Ok(Entry::Invalid);
+    };
+    if !cancels {
+        return Ok(Entry::Call(call));
+    }
+    let target = read_target(alloc, value)?;
+    Ok(cancel_or_call(call, target))
+}
+
+fn cancel_or_call(call: Call, target: Option<Id>) -> Entry
+    ensures { result ≡ cancel_or_call call target }
+{
+    match target {
+        Some(target) if is_cancel(&call) => Entry::Cancel(target),
+        _ => Entry::Call(call),
+    }
+}
+
+fn is_cancel(call: &Call) -> bool
+    ensures { result ≡ is_cancel call.now }
+{
+    call.id.is_none() && call.method.as_str() == CANCEL
+}
+
+/// The members of a call, where each is what it has to be.
+fn read_members(alloc: Global, value: &Value<'_>) -> Result<Option<Call>, AllocError>
+    requires { HasNumbers (value_view value.now) }
+    ensures { IfOk result (λ call. call ≡ call_in (value_view value.now)) }
+{
+    if !is_version_2(value) {
+        return Ok(None);
+    }
+    let Some(method) = method_of(value) else {
+        return Ok(None);
+    };
+    let Some(params) = read_params(alloc, value)? else {
+        return Ok(None);
+    };
+    let Some(id) = read_call_id(alloc, value.get("id"))? else {
+        drop(params);
+        return Ok(None);
+    };
+    Ok(Some(Call {
+        id,
+        method: Text::copy_of(alloc, method)?,
+        params,
+    }))
+}
+
+fn method_of<'v>(value: &'v Value<'_>) -> Option<&'v str>
+    ensures { option_map (λ s. s.now) result
+        ≡ option_and_then as_str (get (codes "method") (value_view value.now)) }
+{
+    value.get("method")?.as_str()
+}
+
+fn read_params(alloc: Global, value: &Value<'_>) -> Result<Option<Option<Text>>, AllocError>
+    requires { HasNumbers (value_view value.now) }
+    ensures { IfOk result
+        (λ params. params ≡ call_params (get (codes "params") (value_view value.now))) }
+{
+    match value.get("params") {
+        None | Some(Value::Null) => Ok(Some(None)),
+        Some(params) => match params {
+            Value::Array(_) | Value::Object(_) => Ok(Some(Some(text_of(alloc, params)?))),
+            _ => Ok(None),
+        }
+    }
+}
+
+fn read_call_id(
+    alloc: Global,
+    member: Option<&Value<'_>>,
+) -> Result<Option<Option<Id>>, AllocError>
+    ensures { IfOk result (λ id. id ≡ call_id (option_map (λ v. value_view v.now) member.entry)) }
+{
+    let Some(member) = member else {
+        return Ok(Some(None));
+    };
+    match read_id(alloc, member)? {
+        Some(id) => Ok(Some(Some(id))),
+        None => Ok(None),
+    }
+}
+
+fn read_id(alloc: Global, value: &Value<'_>) -> Result<Option<Id>, AllocError>
+    ensures { IfOk result (λ id. id ≡ id_of (value_view value.now)) }
+{
+    match value {
+        Value::Null => Ok(Some(Id::Null)),
+        Value::String(text) => Ok(Some(Id::Text(Text::copy_of(alloc, text)?))),
+        Value::Number(text) => Ok(read_number_id(text)),
+        _ => Ok(None),
+    }
+}
+
+fn read_number_id(text: &str) -> Option<Id>
+    ensures { result ≡ number_id text.now }
+{
+    match unsigned(text) {
+        Some(number) => Some(Id::Unsigned(number)),
+        None => Some(Id::Signed(Negative::new(negative(text)?)?)),
+    }
+}
+
+/// The id that the params name, where they are those of a cancel.
+fn read_target(alloc: Global, value: &Value<'_>) -> Result<Option<Id>, AllocError>
+    ensures { IfOk result (λ target. target ≡ target_in (value_view value.now)) }
+{
+    match target_member(value) {
+        Some(Value::String(text)) => Ok(Some(Id::Text(Text::copy_of(alloc, text)?))),
+        Some(Value::Number(text)) => Ok(read_number_id(text)),
+        _ => Ok(None),
+    }
+}
+
+fn target_member<'v, 't>(value: &'v Value<'t>) -> Option<&'v Value<'t>>
+    ensures { option_map (λ v. value_view v.now) result
+        ≡ option_and_then (get (codes "id")) (get (codes "params") (value_view value.now)) }
+{
+    value.get("params")?.get("id")
+}

@@ -1,0 +1,130 @@
+//! Units of contents.
+
+ghost use Rattle.std.specs.Prelude.{◌≡◌, IfOk};
+ghost use Rattle.std.specs.Prelude.{false};
+ghost use Rattle.json.specs.Tree.{HasNumbers, ItemsHaveNumbers};
+ghost use Rattle.json.specs.Value.{value_view, items_view};
+ghost use Rattle.connection_messages.specs.Reading.{entries_of, batch_of, value_unit, unit_of};
+
+use super::entry::{read_entries, read_entry};
+use crate::entry::Entry;
+use crate::unit::Unit;
+use json::{Scratch, Value};
+use json_texts::read_value;
+use json_values::Items;
+use lsp_frames::Frame;
+use std::alloc::{AllocError, Global};
+use std::marker::Model;
+
+/// Contents nest at most this deep, each array or object counting one.
+pub const MOST_DEPTH: usize = 127;
+
+/// The room that reading takes is kept from one content to the next where the content is at most this long, in bytes.
+const KEPT_ROOM: usize = 65_536;
+
+/// Reads one content after another, over the same room.
+#[derive(Drop)]
+pub struct UnitReader {
+    alloc: Global,
+    cancels: bool,
+    scratch: Option<Box<Scratch>>,
+}
+
+impl Model for UnitReader {
+    ghost use Rattle.std.specs.Prelude.{Bool};
+
+    ghost Value = { Bool };
+
+    ghost view = { λ r. r.cancels };
+}
+
+impl UnitReader {
+    /// A reader that has no room yet. With `cancels` it tells cancels apart from calls. Takes no memory.
+    pub fn new(alloc: Global, cancels: bool) -> UnitReader
+        ensures { result ≡ cancels }
+    {
+        UnitReader {
+            alloc,
+            cancels,
+            scratch: None,
+        }
+    }
+
+    /// The unit of a frame's content. Every content has one, so it is refused only where it is out of memory; it can be
+    /// read again then.
+    pub fn read(&mut self, frame: &Frame) -> Result<Unit, AllocError>
+        ensures unit { IfOk result
+            (λ u. u ≡ unit_of self.old frame.now.foreign frame.now.content) }
+        ensures cancels { self.new ≡ self.old }
+    {
+        if frame.foreign {
+            return Ok(Unit::Unreadable);
+        }
+        self.read_content(frame.content.as_slice())
+    }
+
+    fn read_content(&mut self, content: &[u8]) -> Result<Unit, AllocError>
+        ensures unit { IfOk result (λ u. u ≡ unit_of self.old false content.now) }
+        ensures cancels { self.new ≡ self.old }
+    {
+        let mut scratch = self.take_scratch()?;
+        let unit = read_unit(self.alloc, self.cancels, content, &mut scratch);
+        if content.len() <= KEPT_ROOM {
+            self.scratch = Some(scratch);
+        } else {
+            drop(scratch);
+        }
+        unit
+    }
+
+    fn take_scratch(&mut self) -> Result<Box<Scratch>, AllocError>
+        ensures { self.new ≡ self.old }
+    {
+        match self.scratch.take() {
+            Some(scratch) => Ok(scratch),
+            None => new_scratch(self.alloc),
+        }
+    }
+}
+
+fn read_unit(
+    alloc: Global,
+    cancels: bool,
+    content: &[u8],
+    scratch: &mut Scratch,
+) -> Result<Unit, AllocError>
+    ensures { IfOk result (λ u. u ≡ unit_of cancels false content.now) }
+{
+    match read_value(alloc, content, MOST_DEPTH, scratch)? {
+        Some(value) => unit_of_value(alloc, cancels, &value),
+        None => Ok(Unit::Unreadable),
+    }
+}
+
+fn unit_of_value(alloc: Global, cancels: bool, value: &Value<'_>) -> Result<Unit, AllocError>
+    requires { HasNumbers (value_view value.now) }
+    ensures { IfOk result (λ u. u ≡ value_unit cancels (value_view value.now)) }
+{
+    match value {
+        Value::Array(items) => read_batch(alloc, cancels, items.as_slice()),
+        value => Ok(Unit::Single(read_entry(alloc, cancels, value)?)),
+    }
+}
+
+fn read_batch(alloc: Global, cancels: bool, values: &[Value<'_>]) -> Result<Unit, AllocError>
+    requires { ItemsHaveNumbers (items_view values.now) }
+    ensures { IfOk result (λ u. u ≡ batch_of (entries_of cancels (items_view values.now))) }
+{
+    let entries = read_entries(alloc, cancels, values)?;
+    if entries.is_empty() {
+        return Ok(Unit::Single(Entry::Invalid));
+    }
+    Ok(Unit::Batch(Items::from(entries)))
+}
+
+/// Apart, since it holds the scratch's 16 KiB on the stack.
+#[cold]
+#[inline(never)]
+fn new_scratch(alloc: Global) -> Result<Box<Scratch>, AllocError> {
+    Ok(Box::new(alloc, Scratch::new(alloc))?)
+}

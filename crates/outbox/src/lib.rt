@@ -1,0 +1,6 @@
+//! What a connection has written and nobody has taken yet.
+#![tactic(auto)]
+
+mod outbox;
+
+pub use outbox::{Mark, Outbox};
