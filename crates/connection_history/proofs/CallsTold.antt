@@ -13,6 +13,7 @@ use Rattle.connection_history.specs.Told.{calls_told, numbered}
 use Rattle.connection_history.proofs.Streams.{calls_in-append}
 use Rattle.connection_history.proofs.Histories.{stream-more, call_count-entry, call_count-more}
 
+-- the calls of events, and then of more
 pub calls_told-append : (told more : List Event) → calls_told (told ++ more) ≡ calls_told told ++ calls_told more
 calls_told-append [] more = refl
 calls_told-append (event.Call n c ∷ told) more = ap (λ cs. (n, c) ∷ cs) (calls_told-append told more)
@@ -67,6 +68,7 @@ happening_told past (withdrew k) = refl
 happening_told past (answered n a) = refl
 happening_told past (ended close) = calls_told-unanswered (waiting past) (event.Over close ∷ [])
 
+-- each call of the stream is told once, with its number
 pub each_call_told : (history : History) → calls_told (events_of history) ≡ numbered 1 (calls_in (stream history))
 each_call_told [] = refl
 each_call_told (h ∷ past) =

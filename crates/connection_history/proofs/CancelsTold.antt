@@ -30,6 +30,7 @@ is_hit n history = is_cancelled n (stream history)
 
 -- ---- lists of events
 
+-- how often a cancel is told in events, and then in more
 pub cancels_told-append : (n : ℕ) (told more : List Event) → cancels_told n (told ++ more) ≡ cancels_told n told + cancels_told n more
 cancels_told-append n [] more = omega arith
 cancels_told-append n (event.Call m c ∷ told) more = cancels_told-append n told more
@@ -42,10 +43,12 @@ cancels_told-numbers : (n : ℕ) (ns : List ℕ) → cancels_told n (map event.C
 cancels_told-numbers n [] = refl
 cancels_told-numbers n (m ∷ ns) = ap (λ k. one_if (m == n) + k) (cancels_told-numbers n ns)
 
+-- the end tells no cancel
 pub cancels_told-unanswered : (n : ℕ) (ks : List ℕ) (told : List Event) → cancels_told n (map event.Unanswered ks ++ told) ≡ cancels_told n told
 cancels_told-unanswered n [] told = refl
 cancels_told-unanswered n (k ∷ ks) told = cancels_told-unanswered n ks told
 
+-- nor does a reply
 pub cancels_told-reply : (n : ℕ) (b : Bool) (j : ℕ) (r : Replied) → cancels_told n (cond b (event.Replied j r ∷ []) []) ≡ 0
 cancels_told-reply n true j r = refl
 cancels_told-reply n false j r = refl
@@ -78,6 +81,7 @@ told_of_cancel n id history =
 abbrev pub hits : ℕ → History → Entry → Bool
 hits n history e = cancels (request_id n (stream history)) (e ∷ [])
 
+-- one entry more
 pub hit-entry : (n : ℕ) (past : History) (front : List Entry) (e : Entry) → is_hit n (so_far past (front ++ e ∷ [])) ≡ (is_hit n (so_far past front) || hits n (so_far past front) e)
 hit-entry n past front e = ap (is_cancelled n) (stream-entry past front e) ∙ is_cancelled-push n (stream (so_far past front)) e
 
@@ -109,6 +113,7 @@ entry_once n told past front (Reply j r) h =
 entry_once n told past front Stray h = kept_once told (is_hit n (so_far past front)) false h
 entry_once n told past front Invalid h = kept_once told (is_hit n (so_far past front)) false h
 
+-- entries tell a cancel no more often than the request is cancelled
 pub entries_once : (n told : ℕ) (past : History) (front es : List Entry) → told ≤ one_if (is_hit n (so_far past front))
     → told + cancels_told n (events_along past front es) ≤ one_if (is_hit n (so_far past (front ++ es)))
 entries_once n told past front [] h = subst (λ l. told + 0 ≤ one_if (is_hit n (so_far past l))) (sym (append-nil front)) (omega arith)
@@ -121,9 +126,11 @@ entries_once n told past front (e ∷ es) h =
     subst (λ l. told + here + rest ≤ one_if (is_hit n (so_far past l))) (append_assoc front (e ∷ []) es) all in
     omega (arith, cancels_told-append n (events_of_entry (so_far past front) e) (events_along past (front ++ e ∷ []) es))
 
+-- an array that has brought nothing yet
 pub hit-none : (n : ℕ) (past : History) → is_hit n (so_far past []) ≡ is_hit n past
 hit-none n past = ap (is_cancelled n) (stream-came past (Batch []) ∙ append-nil (stream past))
 
+-- a unit is the array of its entries
 pub hit-unit : (n : ℕ) (past : History) (u : Unit) → is_hit n (so_far past (entries_in u)) ≡ is_hit n (came u ∷ past)
 hit-unit n past u = ap (is_cancelled n) (stream-came past (Batch (entries_in u)) ∙ sym (stream-came past u))
 
@@ -134,6 +141,7 @@ idle n past h e = ap (is_cancelled n) e
 stays_once : (n told : ℕ) (past : History) (h : Happening) → is_hit n (h ∷ past) ≡ is_hit n past → told ≤ one_if (is_hit n past) → told + 0 ≤ one_if (is_hit n (h ∷ past))
 stays_once n told past h e before = subst (λ b. told + 0 ≤ one_if b) (sym e) (omega arith)
 
+-- nothing comes
 pub same_stream : (past : History) (h : Happening) → stream (h ∷ past) ≡ stream past ++ [] → stream (h ∷ past) ≡ stream past
 same_stream past h e = e ∙ append-nil (stream past)
 
@@ -157,6 +165,7 @@ told_if_hit (h ∷ past) n =
     let now = happening_once n (cancels_told n (events_of past)) past h (told_if_hit past n) in
     omega (arith, cancels_told-append n (events_of past) (events_at past h))
 
+-- once at most
 pub at_most_one : (k : ℕ) (b : Bool) → k ≤ one_if b → k ≤ 1
 at_most_one k true h = h
 at_most_one k false h = omega arith

@@ -17,9 +17,11 @@ use Rattle.connection_history.proofs.Tests.{and-left, and-right, not-true, is_no
 
 -- ---- the stream
 
+-- what happens adds its entries to the stream
 pub stream-more : (past : History) (h : Happening) → stream (h ∷ past) ≡ stream past ++ entries_along (units_at h)
 stream-more past h = entries_along-append (units_of past) (units_at h)
 
+-- a unit adds its entries
 pub stream-came : (past : History) (u : Unit) → stream (came u ∷ past) ≡ stream past ++ entries_in u
 stream-came past u = stream-more past (came u) ∙ ap (λ es. stream past ++ es) (append-nil (entries_in u))
 
@@ -28,9 +30,11 @@ pub stream-entry : (past : History) (front : List Entry) (e : Entry) → stream 
 stream-entry past front e =
     stream-came past (Batch (front ++ e ∷ [])) ∙ sym (append_assoc (stream past) front (e ∷ [])) ∙ ap (λ es. es ++ e ∷ []) (sym (stream-came past (Batch front)))
 
+-- what happens adds its calls
 pub call_count-more : (past : History) (h : Happening) → call_count (h ∷ past) ≡ call_count past + length (calls_in (entries_along (units_at h)))
 call_count-more past h = ap (λ es. length (calls_in es)) (stream-more past h) ∙ length-calls_in-append (stream past) (entries_along (units_at h))
 
+-- one entry more in an array that comes
 pub call_count-entry : (past : History) (front : List Entry) (e : Entry) → call_count (came (Batch (front ++ e ∷ [])) ∷ past) ≡ call_count (came (Batch front) ∷ past) + length (call_in e)
 call_count-entry past front e =
     ap (λ es. length (calls_in es)) (stream-entry past front e)
@@ -53,12 +57,15 @@ answer_to-kept n past h a known = ap (λ o. or_else o (answer_at n h)) known
 
 -- ---- open calls
 
+-- an open call has come
 pub open_known : (n : ℕ) (history : History) → is_open (suc n) history ≡ true → (c : Came) × (call_numbered (suc n) (stream history) ≡ Some c)
 open_known n history h = is_some-some (call_numbered (suc n) (stream history)) (and-left _ (is_none (answer_to (suc n) history)) h)
 
+-- an open call isn't answered
 pub open_unanswered : (n : ℕ) (history : History) → is_open (suc n) history ≡ true → answer_to (suc n) history ≡ None
 open_unanswered n history h = is_none-none (answer_to (suc n) history) (and-right (is_some (call_numbered (suc n) (stream history))) _ h)
 
+-- a call that has come and isn't answered is open
 pub open-from : (n : ℕ) (history : History) (c : Came) → call_numbered n (stream history) ≡ Some c → answer_to n history ≡ None → is_open n history ≡ true
 open-from zero history c known none = refl
 open-from (suc n) history c known none = λ i. is_some (known i) && is_none (none i)
@@ -86,6 +93,7 @@ pub caller_of-kept : (k : ℕ) (past : History) (h : Happening) (n : ℕ) → ca
 caller_of-kept zero past h n known = known
 caller_of-kept (suc k) past h n known = slice_get-kept (callers past) (callers_at h) k n known
 
+-- what comes makes no call of ours
 pub caller_of-came : (k : ℕ) (past : History) (u : Unit) → caller_of k (came u ∷ past) ≡ caller_of k past
 caller_of-came zero past u = refl
 caller_of-came (suc k) past u = ap (λ ns. slice_get ns k) (append-nil (callers past))
@@ -101,6 +109,7 @@ caller_of-within (suc k) history n h = (omega arith, omega (arith, slice_get_wit
 pub reply_to-kept : (k : ℕ) (past : History) (h : Happening) (r : Reply) → reply_to k past ≡ Some r → reply_to k (h ∷ past) ≡ Some r
 reply_to-kept k past h r known = ap (λ o. or_else o (reply_at k past h)) known
 
+-- a unit brings the reply to a call that was made and has none
 pub reply_to-came : (k : ℕ) (past : History) (u : Unit)
     → reply_to k (came u ∷ past) ≡ or_else (reply_to k past) (cond (is_some (caller_of k past)) (first_reply k (entries_in u)) None)
 reply_to-came k past u = ap (λ es. or_else (reply_to k past) (cond (is_some (caller_of k past)) (first_reply k es) None)) (append-nil (entries_in u))
@@ -140,9 +149,11 @@ waits_for k history (Some n) is h =
       going_on = not-true (is_over history) (and-right (is_open n history && is_none (reply_to k history)) (not (is_over history)) h);
     }
 
+-- a call that waits has each part of that
 pub waits : (k : ℕ) (history : History) → is_waiting k history ≡ true → Waits k history
 waits k history h = waits_for k history (caller_of k history) refl h
 
+-- and each part makes it wait
 pub waiting-from : (k : ℕ) (history : History) → Waits k history → is_waiting k history ≡ true
 waiting-from k history w =
     ap (λ o. option_map_or (λ n. is_open n history) o false && is_none (reply_to k history) && not (is_over history)) w.caller

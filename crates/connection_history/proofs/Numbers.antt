@@ -19,6 +19,7 @@ abbrev pub occurs : ℕ → List ℕ → ℕ
 occurs k [] = 0
 occurs k (n ∷ ns) = one_if (n == k) + occurs k ns
 
+-- how often a number stands in two lists
 pub occurs-append : (k : ℕ) (ns more : List ℕ) → occurs k (ns ++ more) ≡ occurs k ns + occurs k more
 occurs-append k [] more = omega arith
 occurs-append k (n ∷ ns) more = omega (arith, occurs-append k ns more)
@@ -93,6 +94,7 @@ occurs-passing p k n range = by_test p k n (p k) refl range
 
 -- ---- the numbers to n
 
+-- they are n
 pub length-numbers_to : (n : ℕ) → length (numbers_to n) ≡ n
 length-numbers_to zero = refl
 length-numbers_to (suc n) = omega (arith, length-append (numbers_to n) (suc n ∷ []), length-numbers_to n)
@@ -106,6 +108,7 @@ numbers_to-rise (suc n) = rise-append 1 (n + 1) (suc n + 1) (numbers_to n) (suc 
 pub passing-rise : (p : ℕ → Bool) (n : ℕ) → IsStrictlyIncreasing (filter p (numbers_to n))
 passing-rise p n = IsStrictlyIncreasing-filter p (numbers_to n) (strict 1 (n + 1) (numbers_to n) (numbers_to-rise n))
 
+-- each number from 1 to n is among them
 pub numbers_to-has : (n k : ℕ) → 0 < k → k ≤ n → Contains (numbers_to n) k
 numbers_to-has zero k some h = absurd (omega arith)
 numbers_to-has (suc n) k some h = elim (cases_lt n k) [
@@ -113,6 +116,7 @@ numbers_to-has (suc n) k some h = elim (cases_lt n k) [
   | inr front ↦ Contains-append_left (numbers_to n) (suc n ∷ []) k (numbers_to-has n k some front)
 ]
 
+-- and no other is
 pub numbers_to-within : (n k : ℕ) → Contains (numbers_to n) k → (0 < k) × (k ≤ n)
 numbers_to-within zero k h = let none = h.1 in absurd (omega arith)
 numbers_to-within (suc n) k h = elim (Contains-push_cases (numbers_to n) (suc n) k h) [

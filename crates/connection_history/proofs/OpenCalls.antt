@@ -26,18 +26,23 @@ open-other (suc n) past h none silent =
     let answer : answer_to (suc n) (h ∷ past) ≡ answer_to (suc n) past = ap (or_else (answer_to (suc n) past)) silent ∙ or_else-none (answer_to (suc n) past) in
     λ i. is_some (call_numbered (suc n) (stream-said past h none i)) && is_none (answer i)
 
+-- a call of ours
 pub open-called : (n : ℕ) (past : History) (m : ℕ) (o : Outgoing) → is_open n (called m o ∷ past) ≡ is_open n past
 open-called n past m o = open-other n past (called m o) refl refl
 
+-- a batch of calls
 pub open-called_all : (n : ℕ) (past : History) (m : ℕ) (os : List Outgoing) → is_open n (called_all m os ∷ past) ≡ is_open n past
 open-called_all n past m os = open-other n past (called_all m os) refl refl
 
+-- a notification of ours
 pub open-noticed : (n : ℕ) (past : History) (o : Outgoing) → is_open n (noticed o ∷ past) ≡ is_open n past
 open-noticed n past o = open-other n past (noticed o) refl refl
 
+-- a withdrawal
 pub open-withdrew : (n : ℕ) (past : History) (k : ℕ) → is_open n (withdrew k ∷ past) ≡ is_open n past
 open-withdrew n past k = open-other n past (withdrew k) refl refl
 
+-- the end of the input
 pub open-ended : (n : ℕ) (past : History) (close : Close) → is_open n (ended close ∷ past) ≡ is_open n past
 open-ended n past close = open-other n past (ended close) refl refl
 

@@ -13,6 +13,7 @@ use Rattle.connection_history.proofs.Tests.{or_else-none}
 
 -- ---- keys
 
+-- what happens takes a key for each call that it makes
 pub key_count-more : (past : History) (h : Happening) → key_count (h ∷ past) ≡ key_count past + length (callers_at h)
 key_count-more past h = length-append (callers past) (callers_at h)
 
@@ -20,9 +21,11 @@ key_count-more past h = length-append (callers past) (callers_at h)
 pub key_count-other : (past : History) (h : Happening) → callers_at h ≡ [] → key_count (h ∷ past) ≡ key_count past
 key_count-other past h none = omega (arith, key_count-more past h, ap length none)
 
+-- a call takes one key
 pub key_count-called : (past : History) (n : ℕ) (o : Outgoing) → key_count (called n o ∷ past) ≡ key_count past + 1
 key_count-called past n o = key_count-more past (called n o)
 
+-- a batch takes as many keys as it has calls
 pub key_count-called_all : (past : History) (n : ℕ) (os : List Outgoing) → key_count (called_all n os ∷ past) ≡ key_count past + length os
 key_count-called_all past n os = omega (arith, key_count-more past (called_all n os), length-map os (λ (o : Outgoing). n))
 
@@ -33,6 +36,7 @@ pub caller_of-made : (k : ℕ) (past : History) (h : Happening) → k ≤ key_co
 caller_of-made zero past h made = refl
 caller_of-made (suc k) past h made = slice_get-front (callers past) (callers_at h) k (omega arith)
 
+-- what makes no call leaves the callers as they are
 pub caller_of-other : (k : ℕ) (past : History) (h : Happening) → callers_at h ≡ [] → caller_of k (h ∷ past) ≡ caller_of k past
 caller_of-other zero past h none = refl
 caller_of-other (suc k) past h none = ap (λ ns. slice_get (callers past ++ ns) k) none ∙ ap (λ ns. slice_get ns k) (append-nil (callers past))

@@ -15,6 +15,7 @@ use Rattle.connection_history.proofs.Tests.{different, same_test}
 abbrev pub out_at : List (Option (List ℕ)) → ℕ → Option (List ℕ)
 out_at outs place = unwrap_or (slice_get outs place) None
 
+-- nothing is out at any place
 pub out_at-none : (ds : List Due) (place : ℕ) → out_at (map (λ d. None) ds) place ≡ None
 out_at-none [] place = refl
 out_at-none (d ∷ ds) zero = refl
@@ -45,6 +46,7 @@ came_out (text s ∷ ds) (e ∷ later) zero t stays h = ap (λ d. out_at (out As
 came_out (text s ∷ ds) (e ∷ later) (suc place) t stays h =
     ap (λ d. out_at (out AsCame (d ∷ later)) (suc place)) stays.0 ∙ came_out ds later place t stays.1 h
 
+-- in both orders, what is out stays out
 pub stays_out : (order : Order) (ds later : List Due) (place : ℕ) (t : List ℕ) → DuesStay ds later → out_at (out order ds) place ≡ Some t → out_at (out order later) place ≡ Some t
 stays_out AsAnswered ds later place t stays h = answered_out ds later place t stays h
 stays_out AsCame ds later place t stays h = came_out ds later place t stays h
@@ -60,6 +62,7 @@ one_more : (b : Bool) (t : List ℕ) (front rest whole : List (List ℕ)) → wh
 one_more true t front rest whole h = ap (λ l. t ∷ l) h
 one_more false t front rest whole h = h
 
+-- the answers of a unit in items, and then in more
 pub answers_of-append : (place : ℕ) (items more : List Item) → answers_of place (items ++ more) ≡ answers_of place items ++ answers_of place more
 answers_of-append place [] more = refl
 answers_of-append place (said t ∷ items) more = answers_of-append place items more
@@ -125,6 +128,7 @@ said-no_answers place past (withdrew k) = refl
 said-no_answers place past (answered n a) = refl
 said-no_answers place past (ended close) = refl
 
+-- what happens writes the answer that it newly lets out
 pub answers_of-at : (order : Order) (past : History) (h : Happening) (place : ℕ)
     → answers_of place (items_at order past h) ≡ option_to_list (fresh (out_at (out order (dues past)) place) (out_at (out order (dues (h ∷ past))) place))
 answers_of-at order past h place =
@@ -140,6 +144,7 @@ nothing_out : (order : Order) (place : ℕ) → option_to_list (out_at (out orde
 nothing_out AsAnswered place = refl
 nothing_out AsCame place = refl
 
+-- at each place, all that is written has the answer that is out
 pub each_answer : (order : Order) (history : History) (place : ℕ) → answers_of place (items_of order history) ≡ option_to_list (out_at (out order (dues history)) place)
 each_answer order [] place = sym (nothing_out order place)
 each_answer order (h ∷ past) place =

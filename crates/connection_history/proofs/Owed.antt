@@ -116,9 +116,11 @@ settled-at (nothing ∷ ds) zero h is = cc
 settled-at (text t ∷ ds) zero h is = cc
 settled-at (d ∷ ds) (suc place) h is = settled-at ds place h.1 is
 
+-- where no call is open, each answer is out
 pub nothing_owed : (order : Order) (history : History) → ((n : ℕ) → 0 < n → is_open n history ≡ false) → out order (dues history) ≡ map text_if_due (dues history)
 nothing_owed AsAnswered history none = refl
 nothing_owed AsCame history none = settled-out (dues history) (all_settled history none)
 
+-- where no call is open, no unit is
 pub no_unit_open : (history : History) (place : ℕ) → ((n : ℕ) → 0 < n → is_open n history ≡ false) → slice_get (dues history) place ≢ Some open_yet
 no_unit_open history place none = settled-at (dues history) place (all_settled history none)

@@ -81,5 +81,6 @@ all_rise (h ∷ past) =
     subst (λ l. Rise 0 (settled (dues (h ∷ past))) l) (sym (places_in-append (items_of AsCame past) (items_at AsCame past h)))
     (rise-append 0 (settled (dues past)) (settled (dues (h ∷ past))) (places_in (items_of AsCame past)) (places_in (items_at AsCame past h)) (all_rise past) (happening_rises past h))
 
+-- as they came, the places of all answers go up
 pub places_rise : (history : History) → IsStrictlyIncreasing (places_in (items_of AsCame history))
 places_rise history = strict 0 (settled (dues history)) (places_in (items_of AsCame history)) (all_rise history)

@@ -21,6 +21,7 @@ told_on : (b : Bool) (r : Replied) (front rest whole : List Replied) → whole �
 told_on true r front rest whole h = ap (λ l. r ∷ l) h
 told_on false r front rest whole h = h
 
+-- the replies to a call in events, and then in more
 pub replies_told-append : (k : ℕ) (told more : List Event) → replies_told k (told ++ more) ≡ replies_told k told ++ replies_told k more
 replies_told-append k [] more = refl
 replies_told-append k (event.Call n c ∷ told) more = replies_told-append k told more
@@ -29,10 +30,12 @@ replies_told-append k (event.Replied j r ∷ told) more = told_on (j == k) r (re
 replies_told-append k (event.Unanswered j ∷ told) more = replies_told-append k told more
 replies_told-append k (event.Over close ∷ told) more = replies_told-append k told more
 
+-- a cancel tells no reply
 pub replies_told-cancelled : (k : ℕ) (ns : List ℕ) → replies_told k (map event.Cancelled ns) ≡ []
 replies_told-cancelled k [] = refl
 replies_told-cancelled k (n ∷ ns) = replies_told-cancelled k ns
 
+-- nor does the end
 pub replies_told-unanswered : (k : ℕ) (ks : List ℕ) (told : List Event) → replies_told k (map event.Unanswered ks ++ told) ≡ replies_told k told
 replies_told-unanswered k [] told = refl
 replies_told-unanswered k (j ∷ ks) told = replies_told-unanswered k ks told
@@ -97,6 +100,7 @@ entries-told k past front (e ∷ es) told h =
     subst (λ l. AtMost l (reply_to k (so_far past (front ++ e ∷ es)))) (append_assoc told here (replies_told k rest) ∙ ap (λ l. told ++ l) (sym (replies_told-append k (events_of_entry (so_far past front) e) rest)))
     (subst (λ l. AtMost ((told ++ here) ++ replies_told k rest) (reply_to k (so_far past l))) (append_assoc front (e ∷ []) es) after_all)
 
+-- no reply comes later
 pub no_more : (b : Bool) (o : Option Replied) → or_else o (cond b None None) ≡ o
 no_more true o = or_else-none o
 no_more false o = or_else-none o

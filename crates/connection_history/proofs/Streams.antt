@@ -16,24 +16,29 @@ use Rattle.connection_history.proofs.Tests.{same, apart, or_assoc}
 
 -- ---- entries and their calls
 
+-- the entries of units, and then of more
 pub entries_along-append : (us vs : List Unit) → entries_along (us ++ vs) ≡ entries_along us ++ entries_along vs
 entries_along-append [] vs = refl
 entries_along-append (u ∷ us) vs = ap (λ es. entries_in u ++ es) (entries_along-append us vs) ∙ sym (append_assoc (entries_in u) (entries_along us) (entries_along vs))
 
+-- the calls of entries, and then of more
 pub calls_in-append : (es fs : List Entry) → calls_in (es ++ fs) ≡ calls_in es ++ calls_in fs
 calls_in-append [] fs = refl
 calls_in-append (e ∷ es) fs = ap (λ cs. call_in e ++ cs) (calls_in-append es fs) ∙ sym (append_assoc (call_in e) (calls_in es) (calls_in fs))
 
+-- how many calls they have
 pub length-calls_in-append : (es fs : List Entry) → length (calls_in (es ++ fs)) ≡ length (calls_in es) + length (calls_in fs)
 length-calls_in-append es fs = ap length (calls_in-append es fs) ∙ length-append (calls_in es) (calls_in fs)
 
 -- ---- the call that has a number
 
+-- an index within the first list
 pub slice_get-front : {X : Type 0} (xs ys : List X) (i : ℕ) → i < length xs → slice_get (xs ++ ys) i ≡ slice_get xs i
 slice_get-front [] ys i h = absurd (omega arith)
 slice_get-front (x ∷ xs) ys zero h = refl
 slice_get-front (x ∷ xs) ys (suc i) h = slice_get-front xs ys i (omega arith)
 
+-- an index beyond it
 pub slice_get-beyond : {X : Type 0} (xs ys : List X) (i : ℕ) → slice_get (xs ++ ys) (length xs + i) ≡ slice_get ys i
 slice_get-beyond [] ys i = let same : 0 + i ≡ i = omega arith in ap (slice_get ys) same
 slice_get-beyond (x ∷ xs) ys i = let one_on : length (x ∷ xs) + i ≡ suc (length xs + i) = omega arith in ap (slice_get (x ∷ (xs ++ ys))) one_on ∙ slice_get-beyond xs ys i
@@ -42,6 +47,7 @@ slice_get-beyond (x ∷ xs) ys i = let one_on : length (x ∷ xs) + i ≡ suc (l
 pub slice_get-kept : {X : Type 0} (xs ys : List X) (i : ℕ) (x : X) → slice_get xs i ≡ Some x → slice_get (xs ++ ys) i ≡ Some x
 slice_get-kept xs ys i x h = slice_get-front xs ys i (slice_get_within xs i x h) ∙ h
 
+-- an index within a list has an element
 pub slice_get-known : {X : Type 0} (xs : List X) (i : ℕ) → i < length xs → (x : X) × (slice_get xs i ≡ Some x)
 slice_get-known [] i h = absurd (omega arith)
 slice_get-known (x ∷ xs) zero h = (x, refl)
@@ -57,6 +63,7 @@ pub call_numbered-front : (n : ℕ) (es fs : List Entry) → n ≤ length (calls
 call_numbered-front zero es fs h = refl
 call_numbered-front (suc n) es fs h = ap (λ cs. slice_get cs n) (calls_in-append es fs) ∙ slice_get-front (calls_in es) (calls_in fs) n (omega arith)
 
+-- the call that has a number stays with more after it
 pub call_numbered-kept : (n : ℕ) (es fs : List Entry) (c : Came) → call_numbered n es ≡ Some c → call_numbered n (es ++ fs) ≡ Some c
 call_numbered-kept zero es fs c h = h
 call_numbered-kept (suc n) es fs c h = ap (λ cs. slice_get cs n) (calls_in-append es fs) ∙ slice_get-kept (calls_in es) (calls_in fs) n c h
@@ -81,6 +88,7 @@ call_numbered-here es fs c =
 pub request_id-front : (n : ℕ) (es fs : List Entry) → n ≤ length (calls_in es) → request_id n (es ++ fs) ≡ request_id n es
 request_id-front n es fs h = ap (option_and_then (λ (c : Came). c.id)) (call_numbered-front n es fs h)
 
+-- a request that hasn't come has no id
 pub request_id-unknown : (n : ℕ) (es : List Entry) → length (calls_in es) < n → request_id n es ≡ None
 request_id-unknown n es h = ap (option_and_then (λ (c : Came). c.id)) (call_numbered-unknown n es h)
 
@@ -147,6 +155,7 @@ chosen : (b : Bool) (r : Replied) (all o later : Option Replied) → all ≡ or_
 chosen true r all o later h = refl
 chosen false r all o later h = h
 
+-- the first reply of entries, or else of more
 pub first_reply-append : (k : ℕ) (es fs : List Entry) → first_reply k (es ++ fs) ≡ or_else (first_reply k es) (first_reply k fs)
 first_reply-append k [] fs = refl
 first_reply-append k (Call c ∷ es) fs = first_reply-append k es fs
@@ -157,6 +166,7 @@ first_reply-append k (Invalid ∷ es) fs = first_reply-append k es fs
 
 -- ---- cancels
 
+-- cancels among entries, or among more
 pub cancels-append : (id : Option Id) (es fs : List Entry) → cancels id (es ++ fs) ≡ (cancels id es || cancels id fs)
 cancels-append id [] fs = refl
 cancels-append id (Call c ∷ es) fs = cancels-append id es fs

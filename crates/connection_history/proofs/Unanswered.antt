@@ -17,6 +17,7 @@ use Rattle.connection_history.proofs.Along.{so_far}
 
 -- ---- calls that are told to have no reply
 
+-- how often it is told in events, and then in more
 pub unanswered_told-append : (k : ℕ) (told more : List Event) → unanswered_told k (told ++ more) ≡ unanswered_told k told + unanswered_told k more
 unanswered_told-append k [] more = omega arith
 unanswered_told-append k (event.Call n c ∷ told) more = unanswered_told-append k told more

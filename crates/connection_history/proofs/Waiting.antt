@@ -42,6 +42,7 @@ waiting-other k past h none going_on caller opened =
     (λ i. option_map_or (λ n. is_open n (h ∷ past)) (caller i) false && is_none (reply_to-said k past h none i) && not (going_on i || is_over past))
     ∙ ap (λ b. b && is_none (reply_to k past) && not (is_over past)) (same_open k past h (caller_of k past) refl opened)
 
+-- a notification of ours leaves it as it is
 pub waiting-noticed : (k : ℕ) (past : History) (o : Outgoing) → is_waiting k (noticed o ∷ past) ≡ is_waiting k past
 waiting-noticed k past o = waiting-other k past (noticed o) refl refl (caller_of-other k past (noticed o) refl) (λ n is. open-noticed n past o)
 
@@ -53,6 +54,7 @@ waiting-withdrew k past j = waiting-other k past (withdrew j) refl refl (caller_
 pub waiting-called_made : (k : ℕ) (past : History) (n : ℕ) (o : Outgoing) → k ≤ key_count past → is_waiting k (called n o ∷ past) ≡ is_waiting k past
 waiting-called_made k past n o made = waiting-other k past (called n o) refl refl (caller_of-made k past (called n o) made) (λ m is. open-called m past n o)
 
+-- the same for a batch of calls
 pub waiting-called_all_made : (k : ℕ) (past : History) (n : ℕ) (os : List Outgoing) → k ≤ key_count past → is_waiting k (called_all n os ∷ past) ≡ is_waiting k past
 waiting-called_all_made k past n os made = waiting-other k past (called_all n os) refl refl (caller_of-made k past (called_all n os) made) (λ m is. open-called_all m past n os)
 
@@ -69,6 +71,7 @@ waiting-called past n o opened going_on =
       going_on = going_on;
     })
 
+-- each call of a batch waits
 pub waiting-called_all : (k : ℕ) (past : History) (n : ℕ) (os : List Outgoing) → is_open n past ≡ true → is_over past ≡ false → key_count past < k → k ≤ key_count past + length os
     → is_waiting k (called_all n os ∷ past) ≡ true
 waiting-called_all k past n os opened going_on new h =

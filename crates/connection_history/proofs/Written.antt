@@ -13,6 +13,7 @@ use Rattle.connection_history.proofs.Tests.{same_test}
 
 -- ---- what is said
 
+-- what is said in items, and then in more
 pub said_in-append : (items more : List Item) → said_in (items ++ more) ≡ said_in items ++ said_in more
 said_in-append [] more = refl
 said_in-append (said t ∷ items) more = ap (λ l. t ∷ l) (said_in-append items more)
@@ -33,6 +34,7 @@ newly_out-not_said place (b ∷ before) (a ∷ after) =
 answers-not_said : (order : Order) (past : History) (h : Happening) → said_in (answers_at order past h) ≡ []
 answers-not_said order past h = newly_out-not_said 0 (out order (dues past)) (out order (dues (h ∷ past)))
 
+-- what is said is written once, in its order
 pub said_once : (order : Order) (history : History) → said_in (items_of order history) ≡ said_of history
 said_once order [] = refl
 said_once order (h ∷ past) =
@@ -53,6 +55,7 @@ stands_on w xs ys front x rest (in_second earlier before split) = in_second earl
 stands_from : {A : Type 0} (v w : A) (xs ys front : List A) (x : A) (rest : List A) → v ≡ w → Stands (v ∷ xs) ys (v ∷ front) x rest → Stands (v ∷ xs) ys (w ∷ front) x rest
 stands_from v w xs ys front x rest same h = subst (λ u. Stands (v ∷ xs) ys (u ∷ front) x rest) same h
 
+-- an item of two lists stands in one of them
 pub stands : {A : Type 0} (xs ys front : List A) (x : A) (rest : List A) → xs ++ ys ≡ front ++ x ∷ rest → Stands xs ys front x rest
 stands [] ys front x rest h = in_second front refl h
 stands (w ∷ xs) ys [] x rest h = let first : w ≡ x = cc in in_first xs (ap (λ v. v ∷ xs) first)
@@ -63,6 +66,7 @@ stands (w ∷ xs) ys (v ∷ front) x rest h =
 
 -- ---- what stands before an answer
 
+-- what is said is no answer
 pub said-no_places : (past : History) (h : Happening) → places_in (said_at past h) ≡ []
 said-no_places past (came u) = refl
 said-no_places past (called n o) = refl
@@ -159,6 +163,7 @@ no_items : (front : List Item) (x : Item) (rest : List Item) → [] ≡ front ++
 no_items [] x rest h = cc
 no_items (y ∷ front) x rest h = cc
 
+-- an answer stands after all that was said before it was due
 pub answers_follow : (order : Order) (history : History) (front rest : List Item) (place : ℕ) (t : List ℕ)
     → items_of order history ≡ front ++ answer place t ∷ rest → GoesOutAfter history front place t
 answers_follow order [] front rest place t h = absurd (no_items front (answer place t) rest h)
