@@ -1,0 +1,6 @@
+-- The worked rows: small histories with what is told, written and refused, each by computation.
+mod Answers
+mod Calls
+mod Cancels
+mod End
+mod Words
