@@ -1,5 +1,5 @@
 -- The answers that are written of each unit.
-use Rattle.std.proofs.Common.{◌≡◌, ℕ, zero, suc, ◌+◌, ◌<◌, ◌≤◌, ◌==◌, List, [], ◌∷◌, ◌++◌, length, map, Option, Some, None, Bool, true, false, if◌then◌else◌, ◌⊎◌, inl, inr, refl, sym, ap, subst, ◌∙◌, arith, append_assoc, eq-eqb}
+use Rattle.std.proofs.Common.{◌≡◌, ℕ, zero, suc, ◌+◌, ◌<◌, ◌==◌, List, [], ◌∷◌, ◌++◌, Option, Some, None, Bool, true, false, if◌then◌else◌, refl, sym, ap, ◌∙◌, arith, eq-eqb}
 use Rattle.std.proofs.lemmas.List.{append-nil}
 use Rattle.std.proofs.lemmas.Bool.{ne_eqb}
 use Rattle.std.specs.Prelude.{slice_get, unwrap_or}
@@ -7,7 +7,7 @@ use Rattle.std.specs.Option.{option_to_list}
 use Rattle.connection_history.specs.declared.order.Order.{Order}
 use Rattle.connection_history.specs.declared.order.Order.TheVariants.{AsAnswered, AsCame}
 use Rattle.connection_history.specs.History.{Happening, came, called, called_all, noticed, withdrew, answered, ended, History}
-use Rattle.connection_history.specs.Answers.{Due, text, dues}
+use Rattle.connection_history.specs.Answers.{dues}
 use Rattle.connection_history.specs.Items.{Item, said, answer, said_at, out, newly_at, newly_out, answers_at, items_at, items_of}
 use Rattle.connection_history.specs.Written.{answers_of}
 use Rattle.connection_history.proofs.Dues.{out_stays, dues_keep}
@@ -131,7 +131,7 @@ answered_once order (h ∷ past) place =
     answers_of-append place (items_of order past) (items_at order past h)
     ∙ ap (λ ts. ts ++ answers_of place (items_at order past h)) (answered_once order past place)
     ∙ ap (λ ts. option_to_list (text_at (out order (dues past)) place) ++ ts)
-      (answers_of-append place (said_at past h) (answers_at order past h)
-      ∙ ap (λ ts. ts ++ answers_of place (answers_at order past h)) (none_said place past h)
-      ∙ at_zero place (out order (dues past)) (out order (dues (h ∷ past))))
+    (answers_of-append place (said_at past h) (answers_at order past h)
+    ∙ ap (λ ts. ts ++ answers_of place (answers_at order past h)) (none_said place past h)
+    ∙ at_zero place (out order (dues past)) (out order (dues (h ∷ past))))
     ∙ joined_texts (text_at (out order (dues past)) place) (text_at (out order (dues (h ∷ past))) place) (text_stays_at order h past place)

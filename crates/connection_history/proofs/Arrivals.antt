@@ -1,13 +1,13 @@
 -- As they came, answers go out in the order of their units.
-use Rattle.std.proofs.Common.{◌≡◌, ℕ, zero, suc, ◌+◌, ◌<◌, ◌≤◌, List, [], ◌∷◌, ◌++◌, length, map, Option, Some, None, refl, sym, ap, subst, ◌∙◌, arith, append_assoc}
+use Rattle.std.proofs.Common.{◌≡◌, ℕ, zero, suc, ◌+◌, ◌<◌, ◌≤◌, List, [], ◌∷◌, ◌++◌, length, map, Option, None, refl, sym, ap, subst, ◌∙◌, arith}
 use Rattle.std.specs.Prelude.{slice_index}
 use Rattle.std.specs.List.Sorted.{IsStrictlyIncreasing}
-use Rattle.connection_history.specs.declared.order.Order.TheVariants.{AsAnswered, AsCame}
+use Rattle.connection_history.specs.declared.order.Order.TheVariants.{AsCame}
 use Rattle.connection_history.specs.History.{Happening, History}
 use Rattle.connection_history.specs.Answers.{Due, open_yet, nothing, text, dues}
-use Rattle.connection_history.specs.Items.{Item, said, answer, said_at, out, newly_at, newly_out, answers_at, items_at, items_of}
+use Rattle.connection_history.specs.Items.{said_at, out, newly_out, answers_at, items_at, items_of}
 use Rattle.connection_history.specs.Written.{places_in}
-use Rattle.connection_history.proofs.Dues.{Stays, Keeps, dues_keep}
+use Rattle.connection_history.proofs.Dues.{Keeps, dues_keep}
 use Rattle.connection_history.proofs.Said.{places_in-append, no_places_said}
 
 -- numbers from low on, each above the one before it, and all below high
@@ -112,7 +112,7 @@ all_climb (h ∷ past) =
     subst P
     (sym (places_in-append (items_of AsCame past) (items_at AsCame past h)
     ∙ ap (λ ps. places_in (items_of AsCame past) ++ ps)
-      (places_in-append (said_at past h) (answers_at AsCame past h) ∙ ap (λ ps. ps ++ places_in (answers_at AsCame past h)) (no_places_said past h))))
+    (places_in-append (said_at past h) (answers_at AsCame past h) ∙ ap (λ ps. ps ++ places_in (answers_at AsCame past h)) (no_places_said past h))))
     (climbs-append 0 (settled (dues past)) (settled (dues (h ∷ past))) (places_in (items_of AsCame past)) (places_in (answers_at AsCame past h)) (all_climb past) (from_zero h past))
 
 -- ---- as std says it

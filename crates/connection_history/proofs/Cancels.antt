@@ -1,9 +1,9 @@
 -- Which cancels are told.
-use Rattle.std.proofs.Common.{◌≡◌, ℕ, zero, suc, ◌+◌, ◌-◌, ◌<◌, ◌≤◌, List, [], ◌∷◌, ◌++◌, length, map, Option, Some, None, Bool, true, false, ◌&&◌, ◌||◌, if◌then◌else◌, ◌⊎◌, inl, inr, refl, sym, ap, subst, ◌∙◌, arith, append_assoc, length-append, eq-eqb}
+use Rattle.std.proofs.Common.{◌≡◌, ℕ, zero, suc, ◌+◌, ◌-◌, ◌<◌, ◌≤◌, List, [], ◌∷◌, ◌++◌, length, map, Option, Some, None, Bool, true, false, ◌&&◌, ◌||◌, if◌then◌else◌, ◌⊎◌, inl, inr, refl, sym, ap, subst, ◌∙◌, arith, append_assoc, length-append}
 use Rattle.std.proofs.lemmas.List.{append-nil}
-use Rattle.std.proofs.lemmas.Bool.{cases_Bool, cases_lt, false_from_ne_true, eqb-true, eqb-false, ne_eqb}
+use Rattle.std.proofs.lemmas.Bool.{cases_Bool, cases_lt, false_from_ne_true, eqb-false, ne_eqb}
 use Rattle.std.proofs.lemmas.Option.{slice_get_past}
-use Rattle.std.specs.Prelude.{slice_get, is_some, not, ◌==◌, ◌↔◌, filter, option_and_then}
+use Rattle.std.specs.Prelude.{slice_get, is_some, not, ◌==◌, ◌↔◌, option_and_then}
 use Rattle.std.specs.Option.{is_none}
 use Rattle.rpc_messages.specs.Ids.{has_id}
 use Rattle.rpc_messages.specs.declared.id.Id.{Id}
@@ -16,13 +16,13 @@ use Rattle.connection_messages.specs.declared.unit.Unit.TheVariants.{Batch}
 use Rattle.connection_history.specs.declared.close.Close.{Close}
 use Rattle.connection_history.specs.declared.event.Event.{Event}
 use Rattle.connection_history.specs.declared.event.Event.TheVariants as event
-use Rattle.connection_history.specs.Stream.{entries_in, entries_along, call_in, calls_in, call_numbered, request_id, after_call, cancels, is_cancelled}
-use Rattle.connection_history.specs.History.{Happening, came, called, called_all, noticed, withdrew, answered, ended, History, numbers_to, units_at, stream, answer_at, answer_to, is_open, is_waiting, waiting, or_else}
+use Rattle.connection_history.specs.Stream.{entries_in, entries_along, calls_in, call_numbered, request_id, after_call, cancels, is_cancelled}
+use Rattle.connection_history.specs.History.{Happening, came, called, called_all, noticed, withdrew, answered, ended, History, units_at, stream, answer_at, answer_to, is_open, is_waiting, waiting, or_else}
 use Rattle.connection_history.specs.Events.{call_count, is_reached, reached, events_of_entry, events_along, events_at, events_of}
 use Rattle.connection_history.specs.Told.{cancels_told, ReachedBy}
 use Rattle.connection_history.proofs.Counts.{one_if, occurrences, occurrences-nil, occurrences-cons, within, beyond, zero_is_out}
 use Rattle.connection_history.proofs.Replies.{under_way}
-use Rattle.connection_history.proofs.Standing.{both_true, both_are_true, slice_get-append, some_is_some, answer_to-came, none_is_none}
+use Rattle.connection_history.proofs.Standing.{both_true, both_are_true, slice_get-append, answer_to-came, none_is_none}
 use Rattle.connection_history.proofs.Streams.{calls_in-append, stream-step, stream-came}
 
 -- ---- entries and cancels
@@ -73,9 +73,9 @@ after_call-append n (Call c ∷ es) fs g h =
     elim (cases_Bool (n == 1)) [
       | inl first ↦ ap (λ b. if b then es ++ fs else after_call (n - 1) (es ++ fs)) first ∙ ap (λ b. (if b then es else after_call (n - 1) es) ++ fs) (sym first)
       | inr later ↦
-        ap (λ b. if b then es ++ fs else after_call (n - 1) (es ++ fs)) later
-        ∙ after_call-append (n - 1) es fs (not_one n g (eqb-false n 1 later)) (let f : n ≤ suc (count es) = h in omega (arith, f))
-        ∙ ap (λ b. (if b then es else after_call (n - 1) es) ++ fs) (sym later)
+          ap (λ b. if b then es ++ fs else after_call (n - 1) (es ++ fs)) later
+          ∙ after_call-append (n - 1) es fs (not_one n g (eqb-false n 1 later)) (let f : n ≤ suc (count es) = h in omega (arith, f))
+          ∙ ap (λ b. (if b then es else after_call (n - 1) es) ++ fs) (sym later)
     ]
 after_call-append n (Cancel id ∷ es) fs g h = after_call-append n es fs g h
 after_call-append n (Reply k r ∷ es) fs g h = after_call-append n es fs g h
@@ -168,7 +168,7 @@ reached_has_come zero id history e = absurd (let f : false ≡ true = e in cc)
 reached_has_come (suc n) id history e =
     elim (cases_lt (call_count history) (suc n)) [
       | inl out ↦
-        absurd (let f : false ≡ true = ap (λ o. has_id id o && is_open (suc n) history && not (is_cancelled (suc n) (stream history))) (sym (request_id_beyond (suc n) (stream history) out)) ∙ e in cc)
+          absurd (let f : false ≡ true = ap (λ o. has_id id o && is_open (suc n) history && not (is_cancelled (suc n) (stream history))) (sym (request_id_beyond (suc n) (stream history) out)) ∙ e in cc)
       | inr in_range ↦ (omega arith, in_range)
     ]
 
@@ -270,7 +270,7 @@ known_entry n past front (Cancel id) g h =
     let o : Bool = is_open n (under_way past front) in
     record {
       at_most = at_most_as (one_if b + one_if (x && o && not b)) (one_if (b || (x || false))) (one_if (is_cancelled_front n past (front ++ Cancel id ∷ [])))
-        (table_at_most b x o) (ap one_if (more_cancelled n past front (Cancel id) g h));
+          (table_at_most b x o) (ap one_if (more_cancelled n past front (Cancel id) g h));
       exactly = λ e. table_exactly b x o (is_open_so n past front g h e) ∙ sym (ap one_if (more_cancelled n past front (Cancel id) g h));
     }
 known_entry n past front (Reply k r) g h = plain_entry n past front (Reply k r) (more_cancelled n past front (Reply k r) g h) refl
@@ -300,10 +300,10 @@ one_more zero past front e =
 one_more (suc n) past front e =
     elim (cases_lt (count (stream (under_way past front))) (suc n)) [
       | inl out ↦
-        plain_entry (suc n) past front e
-        (ap (is_cancelled (suc n)) (stream_front past front e) ∙ not_cancelled_yet (suc n) (stream (under_way past front)) e out
-        ∙ sym (ap (λ b. b || false) (not_cancelled (suc n) (stream (under_way past front)) out)))
-        (unreached_beyond (suc n) (under_way past front) e (λ h. let f : suc n ≤ count (stream (under_way past front)) = h.1 in omega (arith, f, out)))
+          plain_entry (suc n) past front e
+          (ap (is_cancelled (suc n)) (stream_front past front e) ∙ not_cancelled_yet (suc n) (stream (under_way past front)) e out
+          ∙ sym (ap (λ b. b || false) (not_cancelled (suc n) (stream (under_way past front)) out)))
+          (unreached_beyond (suc n) (under_way past front) e (λ h. let f : suc n ≤ count (stream (under_way past front)) = h.1 in omega (arith, f, out)))
       | inr in_range ↦ known_entry (suc n) past front e (omega arith) in_range
     ]
 
@@ -323,7 +323,7 @@ along_at_most n past front (e ∷ es) x h =
     let step : told_along n past front (e ∷ es) ≡ one_if (reaches n (under_way past front) e) + told_along n past (front ++ e ∷ []) es = told_step n past front e es in
     let here : one_if (is_cancelled_front n past front) + one_if (reaches n (under_way past front) e) ≤ one_if (is_cancelled_front n past (front ++ e ∷ [])) = (one_more n past front e).at_most in
     let rest : x + one_if (reaches n (under_way past front) e) + told_along n past (front ++ e ∷ []) es ≤ one_if (is_cancelled_front n past ((front ++ e ∷ []) ++ es)) =
-      along_at_most n past (front ++ e ∷ []) es (x + one_if (reaches n (under_way past front) e)) (omega (arith, h, here)) in
+    along_at_most n past (front ++ e ∷ []) es (x + one_if (reaches n (under_way past front) e)) (omega (arith, h, here)) in
     omega (arith, step, rest, reassociated n past front e es)
 
 along_exactly : (n : ℕ) (past : History) (front es : List Entry) (x : ℕ) → answer_to n past ≡ None → x ≡ one_if (is_cancelled_front n past front) →
@@ -333,7 +333,7 @@ along_exactly n past front (e ∷ es) x a h =
     let step : told_along n past front (e ∷ es) ≡ one_if (reaches n (under_way past front) e) + told_along n past (front ++ e ∷ []) es = told_step n past front e es in
     let here : one_if (is_cancelled_front n past front) + one_if (reaches n (under_way past front) e) ≡ one_if (is_cancelled_front n past (front ++ e ∷ [])) = (one_more n past front e).exactly a in
     let rest : x + one_if (reaches n (under_way past front) e) + told_along n past (front ++ e ∷ []) es ≡ one_if (is_cancelled_front n past ((front ++ e ∷ []) ++ es)) =
-      along_exactly n past (front ++ e ∷ []) es (x + one_if (reaches n (under_way past front) e)) a (omega (arith, h, here)) in
+    along_exactly n past (front ++ e ∷ []) es (x + one_if (reaches n (under_way past front) e)) a (omega (arith, h, here)) in
     omega (arith, step, rest, reassociated n past front e es)
 
 -- ---- whole histories
@@ -370,14 +370,14 @@ step_at_most : (n : ℕ) (past : History) (h : Happening) (x : ℕ) → x ≤ on
 step_at_most n past h x le =
     elim (units_or_none h) [
       | inl u ↦
-        let P : Happening → Type 0 = λ g. x + cancels_told n (events_at past g) ≤ one_if (is_cancelled n (stream (g ∷ past))) in
-        subst P (sym u.1)
-        (let whole : x + told_along n past [] (entries_in u.0) ≤ one_if (is_cancelled_front n past ([] ++ entries_in u.0)) = along_at_most n past [] (entries_in u.0) x (omega (arith, le, is_cancelled_first n past)) in
+          let P : Happening → Type 0 = λ g. x + cancels_told n (events_at past g) ≤ one_if (is_cancelled n (stream (g ∷ past))) in
+          subst P (sym u.1)
+          (let whole : x + told_along n past [] (entries_in u.0) ≤ one_if (is_cancelled_front n past ([] ++ entries_in u.0)) = along_at_most n past [] (entries_in u.0) x (omega (arith, le, is_cancelled_first n past)) in
           omega (arith, whole, is_cancelled_unit n past u.0))
       | inr none ↦
-        let told : cancels_told n (events_at past h) ≡ 0 = told_none n past h none in
-        let same : one_if (is_cancelled n (stream (h ∷ past))) ≡ one_if (is_cancelled n (stream past)) = ap (λ es. one_if (is_cancelled n es)) (quiet_stream past h none) in
-        omega (arith, told, same, le)
+          let told : cancels_told n (events_at past h) ≡ 0 = told_none n past h none in
+          let same : one_if (is_cancelled n (stream (h ∷ past))) ≡ one_if (is_cancelled n (stream past)) = ap (λ es. one_if (is_cancelled n es)) (quiet_stream past h none) in
+          omega (arith, told, same, le)
     ]
 
 step_exactly : (n : ℕ) (past : History) (h : Happening) (x : ℕ) → answer_to n past ≡ None → x ≡ one_if (is_cancelled n (stream past)) →
@@ -385,14 +385,14 @@ step_exactly : (n : ℕ) (past : History) (h : Happening) (x : ℕ) → answer_t
 step_exactly n past h x a e =
     elim (units_or_none h) [
       | inl u ↦
-        let P : Happening → Type 0 = λ g. x + cancels_told n (events_at past g) ≡ one_if (is_cancelled n (stream (g ∷ past))) in
-        subst P (sym u.1)
-        (let whole : x + told_along n past [] (entries_in u.0) ≡ one_if (is_cancelled_front n past ([] ++ entries_in u.0)) = along_exactly n past [] (entries_in u.0) x a (omega (arith, e, is_cancelled_first n past)) in
+          let P : Happening → Type 0 = λ g. x + cancels_told n (events_at past g) ≡ one_if (is_cancelled n (stream (g ∷ past))) in
+          subst P (sym u.1)
+          (let whole : x + told_along n past [] (entries_in u.0) ≡ one_if (is_cancelled_front n past ([] ++ entries_in u.0)) = along_exactly n past [] (entries_in u.0) x a (omega (arith, e, is_cancelled_first n past)) in
           omega (arith, whole, is_cancelled_unit n past u.0))
       | inr none ↦
-        let told : cancels_told n (events_at past h) ≡ 0 = told_none n past h none in
-        let same : one_if (is_cancelled n (stream (h ∷ past))) ≡ one_if (is_cancelled n (stream past)) = ap (λ es. one_if (is_cancelled n es)) (quiet_stream past h none) in
-        omega (arith, told, same, e)
+          let told : cancels_told n (events_at past h) ≡ 0 = told_none n past h none in
+          let same : one_if (is_cancelled n (stream (h ∷ past))) ≡ one_if (is_cancelled n (stream past)) = ap (λ es. one_if (is_cancelled n es)) (quiet_stream past h none) in
+          omega (arith, told, same, e)
     ]
 
 told_at_most : (history : History) (n : ℕ) → cancels_told n (events_of history) ≤ one_if (is_cancelled n (stream history))
@@ -465,10 +465,10 @@ who_reaches past front (e ∷ es) n g =
     elim (cases_Bool (reaches n (under_way past front) e)) [
       | inl here ↦ found past front e es n here
       | inr not_here ↦
-        let step : told_along n past front (e ∷ es) ≡ one_if (reaches n (under_way past front) e) + told_along n past (front ++ e ∷ []) es = told_step n past front e es in
-        let zero_here : one_if (reaches n (under_way past front) e) ≡ 0 = ap one_if not_here in
-        let later : Reached past (front ++ e ∷ []) es n = who_reaches past (front ++ e ∷ []) es n (omega (arith, step, zero_here, g)) in
-        record { before = later.before; id = later.id; rest = later.rest; place = sym (append_assoc front (e ∷ []) es) ∙ later.place; reached = later.reached }
+          let step : told_along n past front (e ∷ es) ≡ one_if (reaches n (under_way past front) e) + told_along n past (front ++ e ∷ []) es = told_step n past front e es in
+          let zero_here : one_if (reaches n (under_way past front) e) ≡ 0 = ap one_if not_here in
+          let later : Reached past (front ++ e ∷ []) es n = who_reaches past (front ++ e ∷ []) es n (omega (arith, step, zero_here, g)) in
+          record { before = later.before; id = later.id; rest = later.rest; place = sym (append_assoc front (e ∷ []) es) ∙ later.place; reached = later.reached }
     ]
 
 -- and an entry that reaches it tells it
@@ -492,10 +492,11 @@ reaching_is_told past es before rest id n place r =
     omega (arith, split, step, one, same)
 
 pub told_of_unit : (past : History) (u : Units) (n : ℕ) → (cancels_told n (events_at past (came u)) ≡ 1) ↔ ReachedBy past u n
-told_of_unit past u n =
-    (λ e.
+told_of_unit past u n = (
+  λ e.
       let r : Reached past [] (entries_in u) n = who_reaches past [] (entries_in u) n (omega (arith, e)) in
       record { front = r.before; id = r.id; rest = r.rest; place = r.place; reached = r.reached },
-    λ r.
+  λ r.
       let some : 0 < told_along n past [] (entries_in u) = reaching_is_told past (entries_in u) r.front r.rest r.id n r.place r.reached in
-      omega (arith, some, told_of_unit_at_most past [] (entries_in u) n))
+      omega (arith, some, told_of_unit_at_most past [] (entries_in u) n),
+)

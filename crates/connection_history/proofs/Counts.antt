@@ -1,5 +1,5 @@
 -- How often a number stands in a list, and among the numbers up to another that pass a test.
-use Rattle.std.proofs.Common.{◌≡◌, ℕ, zero, suc, ◌+◌, ◌<◌, ◌≤◌, List, [], ◌∷◌, ◌++◌, length, Bool, true, false, ◌&&◌, if◌then◌else◌, ◌⊎◌, inl, inr, refl, sym, ap, subst, ◌∙◌, arith, eq-eqb}
+use Rattle.std.proofs.Common.{◌≡◌, ℕ, zero, suc, ◌+◌, ◌<◌, ◌≤◌, List, [], ◌∷◌, ◌++◌, Bool, true, false, if◌then◌else◌, inl, inr, refl, sym, ap, ◌∙◌, arith, eq-eqb}
 use Rattle.std.proofs.lemmas.List.Elements.{filter-append}
 use Rattle.std.proofs.lemmas.Bool.{cases_Bool, cases_lt, eqb-true, ne_eqb}
 use Rattle.std.specs.Prelude.{◌==◌, filter}
@@ -45,8 +45,8 @@ beyond p k zero h = refl
 beyond p k (suc n) h =
     ap (occurrences k) (filter-append p (numbers_to n) (suc n ∷ [])) ∙ occurrences-append k (filter p (numbers_to n)) (filter p (suc n ∷ []))
     ∙ (let a : occurrences k (filter p (numbers_to n)) ≡ 0 = beyond p k n (omega (arith, h)) in
-      let b : occurrences k (filter p (suc n ∷ [])) ≡ 0 = one_more p k n ∙ ap (λ c. if p (suc n) then one_if c else 0) (ne_eqb (suc n) k (λ e. let f : suc n ≡ k = e in omega (arith, f, h))) ∙ zero_either (p (suc n)) in
-      omega (arith, a, b))
+    let b : occurrences k (filter p (suc n ∷ [])) ≡ 0 = one_more p k n ∙ ap (λ c. if p (suc n) then one_if c else 0) (ne_eqb (suc n) k (λ e. let f : suc n ≡ k = e in omega (arith, f, h))) ∙ zero_either (p (suc n)) in
+    omega (arith, a, b))
 
 below : (n k : ℕ) → k ≤ suc n → (suc n ≡ k → ⊥) → k ≤ n
 below n k h ne = elim (cases_lt n k) [ inl g ↦ absurd (ne (let f : n < k = g in omega (arith, f, h))) | inr g ↦ (let f : k ≤ n = g in f) ]
@@ -58,15 +58,15 @@ within p k (suc n) g h =
     ap (occurrences k) (filter-append p (numbers_to n) (suc n ∷ [])) ∙ occurrences-append k (filter p (numbers_to n)) (filter p (suc n ∷ []))
     ∙ elim (cases_Bool (suc n == k)) [
       | inl same ↦
-        let e : suc n ≡ k = eqb-true (suc n) k same in
-        let a : occurrences k (filter p (numbers_to n)) ≡ 0 = beyond p k n (omega (arith, e)) in
-        let b : occurrences k (filter p (suc n ∷ [])) ≡ one_if (p k) = one_more p k n ∙ ap (λ c. if p (suc n) then one_if c else 0) same ∙ ap (λ m. if p m then 1 else 0) e in
-        omega (arith, a, b)
+          let e : suc n ≡ k = eqb-true (suc n) k same in
+          let a : occurrences k (filter p (numbers_to n)) ≡ 0 = beyond p k n (omega (arith, e)) in
+          let b : occurrences k (filter p (suc n ∷ [])) ≡ one_if (p k) = one_more p k n ∙ ap (λ c. if p (suc n) then one_if c else 0) same ∙ ap (λ m. if p m then 1 else 0) e in
+          omega (arith, a, b)
       | inr other ↦
-        let ne : suc n ≡ k → ⊥ = λ e. (let f : true ≡ false = sym (eq-eqb (suc n) k e) ∙ other in cc) in
-        let a : occurrences k (filter p (numbers_to n)) ≡ one_if (p k) = within p k n g (below n k h ne) in
-        let b : occurrences k (filter p (suc n ∷ [])) ≡ 0 = one_more p k n ∙ ap (λ c. if p (suc n) then one_if c else 0) other ∙ zero_either (p (suc n)) in
-        omega (arith, a, b)
+          let ne : suc n ≡ k → ⊥ = λ e. (let f : true ≡ false = sym (eq-eqb (suc n) k e) ∙ other in cc) in
+          let a : occurrences k (filter p (numbers_to n)) ≡ one_if (p k) = within p k n g (below n k h ne) in
+          let b : occurrences k (filter p (suc n ∷ [])) ≡ 0 = one_more p k n ∙ ap (λ c. if p (suc n) then one_if c else 0) other ∙ zero_either (p (suc n)) in
+          omega (arith, a, b)
     ]
 
 -- zero is no number from one on
@@ -76,5 +76,5 @@ zero_is_out p zero = refl
 zero_is_out p (suc n) =
     ap (occurrences 0) (filter-append p (numbers_to n) (suc n ∷ [])) ∙ occurrences-append 0 (filter p (numbers_to n)) (filter p (suc n ∷ []))
     ∙ (let a : occurrences 0 (filter p (numbers_to n)) ≡ 0 = zero_is_out p n in
-      let b : occurrences 0 (filter p (suc n ∷ [])) ≡ 0 = one_more p 0 n ∙ ap (λ c. if p (suc n) then one_if c else 0) (ne_eqb (suc n) 0 (λ e. let f : suc n ≡ 0 = e in omega (arith, f))) ∙ zero_either (p (suc n)) in
-      omega (arith, a, b))
+    let b : occurrences 0 (filter p (suc n ∷ [])) ≡ 0 = one_more p 0 n ∙ ap (λ c. if p (suc n) then one_if c else 0) (ne_eqb (suc n) 0 (λ e. let f : suc n ≡ 0 = e in omega (arith, f))) ∙ zero_either (p (suc n)) in
+    omega (arith, a, b))

@@ -1,6 +1,5 @@
 -- What a unit is owed stays, once its requests are answered; and what is out stays out.
-use Rattle.std.proofs.Common.{◌≡◌, ℕ, zero, suc, ◌+◌, ◌<◌, ◌≤◌, List, [], ◌∷◌, ◌++◌, length, map, Option, Some, None, option_map, Bool, true, false, cond, refl, sym, ap, subst, ◌∙◌, arith, append_assoc}
-use Rattle.std.proofs.lemmas.List.{append-nil}
+use Rattle.std.proofs.Common.{◌≡◌, ℕ, zero, suc, ◌+◌, List, [], ◌∷◌, ◌++◌, length, map, Option, Some, None, option_map, refl, sym, ap, subst, ◌∙◌}
 use Rattle.std.specs.Prelude.{slice_get, unwrap_or, ⊤}
 use Rattle.rpc_messages.specs.declared.id.Id.{Id}
 use Rattle.connection_messages.specs.declared.answer.Answer.{Answer}
@@ -13,7 +12,7 @@ use Rattle.connection_history.specs.declared.order.Order.{Order}
 use Rattle.connection_history.specs.declared.order.Order.TheVariants.{AsAnswered, AsCame}
 use Rattle.connection_history.specs.Stream.{entries_in, call_in, calls_in}
 use Rattle.connection_history.specs.History.{Happening, History, or_else, units_at, units_of, answer_at, answer_to}
-use Rattle.connection_history.specs.Answers.{Texts, both, call_texts, entry_texts, texts_along, unit_texts, Due, open_yet, nothing, text, joined, due_from, due_of, dues_along, dues}
+use Rattle.connection_history.specs.Answers.{Texts, both, call_texts, entry_texts, texts_along, unit_texts, Due, open_yet, nothing, text, joined, due_from, dues_along, dues}
 use Rattle.connection_history.specs.Items.{text_if_due, out}
 
 -- a later part finds nothing new where the earlier has found something

@@ -7,6 +7,7 @@ pub mod Dues
 pub mod Grows
 pub mod Owed
 pub mod Replies
+pub mod Rows
 pub mod Said
 pub mod Standing
 pub mod Streams

@@ -1,5 +1,5 @@
 -- Where no call is open, no unit is.
-use Rattle.std.proofs.Common.{◌≡◌, ℕ, zero, suc, ◌+◌, ◌<◌, ◌≤◌, List, [], ◌∷◌, ◌++◌, length, map, Option, Some, None, option_map, Bool, true, false, ◌&&◌, refl, sym, ap, subst, ◌∙◌, arith, append_assoc, length-append}
+use Rattle.std.proofs.Common.{◌≡◌, ℕ, zero, suc, ◌+◌, ◌<◌, List, [], ◌∷◌, ◌++◌, length, map, Option, Some, None, option_map, Bool, true, false, ◌&&◌, refl, sym, ap, subst, ◌∙◌, arith, length-append}
 use Rattle.std.specs.Prelude.{slice_get, is_some, ⊤}
 use Rattle.std.specs.Option.{is_none}
 use Rattle.rpc_messages.specs.declared.id.Id.{Id}
@@ -14,7 +14,7 @@ use Rattle.connection_history.specs.declared.order.Order.{Order}
 use Rattle.connection_history.specs.declared.order.Order.TheVariants.{AsAnswered, AsCame}
 use Rattle.connection_history.specs.Stream.{entries_in, entries_along, call_in, calls_in, call_numbered}
 use Rattle.connection_history.specs.History.{History, units_of, stream, answer_to, is_open}
-use Rattle.connection_history.specs.Answers.{Texts, both, call_texts, entry_texts, texts_along, unit_texts, Due, open_yet, nothing, text, joined, due_from, due_of, dues_along, dues}
+use Rattle.connection_history.specs.Answers.{Texts, both, call_texts, entry_texts, texts_along, unit_texts, Due, open_yet, nothing, text, joined, due_from, dues_along, dues}
 use Rattle.connection_history.specs.Items.{text_if_due, out}
 use Rattle.connection_history.proofs.Streams.{calls_in-append}
 
@@ -112,7 +112,7 @@ dues_closed history n [] h = Prim.tt
 dues_closed history n (u ∷ us) h =
     let P : ℕ → Type 0 = λ count. AreAnswered history n count in
     let all : AreAnswered history n (length (calls_in (entries_in u)) + length (calls_in (entries_along us))) =
-      subst P (ap length (calls_in-append (entries_in u) (entries_along us)) ∙ length-append (calls_in (entries_in u)) (calls_in (entries_along us))) h in
+    subst P (ap length (calls_in-append (entries_in u) (entries_along us)) ∙ length-append (calls_in (entries_in u)) (calls_in (entries_along us))) h in
     due_closed u (unit_texts history n u) (dues_along history (n + length (calls_in (entries_in u))) us)
     (unit_there history n u (first_answered history n (length (calls_in (entries_in u))) (length (calls_in (entries_along us))) all))
     (dues_closed history (n + length (calls_in (entries_in u))) us (later_answered history n (length (calls_in (entries_in u))) (length (calls_in (entries_along us))) all))
@@ -132,5 +132,5 @@ pub nothing_is_open : (history : History) → ((n : ℕ) → 0 < n → is_open n
 nothing_is_open history h =
     dues_closed history 1 (units_of history)
     (λ i g.
-      ap (λ m. is_some (answer_to m history)) (let f : 1 + i ≡ suc i = omega arith in f)
-      ∙ not_open (is_some (call_numbered (suc i) (stream history))) (answer_to (suc i) history) (there_within (calls_in (stream history)) i g) (h (suc i) (omega arith)))
+    ap (λ m. is_some (answer_to m history)) (let f : 1 + i ≡ suc i = omega arith in f)
+    ∙ not_open (is_some (call_numbered (suc i) (stream history))) (answer_to (suc i) history) (there_within (calls_in (stream history)) i g) (h (suc i) (omega arith)))

@@ -1,24 +1,21 @@
 -- Which replies are told.
-use Rattle.std.proofs.Common.{◌≡◌, ℕ, zero, suc, ◌+◌, ◌<◌, ◌≤◌, List, [], ◌∷◌, ◌++◌, length, map, Option, Some, None, Bool, true, false, ◌&&◌, ◌||◌, if◌then◌else◌, ◌⊎◌, inl, inr, refl, sym, ap, subst, ◌∙◌, arith, append_assoc, length-append, eq-eqb}
+use Rattle.std.proofs.Common.{◌≡◌, ℕ, List, [], ◌∷◌, ◌++◌, map, Option, Some, None, Bool, true, false, if◌then◌else◌, inl, inr, refl, sym, ap, subst, ◌∙◌, append_assoc, eq-eqb}
 use Rattle.std.proofs.lemmas.List.{append-nil}
-use Rattle.std.proofs.lemmas.List.Elements.{filter-append}
-use Rattle.std.proofs.lemmas.Bool.{cases_Bool, false_from_ne_true, eqb-true, ne_eqb}
-use Rattle.std.specs.Prelude.{slice_get, is_some, not, ◌==◌, ⊤, filter}
-use Rattle.std.specs.Option.{is_none, option_map_or, option_to_list}
+use Rattle.std.proofs.lemmas.Bool.{cases_Bool, eqb-true}
+use Rattle.std.specs.Prelude.{is_some, ◌==◌}
+use Rattle.std.specs.Option.{option_to_list}
 use Rattle.connection_messages.specs.declared.entry.Entry.{Entry}
 use Rattle.connection_messages.specs.declared.entry.Entry.TheVariants.{Call, Cancel, Reply, Stray, Invalid}
 use Rattle.connection_messages.specs.declared.reply.Reply.{Reply as Replied}
 use Rattle.connection_messages.specs.declared.unit.Unit.{Unit as Units}
 use Rattle.connection_messages.specs.declared.unit.Unit.TheVariants.{Batch}
-use Rattle.connection_history.specs.declared.close.Close.{Close}
 use Rattle.connection_history.specs.declared.event.Event.{Event}
 use Rattle.connection_history.specs.declared.event.Event.TheVariants as event
 use Rattle.connection_history.specs.Stream.{entries_in, first_reply}
-use Rattle.connection_history.specs.History.{Happening, came, called, called_all, noticed, withdrew, answered, ended, History, or_else, numbers_to, ends, is_over, key_count, caller_of, reply_at, reply_to, is_waiting, waiting, callers}
-use Rattle.connection_history.specs.Refusals.{IsLawful}
-use Rattle.connection_history.specs.Events.{call_count, reached, events_of_entry, events_along, events_at, events_of}
-use Rattle.connection_history.specs.Told.{replies_told, unanswered_told, AtMost}
-use Rattle.connection_history.proofs.Standing.{both_true, or_else-none, has_come, caller_of-came, caller_has_come, caller_open-came, waits, waits_so, Waits, waits_has_caller, replied_waits_not}
+use Rattle.connection_history.specs.History.{Happening, came, called, called_all, noticed, withdrew, answered, ended, History, or_else, caller_of, reply_at, reply_to, is_waiting, waiting}
+use Rattle.connection_history.specs.Events.{reached, events_of_entry, events_along, events_at, events_of}
+use Rattle.connection_history.specs.Told.{replies_told, AtMost}
+use Rattle.connection_history.proofs.Standing.{caller_of-came, waits_has_caller, replied_waits_not}
 
 -- ---- lists of events
 
@@ -82,8 +79,8 @@ reply_told : (k j : ℕ) (r : Replied) (history : History) →
 reply_told k j r history =
     elim (cases_Bool (j == k)) [
       | inl same ↦
-        let P : ℕ → Type 0 = λ i. replies_told k (if is_waiting i history then event.Replied i r ∷ [] else []) ≡ told_if (is_waiting k history) (if i == k then Some r else None) in
-        subst P (sym (eqb-true j k same)) (same_key k r (is_waiting k history))
+          let P : ℕ → Type 0 = λ i. replies_told k (if is_waiting i history then event.Replied i r ∷ [] else []) ≡ told_if (is_waiting k history) (if i == k then Some r else None) in
+          subst P (sym (eqb-true j k same)) (same_key k r (is_waiting k history))
       | inr other ↦ other_key k j r (is_waiting j history) (is_waiting k history) other
     ]
 
@@ -166,7 +163,7 @@ told_no_more k past front [] r h = refl
 told_no_more k past front (e ∷ es) r h =
     told_step k past front e es
     ∙ ap (λ rs. rs ++ told_along k past (front ++ e ∷ []) es)
-      (not_told (is_waiting k (under_way past front)) (first_reply k (e ∷ [])) (replied_waits_not k (under_way past front) r h))
+    (not_told (is_waiting k (under_way past front)) (first_reply k (e ∷ [])) (replied_waits_not k (under_way past front) r h))
     ∙ told_no_more k past (front ++ e ∷ []) es r (reply_stays k past front (e ∷ []) r h)
 
 -- a caller that is known to a unit was known before it

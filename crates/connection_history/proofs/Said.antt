@@ -1,12 +1,12 @@
 -- What the host says is written as it is said, and answers stand after it.
-use Rattle.std.proofs.Common.{◌≡◌, ℕ, zero, suc, ◌+◌, ◌<◌, ◌≤◌, List, [], ◌∷◌, ◌++◌, length, map, Option, Some, None, ◌⊎◌, inl, inr, refl, sym, ap, subst, ◌∙◌, arith, append_assoc}
+use Rattle.std.proofs.Common.{◌≡◌, ℕ, suc, ◌+◌, List, [], ◌∷◌, ◌++◌, Option, Some, None, ◌⊎◌, inl, inr, refl, sym, ap, subst, ◌∙◌, arith}
 use Rattle.std.proofs.lemmas.List.{append-nil}
-use Rattle.std.specs.Prelude.{slice_get, unwrap_or}
+use Rattle.std.specs.Prelude.{slice_get}
 use Rattle.connection_history.specs.declared.order.Order.{Order}
 use Rattle.connection_history.specs.History.{Happening, came, called, called_all, noticed, withdrew, answered, ended, History}
-use Rattle.connection_history.specs.Answers.{Due, text, dues}
+use Rattle.connection_history.specs.Answers.{dues}
 use Rattle.connection_history.specs.Items.{Item, said, answer, said_at, out, newly_at, newly_out, answers_at, items_at, items_of}
-use Rattle.connection_history.specs.Written.{said_in, said_of, answers_of, places_in, GoesOutAfter}
+use Rattle.connection_history.specs.Written.{said_in, said_of, places_in, GoesOutAfter}
 use Rattle.connection_history.proofs.Dues.{out_is_due}
 
 pub said_in-append : (xs ys : List Item) → said_in (xs ++ ys) ≡ said_in xs ++ said_in ys
@@ -163,23 +163,23 @@ at_happening order h past later rest place t e =
     elim (stands_in (said_at past h) (answers_at order past h) later rest (answer place t) e) [
       | inl g ↦ absurd (no_such_place (said_at past h) later g.more place t (no_places_said past h) g.place)
       | inr g ↦
-        let is_out : IsOutAt 0 (out order (dues (h ∷ past))) place t =
+          let is_out : IsOutAt 0 (out order (dues (h ∷ past))) place t =
           newly_is_out 0 (out order (dues past)) (out order (dues (h ∷ past))) g.later rest place t g.place in
-        let same : is_out.offset ≡ place = omega (arith, is_out.at) in
-        let silent : said_in g.later ≡ [] =
+          let same : is_out.offset ≡ place = omega (arith, is_out.at) in
+          let silent : said_in g.later ≡ [] =
           nil_front (said_in g.later) (said_in rest)
           (sym (nothing_said 0 (out order (dues past)) (out order (dues (h ∷ past)))) ∙ ap said_in g.place ∙ said_in-append g.later (answer place t ∷ rest)) in
-        record {
-          more = [];
-          past = h ∷ past;
-          whole = refl;
-          due = out_is_due order (dues (h ∷ past)) place t (ap (λ i. slice_get (out order (dues (h ∷ past))) i) (sym same) ∙ is_out.text);
-          said =
-            said_in-append (items_of order past) later
-            ∙ ap (λ ts. ts ++ said_in later) (said_once order past)
-            ∙ ap (λ xs. said_of past ++ said_in xs) g.split
-            ∙ ap (λ ts. said_of past ++ ts) (said_in-append (said_at past h) g.later ∙ ap (λ ts. said_in (said_at past h) ++ ts) silent ∙ append-nil (said_in (said_at past h)));
-        }
+          record {
+            more = [];
+            past = h ∷ past;
+            whole = refl;
+            due = out_is_due order (dues (h ∷ past)) place t (ap (λ i. slice_get (out order (dues (h ∷ past))) i) (sym same) ∙ is_out.text);
+            said =
+                said_in-append (items_of order past) later
+                ∙ ap (λ ts. ts ++ said_in later) (said_once order past)
+                ∙ ap (λ xs. said_of past ++ said_in xs) g.split
+                ∙ ap (λ ts. said_of past ++ ts) (said_in-append (said_at past h) g.later ∙ ap (λ ts. said_in (said_at past h) ++ ts) silent ∙ append-nil (said_in (said_at past h)));
+          }
     ]
 
 pub answers_go_out_after : (order : Order) (history : History) (front rest : List Item) (place : ℕ) (t : List ℕ) →
@@ -188,9 +188,9 @@ answers_go_out_after order [] front rest place t e = absurd (not_nil front rest 
 answers_go_out_after order (h ∷ past) front rest place t e =
     elim (stands_in (items_of order past) (items_at order past h) front rest (answer place t) e) [
       | inl g ↦
-        let before : GoesOutAfter past front place t = answers_go_out_after order past front g.more place t g.place in
-        record { more = h ∷ before.more; past = before.past; whole = ap (λ hs. h ∷ hs) before.whole; due = before.due; said = before.said }
+          let before : GoesOutAfter past front place t = answers_go_out_after order past front g.more place t g.place in
+          record { more = h ∷ before.more; past = before.past; whole = ap (λ hs. h ∷ hs) before.whole; due = before.due; said = before.said }
       | inr g ↦
-        let P : List Item → Type 0 = λ xs. GoesOutAfter (h ∷ past) xs place t in
-        subst P (sym g.split) (at_happening order h past g.later rest place t g.place)
+          let P : List Item → Type 0 = λ xs. GoesOutAfter (h ∷ past) xs place t in
+          subst P (sym g.split) (at_happening order h past g.later rest place t g.place)
     ]

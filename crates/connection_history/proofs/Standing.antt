@@ -1,21 +1,18 @@
 -- What stands after a unit came: which calls are open, which of ours wait.
-use Rattle.std.proofs.Common.{◌≡◌, ℕ, zero, suc, ◌+◌, ◌<◌, ◌≤◌, List, [], ◌∷◌, ◌++◌, length, map, Option, Some, None, Bool, true, false, ◌&&◌, ◌||◌, if◌then◌else◌, ◌⊎◌, inl, inr, refl, sym, ap, subst, ◌∙◌, arith, append_assoc, length-append}
+use Rattle.std.proofs.Common.{◌≡◌, ℕ, zero, suc, ◌+◌, List, [], ◌∷◌, ◌++◌, length, map, Option, Some, None, Bool, true, false, ◌&&◌, ◌⊎◌, inl, inr, refl, sym, ap, ◌∙◌}
 use Rattle.std.proofs.lemmas.List.{append-nil}
-use Rattle.std.proofs.lemmas.Bool.{cases_Bool, false_from_ne_true, eqb-true}
+use Rattle.std.proofs.lemmas.Bool.{false_from_ne_true}
 use Rattle.std.specs.Prelude.{slice_get, is_some, not, unwrap_or, nat_lt, ◌==◌}
 use Rattle.std.specs.Option.{is_none, option_map_or}
-use Rattle.connection_messages.specs.declared.answer.Answer.{Answer}
-use Rattle.connection_messages.specs.declared.call.Call.{Call as Came}
-use Rattle.connection_messages.specs.declared.entry.Entry.{Entry}
 use Rattle.connection_messages.specs.declared.outgoing.Outgoing.{Outgoing}
 use Rattle.connection_messages.specs.declared.reply.Reply.{Reply as Replied}
 use Rattle.connection_messages.specs.declared.unit.Unit.{Unit as Units}
-use Rattle.connection_history.specs.Stream.{entries_in, entries_along, calls_in, call_numbered}
-use Rattle.connection_history.specs.History.{Happening, came, called, called_all, noticed, withdrew, answered, ended, History, or_else, units_at, stream, is_over, answer_at, answer_to, is_open, callers_at, callers, key_count, caller_of, reply_at, reply_to, is_waiting}
-use Rattle.connection_history.specs.Refusals.{refusal, call_refusal, first_of, most_keys, IsLawful}
+use Rattle.connection_history.specs.Stream.{entries_along, calls_in, call_numbered}
+use Rattle.connection_history.specs.History.{Happening, came, called, called_all, noticed, withdrew, answered, ended, History, or_else, units_at, stream, is_over, answer_to, is_open, callers_at, callers, key_count, caller_of, reply_to, is_waiting}
+use Rattle.connection_history.specs.Refusals.{refusal, first_of, most_keys, IsLawful}
 use Rattle.connection_history.specs.declared.refused.Refused.{Refused}
 use Rattle.connection_history.specs.declared.refused.Refused.TheVariants.{NotOpen, Over, Empty, Full}
-use Rattle.connection_history.proofs.Streams.{calls_in-append, stream-came, stream-step}
+use Rattle.connection_history.proofs.Streams.{calls_in-append, stream-step}
 
 -- ---- truth values and options
 
@@ -145,9 +142,9 @@ not_false false h = refl
 pub waits : (k : ℕ) (history : History) → is_waiting k history ≡ true → Waits k history
 waits k history e =
     let both : ((option_map_or (λ n. is_open n history) (caller_of k history) false && is_none (reply_to k history)) ≡ true) × (not (is_over history) ≡ true) =
-      both_true (option_map_or (λ n. is_open n history) (caller_of k history) false && is_none (reply_to k history)) (not (is_over history)) e in
+    both_true (option_map_or (λ n. is_open n history) (caller_of k history) false && is_none (reply_to k history)) (not (is_over history)) e in
     let first : (option_map_or (λ n. is_open n history) (caller_of k history) false ≡ true) × (is_none (reply_to k history) ≡ true) =
-      both_true (option_map_or (λ n. is_open n history) (caller_of k history) false) (is_none (reply_to k history)) both.0 in
+    both_true (option_map_or (λ n. is_open n history) (caller_of k history) false) (is_none (reply_to k history)) both.0 in
     record { open_caller = first.0; no_reply = none_is_none (reply_to k history) first.1; not_over = not_false (is_over history) both.1 }
 
 pub waits_so : (k : ℕ) (history : History) → Waits k history → is_waiting k history ≡ true
@@ -179,4 +176,3 @@ pub caller_open-came : (k : ℕ) (u : Units) (past : History) →
     option_map_or (λ n. is_open n (came u ∷ past)) (caller_of k (came u ∷ past)) false ≡ option_map_or (λ n. is_open n past) (caller_of k past) false
 caller_open-came k u past known =
     ap (λ o. option_map_or (λ n. is_open n (came u ∷ past)) o false) (caller_of-came k u past) ∙ at_option u past (caller_of k past) known
-

@@ -1,7 +1,6 @@
 -- Entries, units and calls, one after another.
-use Rattle.std.proofs.Common.{◌≡◌, ℕ, zero, suc, ◌+◌, ◌<◌, ◌≤◌, List, [], ◌∷◌, ◌++◌, length, Option, Some, None, refl, sym, ap, ◌∙◌, arith, append_assoc, length-append}
+use Rattle.std.proofs.Common.{◌≡◌, ◌+◌, List, [], ◌∷◌, ◌++◌, length, refl, sym, ap, ◌∙◌, arith, append_assoc, length-append}
 use Rattle.std.proofs.lemmas.List.{append-nil}
-use Rattle.connection_messages.specs.declared.call.Call.{Call}
 use Rattle.connection_messages.specs.declared.entry.Entry.{Entry}
 use Rattle.connection_messages.specs.declared.unit.Unit.{Unit as Units}
 use Rattle.connection_messages.specs.declared.unit.Unit.TheVariants.{Batch}

@@ -1,7 +1,6 @@
 -- Which replies are told of a call that waits, or doesn't; and what is told at the end.
-use Rattle.std.proofs.Common.{◌≡◌, ℕ, zero, suc, ◌+◌, ◌<◌, ◌≤◌, List, [], ◌∷◌, ◌++◌, length, map, Option, Some, None, Bool, true, false, ◌&&◌, ◌||◌, if◌then◌else◌, ◌⊎◌, inl, inr, refl, sym, ap, subst, ◌∙◌, arith, append_assoc}
-use Rattle.std.proofs.lemmas.List.{append-nil}
-use Rattle.std.proofs.lemmas.Bool.{cases_Bool, cases_lt, false_from_ne_true}
+use Rattle.std.proofs.Common.{◌≡◌, ℕ, zero, suc, ◌+◌, ◌<◌, ◌≤◌, List, [], ◌∷◌, ◌++◌, length, map, Option, Some, None, Bool, true, false, ◌||◌, if◌then◌else◌, inl, inr, refl, sym, ap, ◌∙◌, arith}
+use Rattle.std.proofs.lemmas.Bool.{cases_lt, false_from_ne_true}
 use Rattle.std.specs.Prelude.{slice_get, is_some, ◌==◌, filter}
 use Rattle.std.specs.Option.{option_map_or, option_to_list}
 use Rattle.connection_messages.specs.declared.entry.Entry.{Entry}
@@ -19,7 +18,7 @@ use Rattle.connection_history.specs.Events.{reached, events_of_entry, events_alo
 use Rattle.connection_history.specs.Told.{replies_told, unanswered_told}
 use Rattle.connection_history.proofs.Counts.{one_if, occurrences, occurrences-nil, occurrences-cons, within, beyond, zero_is_out}
 use Rattle.connection_history.proofs.Replies.{told_if, under_way, told_along, told_step, told_no_more, reply_front, reply_comes, first_reply-append, no_replies_unanswered}
-use Rattle.connection_history.proofs.Standing.{has_come, caller_of-came, caller_has_come, caller_open-came, waits, waits_so, Waits, waits_has_caller, open_has_come}
+use Rattle.connection_history.proofs.Standing.{has_come, caller_has_come, caller_open-came, waits, waits_so, waits_has_caller, open_has_come}
 
 -- ---- a call that waits
 
@@ -50,13 +49,13 @@ by_entry : (k : ℕ) (past : History) (front : List Entry) (e : Entry) (es : Lis
 by_entry k past front e es o None a w none g later =
     ap (λ p. option_to_list p ++ told_along k past (front ++ e ∷ []) es) a
     ∙ later o w (first_reply-append k front (e ∷ []) ∙ ap (λ p. or_else p (first_reply k (e ∷ []))) none ∙ a)
-      (sym (first_reply-append k (e ∷ []) es ∙ ap (λ p. or_else p (first_reply k es)) a) ∙ g)
+    (sym (first_reply-append k (e ∷ []) es ∙ ap (λ p. or_else p (first_reply k es)) a) ∙ g)
 by_entry k past front e es o (Some r) a w none g later =
     ap (λ p. option_to_list p ++ told_along k past (front ++ e ∷ []) es) a
     ∙ ap (λ rs. r ∷ rs)
-      (told_no_more k past (front ++ e ∷ []) es r
-      (reply_comes k past front e r (waits_has_caller k past w) a
-      (waits k (under_way past front) (waits_on k past front (waits_known k past w) w none)).no_reply))
+    (told_no_more k past (front ++ e ∷ []) es r
+    (reply_comes k past front e r (waits_has_caller k past w) a
+    (waits k (under_way past front) (waits_on k past front (waits_known k past w) w none)).no_reply))
     ∙ ap option_to_list (sym (ap (λ p. or_else p (first_reply k es)) a) ∙ sym (first_reply-append k (e ∷ []) es) ∙ g)
 
 -- its reply is told
@@ -83,12 +82,12 @@ waits_not : (k : ℕ) (past : History) (front : List Entry) → ((n : ℕ) → c
 waits_not k past front known w =
     false_from_ne_true (is_waiting k (under_way past front))
     (λ later.
-      let f : true ≡ false =
-        sym (waits_so k past (record {
-          open_caller = sym (caller_open-came k (Batch front) past known) ∙ (waits k (under_way past front) later).open_caller;
-          no_reply = was_none (reply_to k past) (if is_some (caller_of k past) then first_reply k front else None) (sym (reply_front k past front) ∙ (waits k (under_way past front) later).no_reply);
-          not_over = (waits k (under_way past front) later).not_over;
-        })) ∙ w in cc)
+    let f : true ≡ false =
+    sym (waits_so k past (record {
+      open_caller = sym (caller_open-came k (Batch front) past known) ∙ (waits k (under_way past front) later).open_caller;
+      no_reply = was_none (reply_to k past) (if is_some (caller_of k past) then first_reply k front else None) (sym (reply_front k past front) ∙ (waits k (under_way past front) later).no_reply);
+      not_over = (waits k (under_way past front) later).not_over;
+    })) ∙ w in cc)
 
 told_of_not_waiting : (k : ℕ) (past : History) (front es : List Entry) → ((n : ℕ) → caller_of k past ≡ Some n → has_come n past ≡ true) →
     is_waiting k past ≡ false → told_along k past front es ≡ []
@@ -176,8 +175,8 @@ none_along k past front [] = refl
 none_along k past front (e ∷ es) =
     unanswered_told-append k (events_of_entry (under_way past front) e) (events_along past (front ++ e ∷ []) es)
     ∙ (let a : unanswered_told k (events_of_entry (under_way past front) e) ≡ 0 = none_of_entry k (under_way past front) e in
-      let b : unanswered_told k (events_along past (front ++ e ∷ []) es) ≡ 0 = none_along k past (front ++ e ∷ []) es in
-      omega (arith, a, b))
+    let b : unanswered_told k (events_along past (front ++ e ∷ []) es) ≡ 0 = none_along k past (front ++ e ∷ []) es in
+    omega (arith, a, b))
 
 none_at : (k : ℕ) (past : History) (h : Happening) → ends h ≡ false → unanswered_told k (events_at past h) ≡ 0
 none_at k past (came u) e = none_along k past [] (entries_in u)
@@ -198,5 +197,5 @@ none_before_the_end (h ∷ past) k e =
     let parts : (ends h ≡ false) × (is_over past ≡ false) = neither (ends h) (is_over past) e in
     unanswered_told-append k (events_of past) (events_at past h)
     ∙ (let a : unanswered_told k (events_of past) ≡ 0 = none_before_the_end past k parts.1 in
-      let b : unanswered_told k (events_at past h) ≡ 0 = none_at k past h parts.0 in
-      omega (arith, a, b))
+    let b : unanswered_told k (events_at past h) ≡ 0 = none_at k past h parts.0 in
+    omega (arith, a, b))

@@ -1,5 +1,5 @@
 -- The texts of calls, one more at the end.
-use Rattle.std.proofs.Common.{◌≡◌, ℕ, zero, suc, ◌+◌, ◌<◌, ◌≤◌, List, [], ◌∷◌, ◌++◌, length, take, get_or, Bool, true, false, if◌then◌else◌, refl, sym, ap, subst, ◌∙◌, arith, append_assoc, codes}
+use Rattle.std.proofs.Common.{◌≡◌, ℕ, zero, suc, ◌+◌, ◌<◌, ◌≤◌, List, [], ◌∷◌, ◌++◌, length, take, get_or, Bool, true, false, if◌then◌else◌, refl, sym, ap, ◌∙◌, arith, append_assoc, codes}
 use Rattle.std.specs.Prelude.{nat_lt}
 use Rattle.std.specs.List.{join_with_byte}
 use Rattle.std.proofs.lemmas.Bool.Decides.{nat_tests}
@@ -60,6 +60,6 @@ joined_more old so_far new first key i os o later h is at is_later before put =
     ∙ ap (λ s. s ++ call_text key o) (append_assoc old (join_with_byte 44 (call_texts first (take i os))) (if later then codes "," else []))
     ∙ append_assoc old (join_with_byte 44 (call_texts first (take i os)) ++ (if later then codes "," else [])) (call_text key o)
     ∙ ap (λ s. old ++ s)
-      (sym (joined_at first (take i os) o later test
-      ∙ ap (λ n. join_with_byte 44 (call_texts first (take i os)) ++ (if later then codes "," else []) ++ call_text n o) place)
-      ∙ ap (λ us. join_with_byte 44 (call_texts first us)) (sym (taken os i o h is)))
+    (sym (joined_at first (take i os) o later test
+    ∙ ap (λ n. join_with_byte 44 (call_texts first (take i os)) ++ (if later then codes "," else []) ++ call_text n o) place)
+    ∙ ap (λ us. join_with_byte 44 (call_texts first us)) (sym (taken os i o h is)))

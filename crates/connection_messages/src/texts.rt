@@ -34,12 +34,7 @@ pub fn write_answer(
     }
 }
 
-fn write_result(
-    alloc: Global,
-    bytes: &mut Vec<u8>,
-    id: &Id,
-    text: &[u8],
-) -> Result<(), AllocError>
+fn write_result(alloc: Global, bytes: &mut Vec<u8>, id: &Id, text: &[u8]) -> Result<(), AllocError>
     ensures { OnOk result (bytes.new.items ≡ bytes.old.items ++ result_text id.now text.now) }
 {
     bytes.extend_from_slice(b"{\"id\":")?;
@@ -75,7 +70,13 @@ fn write_error_answer(
         bytes.old.items ++ error_answer_text id.now error.now) }
 {
     write_error_head(bytes)?;
-    write_error(alloc, bytes, error.code, error.message.as_str(), &error.data)?;
+    write_error(
+        alloc,
+        bytes,
+        error.code,
+        error.message.as_str(),
+        &error.data,
+    )?;
     write_error_end(alloc, bytes, id)?;
     Ok(())
 }
@@ -86,13 +87,13 @@ fn write_error(
     bytes: &mut Vec<u8>,
     code: i64,
     message: &str,
-    data: &Option<JsonText>,
+    extra: &Option<JsonText>,
 ) -> Result<(), AllocError>
     ensures { OnOk result (bytes.new.items ≡
-        bytes.old.items ++ (code_text code ++ error_rest message.now data.now)) }
+        bytes.old.items ++ (code_text code ++ error_rest message.now extra.now)) }
 {
     write_code(bytes, code)?;
-    write_error_rest(alloc, bytes, message, data)?;
+    write_error_rest(alloc, bytes, message, extra)?;
     Ok(())
 }
 
@@ -108,11 +109,11 @@ fn write_error_rest(
     alloc: Global,
     bytes: &mut Vec<u8>,
     message: &str,
-    data: &Option<JsonText>,
+    extra: &Option<JsonText>,
 ) -> Result<(), AllocError>
-    ensures { OnOk result (bytes.new.items ≡ bytes.old.items ++ error_rest message.now data.now) }
+    ensures { OnOk result (bytes.new.items ≡ bytes.old.items ++ error_rest message.now extra.now) }
 {
-    write_data(bytes, data)?;
+    write_data(bytes, extra)?;
     bytes.extend_from_slice(b"\"message\":")?;
     write_quoted(alloc, bytes, message)?;
     bytes.extend_from_slice(b"}")?;
@@ -130,12 +131,12 @@ fn write_code(bytes: &mut Vec<u8>, code: i64) -> Result<(), AllocError>
 }
 
 /// Writes the member `data` of an error, with the comma after it.
-fn write_data(bytes: &mut Vec<u8>, data: &Option<JsonText>) -> Result<(), AllocError>
+fn write_data(bytes: &mut Vec<u8>, extra: &Option<JsonText>) -> Result<(), AllocError>
     ensures { OnOk result (bytes.new.items ≡
-        bytes.old.items ++ data_member data.now) }
+        bytes.old.items ++ data_member extra.now) }
 {
-    match data {
-        Some(data) => write_member(bytes, b"\"data\":", data.as_bytes(), b","),
+    match extra {
+        Some(extra) => write_member(bytes, b"\"data\":", extra.as_bytes(), b","),
         None => Ok(()),
     }
 }
@@ -244,11 +245,7 @@ pub fn write_withdrawal(bytes: &mut Vec<u8>, key: u64) -> Result<(), AllocError>
 }
 
 /// Writes the method and the params of a call or notification, and its end.
-fn write_method(
-    alloc: Global,
-    bytes: &mut Vec<u8>,
-    outgoing: &Outgoing,
-) -> Result<(), AllocError>
+fn write_method(alloc: Global, bytes: &mut Vec<u8>, outgoing: &Outgoing) -> Result<(), AllocError>
     ensures { OnOk result (bytes.new.items ≡ bytes.old.items ++ method_text outgoing.now) }
 {
     bytes.extend_from_slice(b",\"method\":")?;

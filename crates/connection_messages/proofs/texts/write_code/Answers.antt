@@ -1,6 +1,6 @@
 use Rattle.std.specs.Prelude.{codes}
 use Rattle.std.specs.Fmt.{signed_decimal}
-use Rattle.std.proofs.Common.{◌≡◌, ◌++◌, List, ℕ, arith}
+use Rattle.std.proofs.Common.{◌≡◌, ◌++◌, arith}
 use Rattle.connection_messages.specs.Texts.{code_text}
 use Rattle.connection_messages.proofs.Behind.{three_parts}
 use Rattle.connection_messages.proofs.texts.write_code.Goals as goal
