@@ -1,0 +1,65 @@
+"""Rows of checks/connection_rows: scripts that are written by hand, with what each action gives.
+
+The first line of a file says what it is about. A row begins behind an empty line with its name, and then has an action a line, in the language of
+connection_script.py. Behind ` => ` stands what the action gives; where nothing stands there, that is `ok`.
+
+Where that language has HEX, a row has parts joined by `+`, each of which may have a count before it, as `200*'['`:
+
+    'text'          the text in UTF-8
+    frame'text'     the same with its head
+    line'text'      the same with an LF behind it
+    0d0a            bytes"""
+import glob
+import os
+import re
+from dataclasses import dataclass
+
+from support import connection_script as script
+from support import ran
+
+FOLDER = os.path.join(ran.TOP, "checks", "connection_rows")
+PART = re.compile(r"(?:([0-9]+)\*)?(?:(frame|line|)'([^']*)'|((?:[0-9a-f]{2})+))")
+WORD = re.compile(r"(?:[^ ']|'[^']*')+")
+
+
+@dataclass(frozen=True)
+class Row:
+    name: str
+    actions: tuple[script.Action, ...]
+    gives: tuple[str, ...]
+
+
+def bytes_of(part: str) -> bytes:
+    found = PART.fullmatch(part)
+    if found is None:
+        raise ValueError(f"{part!r} can't be read")
+    data = bytes.fromhex(found[4]) if found[4] else found[3].encode()
+    head = b"Content-Length: %d\r\n\r\n" % len(data) if found[2] == "frame" else b""
+    return (head + data + (b"\n" if found[2] == "line" else b"")) * int(found[1] or 1)
+
+
+def plain(words: str) -> str:
+    """A line of a row as a line of a script."""
+    return " ".join(joined(it) if "'" in it or "+" in it or "*" in it else it for it in WORD.findall(words))
+
+
+def joined(word: str) -> str:
+    parts = re.findall(r"(?:[^+']|'[^']*')+", word)
+    return script.hex_of(b"".join(map(bytes_of, parts)))
+
+
+def row_of(text: str) -> Row:
+    name, *lines = text.strip("\n").split("\n")
+    pairs = [it.partition(" => ") for it in lines]
+    actions = tuple(script.action_of(plain(action.strip())) for action, _, _ in pairs)
+    return Row(name, actions, tuple(plain(gives.strip()) or "ok" for _, _, gives in pairs))
+
+
+def rows_of(file: str) -> list[Row]:
+    with open(file, encoding="utf-8") as it:
+        _, *texts = re.split(r"\n\n+", it.read())
+    return [row_of(it) for it in texts]
+
+
+def all_rows() -> list[Row]:
+    return [row for file in sorted(glob.glob(os.path.join(FOLDER, "*.txt"))) for row in rows_of(file)]
