@@ -1,10 +1,13 @@
 """The plain model of a connection gives what the rows of checks/connection_rows have, which are worked out by hand from docs/connection.md; also
-where each feed of frames and lines comes byte by byte. And scripts are read and written as connection_script.py says."""
+where each feed of frames and lines comes byte by byte. It plays the pictures of that page. And scripts are read and written as
+connection_script.py says."""
+import re
 from dataclasses import replace
 from typing import Iterator
 
 from support import connection_rows as rows
 from support import connection_script as script
+from support import pages
 from support import ran
 
 FEWEST = 40
@@ -58,6 +61,54 @@ def check_row(name: str, pairs: list[tuple[script.Action, str]]) -> None:
     count.check(name, not wrong, "; ".join(wrong[:3]))
 
 
+# The arrows of a picture, each with the action that it stands for, and what that gives: of the wire on the left, and of the host on the right.
+SETTINGS = "settings contents as-answered cancels 16777216 1000"
+ARROWS = (
+    (re.compile(r"  \|-- (\S.*\S) -+>\| +\|"), lambda came: (f"feed '{came}'", "ok")),
+    (re.compile(r"  \|<- (\S.*\S) -+\| +\|"), lambda goes: ("take 1000", f"bytes '{goes}'")),
+    (re.compile(r"  \| +\|-- (\S.*\S) -+>\|"), lambda event: ("next", event_of(event))),
+    (re.compile(r"  \| +\|<- (\S.*\S) -+\|"), lambda says: action_of(says)),
+)
+
+
+def optional(text: str) -> str:
+    return f"'{text}'" if text else "-"
+
+
+def event_of(words: str) -> str:
+    """An event of a picture as what a row has."""
+    if found := re.fullmatch(r"Call ([0-9]+) (\S+)(?: ([\[{]\S*))?(?: id (\S+))?", words):
+        return f"call {found[1]} '{found[2]}' {optional(found[3])} {optional(found[4])}"
+    if found := re.fullmatch(r"Replied ([0-9]+) (-?[0-9]+) (.+)", words):
+        return f"replied {found[1]} error {found[2]} '{found[3]}' -"
+    if found := re.fullmatch(r"Replied ([0-9]+) (\S+)", words):
+        return f"replied {found[1]} result '{found[2]}'"
+    return words.lower()
+
+
+def action_of(words: str) -> tuple[str, str]:
+    """What the host says in a picture as what a row has; pictures have one call each, so its key is 1."""
+    name, *given = words.split(" ")
+    if name == "call":
+        return f"call {given[0]} '{given[1]}' {optional(''.join(given[2:]))}", "key 1"
+    return " ".join([name, given[0], *(f"'{it}'" for it in given[1:])]), "ok"
+
+
+def picture_of(text: str) -> list[tuple[script.Action, str]]:
+    lines = [it for it in text.splitlines() if "--" in it]
+    found = [say(it[1]) for line in lines for arrow, say in ARROWS if (it := arrow.fullmatch(line))]
+    count.check("each arrow of a picture is read", len(found) == len(lines), f"{len(found)} of {len(lines)}")
+    rows_ = [(SETTINGS, "ok"), *found, ("next", "none"), ("pending", "pending 0")]
+    return [(script.action_of(rows.plain(action)), rows.plain(gives)) for action, gives in rows_]
+
+
+def check_pictures() -> None:
+    pictures = [text for mark, text in pages.blocks_of(count, "docs", "connection.md") if mark == "conversation"]
+    count.check("the page has three pictures at least", len(pictures) >= 3, f"{len(pictures)}")
+    for number, text in enumerate(pictures, 1):
+        check_row(f"picture {number}", picture_of(text))
+
+
 def check_scripts(found: list[rows.Row]) -> None:
     actions = [it for row in found for it in row.actions]
     count.check("what is written is read again", script.read(script.written(actions)) == actions)
@@ -83,5 +134,6 @@ count.check("each row has a name of its own", len({it.name for it in found}) == 
 for row in found:
     check_row(row.name, list(zip(row.actions, row.gives)))
     check_row(f"{row.name}, byte by byte", list(byte_by_byte(row)))
+check_pictures()
 check_scripts(found)
 count.end()

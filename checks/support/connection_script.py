@@ -77,9 +77,9 @@ def bytes_or_none(word: str) -> Optional[bytes]:
     return None if word == "-" else bytes_of(word)
 
 
-def number_of(word: str, most: int = 2**64 - 1) -> int:
+def number_of(word: str) -> int:
     value = int(matched(NUMBER, word))
-    if value > most:
+    if value > 2**64 - 1:
         raise ValueError(f"{word} is too large")
     return value
 
@@ -118,10 +118,16 @@ class Action:
 
 
 Word = Callable[[str], object]
+
+
+def one_word_of(words: tuple[str, ...]) -> Word:
+    return lambda word: one_of(words, word)
+
+
 FORMS: dict[str, tuple[Word, ...]] = {
-    "settings": (lambda it: one_of(FRAMINGS, it), lambda it: one_of(ORDERS, it), lambda it: one_of(CANCELS, it), lambda it: number_of(it, 2**32 - 1), number_of),
+    "settings": (one_word_of(FRAMINGS), one_word_of(ORDERS), one_word_of(CANCELS), number_of, number_of),
     "feed": (bytes_of,),
-    "end": (lambda it: one_of(("closed", "failed"), it),),
+    "end": (one_word_of(("closed", "failed")),),
     "next": (),
     "call": (number_of, bytes_of, bytes_or_none),
     "notify": (bytes_of, bytes_or_none),
