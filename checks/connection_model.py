@@ -2,9 +2,8 @@
 where each feed of frames and lines comes byte by byte. It plays the pictures of that page. And scripts are read and written as
 connection_script.py says."""
 import re
-from dataclasses import replace
-from typing import Iterator
 
+from support import connection_fuzzing as fuzzing
 from support import connection_rows as rows
 from support import connection_script as script
 from support import pages
@@ -43,22 +42,9 @@ UNREADABLE = (
 )
 
 
-def byte_by_byte(row: rows.Row) -> Iterator[tuple[script.Action, str]]:
-    """The actions of a row, and what they give, with feeds of frames and lines cut everywhere."""
-    is_cut = False
-    for action, gives in zip(row.actions, row.gives):
-        if action.name == "settings":
-            is_cut = action.given[0] != "contents"
-        pieces = [action.given[0][at : at + 1] for at in range(len(action.given[0]))] if is_cut and action.name == "feed" else []
-        for it in [replace(action, given=(piece,)) for piece in pieces] or [action]:
-            yield it, gives
-
-
-def check_row(name: str, pairs: list[tuple[script.Action, str]]) -> None:
-    actions, wanted = [it for it, _ in pairs], [it for _, it in pairs]
-    got = list(script.ran(actions))
-    wrong = [f"{action.line!r} gives {one!r}, and not {other!r}" for action, one, other in zip(actions, got, wanted) if one != other]
-    count.check(name, not wrong, "; ".join(wrong[:3]))
+def check_row(row: rows.Row) -> None:
+    why = fuzzing.difference(row.actions, row.gives, list(script.ran(row.actions)))
+    count.check(row.name, why is None, why or "")
 
 
 # The arrows of a picture, each with the action that it stands for, and what that gives: of the wire on the left, and of the host on the right.
@@ -94,19 +80,18 @@ def action_of(words: str) -> tuple[str, str]:
     return " ".join([name, given[0], *(f"'{it}'" for it in given[1:])]), "ok"
 
 
-def picture_of(text: str) -> list[tuple[script.Action, str]]:
+def picture_of(name: str, text: str) -> rows.Row:
     lines = [it for it in text.splitlines() if "--" in it]
     found = [say(it[1]) for line in lines for arrow, say in ARROWS if (it := arrow.fullmatch(line))]
     count.check("each arrow of a picture is read", len(found) == len(lines), f"{len(found)} of {len(lines)}")
-    rows_ = [(SETTINGS, "ok"), *found, ("next", "none"), ("pending", "pending 0")]
-    return [(script.action_of(rows.plain(action)), rows.plain(gives)) for action, gives in rows_]
+    return rows.row_of("\n".join([name, SETTINGS, *(f"{action} => {gives}" for action, gives in found), "next => none", "pending => pending 0"]))
 
 
 def check_pictures() -> None:
     pictures = [text for mark, text in pages.blocks_of(count, "docs", "connection.md") if mark == "conversation"]
     count.check("the page has three pictures at least", len(pictures) >= 3, f"{len(pictures)}")
     for number, text in enumerate(pictures, 1):
-        check_row(f"picture {number}", picture_of(text))
+        check_row(picture_of(f"picture {number}", text))
 
 
 def check_scripts(found: list[rows.Row]) -> None:
@@ -132,8 +117,8 @@ found = rows.all_rows()
 count.check(f"there are {FEWEST} rows at least", len(found) >= FEWEST, f"{len(found)}")
 count.check("each row has a name of its own", len({it.name for it in found}) == len(found))
 for row in found:
-    check_row(row.name, list(zip(row.actions, row.gives)))
-    check_row(f"{row.name}, byte by byte", list(byte_by_byte(row)))
+    check_row(row)
+    check_row(row.byte_by_byte)
 check_pictures()
 check_scripts(found)
 count.end()

@@ -12,7 +12,8 @@ Where that language has HEX, a row has parts joined by `+`, each of which may ha
 import glob
 import os
 import re
-from dataclasses import dataclass
+from dataclasses import dataclass, replace
+from typing import Iterator
 
 from support import connection_script as script
 from support import ran
@@ -27,6 +28,27 @@ class Row:
     name: str
     actions: tuple[script.Action, ...]
     gives: tuple[str, ...]
+
+    @property
+    def byte_by_byte(self) -> "Row":
+        """The same with the feeds of frames and lines cut everywhere."""
+        pairs = [pair for framing, action, gives in zip(self.framings, self.actions, self.gives) for pair in cut(framing, action, gives)]
+        return Row(f"{self.name}, byte by byte", tuple(it for it, _ in pairs), tuple(it for _, it in pairs))
+
+    @property
+    def framings(self) -> Iterator[str]:
+        """The framing that each action has."""
+        framing = ""
+        for it in self.actions:
+            framing = str(it.given[0]) if it.name == "settings" else framing
+            yield framing
+
+
+def cut(framing: str, action: script.Action, gives: str) -> list[tuple[script.Action, str]]:
+    data = action.given[0] if action.name == "feed" else b""
+    if framing == "contents" or not isinstance(data, bytes) or data == b"":
+        return [(action, gives)]
+    return [(replace(action, given=(data[at : at + 1],)), gives) for at in range(len(data))]
 
 
 def bytes_of(part: str) -> bytes:
