@@ -104,7 +104,7 @@ def difference(actions: Sequence[Action], wanted: Sequence[str], got: Sequence[s
     for action, right, line in zip(actions, wanted, [*got, *[""] * len(actions)]):
         if line != right:
             return f"{action.line[:300]!r} gives {line[:300]!r}, and not {right[:300]!r}"
-    return f"{got[len(actions)][:300]!r} comes behind the last line" if len(got) > len(actions) else None
+    return f"{got[len(actions)][:300]!r} comes after the last line" if len(got) > len(actions) else None
 
 
 def breaks(player: Player, actions: Sequence[Action]) -> Optional[str]:
@@ -113,7 +113,7 @@ def breaks(player: Player, actions: Sequence[Action]) -> Optional[str]:
 
 
 def fails(player: Player, trials: Sequence[Trial]) -> Optional[str]:
-    """How a player differs from what trials should give, one behind another."""
+    """How a player differs from what trials should give, one after another."""
     actions = [action for trial in trials for action in trial.actions]
     return difference(actions, [line for trial in trials for line in trial.wanted], player(actions))
 

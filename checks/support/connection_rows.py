@@ -1,13 +1,13 @@
 """Rows of checks/connection_rows: scripts that are written by hand, with what each action gives.
 
-The first line of a file says what it is about. A row begins behind an empty line with its name, and then has an action a line, in the language of
-connection_script.py. Behind ` => ` stands what the action gives; where nothing stands there, that is `ok`.
+The first line of a file says what it is about. A row begins after an empty line with its name, and then has an action a line, in the language of
+connection_script.py. After ` => ` stands what the action gives; where nothing stands there, that is `ok`.
 
 Where that language has HEX, a row has parts joined by `+`, each of which may have a count before it, as `200*'['`:
 
     'text'          the text in UTF-8
     frame'text'     the same with its head
-    line'text'      the same with an LF behind it
+    line'text'      the same with an LF after it
     0d0a            bytes"""
 import glob
 import os

@@ -1,6 +1,6 @@
 """Scripts for a connection: what its host does, an action a line, and what each action gives, a line each.
 
-A line is words with one space between them and an LF behind it; the last line has its LF too. Numbers are decimal digits without leading
+A line is words with one space between them and an LF after them; the last line has its LF too. Numbers are decimal digits without leading
 zeros (CODE may have a `-` before it). HEX is bytes as lowercase hexadecimal digits, two a byte, and `.` where there are none. Where
 `HEX|-` stands, `-` says that there is nothing (no params, no data, no id), which isn't the same as an empty text.
 
@@ -36,7 +36,7 @@ at most 120 levels, params that are no array or object, and `-` as the result of
     unanswered KEY
     over HOW                                                    (Clean, Read, Full or the name of a fault)
 
-Want of memory would give `refused memory`. Where there is no connection, since its settings were refused, each action but `settings` gives
+A call that is refused memory gives `refused memory`. Where there is no connection, since its settings were refused, each action but `settings` gives
 `refused settings`. A program that is given a line that can't be read, or an action before the first settings, says nothing of it and ends
 with the status 2."""
 import re
@@ -107,7 +107,7 @@ def text(words: Optional[str]) -> str:
 
 @dataclass(frozen=True)
 class Action:
-    """What a line says: the action's name and the words behind it, read."""
+    """What a line says: the action's name and the words after it, read."""
 
     name: str
     given: tuple[object, ...] = ()

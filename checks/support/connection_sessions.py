@@ -196,7 +196,7 @@ class Maker:
         )
 
     def finish(self) -> None:
-        """The input ends, at times amid a content; open calls are mostly answered, and all is taken."""
+        """The input ends, at times inside a content; open calls are mostly answered, and all is taken."""
         if self.framing != "contents":
             last = self.peer.frame(self.framing) if self.chance.random() < 0.3 else b""
             self.do("feed", self.unsent + last[: self.chance.choice((len(last) // 2, self.chance.randint(0, 30)))])

@@ -129,7 +129,7 @@ class CancelOfTheAnswered(Model):
 
 
 class CancelOfTheNext(Model):
-    """A cancel in a batch reaches a request behind it."""
+    """A cancel in a batch reaches a request after it."""
 
     def take_content(self, frame):
         events = len(self.events)
