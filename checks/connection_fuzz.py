@@ -12,6 +12,7 @@ from typing import Iterable
 
 from support import connection_fuzzing as fuzzing
 from support import connection_model
+from support import connection_rows as rows
 from support import connection_script as script
 from support import ran
 
@@ -31,12 +32,9 @@ def words_of(words: Iterable[str]) -> argparse.Namespace:
 
 def check_refusals(count: ran.Count, program: str) -> None:
     """The program refuses lines that can't be read."""
-    for line in (*UNREADABLE, "next"):
+    for line in (*rows.UNREADABLE, "next"):
         got = ran.run(["script"], f"{line}\n".encode(), program=program)
         count.check(f"refused: {line!r}", got[0] == 2 and got[1] == b"", f"{got}")
-
-
-UNREADABLE = (" ", "turn", "next ", "feed", "feed 0", "feed -", "end soon", "settings lines as-came cancels 1", "answer 01 .", "answer 18446744073709551616 .")
 
 
 def main(words: list[str]) -> None:

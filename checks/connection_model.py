@@ -1,6 +1,6 @@
 """The plain model of a connection gives what the rows of checks/connection_rows have, which are worked out by hand from docs/connection.md; also
-where each feed of frames and lines comes byte by byte. It plays the pictures of that page. And scripts are read and written as
-connection_script.py says."""
+where each feed of frames and lines comes byte by byte, or is cut at any one place. With a host that has no methods it writes what the peer
+without methods does. It plays the pictures of that page. And scripts are read and written as connection_script.py says."""
 import re
 
 from support import connection_fuzzing as fuzzing
@@ -10,36 +10,6 @@ from support import pages
 from support import ran
 
 FEWEST = 40
-UNREADABLE = (
-    "",
-    "next ",
-    " next",
-    "Next",
-    "turn",
-    "next 1",
-    "feed",
-    "feed 0",
-    "feed 0A",
-    "feed -",
-    "feed 00 00",
-    "end",
-    "end soon",
-    "answer 01 .",
-    "answer -1 .",
-    "answer 18446744073709551616 .",
-    "answer 1",
-    "call 1 -",
-    "call 1 - -",
-    "batch",
-    "batch 1 .",
-    "fail 1 9223372036854775808 . -",
-    "fail 1 -0 . -",
-    "fail 1 5 - -",
-    "settings frames as-answered cancels 1",
-    "settings frame as-answered cancels 1 1",
-    "settings frames answered cancels 1 1",
-    "settings frames as-came on 1 1",
-)
 
 
 def check_row(row: rows.Row) -> None:
@@ -99,7 +69,7 @@ def check_scripts(found: list[rows.Row]) -> None:
     count.check("what is written is read again", script.read(script.written(actions)) == actions)
     kinds = {*script.FORMS, "batch"}
     count.check("the rows have each action", {it.name for it in actions} == kinds, f"{kinds - {it.name for it in actions}}")
-    for line in UNREADABLE:
+    for line in rows.UNREADABLE:
         try:
             script.action_of(line)
             count.check(f"refused: {line!r}", False)
@@ -113,12 +83,13 @@ def check_scripts(found: list[rows.Row]) -> None:
 
 
 count = ran.Count()
-found = rows.all_rows()
+found = rows.rows_by_hand()
 count.check(f"there are {FEWEST} rows at least", len(found) >= FEWEST, f"{len(found)}")
 count.check("each row has a name of its own", len({it.name for it in found}) == len(found))
-for row in found:
+for row in rows.all_rows():
     check_row(row)
     check_row(row.byte_by_byte)
+    check_row(row.cut_once)
 check_pictures()
 check_scripts(found)
 count.end()

@@ -1,7 +1,8 @@
 """usage: python3 checks/connection_rows.py [--program FILE]
 
 The proved program `connection_bench`, by its command `script`, gives what the rows of checks/connection_rows have, also where each feed of
-frames and lines comes byte by byte. Without a program that the gate built nothing is checked."""
+frames and lines comes byte by byte, or is cut at any one place. With a host that has no methods it writes what the peer without methods
+does. Without a program that the gate built nothing is checked."""
 import argparse
 import sys
 
@@ -17,7 +18,7 @@ def main(words: list[str]) -> None:
     if program is None:
         print("SKIPPED: the rows of a connection by connection_bench, which isn't built", flush=True)
     else:
-        for row in [it for row in rows.all_rows() for it in (row, row.byte_by_byte)]:
+        for row in [it for row in rows.all_rows() for it in (row, row.byte_by_byte, row.cut_once)]:
             why = fuzzing.difference(row.actions, row.gives, fuzzing.play_by_program(program, row.actions))
             count.check(row.name, why is None, why or "")
     count.end()

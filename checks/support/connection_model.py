@@ -239,10 +239,12 @@ class Model:
         self.events.append(Call(len(self.calls), entry.method, params, text_or_none(entry.id)))
 
     def take_cancel(self, cancel: Entry) -> None:
+        events = len(self.events)
         for number, call in enumerate(self.calls, 1):
             if call.is_open and call.entry.is_request and call.entry.id == cancel.id and not call.is_cancelled:
                 call.is_cancelled = True
                 self.events.append(Cancelled(number))
+        self.counts["ignored"] += len(self.events) == events
 
     def take_reply(self, reply: Entry) -> None:
         self.ours[reply.key - 1].waits = False

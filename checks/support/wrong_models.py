@@ -136,9 +136,11 @@ class CancelOfTheNext(Model):
         super().take_content(frame)
         unit = reading.unit_of(frame, self.settings.takes_cancels)
         cancels = [it for it in unit.entries if it.kind == "cancel"]
+        ignored = self.counts["ignored"]
         if not self.is_over and len(self.events) > events:
             for it in cancels:
                 super().take_cancel(it)
+        self.counts["ignored"] = ignored
 
 
 class CancelByText(Model):
@@ -146,8 +148,10 @@ class CancelByText(Model):
 
     def take_cancel(self, cancel):
         super().take_cancel(cancel)
+        ignored = self.counts["ignored"]
         if isinstance(cancel.id, str):
             super().take_cancel(Entry("cancel", Number(cancel.id)))
+        self.counts["ignored"] = ignored
 
 
 class CancelIsACall(Model):
