@@ -22,7 +22,7 @@ from support import rows as hostile
 FOLDER = os.path.join(ran.TOP, "checks", "connection_rows")
 PART = re.compile(r"(?:([0-9]+)\*)?(?:(frame|line|)'([^']*)'|((?:[0-9a-f]{2})+))")
 WORD = re.compile(r"(?:[^ ']|'[^']*')+")
-# A feed is cut at some so many places at most.
+# The most places at which a feed is cut.
 MOST_CUTS = 400
 # Lines that are no action.
 UNREADABLE = (
