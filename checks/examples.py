@@ -1,5 +1,5 @@
 """Plays each stream of examples/ with the table there, read as it comes, lazily, and with the last method first, and compares what is
-printed with the file beside the stream; and runs the commands of its page and of the first one."""
+printed with the file beside the stream; and runs the commands of its page, of the first one and of the page on commands."""
 import glob
 import os
 import subprocess
@@ -58,4 +58,5 @@ strange = [it for it in os.listdir(FOLDER) if it.endswith(".out") and it not in 
 count.check("each output is compared", not strange, f"{strange}")
 check_page(count, "examples", "README.md")
 check_page(count, "README.md")
+check_page(count, "docs", "commands.md")
 count.end()

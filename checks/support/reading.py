@@ -130,6 +130,7 @@ def is_foreign(value: bytes) -> bool:
 class Head:
     length: Optional[int] = None
     is_foreign: bool = False
+    limit: int = CONTENT  # of a content
 
     def take(self, line: bytes) -> str:
         """Takes a line without its LF, and gives its fault, if it has one."""
@@ -146,12 +147,12 @@ class Head:
         if not re.fullmatch(rb"[0-9]{1,10}", value):
             return "BadLength"
         self.length = int(value)
-        return "TooLarge" if self.length > CONTENT else ""
+        return "TooLarge" if self.length > self.limit else ""
 
 
-def frame_at(stream: bytes, start: int) -> tuple[Optional[Frame], str]:
+def frame_at(stream: bytes, start: int, limit: int = CONTENT) -> tuple[Optional[Frame], str]:
     """The frame that begins at a place, or why there is none."""
-    head, at = Head(), start
+    head, at = Head(limit=limit), start
     while True:
         line_end = stream.find(b"\n", at, start + HEAD)
         if line_end < 0:

@@ -1,5 +1,5 @@
 -- What lists of events tell of one thing, and what laws say of that.
-use Rattle.std.specs.Prelude.{◌≡◌, ⊤, ℕ, ◌+◌, ◌==◌, List, [], ◌∷◌, ◌++◌, Bool, true, Option, Some, None, is_some, if◌then◌else◌}
+use Rattle.std.specs.Prelude.{◌≡◌, ⊤, ℕ, ◌+◌, ◌==◌, List, [], ◌∷◌, ◌++◌, true, Option, Some, if◌then◌else◌}
 use Rattle.connection_messages.specs.declared.call.Call.{Call}
 use Rattle.connection_messages.specs.declared.entry.Entry.{Entry}
 use Rattle.connection_messages.specs.declared.entry.Entry.TheVariants.{Cancel}

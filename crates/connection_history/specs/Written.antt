@@ -1,5 +1,5 @@
 -- What lists of items hold of one thing, and what laws say of that.
-use Rattle.std.specs.Prelude.{◌≡◌, ℕ, ◌==◌, ◌<◌, List, [], ◌∷◌, ◌++◌, Option, Some, slice_get, if◌then◌else◌}
+use Rattle.std.specs.Prelude.{◌≡◌, ℕ, ◌==◌, List, [], ◌∷◌, ◌++◌, Some, slice_get, if◌then◌else◌}
 use Rattle.connection_history.specs.Answers.{dues, text}
 use Rattle.connection_history.specs.History.{Happening, History}
 use Rattle.connection_history.specs.Items.{Item, said, answer, said_at}

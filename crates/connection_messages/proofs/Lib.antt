@@ -1,2 +1,5 @@
+pub mod Behind
 pub mod Decimals
+pub mod Joined
 pub mod Members
+pub mod OnResults

@@ -1,8 +1,8 @@
 -- What a content is (JSON-RPC 2.0, sections 4 to 6), and what a cancel names (LSP 3.17, "Cancellation Support").
-use Rattle.std.specs.Prelude.{ℕ, ◌==◌, ◌&&◌, ◌||◌, List, [], ◌∷◌, Bool, true, false, Option, Some, None, option_map, option_and_then, unwrap_or, is_some, codes, if◌then◌else◌, ℤ, negsuc}
+use Rattle.std.specs.Prelude.{ℕ, ◌==◌, ◌&&◌, ◌||◌, List, [], ◌∷◌, Bool, true, false, Option, Some, None, option_map, option_and_then, is_some, codes, if◌then◌else◌, ℤ, negsuc}
 use Rattle.std.specs.Option.{option_map_or, is_none}
 use Rattle.std.specs.Str.{bytes_eq}
-use Rattle.json.specs.Json.{Json, null, boolean, number, string, array, object, Items, no_items, item}
+use Rattle.json.specs.Json.{Json, null, number, string, array, object, Items, no_items, item}
 use Rattle.json.specs.Find.{get, as_str, as_number}
 use Rattle.json_texts.specs.Texts.{json_text, value_of}
 use Rattle.rpc_messages.specs.declared.id.Id.{Id}
@@ -14,7 +14,6 @@ use Rattle.connection_messages.specs.declared.entry.Entry.TheVariants.{Call, Can
 use Rattle.connection_messages.specs.declared.read.unit.TheConstants.{MOST_DEPTH}
 use Rattle.connection_messages.specs.declared.reply.Reply.{Reply as Replied}
 use Rattle.connection_messages.specs.declared.reply.Reply.TheVariants.{Result, Error}
-use Rattle.connection_messages.specs.declared.reply.ReplyError.{ReplyError}
 use Rattle.connection_messages.specs.declared.unit.Unit.{Unit as Units}
 use Rattle.connection_messages.specs.declared.unit.Unit.TheVariants.{Unreadable, Single, Batch}
 

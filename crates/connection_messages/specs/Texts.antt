@@ -1,6 +1,6 @@
 -- The texts of the messages that go out (JSON-RPC 2.0, sections 4 to 6): compact, an object's members in the byte order of
 -- their names.
-use Rattle.std.specs.Prelude.{ℕ, ◌+◌, List, [], ◌∷◌, ◌++◌, codes, decimal, Option, Some, None}
+use Rattle.std.specs.Prelude.{ℕ, ℤ, ◌+◌, List, [], ◌∷◌, ◌++◌, codes, decimal, Option, Some, None}
 use Rattle.std.specs.Fmt.{signed_decimal}
 use Rattle.std.specs.List.{join_with_byte}
 use Rattle.json.specs.Print.{quoted}
@@ -22,20 +22,25 @@ id_text (Text s) = quoted s
 id_text (Signed z) = signed_decimal z
 id_text (Unsigned n) = decimal n
 
--- a member with the text of its value and the comma after it, where there is one
-abbrev pub member_before : List ℕ → Option (List ℕ) → List ℕ
-member_before name None = []
-member_before name (Some text) = quoted name ++ codes ":" ++ text ++ codes ","
+-- the member `data` of an error and the comma after it, where there is data
+abbrev pub data_member : Option (List ℕ) → List ℕ
+data_member None = []
+data_member (Some text) = codes "\"data\":" ++ text ++ codes ","
 
--- the same with the comma before it
-abbrev pub member_after : List ℕ → Option (List ℕ) → List ℕ
-member_after name None = []
-member_after name (Some text) = codes "," ++ quoted name ++ codes ":" ++ text
+-- the member `params` and the comma before it, where there are params
+abbrev pub params_member : Option (List ℕ) → List ℕ
+params_member None = []
+params_member (Some text) = codes ",\"params\":" ++ text
 
--- an error object (section 5.1)
+-- an error object (section 5.1): its code, and what stands after it
+unfoldable pub code_text : ℤ → List ℕ
+code_text code = codes "{\"code\":" ++ signed_decimal code ++ codes ","
+
+unfoldable pub error_rest : List ℕ → Option (List ℕ) → List ℕ
+error_rest message extra = data_member extra ++ codes "\"message\":" ++ quoted message ++ codes "}"
+
 abbrev pub error_text : AnswerError → List ℕ
-error_text e =
-    codes "{\"code\":" ++ signed_decimal e.code ++ codes "," ++ member_before (codes "data") e.«data» ++ codes "\"message\":" ++ quoted e.message ++ codes "}"
+error_text e = code_text e.code ++ error_rest e.message e.«data»
 
 -- a fixed error, which has no data
 abbrev pub fixed_error : Standard → AnswerError
@@ -43,13 +48,23 @@ fixed_error s = record { code = code_of s; message = message_of s; «data» = No
 
 -- ---- messages
 
--- a response with an error (section 5)
+-- a response with a result (section 5)
+abbrev pub result_text : Id → List ℕ → List ℕ
+result_text id text = codes "{\"id\":" ++ id_text id ++ codes ",\"jsonrpc\":\"2.0\",\"result\":" ++ text ++ codes "}"
+
+-- a response with an error (section 5): what stands before it, and after it
+unfoldable pub error_head : List ℕ
+error_head = codes "{\"error\":"
+
+unfoldable pub error_end : Id → List ℕ
+error_end id = codes ",\"id\":" ++ id_text id ++ codes ",\"jsonrpc\":\"2.0\"}"
+
 abbrev pub error_answer_text : Id → AnswerError → List ℕ
-error_answer_text id e = codes "{\"error\":" ++ error_text e ++ codes ",\"id\":" ++ id_text id ++ codes ",\"jsonrpc\":\"2.0\"}"
+error_answer_text id e = error_head ++ error_text e ++ error_end id
 
 -- a response (section 5)
 abbrev pub answer_text : Id → Answer → List ℕ
-answer_text id (Result text) = codes "{\"id\":" ++ id_text id ++ codes ",\"jsonrpc\":\"2.0\",\"result\":" ++ text ++ codes "}"
+answer_text id (Result text) = result_text id text
 answer_text id (Error e) = error_answer_text id e
 answer_text id (Fixed s) = error_answer_text id (fixed_error s)
 
@@ -59,7 +74,7 @@ batch_text texts = codes "[" ++ join_with_byte 44 texts ++ codes "]"
 
 -- the members `method` and `params` and the end of a call or notification; without params the member `params` is absent
 abbrev pub method_text : Outgoing → List ℕ
-method_text o = codes ",\"method\":" ++ quoted o.method ++ member_after (codes "params") o.params ++ codes "}"
+method_text o = codes ",\"method\":" ++ quoted o.method ++ params_member o.params ++ codes "}"
 
 -- our call with the key k, a request whose id is the number k (section 4)
 abbrev pub call_text : ℕ → Outgoing → List ℕ

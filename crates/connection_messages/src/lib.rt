@@ -8,6 +8,7 @@ mod outgoing;
 mod params;
 mod read;
 mod reply;
+mod texts;
 mod unit;
 
 pub use answer::{Answer, AnswerError};
@@ -17,4 +18,5 @@ pub use outgoing::Outgoing;
 pub use params::Params;
 pub use read::unit::{MOST_DEPTH, UnitReader};
 pub use reply::{Reply, ReplyError};
+pub use texts::{write_answer, write_call, write_calls, write_notice, write_withdrawal};
 pub use unit::Unit;

@@ -1,4 +1,5 @@
-ghost use Rattle.std.specs.Prelude.{◌≡◌};
+ghost use Rattle.std.specs.Prelude.{◌≡◌, Some, None, if◌then◌else◌};
+ghost use Rattle.connection_messages.specs.Params.{is_structured};
 
 use json_texts::JsonText;
 use std::marker::Model;
@@ -21,6 +22,16 @@ impl Model for Params {
 }
 
 impl Params {
+    /// Params of this text. There are none where it is neither an array nor an object.
+    pub fn new(text: JsonText) -> Option<Params>
+        ensures { result ≡ (if is_structured text then Some text else None) }
+    {
+        match text.as_bytes().first() {
+            Some(b'[' | b'{') => Some(Params { text }),
+            _ => None,
+        }
+    }
+
     /// The text, lent.
     pub fn as_str(&self) -> &str
         ensures { result.now ≡ self.now }

@@ -4,6 +4,7 @@ use Rattle.std.specs.Fmt.{digits}
 use Rattle.json.specs.Print.{escape_byte}
 use Rattle.connection_messages.specs.declared.entry.Entry.TheVariants.{Invalid, Stray}
 use Rattle.connection_messages.specs.declared.unit.Unit.TheVariants.{Unreadable}
+use Rattle.connection_messages.specs.Texts.{error_head, code_text, error_rest, error_end}
 use Rattle.connection_history.specs.declared.event.Event.TheVariants as event
 use Rattle.connection_history.specs.declared.order.Order.TheVariants.{AsAnswered, AsCame}
 use Rattle.connection_history.specs.declared.refused.Refused.TheVariants.{NotOpen}
@@ -36,18 +37,18 @@ one_of_two_as_came = refl
 
 parse_error : written AsCame (came Unreadable ∷ [])
     ≡ codes "{\"error\":{\"code\":-32700,\"message\":\"Parse error\"},\"id\":null,\"jsonrpc\":\"2.0\"}" ∷ []
-unfolding digits escape_byte
+unfolding digits escape_byte error_head code_text error_rest error_end
 parse_error = refl
 
 invalid_request : written AsCame (one Invalid ∷ [])
     ≡ codes "{\"error\":{\"code\":-32600,\"message\":\"Invalid Request\"},\"id\":null,\"jsonrpc\":\"2.0\"}" ∷ []
-unfolding digits escape_byte
+unfolding digits escape_byte error_head code_text error_rest error_end
 invalid_request = refl
 
 -- an array of one invalid entry, as `[1]`, is answered with an array
 array_of_invalid : written AsAnswered (array (Invalid ∷ []) ∷ [])
     ≡ codes "[{\"error\":{\"code\":-32600,\"message\":\"Invalid Request\"},\"id\":null,\"jsonrpc\":\"2.0\"}]" ∷ []
-unfolding digits escape_byte
+unfolding digits escape_byte error_head code_text error_rest error_end
 array_of_invalid = refl
 
 -- none of these stands before another's answer, as they come
@@ -56,7 +57,7 @@ invalid_after_request = refl
 
 invalid_after_notification : written AsCame (one notification ∷ one Stray ∷ one Invalid ∷ [])
     ≡ codes "{\"error\":{\"code\":-32600,\"message\":\"Invalid Request\"},\"id\":null,\"jsonrpc\":\"2.0\"}" ∷ []
-unfolding digits escape_byte
+unfolding digits escape_byte error_head code_text error_rest error_end
 invalid_after_notification = refl
 
 -- ---- batches
@@ -71,7 +72,7 @@ batch_is_told = refl
 batch_is_answered : written AsAnswered batch
     ≡ (codes "[{\"id\":7,\"jsonrpc\":\"2.0\",\"result\":1}," ++ codes "{\"error\":{\"code\":-32600,\"message\":\"Invalid Request\"},\"id\":null,\"jsonrpc\":\"2.0\"},"
     ++ codes "{\"id\":8,\"jsonrpc\":\"2.0\",\"result\":3}]") ∷ []
-unfolding digits escape_byte
+unfolding digits escape_byte error_head code_text error_rest error_end
 batch_is_answered = refl
 
 batch_waits_for_all : written AsAnswered (array (request 7 ∷ request 8 ∷ []) ∷ gives 2 (codes "2") ∷ []) ≡ []

@@ -5,6 +5,7 @@ use Rattle.json.specs.Print.{escape_byte}
 use Rattle.connection_messages.specs.declared.answer.Answer.TheVariants as answers
 use Rattle.rpc_messages.specs.declared.standard.Standard.TheVariants.{Cancelled}
 use Rattle.connection_history.specs.declared.close.Close.TheVariants.{Clean}
+use Rattle.connection_messages.specs.Texts.{error_head, code_text, error_rest, error_end}
 use Rattle.connection_history.specs.declared.event.Event.TheVariants as event
 use Rattle.connection_history.specs.declared.order.Order.TheVariants.{AsAnswered}
 use Rattle.connection_history.specs.declared.refused.Refused.TheVariants.{NotOpen}
@@ -60,7 +61,7 @@ busy_is_written : written AsAnswered (busy ++ cancelled)
     ∷ codes "{\"jsonrpc\":\"2.0\",\"method\":\"$/cancelRequest\",\"params\":{\"id\":4}}"
     ∷ codes "{\"error\":{\"code\":-32800,\"message\":\"Request cancelled\"},\"id\":7,\"jsonrpc\":\"2.0\"}"
     ∷ []
-unfolding digits escape_byte
+unfolding digits escape_byte error_head code_text error_rest error_end
 busy_is_written = refl
 
 -- once the input is over, or without cancels, the request is only answered

@@ -30,7 +30,11 @@ pub(crate) fn is_version_2(value: &Value<'_>) -> bool
 }
 
 /// A value with a member `method`: a call, a cancel, or invalid.
-pub(crate) fn read_call(alloc: Global, cancels: bool, value: &Value<'_>) -> Result<Entry, AllocError>
+pub(crate) fn read_call(
+    alloc: Global,
+    cancels: bool,
+    value: &Value<'_>,
+) -> Result<Entry, AllocError>
     requires { HasNumbers (value_view value.now) }
     ensures { IfOk result (λ e. e
         ≡ call_entry cancels (call_in (value_view value.now)) (target_in (value_view value.now))) }
@@ -106,10 +110,7 @@ fn read_params(alloc: Global, value: &Value<'_>) -> Result<Option<Option<Text>>,
     }
 }
 
-fn read_call_id(
-    alloc: Global,
-    member: Option<&Value<'_>>,
-) -> Result<Option<Option<Id>>, AllocError>
+fn read_call_id(alloc: Global, member: Option<&Value<'_>>) -> Result<Option<Option<Id>>, AllocError>
     ensures { IfOk result (λ id. id ≡ call_id (option_map (λ v. value_view v.now) member.entry)) }
 {
     let Some(member) = member else {

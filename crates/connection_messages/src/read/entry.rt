@@ -12,7 +12,11 @@ use json::Value;
 use std::alloc::{AllocError, Global};
 
 /// What one value is.
-pub(crate) fn read_entry(alloc: Global, cancels: bool, value: &Value<'_>) -> Result<Entry, AllocError>
+pub(crate) fn read_entry(
+    alloc: Global,
+    cancels: bool,
+    value: &Value<'_>,
+) -> Result<Entry, AllocError>
     requires { HasNumbers (value_view value.now) }
     ensures { IfOk result (λ e. e ≡ entry_of cancels (value_view value.now)) }
 {

@@ -35,11 +35,7 @@ fn key_of(value: &Value<'_>) -> Option<u64>
     ensures { result ≡ key_in (value_view value.now) }
 {
     let key = unsigned(value.get("id")?.as_number()?)?;
-    if key == 0 {
-        None
-    } else {
-        Some(key)
-    }
+    if key == 0 { None } else { Some(key) }
 }
 
 fn read_outcome(alloc: Global, value: &Value<'_>) -> Result<Reply, AllocError>

@@ -1,6 +1,4 @@
-use Rattle.std.proofs.Common.{◌≡◌, sym, ap, ◌∙◌, option_map}
-use Rattle.json.specs.Value.{value_view}
-use Rattle.json_texts.specs.Texts.{value_of}
+use Rattle.std.proofs.Common.{◌∙◌}
 use Rattle.json_texts.proofs.ReadBack.{value_of_no_text, value_of_text, IfOk-follows}
 use Rattle.json_texts.proofs.reading.read_value.Goals as goal
 

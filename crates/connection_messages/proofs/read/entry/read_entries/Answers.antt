@@ -9,4 +9,4 @@ pub loop-value-preserved : goal.loop-value-preserved
 loop-value-preserved c =
     c.in_ok-push.ensures.items
     ∙ entries_of-more c.args.cancels c.args.values.now c.loop-value.value-index c.value-item.result c.loop-value.entries.items c.in_ok-read_entry.field-0
-      c.loop-value-test.true c.value-item.is c.loop-value.invariant c.in_ok-read_entry.ensures
+    c.loop-value-test.true c.value-item.is c.loop-value.invariant c.in_ok-read_entry.ensures

@@ -1,4 +1,4 @@
-use Rattle.std.proofs.Common.{◌≡◌, sym, subst, List, ℕ}
+use Rattle.std.proofs.Common.{sym, subst, List, ℕ}
 use Rattle.json.specs.Value.{value_view}
 use Rattle.json_texts.specs.Texts.{IsJsonText}
 use Rattle.json_texts.proofs.ReadBack.{is_json_text}

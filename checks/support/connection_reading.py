@@ -1,0 +1,210 @@
+"""What a connection is fed: the contents of its three framings, and the units and entries of a content, by the rules of docs/connection.md."""
+import json
+import re
+from dataclasses import dataclass, field
+from typing import Any, Optional
+
+from support import reading
+from support.reading import ABSENT, SIGNED, WHOLE, Frame
+
+INTEGER = re.compile(r"-?(0|[1-9][0-9]*)")
+SAID_DEPTH = 120
+
+
+# JSON whose numbers are texts
+
+
+@dataclass(frozen=True)
+class Number:
+    text: str
+
+
+class Members(list[tuple[str, Any]]):
+    """The members of an object, in their order; a name may stand twice."""
+
+    def get(self, name: str, default: Any = None) -> Any:
+        return dict(self).get(name, default)
+
+    def __contains__(self, name: object) -> bool:
+        return name in dict(self)
+
+
+def value_of(data: bytes, depth: int = reading.DEPTH) -> Any:
+    """The JSON value in some bytes. Raises ValueError where there is none, or one that nests deeper."""
+    text = data.decode("utf-8")
+    if reading.depth_of(text) > depth or reading.has_half_a_pair(text):
+        raise ValueError("no JSON")
+    return json.loads(text, parse_int=Number, parse_float=Number, parse_constant=reading.refuse, object_pairs_hook=Members)
+
+
+def string_of(text: str) -> str:
+    return json.dumps(text, ensure_ascii=False)
+
+
+def text_of(value: Any) -> str:
+    """The compact text of a value."""
+    if isinstance(value, Number):
+        return value.text
+    if isinstance(value, Members):
+        return "{" + ",".join(f"{string_of(name)}:{text_of(it)}" for name, it in value) + "}"
+    if isinstance(value, list):
+        return "[" + ",".join(map(text_of, value)) + "]"
+    return json.dumps(value, ensure_ascii=False)
+
+
+def whole_of(value: Any, numbers: range = WHOLE) -> Optional[int]:
+    """The number that a value is, where it is a whole one."""
+    if not isinstance(value, Number) or value.text == "-0" or not INTEGER.fullmatch(value.text) or len(value.text) > 20:
+        return None
+    return int(value.text) if int(value.text) in numbers else None
+
+
+def is_name(value: Any) -> bool:
+    """Whether an id can be compared: a string or a whole number."""
+    return isinstance(value, str) or whole_of(value) is not None
+
+
+# Entries
+
+
+@dataclass(frozen=True)
+class Error:
+    code: int
+    message: str
+    data: Any = ABSENT
+
+
+INVALID_REPLY = Error(-32603, "Invalid reply")
+
+
+@dataclass
+class Entry:
+    kind: str  # call, cancel, reply, stray, invalid
+    id: Any = ABSENT  # (of a call or a cancel)
+    method: str = ""
+    params: Any = None
+    key: int = 0  # (of a reply)
+    said: Any = None  # what a reply says: a value, or an Error
+
+    @property
+    def is_request(self) -> bool:
+        return self.kind == "call" and self.id is not ABSENT
+
+
+@dataclass
+class Unit:
+    """A content that was read."""
+
+    kind: str  # unreadable, single, batch
+    entries: list[Entry] = field(default_factory=list)
+
+
+def is_call(value: Members) -> bool:
+    id_is_well = "id" not in value or value.get("id") is None or is_name(value.get("id"))
+    params_are_well = value.get("params") is None or isinstance(value.get("params"), list)
+    return value.get("jsonrpc") == "2.0" and isinstance(value.get("method"), str) and id_is_well and params_are_well
+
+
+def is_cancel(call: Entry) -> bool:
+    is_named = isinstance(call.params, Members) and is_name(call.params.get("id"))
+    return not call.is_request and call.method == "$/cancelRequest" and is_named
+
+
+def said_by(reply: Members) -> Any:
+    """What a reply says."""
+    result, error = reply.get("result"), reply.get("error")
+    if reply.get("jsonrpc") != "2.0":
+        return INVALID_REPLY
+    if error is None:
+        return result if "result" in reply else INVALID_REPLY
+    if result is not None or not isinstance(error, Members):
+        return INVALID_REPLY
+    code, message = whole_of(error.get("code"), SIGNED), error.get("message")
+    if code is None or not isinstance(message, str):
+        return INVALID_REPLY
+    return Error(code, message, error.get("data", ABSENT))
+
+
+def entry_of(value: Any, takes_cancels: bool) -> Entry:
+    if not isinstance(value, Members) or not {"method", "result", "error"} & {name for name, _ in value}:
+        return Entry("invalid")
+    if "method" in value:
+        if not is_call(value):
+            return Entry("invalid")
+        call = Entry("call", value.get("id", ABSENT), value.get("method"), value.get("params"))
+        return Entry("cancel", call.params.get("id")) if takes_cancels and is_cancel(call) else call
+    key = whole_of(value.get("id"))
+    return Entry("reply", key=key, said=said_by(value)) if key is not None and key > 0 else Entry("stray")
+
+
+def unit_of(frame: Frame, takes_cancels: bool) -> Unit:
+    try:
+        value = value_of(frame.content)
+    except ValueError:
+        return Unit("unreadable")
+    if frame.is_foreign:
+        return Unit("unreadable")
+    is_batch = isinstance(value, list) and not isinstance(value, Members) and value != []
+    return Unit("batch" if is_batch else "single", [entry_of(it, takes_cancels) for it in (value if is_batch else [value])])
+
+
+# Framings
+
+
+class Input:
+    """The bytes that were fed, as contents that wait, and how the input ends once it does."""
+
+    def __init__(self, framing: str, limit: int) -> None:
+        self.framing, self.limit = framing, limit
+        self.rest, self.waiting = b"", list[Frame]()
+        self.end = ""
+
+    def feed(self, piece: bytes) -> None:
+        if self.end:
+            return
+        if self.framing == "contents":
+            self.take(piece)
+        else:
+            self.rest += piece
+            while self.rest and not self.end and (self.take_line() if self.framing == "lines" else self.take_frame()):
+                pass
+
+    def finish(self, is_failed: bool) -> None:
+        """The input ends; a fault that came before is what ends it."""
+        if self.end:
+            return
+        if self.framing == "lines" and not is_failed:
+            self.take_content_of(self.rest)
+        is_cut = self.framing == "frames" and self.rest != b""
+        self.end = self.end or ("Read" if is_failed else "Truncated" if is_cut else "Clean")
+
+    def take(self, content: bytes, is_foreign: bool = False) -> None:
+        if len(content) > self.limit:
+            self.end = "TooLarge"
+        else:
+            self.waiting.append(Frame(content, is_foreign, 0, 0))
+
+    def take_frame(self) -> bool:
+        """Takes a frame off the front, and says whether there was one."""
+        frame, fault = reading.frame_at(self.rest, 0, self.limit)
+        if frame is None:
+            self.end = "" if fault == "Truncated" else fault
+            return False
+        self.take(frame.content, frame.is_foreign)
+        self.rest = self.rest[frame.end :]
+        return True
+
+    def take_line(self) -> bool:
+        """Takes a line off the front, and says whether there was one."""
+        line, end, rest = self.rest.partition(b"\n")
+        if not end:
+            self.end = "TooLarge" if len(line.removesuffix(b"\r")) > self.limit else ""
+            return False
+        self.take_content_of(line)
+        self.rest = rest
+        return True
+
+    def take_content_of(self, line: bytes) -> None:
+        content = line.removesuffix(b"\r")
+        if content.strip(b" \t") or len(content) > self.limit:
+            self.take(content)
