@@ -1,0 +1,62 @@
+-- What the indexes hold.
+use Rattle.std.specs.Prelude.{ℕ, ◌≡◌, ◌<◌, ◌≤◌, ◌==◌, ◌&&◌, Bool, false, if◌then◌else◌, List, Option, Some, None, IsSome}
+use Rattle.std.specs.Ordering.{nat_cmp, ordering_then}
+use Rattle.std.specs.Option.{option_map_or}
+use Rattle.std.specs.declared.cmp.Ordering.{Ordering}
+use Rattle.std.specs.BTreeMap as tree
+use Rattle.std.specs.BTreeSet as sorted
+use Rattle.rpc_messages.specs.declared.id.Id.{Id}
+use Rattle.rpc_messages.specs.Ids.{id_cmp, has_id}
+use Rattle.open_calls.specs.declared.own_call.OwnCall.{OwnCall}
+use Rattle.open_calls.specs.declared.their_call.TheirCall.{TheirCall}
+use Rattle.open_calls.specs.declared.keys_by_caller.KeysByCaller.{KeysByCaller}
+use Rattle.open_calls.specs.declared.numbers_by_id.NumbersById.{NumbersById}
+use Rattle.open_calls.specs.Numbered.{at}
+use Rattle.open_calls.specs.Own.{is_wanted_by}
+use Rattle.open_calls.specs.Theirs.{is_reached}
+
+abbrev pub pair_cmp : ℕ × ℕ → ℕ × ℕ → Ordering
+pair_cmp a b = ordering_then (nat_cmp a.0 b.0) (nat_cmp a.1 b.1)
+
+-- whether this key stands there under this caller
+abbrev pub has_key : KeysByCaller → ℕ → ℕ → Bool
+has_key index caller key = sorted.contains pair_cmp index.pairs (caller, key)
+
+abbrev pub is_in : ℕ → Option (sorted.BTreeSet ℕ) → Bool
+is_in number None = false
+is_in number (Some numbers) = sorted.contains nat_cmp numbers number
+
+-- whether this number stands there under this id
+abbrev pub is_listed : NumbersById → Id → ℕ → Bool
+is_listed index id number = is_in number (tree.get id_cmp index.numbers id)
+
+-- the index has the entries that pass
+abbrev pub passes : {X : Type 0} → (X → Bool) → Option X → Bool
+passes test entry = option_map_or test entry false
+
+abbrev pub IsKeyIndex : KeysByCaller → (ℕ → OwnCall → Bool) → List (ℕ × OwnCall) → Type 0
+IsKeyIndex index test waiting = (caller key : ℕ) → has_key index caller key ≡ passes (test caller) (at key waiting)
+
+abbrev pub IsNumberIndex : NumbersById → List (ℕ × TheirCall) → Type 0
+IsNumberIndex index calls = (id : Id) (number : ℕ) → is_listed index id number ≡ passes (is_reached id) (at number calls)
+
+-- each entry has a number between 1 and this one
+abbrev pub AreNumbered : {X : Type 0} → ℕ → List (ℕ × X) → Type 0
+AreNumbered last entries = (n : ℕ) → IsSome (at n entries) → (0 < n) × (n ≤ last)
+
+pub record IsOwn (made : ℕ) (waiting : List (ℕ × OwnCall)) (by_caller wanted : KeysByCaller) : Type 0 where
+  pub numbered : AreNumbered made waiting
+  pub by_caller : IsKeyIndex by_caller (λ caller call. call.caller == caller) waiting
+  pub wanted : IsKeyIndex wanted is_wanted_by waiting
+
+pub record IsTheirs (came : ℕ) (calls : List (ℕ × TheirCall)) (by_id : NumbersById) : Type 0 where
+  pub numbered : AreNumbered came calls
+  pub by_id : IsNumberIndex by_id calls
+
+-- each entry has a place below this one
+abbrev pub ArePlaced : {X : Type 0} → ℕ → List (ℕ × X) → Type 0
+ArePlaced places entries = (n : ℕ) → IsSome (at n entries) → n < places
+
+-- the index without this number of a request
+abbrev pub IsWithoutNumber : NumbersById → NumbersById → Option Id → ℕ → Type 0
+IsWithoutNumber now was id number = (q : Id) (k : ℕ) → is_listed now q k ≡ (if has_id q id && (number == k) then false else is_listed was q k)
