@@ -1,5 +1,5 @@
 -- What the indexes hold.
-use Rattle.std.specs.Prelude.{ℕ, ◌≡◌, ◌<◌, ◌≤◌, ◌==◌, ◌&&◌, Bool, false, if◌then◌else◌, List, Option, Some, None, IsSome}
+use Rattle.std.specs.Prelude.{ℕ, suc, ◌≡◌, ◌==◌, ◌&&◌, Bool, false, if◌then◌else◌, List, Option, Some, None}
 use Rattle.std.specs.Ordering.{nat_cmp, ordering_then}
 use Rattle.std.specs.Option.{option_map_or}
 use Rattle.std.specs.declared.cmp.Ordering.{Ordering}
@@ -11,7 +11,8 @@ use Rattle.open_calls.specs.declared.own_call.OwnCall.{OwnCall}
 use Rattle.open_calls.specs.declared.their_call.TheirCall.{TheirCall}
 use Rattle.open_calls.specs.declared.keys_by_caller.KeysByCaller.{KeysByCaller}
 use Rattle.open_calls.specs.declared.numbers_by_id.NumbersById.{NumbersById}
-use Rattle.open_calls.specs.Numbered.{at}
+use Rattle.open_calls.specs.Numbered.{at, Above, Below, Ascending}
+use Rattle.open_calls.specs.Owed.{OwedUnit}
 use Rattle.open_calls.specs.Own.{is_wanted_by}
 use Rattle.open_calls.specs.Theirs.{is_reached}
 
@@ -40,22 +41,24 @@ IsKeyIndex index test waiting = (caller key : ℕ) → has_key index caller key 
 abbrev pub IsNumberIndex : NumbersById → List (ℕ × TheirCall) → Type 0
 IsNumberIndex index calls = (id : Id) (number : ℕ) → is_listed index id number ≡ passes (is_reached id) (at number calls)
 
--- each entry has a number between 1 and this one
-abbrev pub AreNumbered : {X : Type 0} → ℕ → List (ℕ × X) → Type 0
-AreNumbered last entries = (n : ℕ) → IsSome (at n entries) → (0 < n) × (n ≤ last)
+abbrev pub is_of : ℕ → OwnCall → Bool
+is_of caller call = call.caller == caller
 
-pub record IsOwn (made : ℕ) (waiting : List (ℕ × OwnCall)) (by_caller wanted : KeysByCaller) : Type 0 where
-  pub numbered : AreNumbered made waiting
-  pub by_caller : IsKeyIndex by_caller (λ caller call. call.caller == caller) waiting
-  pub wanted : IsKeyIndex wanted is_wanted_by waiting
+pub record IsOwn (made : ℕ) (waiting : List (ℕ × OwnCall)) (all kept : KeysByCaller) : Type 0 where
+  pub ascending : Ascending waiting
+  pub positive : Above 0 waiting
+  pub numbered : Below (suc made) waiting
+  pub by_caller : IsKeyIndex all is_of waiting
+  pub wanted : IsKeyIndex kept is_wanted_by waiting
 
-pub record IsTheirs (came : ℕ) (calls : List (ℕ × TheirCall)) (by_id : NumbersById) : Type 0 where
-  pub numbered : AreNumbered came calls
-  pub by_id : IsNumberIndex by_id calls
+pub record IsTheirs (came : ℕ) (calls : List (ℕ × TheirCall)) (index : NumbersById) : Type 0 where
+  pub ascending : Ascending calls
+  pub numbered : Below (suc came) calls
+  pub by_id : IsNumberIndex index calls
 
--- each entry has a place below this one
-abbrev pub ArePlaced : {X : Type 0} → ℕ → List (ℕ × X) → Type 0
-ArePlaced places entries = (n : ℕ) → IsSome (at n entries) → n < places
+pub record IsOwed (places : ℕ) (owed : List (ℕ × OwedUnit)) : Type 0 where
+  pub ascending : Ascending owed
+  pub numbered : Below places owed
 
 -- the index without this number of a request
 abbrev pub IsWithoutNumber : NumbersById → NumbersById → Option Id → ℕ → Type 0

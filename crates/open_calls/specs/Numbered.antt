@@ -1,5 +1,5 @@
 -- Lists of entries with a number each, ascending.
-use Rattle.std.specs.Prelude.{ℕ, Bool, ◌==◌, not, nat_lt, nat_le, slice_get, List, Option, map, filter, if◌then◌else◌}
+use Rattle.std.specs.Prelude.{ℕ, ◌<◌, Bool, ◌==◌, not, nat_lt, nat_le, slice_get, List, [], ◌∷◌, Option, map, filter, if◌then◌else◌}
 use Rattle.std.specs.List.{find}
 use Rattle.std.specs.Map.{lookup}
 use Rattle.std.specs.Option.{option_map}
@@ -31,3 +31,19 @@ first_number entries = option_map (λ e. e.0) (slice_get entries 0)
 -- the least number above this one
 abbrev pub next_number : {X : Type 0} → ℕ → List (ℕ × X) → Option ℕ
 next_number after entries = number_of_first (λ e. nat_lt after e.0) entries
+
+-- ---- order
+
+-- each number is above n
+abbrev pub Above : {X : Type 0} → ℕ → List (ℕ × X) → Type 0
+Above n [] = Unit {0}
+Above n (e ∷ es) = (n < e.0) × Above n es
+
+-- each number is below n
+abbrev pub Below : {X : Type 0} → ℕ → List (ℕ × X) → Type 0
+Below n [] = Unit {0}
+Below n (e ∷ es) = (e.0 < n) × Below n es
+
+abbrev pub Ascending : {X : Type 0} → List (ℕ × X) → Type 0
+Ascending [] = Unit {0}
+Ascending (e ∷ es) = Above e.0 es × Ascending es

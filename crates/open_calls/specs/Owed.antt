@@ -1,7 +1,7 @@
 -- The answers that aren't out yet.
 use Rattle.std.specs.Prelude.{ℕ, ◌≡◌, ◌<◌, Bool, true, false, List, [], ◌∷◌, Option, Some, None, MatchOption, length, map, slice_set, count_by, if◌then◌else◌}
 use Rattle.std.specs.Option.{is_none, option_map, unwrap_or}
-use Rattle.std.specs.Vec.{Vec}
+use Rattle.std.specs.Global.{Vec}
 use Rattle.connection_messages.specs.Texts.{batch_text}
 
 -- Of one unit, a slot for each entry that has an answer. The text stands there once it is given.

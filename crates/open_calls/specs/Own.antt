@@ -1,6 +1,5 @@
 -- Our calls that wait for a reply.
-use Rattle.std.specs.Prelude.{ℕ, Bool, false, true, ◌+◌, ◌==◌, ◌&&◌, not, nat_lt, List, Option, map, filter}
-use Rattle.connection_history.specs.History.{numbers_to}
+use Rattle.std.specs.Prelude.{ℕ, zero, suc, Bool, false, true, ◌+◌, ◌==◌, ◌&&◌, not, nat_lt, List, [], ◌∷◌, ◌++◌, Option, filter}
 use Rattle.open_calls.specs.declared.own_call.OwnCall.{OwnCall}
 use Rattle.open_calls.specs.Numbered.{number_of_first}
 
@@ -15,7 +14,8 @@ new_call caller = record { caller = caller; is_withdrawn = false }
 
 -- so many new calls of a caller, with the keys that follow those that were made
 abbrev pub new_calls : ℕ → ℕ → ℕ → List (ℕ × OwnCall)
-new_calls made caller count = map (λ k. (made + k, new_call caller)) (numbers_to count)
+new_calls made caller zero = []
+new_calls made caller (suc n) = new_calls made caller n ++ (made + suc n, new_call caller) ∷ []
 
 abbrev pub withdrawn : OwnCall → OwnCall
 withdrawn call = record call { is_withdrawn = true }

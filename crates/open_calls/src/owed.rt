@@ -69,10 +69,9 @@ impl Owed {
         if slot >= self.slots.len() {
             return;
         }
-        if self.slots[slot].is_none() {
-            self.lacking -= 1;
-        }
+        let was_lacking = self.slots[slot].is_none();
         self.slots[slot] = Some(text);
+        self.lacking -= was_lacking as u64;
     }
 
     /// Puts the unit's answer behind these bytes.

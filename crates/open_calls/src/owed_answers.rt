@@ -19,11 +19,11 @@ impl Model for OwedAnswers {
 
     ghost Value = { OwedState };
 
-    ghost use Rattle.open_calls.specs.Inner.{ArePlaced};
+    ghost use Rattle.open_calls.specs.Inner.{IsOwed};
 
     ghost view = { λ a. record { places = a.places; owed = a.owed.entries } };
 
-    ghost invariant = { λ a. ArePlaced a.places a.owed.entries };
+    ghost invariant = { λ a. IsOwed a.places a.owed.entries };
 }
 
 impl OwedAnswers {
