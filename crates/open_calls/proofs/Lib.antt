@@ -1,2 +1,4 @@
+pub mod Listed
 pub mod Numbered
 pub mod OwedLemmas
+pub mod Pairs

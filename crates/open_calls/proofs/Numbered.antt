@@ -1,5 +1,5 @@
 -- Lists of entries whose numbers ascend, as a map has them.
-use Rattle.std.proofs.Common.{◌≡◌, ℕ, ◌<◌, ◌≤◌, ◌==◌, not, Bool, true, false, cond, List, [], ◌∷◌, ◌++◌, Option, Some, None, refl, sym, ap, subst, ◌∙◌, arith, nat_lt, eq-eqb, suc, ◌+◌}
+use Rattle.std.proofs.Common.{◌≡◌, ℕ, ◌<◌, ◌≤◌, ◌==◌, ◌&&◌, not, Bool, true, false, cond, List, [], ◌∷◌, ◌++◌, Option, Some, None, refl, sym, ap, subst, ◌∙◌, arith, nat_lt, eq-eqb, suc, ◌+◌}
 use Rattle.std.proofs.lemmas.Bool.{eqb-true, eqb-false, ne_eqb, ltb-true}
 use Rattle.std.proofs.lemmas.Map.Keys.{sorted_head, sorted_tail}
 use Rattle.std.specs.Cmp.{unsigned_ties, nat_cmp_is}
@@ -10,8 +10,11 @@ use Rattle.std.specs.List.{AllByRecursion, find, filter, slice_get}
 use Rattle.std.specs.List.Sorted.{IsStrictlySortedBy}
 use Rattle.std.specs.Map.{lookup, remove_entry, set_value, keys_of}
 use Rattle.std.specs.BTreeMap.{is_at, insert_entry}
-use Rattle.std.specs.Option.{unwrap_or}
-use Rattle.open_calls.specs.Numbered.{at, without, changed_at, Above, Below, Ascending}
+use Rattle.std.specs.Option.{unwrap_or, option_map}
+use Rattle.std.specs.BTreeMap.Range.{range_contains, entries_between}
+use Rattle.std.specs.declared.ops.Bound.TheVariants.{Excluded, Unbounded}
+use Rattle.std.proofs.lemmas.List.Elements.{filter_agree}
+use Rattle.open_calls.specs.Numbered.{at, without, changed_at, next_number, Above, Below, Ascending}
 
 -- ---- order
 
@@ -20,7 +23,7 @@ less_of true y h = refl
 less_of false true h = cc
 less_of false false h = cc
 
-below : (a b : ℕ) → nat_cmp a b ≡ Less → a < b
+pub below : (a b : ℕ) → nat_cmp a b ≡ Less → a < b
 below a b h = ltb-true a b (less_of (nat_lt a b) (a == b) h)
 
 apart : (n m : ℕ) → n < m → (n == m) ≡ false
@@ -202,3 +205,25 @@ head_step false e f fs is = is
 pub find_filter : {X : Type 0} (p : ℕ × X → Bool) (es : List (ℕ × X)) → find p es ≡ slice_get (filter p es) 0
 find_filter p [] = refl
 find_filter p (e ∷ es) = head_step (p e) e (find p es) (filter p es) (find_filter p es)
+
+and_true : (b : Bool) → (b && true) ≡ b
+and_true true = refl
+and_true false = refl
+
+above_bound : (after n : ℕ) → range_contains nat_cmp (Excluded after) Unbounded n ≡ nat_lt after n
+above_bound after n = and_true (is_lt (nat_cmp after n)) ∙ is_lt_of (nat_lt after n) (after == n)
+
+-- the first entry of the range above a number
+pub find_above : {X : Type 0} (after : ℕ) (es part : List (ℕ × X)) → part ≡ entries_between nat_cmp (Excluded after) Unbounded es
+    → find (λ e. nat_lt after e.0) es ≡ slice_get part 0
+find_above {X} after es part is =
+    find_filter (λ e. nat_lt after e.0) es
+    ∙ ap (λ p. slice_get p 0) (sym (is ∙ filter_agree (λ (e : ℕ × X). range_contains nat_cmp (Excluded after) Unbounded e.0) (λ e. nat_lt after e.0) (λ e. above_bound after e.0) es))
+
+pub next_some : {X : Type 0} (after : ℕ) (es part rest : List (ℕ × X)) (e : ℕ × X) → part ≡ entries_between nat_cmp (Excluded after) Unbounded es → part ≡ e ∷ rest
+    → Some e.0 ≡ next_number after es
+next_some after es part rest e is first = sym (ap (λ o. option_map (λ x. x.0) o) (find_above after es part is ∙ ap (λ p. slice_get p 0) first))
+
+pub next_none : {X : Type 0} (after : ℕ) (es part : List (ℕ × X)) → part ≡ entries_between nat_cmp (Excluded after) Unbounded es → part ≡ []
+    → None ≡ next_number after es
+next_none after es part is none = sym (ap (λ o. option_map (λ x. x.0) o) (find_above after es part is ∙ ap (λ p. slice_get p 0) none))

@@ -85,8 +85,9 @@ impl OwedAnswers {
           owed = without (self.old.places - 1) self.old.owed;
         } }
     {
-        self.places -= 1;
-        self.remove(self.places);
+        let place = self.places - 1;
+        drop(self.owed.remove(&place));
+        self.places = place;
     }
 
     /// How many texts the unit at this place lacks.
@@ -105,9 +106,10 @@ impl OwedAnswers {
           owed = changed_at place (given slot text.items) self.old.owed;
         } }
     {
-        if let Some(unit) = self.owed.get_mut(&place) {
-            unit.give(slot, text);
-        }
+        let Some(unit) = self.owed.get_mut(&place) else {
+            return;
+        };
+        unit.give(slot, text);
     }
 
     /// The unit at this place, where it is owed an answer.
@@ -152,6 +154,9 @@ impl OwedAnswers {
         ensures { result ≡ next_number after self.now.owed }
     {
         let above = (Bound::Excluded(after), Bound::Unbounded);
-        self.owed.range(above).next().map(|(place, _)| *place)
+        match self.owed.range(above).next() {
+            Some((place, _)) => Some(*place),
+            None => None,
+        }
     }
 }

@@ -173,7 +173,10 @@ impl OwnCalls {
         ensures { result ≡ next_number after self.now.waiting }
     {
         let above = (Bound::Excluded(after), Bound::Unbounded);
-        self.waiting.range(above).next().map(|(key, _)| *key)
+        match self.waiting.range(above).next() {
+            Some((key, _)) => Some(*key),
+            None => None,
+        }
     }
 }
 
