@@ -1,4 +1,5 @@
 pub mod Listed
 pub mod Numbered
 pub mod OwedLemmas
+pub mod Own
 pub mod Pairs

@@ -9,6 +9,7 @@ use Rattle.std.specs.declared.cmp.Ordering.TheVariants.{Less, Equal, Greater}
 use Rattle.std.specs.List.{AllByRecursion, find, filter, slice_get}
 use Rattle.std.specs.List.Sorted.{IsStrictlySortedBy}
 use Rattle.std.specs.Map.{lookup, remove_entry, set_value, keys_of}
+use Rattle.std.specs.BTreeMap as tree
 use Rattle.std.specs.BTreeMap.{is_at, insert_entry}
 use Rattle.std.specs.Option.{unwrap_or, option_map}
 use Rattle.std.specs.BTreeMap.Range.{range_contains, entries_between}
@@ -227,3 +228,15 @@ next_some after es part rest e is first = sym (ap (λ o. option_map (λ x. x.0) 
 pub next_none : {X : Type 0} (after : ℕ) (es part : List (ℕ × X)) → part ≡ entries_between nat_cmp (Excluded after) Unbounded es → part ≡ []
     → None ≡ next_number after es
 next_none after es part is none = sym (ap (λ o. option_map (λ x. x.0) o) (find_above after es part is ∙ ap (λ p. slice_get p 0) none))
+
+-- ---- a map's changes
+
+pub at_updates : {X : Type 0} (was now : tree.BTreeMap ℕ X) (number : ℕ) (value : Option X) → tree.Updates nat_cmp was now number value
+    → (k : ℕ) → at k now.entries ≡ cond (number == k) value (at k was.entries)
+at_updates was now number value updates k =
+    sym (at-get k now.entries) ∙ updates.0 k ∙ ap (λ b. cond b value (lookup (is_at (nat_cmp k)) was.entries)) (sym (unsigned_ties number k))
+    ∙ ap (λ o. cond (number == k) value o) (at-get k was.entries)
+
+pub at_below : {X : Type 0} (n : ℕ) (es : List (ℕ × X)) → Below n es → at n es ≡ None
+at_below n [] under = refl
+at_below n (e ∷ es) under = ap (λ b. cond b (Some e.1) (at n es)) (apart_after n e.0 under.0) ∙ at_below n es under.1

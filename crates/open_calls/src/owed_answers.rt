@@ -106,8 +106,9 @@ impl OwedAnswers {
           owed = changed_at place (given slot text.items) self.old.owed;
         } }
     {
-        let Some(unit) = self.owed.get_mut(&place) else {
-            return;
+        let unit = match self.owed.get_mut(&place) {
+            Some(unit) => unit,
+            None => return,
         };
         unit.give(slot, text);
     }

@@ -1,4 +1,4 @@
-use Rattle.std.proofs.Common.{◌≡◌, ◌==◌, true, false, ap, subst, rules, arith}
+use Rattle.std.proofs.Common.{◌≡◌, ℕ, ◌==◌, true, false, ap, subst, rules, arith}
 use Rattle.std.specs.Ordering.{is_gt}
 use Rattle.std.specs.declared.cmp.Ordering.TheVariants.{Less}
 use Rattle.std.specs.BTreeSet as sorted
@@ -10,7 +10,7 @@ pub returns-in-Some : goal.returns-in-Some
 returns-in-Some c =
     let within = c.range.ensures.in_range tt in
     let x = c.in-Some.field-0.now in
-    let after = (c.args.caller, c.args.after) in
+    let after : ℕ × ℕ = (c.args.caller, c.args.after) in
     let has = sorted.contains pair_cmp c.args.self.now.pairs in
     let same : x.0 ≡ c.args.caller = first_of (search rules, omega arith, grind arith) in
     let pair : x ≡ (c.args.caller, x.1) = ap (λ n. (n, x.1)) same in
@@ -31,4 +31,4 @@ returns-in_default c =
     (λ q over there. rw c.in-Some.ensures.steps at (within.2 q (over, tt) there))
 
 pub returns-in_default-2 : goal.returns-in_default-2
-returns-in_default-2 c = λ k over. ?
+returns-in_default-2 c = λ k over. let h = c.in_default.is in let e = c.next.ensures.steps in let g = (c.range.ensures.in_range tt).5 in ?

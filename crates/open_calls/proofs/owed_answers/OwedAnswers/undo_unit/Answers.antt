@@ -1,5 +1,6 @@
-use Rattle.std.proofs.Common.{◌≡◌, ◌-◌, suc, ◌∙◌, subst, sym, arith}
+use Rattle.std.proofs.Common.{◌≡◌, ap, ◌-◌, suc, ◌∙◌, subst, sym, arith}
 use Rattle.open_calls.specs.Numbered.{without, Below}
+use Rattle.open_calls.specs.Owed.{OwedState}
 use Rattle.open_calls.proofs.Numbered.{ascending, removed, below_without}
 use Rattle.open_calls.proofs.OwedLemmas.{through, state_of, same_owed}
 use Rattle.open_calls.proofs.owed_answers.OwedAnswers.undo_unit.Goals as goal
@@ -7,7 +8,7 @@ use Rattle.open_calls.proofs.owed_answers.OwedAnswers.undo_unit.Goals as goal
 pub invariant_of-self : goal.invariant_of-self
 invariant_of-self c =
     let place = c.self.inside.places - 1 in
-    let places : c.self.inside.places ≡ suc place = omega (arith, c.requires, c.self.view_is) in
+    let places : c.self.inside.places ≡ suc place = let seen : c.self.inside.places ≡ c.args.self.now.places = ap (λ (s : OwedState). s.places) c.self.view_is in omega (arith, c.requires) in
     let is : c.remove.new.self.entries ≡ without place c.self.inside.owed.entries =
     c.remove.ensures.entries ∙ removed place c.self.inside.owed.entries c.self.invariant.ascending in
     record {
