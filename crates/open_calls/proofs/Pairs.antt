@@ -1,5 +1,7 @@
 -- Pairs of a caller and a key, in their order.
-use Rattle.std.proofs.Common.{◌≡◌, ℕ, ◌<◌, Bool, true, false, cond, ◌==◌, ◌&&◌, if◌then◌else◌, refl, ap, sym, subst, ◌∙◌, ◌⊎◌, inl, inr, arith, nat_lt}
+use Rattle.std.proofs.Common.{◌≡◌, ℕ, ◌<◌, Bool, true, false, cond, ◌==◌, ◌&&◌, if◌then◌else◌, refl, ap, sym, subst, ◌∙◌, ◌⊎◌, inl, inr, arith, nat_lt, List, ◌∷◌}
+use Rattle.std.specs.List.{slice_get}
+use Rattle.std.specs.Option.{IfSome}
 use Rattle.std.proofs.lemmas.Bool.{false_from_ne_true, eqb-false, eqb-true}
 use Rattle.std.specs.Bool.{IsTrue}
 use Rattle.std.specs.Cmp.{unsigned_ties, nat_cmp_is}
@@ -73,3 +75,7 @@ least_key has c a k least j lt under =
 
 pub above_key : (c a k : ℕ) → pair_cmp (c, a) (c, k) ≡ Less → a < k
 above_key c a k over = elim (above_pair c a c k over) [ inl less ↦ omega arith | inr both ↦ both.1 ]
+
+-- what holds of the first
+pub head_of : {X : Type 0} (P : X → Type 0) (r t : List X) (x : X) → r ≡ x ∷ t → IfSome (slice_get r 0) P → P x
+head_of P r t x is first = subst (λ l. IfSome (slice_get l 0) P) is first

@@ -1,4 +1,6 @@
 use Rattle.std.proofs.Common.{◌≡◌, ℕ, suc, Some, None, ◌∙◌, ◌==◌, not, ap, subst, sym, refl, rules}
+use Rattle.std.specs.BTreeMap as tree
+use Rattle.open_calls.specs.declared.own_call.OwnCall.{OwnCall}
 use Rattle.open_calls.specs.Numbered.{at, changed_at, Above, Below}
 use Rattle.open_calls.specs.Own.{is_wanted_by, withdrawn}
 use Rattle.open_calls.specs.Inner.{is_of}
@@ -8,7 +10,11 @@ use Rattle.open_calls.proofs.Own.{state_of, same_waiting, index_gone, index_same
 use Rattle.open_calls.proofs.own_calls.OwnCalls.withdraw.Goals as goal
 
 pub returns-in-None : goal.returns-in-None
-returns-in-None c = let h = c.get_mut.follows.holds-at-none in let v = c.in-None.ensures.value in ?
+returns-in-None c =
+    let es = c.self.inside.waiting.entries in
+    through (λ s. state_of s.made (changed_at c.args.key withdrawn s.waiting)) _ _ c.args.self.now c.self.view_is
+    (same_waiting c.self.inside.made _ (changed_at c.args.key withdrawn es)
+    (ap (λ (m : tree.BTreeMap ℕ OwnCall). m.entries) c.get_mut.follows.holds-at-none ∙ unchanged c.args.key withdrawn es (sym (at-get c.args.key es) ∙ sym c.in-None.ensures.value)))
 
 pub invariant_of-self-2 : goal.invariant_of-self-2
 invariant_of-self-2 c =
