@@ -3,3 +3,4 @@ pub mod Numbered
 pub mod OwedLemmas
 pub mod Own
 pub mod Pairs
+pub mod Theirs

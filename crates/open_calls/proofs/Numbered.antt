@@ -1,6 +1,6 @@
 -- Lists of entries whose numbers ascend, as a map has them.
-use Rattle.std.proofs.Common.{◌≡◌, ℕ, ◌<◌, ◌≤◌, ◌==◌, ◌&&◌, not, Bool, true, false, cond, List, [], ◌∷◌, ◌++◌, Option, Some, None, refl, sym, ap, subst, ◌∙◌, arith, nat_lt, eq-eqb, suc, ◌+◌}
-use Rattle.std.proofs.lemmas.Bool.{eqb-true, eqb-false, ne_eqb, ltb-true}
+use Rattle.std.proofs.Common.{◌≡◌, ℕ, ◌<◌, ◌≤◌, ◌==◌, ◌&&◌, not, Bool, true, false, cond, List, [], ◌∷◌, ◌++◌, Option, Some, None, refl, sym, ap, subst, ◌∙◌, arith, nat_lt, nat_le, eq-eqb, suc, ◌+◌}
+use Rattle.std.proofs.lemmas.Bool.{eqb-true, eqb-false, leb-true, le-leb, false_from_ne_true, ne_eqb, ltb-true}
 use Rattle.std.proofs.lemmas.Map.Keys.{sorted_head, sorted_tail}
 use Rattle.std.specs.Cmp.{unsigned_ties, nat_cmp_is}
 use Rattle.std.specs.Ordering.{nat_cmp, is_eq, is_lt, match_ordering}
@@ -15,7 +15,7 @@ use Rattle.std.specs.Option.{unwrap_or, option_map}
 use Rattle.std.specs.BTreeMap.Range.{range_contains, entries_between}
 use Rattle.std.specs.declared.ops.Bound.TheVariants.{Excluded, Unbounded}
 use Rattle.std.proofs.lemmas.List.Elements.{filter_agree}
-use Rattle.open_calls.specs.Numbered.{at, without, changed_at, next_number, Above, Below, Ascending}
+use Rattle.open_calls.specs.Numbered.{at, without, up_to, changed_at, next_number, Above, Below, Ascending}
 
 -- ---- order
 
@@ -240,3 +240,58 @@ at_updates was now number value updates k =
 pub at_below : {X : Type 0} (n : ℕ) (es : List (ℕ × X)) → Below n es → at n es ≡ None
 at_below n [] under = refl
 at_below n (e ∷ es) under = ap (λ b. cond b (Some e.1) (at n es)) (apart_after n e.0 under.0) ∙ at_below n es under.1
+
+-- ---- parts of what is left
+
+skip_step : {X : Type 0} (b : Bool) (p : X → Bool) (e : X) (fs es : List X) → (b ≡ false → p e ≡ false) → filter p fs ≡ filter p es → filter p (cond b (e ∷ fs) fs) ≡ filter p (e ∷ es)
+skip_step true p e fs es fails is = ap (λ t. cond (p e) (e ∷ t) t) is
+skip_step false p e fs es fails is = is ∙ sym (ap (λ b. cond b (e ∷ filter p es) (filter p es)) (fails refl))
+
+pub filter_skip : {X : Type 0} (p q : X → Bool) (es : List X) → ((e : X) → q e ≡ false → p e ≡ false) → filter p (filter q es) ≡ filter p es
+filter_skip p q [] fails = refl
+filter_skip p q (e ∷ es) fails = skip_step (q e) p e (filter q es) es (fails e) (filter_skip p q es fails)
+
+not_false : (b : Bool) → not b ≡ false → b ≡ true
+not_false true is = refl
+not_false false is = cc
+
+over : (m n : ℕ) → m < n → nat_le n m ≡ false
+over m n lt = false_from_ne_true (nat_le n m) (λ le. let less : n ≤ m = leb-true n m le in omega arith)
+
+pub up_to_without : {X : Type 0} (m k : ℕ) (es : List (ℕ × X)) → m < k → up_to m (without k es) ≡ up_to m es
+up_to_without {X} m k es lt =
+    filter_skip (λ (e : ℕ × X). nat_le e.0 m) (λ e. not (k == e.0)) es
+    (λ e gone. let same : k ≡ e.0 = eqb-true k e.0 (not_false (k == e.0) gone) in over m e.0 (omega arith))
+
+pub up_to_all : {X : Type 0} (m : ℕ) (es : List (ℕ × X)) → Below (suc m) es → up_to m es ≡ es
+up_to_all m [] under = refl
+up_to_all m (e ∷ es) under =
+    let le : e.0 < suc m = under.0 in
+    ap (λ b. cond b (e ∷ up_to m es) (up_to m es)) (le-leb e.0 m (omega arith)) ∙ ap (λ t. e ∷ t) (up_to_all m es under.1)
+
+pub up_to_above : {X : Type 0} (m : ℕ) (es : List (ℕ × X)) → Above m es → up_to m es ≡ []
+up_to_above m [] above = refl
+up_to_above m (e ∷ es) above = ap (λ b. cond b (e ∷ up_to m es) (up_to m es)) (over m e.0 above.0) ∙ up_to_above m es above.1
+
+without_step : {X : Type 0} (b : Bool) (p : ℕ × X → Bool) (key : ℕ) (x : X) (e : ℕ × X) (o : Option X) (es fs : List (ℕ × X)) → cond b (Some e.1) o ≡ Some x → p (key, x) ≡ false
+    → (b ≡ true → key ≡ e.0) → (b ≡ true → fs ≡ es) → (o ≡ Some x → filter p fs ≡ filter p es) → filter p (cond (not b) (e ∷ fs) fs) ≡ filter p (e ∷ es)
+without_step true p key x e o es fs is fails here gone there =
+    let same : e ≡ (key, x) = ap (λ m. (m, e.1)) (sym (here refl)) ∙ ap (λ v. (key, v)) (ap (λ q. unwrap_or q x) is) in
+    ap (filter p) (gone refl) ∙ sym (ap (λ b. cond b (e ∷ filter p es) (filter p es)) (ap p same ∙ fails))
+without_step false p key x e o es fs is fails here gone there = ap (λ t. cond (p e) (e ∷ t) t) (there is)
+
+-- an entry that a filter leaves out goes
+pub filter_without : {X : Type 0} (p : ℕ × X → Bool) (key : ℕ) (x : X) (es : List (ℕ × X)) → Ascending es → at key es ≡ Some x → p (key, x) ≡ false
+    → filter p (without key es) ≡ filter p es
+filter_without p key x [] order is fails = refl
+filter_without p key x (e ∷ es) order is fails =
+    without_step (key == e.0) p key x e (at key es) es (without key es) is fails (eqb-true key e.0)
+    (λ here. without_above key es (subst (λ m. Above m es) (sym (eqb-true key e.0 here)) order.0))
+    (λ there. filter_without p key x es order.1 there fails)
+
+-- a filter that every entry passes
+pub filter_all : {X : Type 0} (p : ℕ × X → Bool) (es : List (ℕ × X)) → Ascending es → ((n : ℕ) (x : X) → at n es ≡ Some x → p (n, x) ≡ true) → filter p es ≡ es
+filter_all p [] order passes = refl
+filter_all p (e ∷ es) order passes =
+    ap (λ b. cond b (e ∷ filter p es) (filter p es)) (passes e.0 e.1 (at_here e es))
+    ∙ ap (λ t. e ∷ t) (filter_all p es order.1 (λ n x is. passes n x (at_later e es n x order.0 is)))

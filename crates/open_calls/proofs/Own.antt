@@ -17,14 +17,14 @@ same_waiting made es fs is = ap (λ waiting. state_of made waiting) is
 
 -- ---- a key goes
 
-gone_step : (same here was : Bool) (o w : Option OwnCall) (p : OwnCall → Bool) → was ≡ passes p o → passes p w ≡ false → (here ≡ true → same ≡ false → passes p o ≡ false)
+pub gone_step : {X : Type 0} (same here was : Bool) (o w : Option X) (p : X → Bool) → was ≡ passes p o → passes p w ≡ false → (here ≡ true → same ≡ false → passes p o ≡ false)
     → (if same && here then false else was) ≡ passes p (cond here w o)
 gone_step true true was o w p is none only = sym none
 gone_step true false was o w p is none only = is
 gone_step false true was o w p is none only = is ∙ only refl refl ∙ sym none
 gone_step false false was o w p is none only = is
 
-passes_at : (p : OwnCall → Bool) (key k : ℕ) (call : OwnCall) (es : List (ℕ × OwnCall)) → at key es ≡ Some call → (key == k) ≡ true → passes p (at k es) ≡ p call
+pub passes_at : {X : Type 0} (p : X → Bool) (key k : ℕ) (call : X) (es : List (ℕ × X)) → at key es ≡ Some call → (key == k) ≡ true → passes p (at k es) ≡ p call
 passes_at p key k call es is here = ap (λ n. passes p (at n es)) (sym (eqb-true key k here)) ∙ ap (passes p) is
 
 pub index_gone : (test : ℕ → OwnCall → Bool) (old new : KeysByCaller) (was now : List (ℕ × OwnCall)) (key : ℕ) (call : OwnCall) (w : Option OwnCall)
@@ -50,7 +50,7 @@ index_same test index was now key call changed is changes there like =
 
 -- ---- a key comes
 
-come_step : (same here was : Bool) (o : Option OwnCall) (w : OwnCall) (p : OwnCall → Bool) → was ≡ passes p o → p w ≡ same → (here ≡ true → o ≡ None)
+pub come_step : {X : Type 0} (same here was : Bool) (o : Option X) (w : X) (p : X → Bool) → was ≡ passes p o → p w ≡ same → (here ≡ true → o ≡ None)
     → (if same && here then true else was) ≡ passes p (cond here (Some w) o)
 come_step true true was o w p is like none = sym like
 come_step true false was o w p is like none = is
@@ -79,7 +79,7 @@ pub false_and : (b other : Bool) → b ≡ false → (b && other) ≡ false
 false_and b other is = ap (λ x. x && other) is
 
 -- a key that came and went
-undone_step : (same here was : Bool) → (same ≡ true → here ≡ true → was ≡ false)
+pub undone_step : (same here was : Bool) → (same ≡ true → here ≡ true → was ≡ false)
     → (if same && here then false else (if same && here then true else was)) ≡ was
 undone_step true true was none = sym (none refl refl)
 undone_step true false was none = refl
@@ -97,7 +97,7 @@ index_undone test old between new was key caller came went index none =
 
 -- ---- the next key of a caller
 
-some_of : (p : OwnCall → Bool) (o : Option OwnCall) → passes p o ≡ true → (x : OwnCall) × (o ≡ Some x) × (p x ≡ true)
+pub some_of : {X : Type 0} (p : X → Bool) (o : Option X) → passes p o ≡ true → (x : X) × (o ≡ Some x) × (p x ≡ true)
 some_of p None is = absurd (cc)
 some_of p (Some x) is = (x, refl, is)
 

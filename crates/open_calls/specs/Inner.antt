@@ -1,5 +1,5 @@
 -- What the indexes hold.
-use Rattle.std.specs.Prelude.{ℕ, suc, ◌≡◌, ◌==◌, ◌&&◌, Bool, false, if◌then◌else◌, List, Option, Some, None}
+use Rattle.std.specs.Prelude.{ℕ, suc, ◌≡◌, ◌==◌, ◌&&◌, Bool, true, false, if◌then◌else◌, List, Option, Some, None}
 use Rattle.std.specs.Ordering.{nat_cmp, ordering_then}
 use Rattle.std.specs.Option.{option_map_or}
 use Rattle.std.specs.declared.cmp.Ordering.{Ordering}
@@ -59,6 +59,10 @@ pub record IsTheirs (came : ℕ) (calls : List (ℕ × TheirCall)) (index : Numb
 pub record IsOwed (places : ℕ) (owed : List (ℕ × OwedUnit)) : Type 0 where
   pub ascending : Ascending owed
   pub numbered : Below places owed
+
+-- the index with this number of a request
+abbrev pub IsWithNumber : NumbersById → NumbersById → Option Id → ℕ → Type 0
+IsWithNumber now was id number = (q : Id) (k : ℕ) → is_listed now q k ≡ (if has_id q id && (number == k) then true else is_listed was q k)
 
 -- the index without this number of a request
 abbrev pub IsWithoutNumber : NumbersById → NumbersById → Option Id → ℕ → Type 0

@@ -1,4 +1,4 @@
-ghost use Rattle.std.specs.Prelude.{◌≡◌, ℕ, ◌==◌, ◌&&◌, true, false, if◌then◌else◌, ◌+◌, ◌<◌, ◌≤◌, ◌^◌, ◌++◌, ◌∷◌, [], length, OnOk, OnErr, IfOk, Option, Some, None};
+ghost use Rattle.std.specs.Prelude.{◌≡◌, ℕ, ◌==◌, ◌&&◌, true, false, if◌then◌else◌, ◌+◌, ◌-◌, ◌<◌, ◌≤◌, ◌^◌, ◌++◌, ◌∷◌, [], length, OnOk, OnErr, IfOk, Option, Some, None};
 ghost use Rattle.open_calls.specs.Inner.{has_key};
 ghost use Rattle.open_calls.specs.Numbered.{at, without, up_to, changed_at, next_number};
 
@@ -71,7 +71,7 @@ impl OwnCalls {
         ensures err { OnErr result (self.new ≡ self.old) }
     {
         let made = self.made;
-        for _ in 0..count {
+        for _made in 0..count {
             match self.make_one(caller) {
                 Ok(()) => {}
                 Err(refused) => {
@@ -116,9 +116,21 @@ impl OwnCalls {
         ensures { self.new ≡ record { made = made; waiting = up_to made self.old.waiting } }
     {
         while self.made > made {
-            self.remove(self.made);
-            self.made -= 1;
+            self.remove_last();
         }
+    }
+
+    /// The call that was made last is as if it had never been made.
+    fn remove_last(&mut self)
+        requires { 0 < self.old.made }
+        ensures { self.new ≡ record {
+            made = self.old.made - 1;
+            waiting = without self.old.made self.old.waiting
+        } }
+    {
+        let key = self.made;
+        self.remove(key);
+        self.made = key - 1;
     }
 
     /// The call with this key, where it waits.

@@ -1,5 +1,6 @@
-ghost use Rattle.std.specs.Prelude.{◌≡◌, ◌+◌, ◌-◌, ◌<◌, ◌≤◌, ◌^◌, ◌++◌, ◌∷◌, [], length, OnOk, OnErr, IfOk, Option, Some, None, MatchOption, option_copied};
-ghost use Rattle.open_calls.specs.Inner.{IsWithoutNumber};
+ghost use Rattle.std.specs.Prelude.{◌≡◌, ℕ, ◌+◌, ◌-◌, ◌<◌, ◌≤◌, ◌^◌, ◌++◌, ◌∷◌, [], length, OnOk, OnErr, IfOk, Option, Some, None, MatchOption, option_copied};
+ghost use Rattle.open_calls.specs.Inner.{is_listed, IsWithNumber, IsWithoutNumber};
+ghost use Rattle.rpc_messages.specs.declared.id.Id.{Id};
 ghost use Rattle.open_calls.specs.Numbered.{at, without, up_to, changed_at};
 
 use crate::numbers_by_id::NumbersById;
@@ -69,9 +70,7 @@ impl TheirCalls {
         ensures err { OnErr result (self.new ≡ self.old) }
     {
         let number = self.came + 1;
-        if let Some(id) = &id {
-            self.by_id.add(id, number)?;
-        }
+        note_id(&mut self.by_id, &id, number)?;
         let call = TheirCall {
             id,
             is_cancelled: false,
@@ -97,9 +96,21 @@ impl TheirCalls {
         ensures { self.new ≡ record { came = came; calls = up_to came self.old.calls } }
     {
         while self.came > came {
-            drop(self.close(self.came));
-            self.came -= 1;
+            self.close_last();
         }
+    }
+
+    /// The call that came last is as if it had never come.
+    fn close_last(&mut self)
+        requires { 0 < self.old.came }
+        ensures { self.new ≡ record {
+            came = self.old.came - 1;
+            calls = without self.old.came self.old.calls
+        } }
+    {
+        let number = self.came;
+        drop(self.close(number));
+        self.came = number - 1;
     }
 
     /// The call with this number, where it is open.
@@ -114,7 +125,10 @@ impl TheirCalls {
         ensures call { result ≡ at number self.old.calls }
         ensures state { self.new ≡ record self.old { calls = without number self.old.calls } }
     {
-        let call = self.calls.remove(&number)?;
+        let call = match self.calls.remove(&number) {
+            Some(call) => call,
+            None => return None,
+        };
         forget_id(&mut self.by_id, &call.id, number);
         Some(call)
     }
@@ -126,12 +140,29 @@ impl TheirCalls {
           calls = cancelled_at (reached id.now self.old.calls) self.old.calls;
         } }
     {
-        let number = self.by_id.least(id)?;
-        if let Some(call) = self.calls.get_mut(&number) {
-            call.is_cancelled = true;
-        }
+        let number = match self.by_id.least(id) {
+            Some(number) => number,
+            None => return None,
+        };
+        let call = match self.calls.get_mut(&number) {
+            Some(call) => call,
+            None => return None,
+        };
+        call.is_cancelled = true;
         self.by_id.remove(id, number);
         Some(number)
+    }
+}
+
+/// Puts the number of a request into the index.
+fn note_id(by_id: &mut NumbersById, id: &Option<Id>, number: u64) -> Result<(), AllocError>
+    ensures ok { OnOk result (IsWithNumber by_id.new by_id.old id.now number) }
+    ensures err { OnErr result ((q : Id) (k : ℕ) →
+        is_listed by_id.new q k ≡ is_listed by_id.old q k) }
+{
+    match id {
+        Some(id) => by_id.add(id, number),
+        None => Ok(()),
     }
 }
 
