@@ -1,5 +1,5 @@
 -- Lists of entries whose numbers ascend, as a map has them.
-use Rattle.std.proofs.Common.{◌≡◌, ℕ, ◌<◌, ◌≤◌, ◌==◌, ◌&&◌, not, Bool, true, false, cond, List, [], ◌∷◌, ◌++◌, Option, Some, None, refl, sym, ap, subst, ◌∙◌, arith, nat_lt, nat_le, eq-eqb, suc, ◌+◌}
+use Rattle.std.proofs.Common.{◌≡◌, ℕ, ◌<◌, ◌≤◌, ◌==◌, ◌&&◌, not, Bool, true, false, cond, List, [], ◌∷◌, ◌++◌, Option, Some, None, refl, sym, ap, subst, ◌∙◌, arith, nat_lt, nat_le, length, eq-eqb, suc, ◌+◌}
 use Rattle.std.proofs.lemmas.Bool.{eqb-true, eqb-false, leb-true, le-leb, false_from_ne_true, ne_eqb, ltb-true}
 use Rattle.std.proofs.lemmas.Map.Keys.{sorted_head, sorted_tail}
 use Rattle.std.specs.Cmp.{unsigned_ties, nat_cmp_is}
@@ -295,3 +295,21 @@ filter_all p [] order passes = refl
 filter_all p (e ∷ es) order passes =
     ap (λ b. cond b (e ∷ filter p es) (filter p es)) (passes e.0 e.1 (at_here e es))
     ∙ ap (λ t. e ∷ t) (filter_all p es order.1 (λ n x is. passes n x (at_later e es n x order.0 is)))
+
+fewer_step : {X : Type 0} (b : Bool) (e : X) (es fs : List X) → length fs ≤ length es → length (cond b (e ∷ fs) fs) ≤ suc (length es)
+fewer_step true e es fs le = omega arith
+fewer_step false e es fs le = omega arith
+
+fewer : {X : Type 0} (p : X → Bool) (es : List X) → length (filter p es) ≤ length es
+fewer p [] = omega arith
+fewer p (e ∷ es) = fewer_step (p e) e es (filter p es) (fewer p es)
+
+shorter_step : {X : Type 0} (b : Bool) (x : X) (e : ℕ × X) (o : Option X) (es fs : List (ℕ × X)) → cond b (Some e.1) o ≡ Some x → length fs ≤ length es → (o ≡ Some x → length fs < length es)
+    → length (cond (not b) (e ∷ fs) fs) < suc (length es)
+shorter_step true x e o es fs is le lt = omega arith
+shorter_step false x e o es fs is le lt = let less : length fs < length es = lt is in omega arith
+
+pub shorter : {X : Type 0} (key : ℕ) (x : X) (es : List (ℕ × X)) → at key es ≡ Some x → length (without key es) < length es
+shorter key x [] is = absurd (cc)
+shorter key x (e ∷ es) is =
+    shorter_step (key == e.0) x e (at key es) es (without key es) is (fewer (λ e. not (key == e.0)) es) (λ there. shorter key x es there)

@@ -1,13 +1,15 @@
 -- The indexes of our calls after a change, and the state that is seen.
-use Rattle.std.proofs.Common.{◌≡◌, ℕ, ◌+◌, ◌<◌, ◌==◌, ◌&&◌, not, Bool, true, false, cond, if◌then◌else◌, List, Option, Some, None, MatchOption, refl, ap, sym, ◌∙◌, arith, nat_lt}
+use Rattle.std.proofs.Common.{◌≡◌, ℕ, ◌+◌, ◌<◌, ◌==◌, ◌&&◌, not, Bool, true, false, cond, if◌then◌else◌, List, Option, Some, None, MatchOption, refl, ap, sym, ◌∙◌, arith, nat_lt, nat_le, zero, suc, ◌++◌, ◌∷◌, [], append_assoc}
+use Rattle.std.proofs.lemmas.List.{append-nil}
+use Rattle.std.proofs.lemmas.List.Elements.{filter-append}
 use Rattle.std.proofs.lemmas.Bool.{eqb-true, ltb-true, lt-ltb}
 use Rattle.std.specs.Option.{option_map}
 use Rattle.open_calls.specs.declared.own_call.OwnCall.{OwnCall}
 use Rattle.open_calls.specs.declared.keys_by_caller.KeysByCaller.{KeysByCaller}
-use Rattle.open_calls.specs.Numbered.{at, Ascending}
-use Rattle.open_calls.specs.Own.{OwnState, is_wanted_by, next_wanted, new_call, withdrawn}
+use Rattle.open_calls.specs.Numbered.{at, up_to, Above, Below, Ascending}
+use Rattle.open_calls.specs.Own.{OwnState, is_wanted_by, next_wanted, new_call, new_calls, withdrawn}
 use Rattle.open_calls.specs.Inner.{has_key, passes, is_of, IsKeyIndex}
-use Rattle.open_calls.proofs.Numbered.{find_none, find_first}
+use Rattle.open_calls.proofs.Numbered.{find_none, find_first, above_push, up_to_all, up_to_above}
 
 abbrev pub state_of : ℕ → List (ℕ × OwnCall) → OwnState
 state_of made waiting = record { made = made; waiting = waiting }
@@ -124,3 +126,26 @@ wanted_next index es caller after (Some key) order is next =
     sym (ap (λ o. option_map (λ e. e.0) o) (find_first (λ e. nat_lt after e.0 && is_wanted_by caller e.1) key found.0 es order found.1
     (ap (λ b. b && is_wanted_by caller found.0) (lt-ltb after key next.0) ∙ found.2)
     (λ n y under there. both_false (nat_lt after n) (is_wanted_by caller y) (λ over. fails_at index es caller n y is there (next.2 n (ltb-true after n over) under)))))
+
+-- ---- calls that are made one after another
+
+pub calls_more : (made caller i : ℕ) (waiting : List (ℕ × OwnCall))
+    → state_of ((made + i) + 1) ((waiting ++ new_calls made caller i) ++ ((made + i) + 1, new_call caller) ∷ []) ≡ state_of (made + (i + 1)) (waiting ++ new_calls made caller (i + 1))
+calls_more made caller i waiting =
+    let key : (made + i) + 1 ≡ made + suc i = omega arith in
+    let next : i + 1 ≡ suc i = omega arith in
+    ap (λ k. state_of k ((waiting ++ new_calls made caller i) ++ (k, new_call caller) ∷ [])) key
+    ∙ ap (λ fs. state_of (made + suc i) fs) (append_assoc waiting (new_calls made caller i) ((made + suc i, new_call caller) ∷ []))
+    ∙ ap (λ j. state_of (made + j) (waiting ++ new_calls made caller j)) (sym next)
+
+above_new : (made caller n : ℕ) → Above made (new_calls made caller n)
+above_new made caller zero = tt
+above_new made caller (suc n) = above_push made (made + suc n) (new_call caller) (new_calls made caller n) (omega arith) (above_new made caller n)
+
+-- what was put in is taken out again
+pub calls_undone : (made caller n : ℕ) (waiting : List (ℕ × OwnCall)) → Below (suc made) waiting → up_to made (waiting ++ new_calls made caller n) ≡ waiting
+calls_undone made caller n waiting under =
+    filter-append (λ (e : ℕ × OwnCall). nat_le e.0 made) waiting (new_calls made caller n)
+    ∙ ap (λ fs. fs ++ up_to made (new_calls made caller n)) (up_to_all made waiting under)
+    ∙ ap (λ fs. waiting ++ fs) (up_to_above made (new_calls made caller n) (above_new made caller n))
+    ∙ append-nil waiting

@@ -14,9 +14,12 @@ pub record OwedState : Type 0 where
   pub places : ℕ
   pub owed : List (ℕ × OwedUnit)
 
--- the slots of a program as lists
+-- a slot of a program, and all slots, as lists
+abbrev pub seen_slot : Option (Vec ℕ) → Option (List ℕ)
+seen_slot slot = option_map (λ text. text.items) slot
+
 abbrev pub seen_slots : List (Option (Vec ℕ)) → List (Option (List ℕ))
-seen_slots slots = map (option_map (λ text. text.items)) slots
+seen_slots slots = map seen_slot slots
 
 abbrev pub lacking_slots : List (Option (List ℕ)) → ℕ
 lacking_slots slots = count_by is_none slots
@@ -34,8 +37,15 @@ lacking_in (Some unit) = lacking unit
 abbrev pub given : ℕ → List ℕ → OwedUnit → OwedUnit
 given slot text unit = record unit { slots = slice_set unit.slots slot (Some text) }
 
+-- the text that stands in a slot
+abbrev pub slot_text : Option (List ℕ) → List ℕ
+slot_text slot = unwrap_or slot []
+
+abbrev pub slot_texts : List (Option (List ℕ)) → List (List ℕ)
+slot_texts slots = map slot_text slots
+
 abbrev pub texts_of : OwedUnit → List (List ℕ)
-texts_of unit = map (λ s. unwrap_or s []) unit.slots
+texts_of unit = slot_texts unit.slots
 
 abbrev pub first_or_none : List (List ℕ) → List ℕ
 first_or_none [] = []

@@ -1,6 +1,8 @@
 ghost use Rattle.std.specs.Prelude.{◌≡◌, ◌<◌, ◌++◌, Option, Some, None, OnOk, OnErr, length, map, take};
 ghost use Rattle.std.specs.Option.{option_map};
-ghost use Rattle.std.specs.List.{join_with_byte};
+ghost use Rattle.std.specs.Io.{StartsWith};
+ghost use Rattle.connection_messages.specs.Texts.{batch_text};
+ghost use Rattle.open_calls.specs.Owed.{seen_slot, seen_slots, slot_text, slot_texts};
 
 use std::alloc::AllocError;
 use std::marker::Model;
@@ -80,33 +82,51 @@ impl Owed {
         ensures ok { OnOk result (bytes.new.items ≡ bytes.old.items ++ unit_text self.now) }
         ensures err { OnErr result (bytes.new.items ≡ bytes.old.items) }
     {
-        let before = bytes.len();
-        let put = if self.is_batch {
+        if self.is_batch {
             put_array(bytes, self.slots.as_slice())
         } else {
             put_slot(bytes, &self.slots[0])
-        };
-        if put.is_err() {
-            bytes.truncate(before);
         }
-        put
     }
 }
 
 /// Puts the texts behind these bytes as one array.
-fn put_array(bytes: &mut Vec<u8>, slots: &[Option<Vec<u8>>]) -> Result<(), AllocError> {
-    bytes.push(b'[')?;
-    for (index, slot) in slots.iter().enumerate() {
-        if index > 0 {
-            bytes.push(b',')?;
+fn put_array(bytes: &mut Vec<u8>, slots: &[Option<Vec<u8>>]) -> Result<(), AllocError>
+    requires { 0 < length slots.now }
+    ensures ok { OnOk result (bytes.new.items ≡
+        bytes.old.items ++ batch_text (slot_texts (seen_slots slots.now))) }
+    ensures err { OnErr result (bytes.new.items ≡ bytes.old.items) }
+{
+    let before = bytes.len();
+    match put_each(bytes, slots) {
+        Ok(()) => Ok(()),
+        Err(refused) => {
+            bytes.truncate(before);
+            Err(refused)
         }
-        put_slot(bytes, slot)?;
     }
-    bytes.push(b']')?;
-    Ok(())
 }
 
-fn put_slot(bytes: &mut Vec<u8>, slot: &Option<Vec<u8>>) -> Result<(), AllocError> {
+/// Where the texts can't be put whole, what was there still stands in front.
+fn put_each(bytes: &mut Vec<u8>, slots: &[Option<Vec<u8>>]) -> Result<(), AllocError>
+    requires { 0 < length slots.now }
+    ensures ok { OnOk result (bytes.new.items ≡
+        bytes.old.items ++ batch_text (slot_texts (seen_slots slots.now))) }
+    ensures front { OnErr result (StartsWith bytes.new.items bytes.old.items) }
+{
+    bytes.push(b'[')?;
+    put_slot(bytes, &slots[0])?;
+    for slot in &slots[1..] {
+        bytes.push(b',')?;
+        put_slot(bytes, slot)?;
+    }
+    bytes.extend_from_slice(b"]")
+}
+
+fn put_slot(bytes: &mut Vec<u8>, slot: &Option<Vec<u8>>) -> Result<(), AllocError>
+    ensures ok { OnOk result (bytes.new.items ≡ bytes.old.items ++ slot_text (seen_slot slot.now)) }
+    ensures err { OnErr result (bytes.new.items ≡ bytes.old.items) }
+{
     match slot {
         Some(text) => bytes.extend_from_slice(text.as_slice()),
         None => Ok(()),

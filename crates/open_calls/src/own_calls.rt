@@ -71,7 +71,7 @@ impl OwnCalls {
         ensures err { OnErr result (self.new ≡ self.old) }
     {
         let made = self.made;
-        for _made in 0..count {
+        for _index in 0..count {
             match self.make_one(caller) {
                 Ok(()) => {}
                 Err(refused) => {
