@@ -35,8 +35,8 @@ pub index_gone : (test : ℕ → OwnCall → Bool) (old new : KeysByCaller) (was
     → ((c : ℕ) → passes (test c) w ≡ false) → ((c : ℕ) → (call.caller == c) ≡ false → test c call ≡ false) → IsKeyIndex new test now
 index_gone test old new was now key call w has index changes is none other =
     λ c k. has c k
-        ∙ gone_step (call.caller == c) (key == k) (has_key old c k) (at k was) w (test c) (index c k) (none c) (λ here apart. passes_at (test c) key k call was is here ∙ other c apart)
-        ∙ ap (passes (test c)) (sym (changes k))
+    ∙ gone_step (call.caller == c) (key == k) (has_key old c k) (at k was) w (test c) (index c k) (none c) (λ here apart. passes_at (test c) key k call was is here ∙ other c apart)
+    ∙ ap (passes (test c)) (sym (changes k))
 
 -- ---- an entry is changed, and its key stays
 
@@ -65,9 +65,9 @@ pub index_come : (test : ℕ → OwnCall → Bool) (old new : KeysByCaller) (was
     → ((c : ℕ) → test c call ≡ (call.caller == c)) → IsKeyIndex new test now
 index_come test old new was now key call has index changes none like =
     λ c k. has c k
-        ∙ come_step (call.caller == c) (key == k) (has_key old c k) (at k was) call (test c) (index c k) (like c)
-        (λ here. ap (λ n. at n was) (sym (eqb-true key k here)) ∙ none)
-        ∙ ap (passes (test c)) (sym (changes k))
+    ∙ come_step (call.caller == c) (key == k) (has_key old c k) (at k was) call (test c) (index c k) (like c)
+    (λ here. ap (λ n. at n was) (sym (eqb-true key k here)) ∙ none)
+    ∙ ap (passes (test c)) (sym (changes k))
 
 pub and_true : (b : Bool) → (b && true) ≡ b
 and_true true = refl
@@ -94,8 +94,8 @@ pub index_undone : (test : ℕ → OwnCall → Bool) (old between new : KeysByCa
     → IsKeyIndex old test was → at key was ≡ None → IsKeyIndex new test was
 index_undone test old between new was key caller came went index none =
     λ c k. went c k ∙ ap (λ b. if (caller == c) && (key == k) then false else b) (came c k)
-        ∙ undone_step (caller == c) (key == k) (has_key old c k) (λ same here. index c k ∙ ap (passes (test c)) (ap (λ n. at n was) (sym (eqb-true key k here)) ∙ none))
-        ∙ index c k
+    ∙ undone_step (caller == c) (key == k) (has_key old c k) (λ same here. index c k ∙ ap (passes (test c)) (ap (λ n. at n was) (sym (eqb-true key k here)) ∙ none))
+    ∙ index c k
 
 -- ---- the next key of a caller
 

@@ -63,8 +63,8 @@ pub no_key : (has : ℕ × ℕ → Bool) (c a d k : ℕ) → ((d == c) ≡ false
     → ((q : ℕ × ℕ) → pair_cmp (c, a) q ≡ Less → has q ≡ true → is_gt (pair_cmp (d, k) q) ≡ false) → (j : ℕ) → a < j → has (c, j) ≡ false
 no_key has c a d k other over least j lt =
     elim (above_pair c a d k over) [
-      inl less ↦ false_from_ne_true (has (c, j)) (λ there. true_not_false (sym (greater_caller c d k j less) ∙ least (c, j) (same_caller c a j lt) there))
-    | inr both ↦ absurd (eqb-false d c other (sym (equal c d both.0)))
+      | inl less ↦ false_from_ne_true (has (c, j)) (λ there. true_not_false (sym (greater_caller c d k j less) ∙ least (c, j) (same_caller c a j lt) there))
+      | inr both ↦ absurd (eqb-false d c other (sym (equal c d both.0)))
     ]
 
 -- and where it has this one

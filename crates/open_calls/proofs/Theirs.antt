@@ -23,25 +23,25 @@ pub number_gone : (old new : NumbersById) (was now : List (ℕ × TheirCall)) (n
     → IsNumberIndex old was → ((k : ℕ) → at k now ≡ cond (number == k) None (at k was)) → at number was ≡ Some call → IsNumberIndex new now
 number_gone old new was now number call has index changes there =
     λ id k. has id k
-        ∙ gone_step (has_id id call.id) (number == k) (is_listed old id k) (at k was) None (is_reached id) (index id k) refl
-        (λ here apart. passes_at (is_reached id) number k call was there here ∙ false_and (has_id id call.id) (not call.is_cancelled) apart)
-        ∙ ap (passes (is_reached id)) (sym (changes k))
+    ∙ gone_step (has_id id call.id) (number == k) (is_listed old id k) (at k was) None (is_reached id) (index id k) refl
+    (λ here apart. passes_at (is_reached id) number k call was there here ∙ false_and (has_id id call.id) (not call.is_cancelled) apart)
+    ∙ ap (passes (is_reached id)) (sym (changes k))
 
 pub number_come : (old new : NumbersById) (was now : List (ℕ × TheirCall)) (number : ℕ) (call : TheirCall) → IsWithNumber new old call.id number
     → IsNumberIndex old was → ((k : ℕ) → at k now ≡ cond (number == k) (Some call) (at k was)) → at number was ≡ None → call.is_cancelled ≡ false → IsNumberIndex new now
 number_come old new was now number call has index changes none fresh =
     λ id k. has id k
-        ∙ come_step (has_id id call.id) (number == k) (is_listed old id k) (at k was) call (is_reached id) (index id k)
-        (ap (λ b. has_id id call.id && not b) fresh ∙ and_true (has_id id call.id))
-        (λ here. ap (λ n. at n was) (sym (eqb-true number k here)) ∙ none)
-        ∙ ap (passes (is_reached id)) (sym (changes k))
+    ∙ come_step (has_id id call.id) (number == k) (is_listed old id k) (at k was) call (is_reached id) (index id k)
+    (ap (λ b. has_id id call.id && not b) fresh ∙ and_true (has_id id call.id))
+    (λ here. ap (λ n. at n was) (sym (eqb-true number k here)) ∙ none)
+    ∙ ap (passes (is_reached id)) (sym (changes k))
 
 pub number_undone : (old between new : NumbersById) (was : List (ℕ × TheirCall)) (number : ℕ) (id : Option Id) → IsWithNumber between old id number → IsWithoutNumber new between id number
     → IsNumberIndex old was → at number was ≡ None → IsNumberIndex new was
 number_undone old between new was number id came went index none =
     λ q k. went q k ∙ ap (λ b. if has_id q id && (number == k) then false else b) (came q k)
-        ∙ undone_step (has_id q id) (number == k) (is_listed old q k) (λ same here. index q k ∙ ap (passes (is_reached q)) (ap (λ n. at n was) (sym (eqb-true number k here)) ∙ none))
-        ∙ index q k
+    ∙ undone_step (has_id q id) (number == k) (is_listed old q k) (λ same here. index q k ∙ ap (passes (is_reached q)) (ap (λ n. at n was) (sym (eqb-true number k here)) ∙ none))
+    ∙ index q k
 
 -- ---- a cancel
 
@@ -58,10 +58,10 @@ pub number_reached : (old new : NumbersById) (was now : List (ℕ × TheirCall))
     → IsNumberIndex old was → ((k : ℕ) → at k now ≡ cond (number == k) (Some (cancelled call)) (at k was)) → at number was ≡ Some call → is_reached id call ≡ true → IsNumberIndex new now
 number_reached old new was now number id call has index changes there is =
     λ q k. has q k
-        ∙ gone_step (same_id id q) (number == k) (is_listed old q k) (at k was) (Some (cancelled call)) (is_reached q) (index q k) (and_false (has_id q call.id))
-        (λ here apart. passes_at (is_reached q) number k call was there here
-            ∙ false_and (has_id q call.id) (not call.is_cancelled) (same_other call.id id q (and_left (has_id id call.id) (not call.is_cancelled) is) apart))
-        ∙ ap (passes (is_reached q)) (sym (changes k))
+    ∙ gone_step (same_id id q) (number == k) (is_listed old q k) (at k was) (Some (cancelled call)) (is_reached q) (index q k) (and_false (has_id q call.id))
+    (λ here apart. passes_at (is_reached q) number k call was there here
+    ∙ false_and (has_id q call.id) (not call.is_cancelled) (same_other call.id id q (and_left (has_id id call.id) (not call.is_cancelled) is) apart))
+    ∙ ap (passes (is_reached q)) (sym (changes k))
 
 unreached : (index : NumbersById) (es : List (ℕ × TheirCall)) (id : Id) (n : ℕ) (x : TheirCall) → IsNumberIndex index es → at n es ≡ Some x → is_listed index id n ≡ false → is_reached id x ≡ false
 unreached index es id n x is there none = ap (passes (is_reached id)) (sym there) ∙ sym (is id n) ∙ none

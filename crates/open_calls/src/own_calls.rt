@@ -124,8 +124,8 @@ impl OwnCalls {
     fn remove_last(&mut self)
         requires { 0 < self.old.made }
         ensures { self.new ≡ record {
-            made = self.old.made - 1;
-            waiting = without self.old.made self.old.waiting
+          made = self.old.made - 1;
+          waiting = without self.old.made self.old.waiting;
         } }
     {
         let key = self.made;

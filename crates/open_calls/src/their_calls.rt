@@ -104,8 +104,8 @@ impl TheirCalls {
     fn close_last(&mut self)
         requires { 0 < self.old.came }
         ensures { self.new ≡ record {
-            came = self.old.came - 1;
-            calls = without self.old.came self.old.calls
+          came = self.old.came - 1;
+          calls = without self.old.came self.old.calls;
         } }
     {
         let number = self.came;

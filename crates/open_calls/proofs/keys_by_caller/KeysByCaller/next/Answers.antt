@@ -16,11 +16,12 @@ returns-in-Some c =
     let has = sorted.contains pair_cmp c.args.self.now.pairs in
     let same : x.0 ≡ c.args.caller = first_of (search rules, omega arith, grind arith) in
     let pair : x ≡ (c.args.caller, x.1) = ap (λ n. (n, x.1)) same in
-    let first = head_of (sorted.IsKeyInRange pair_cmp (Excluded after) Unbounded c.args.self.now.pairs) _ _ x c.in-Some.ensures.steps within.1 in
-    (above_key c.args.caller c.args.after x.1 (subst (λ p. pair_cmp after p ≡ Less) pair first.0.0),
-     subst (λ p. has p ≡ true) pair first.1,
-     least_key has c.args.caller c.args.after x.1 (λ q over there. subst (λ p. is_gt (pair_cmp p q) ≡ false) pair
-         (head_of (λ k. IsLeBy pair_cmp k q) _ _ x c.in-Some.ensures.steps (within.2 q (over, tt) there))))
+    let first = head_of (sorted.IsKeyInRange pair_cmp (Excluded after) Unbounded c.args.self.now.pairs) _ _ x c.in-Some.ensures.steps within.1 in (
+      above_key c.args.caller c.args.after x.1 (subst (λ p. pair_cmp after p ≡ Less) pair first.0.0),
+      subst (λ p. has p ≡ true) pair first.1,
+      least_key has c.args.caller c.args.after x.1 (λ q over there. subst (λ p. is_gt (pair_cmp p q) ≡ false) pair
+          (head_of (λ k. IsLeBy pair_cmp k q) _ _ x c.in-Some.ensures.steps (within.2 q (over, tt) there))),
+    )
 
 pub returns-in_default : goal.returns-in_default
 returns-in_default c =

@@ -7,7 +7,7 @@ pub returns-in_err-insert-in-Some-clause-err : goal.returns-in_err-insert-in-Som
 returns-in_err-insert-in-Some-clause-err c =
     let was = c.args.self.now.numbers in
     on_err_of c.from_residual.result _ (λ q k. listed-same was (c.get_mut.follows.lender c.insert.new.self) c.args.id.now c.in-Some.others.now c.insert.new.self c.in_err-insert-in-Some.ensures.err
-          (λ j. ap (is_in j) (sym c.in-Some.ensures.value)) ((c.get_mut.follows.holds c.insert.new.self).3 (search rules)) q k)
+    (λ j. ap (is_in j) (sym c.in-Some.ensures.value)) ((c.get_mut.follows.holds c.insert.new.self).3 (search rules)) q k)
 
 pub returns-in_ok-insert-in-Some-clause-ok : goal.returns-in_ok-insert-in-Some-clause-ok
 returns-in_ok-insert-in-Some-clause-ok c =
