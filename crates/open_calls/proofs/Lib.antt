@@ -1,0 +1,7 @@
+pub mod Listed
+pub mod Numbered
+pub mod OwedLemmas
+pub mod OwedTexts
+pub mod Own
+pub mod Pairs
+pub mod Theirs

@@ -1,0 +1,85 @@
+-- The index of the other side's calls after a change, and the state that is seen.
+use Rattle.std.proofs.Common.{◌≡◌, ℕ, ◌<◌, ◌==◌, ◌&&◌, not, Bool, true, false, cond, if◌then◌else◌, List, Option, Some, None, MatchOption, refl, ap, sym, ◌∙◌}
+use Rattle.std.proofs.lemmas.Bool.{eqb-true}
+use Rattle.std.specs.Option.{option_map}
+use Rattle.rpc_messages.specs.declared.id.Id.{Id}
+use Rattle.rpc_messages.specs.Ids.{same_id, has_id}
+use Rattle.rpc_messages.proofs.Ids.{same-is}
+use Rattle.open_calls.specs.declared.their_call.TheirCall.{TheirCall}
+use Rattle.open_calls.specs.declared.numbers_by_id.NumbersById.{NumbersById}
+use Rattle.open_calls.specs.Numbered.{at, Ascending}
+use Rattle.open_calls.specs.Theirs.{TheirState, is_reached, reached, cancelled}
+use Rattle.open_calls.specs.Inner.{is_listed, passes, IsNumberIndex, IsWithNumber, IsWithoutNumber}
+use Rattle.open_calls.proofs.Numbered.{find_none, find_first}
+use Rattle.open_calls.proofs.Own.{gone_step, come_step, passes_at, undone_step, some_of, and_true, and_false, false_and}
+
+abbrev pub state_of : ℕ → List (ℕ × TheirCall) → TheirState
+state_of came calls = record { came = came; calls = calls }
+
+pub same_calls : (came : ℕ) (es fs : List (ℕ × TheirCall)) → es ≡ fs → state_of came es ≡ state_of came fs
+same_calls came es fs is = ap (λ calls. state_of came calls) is
+
+pub number_gone : (old new : NumbersById) (was now : List (ℕ × TheirCall)) (number : ℕ) (call : TheirCall) → IsWithoutNumber new old call.id number
+    → IsNumberIndex old was → ((k : ℕ) → at k now ≡ cond (number == k) None (at k was)) → at number was ≡ Some call → IsNumberIndex new now
+number_gone old new was now number call has index changes there =
+    λ id k. has id k
+    ∙ gone_step (has_id id call.id) (number == k) (is_listed old id k) (at k was) None (is_reached id) (index id k) refl
+    (λ here apart. passes_at (is_reached id) number k call was there here ∙ false_and (has_id id call.id) (not call.is_cancelled) apart)
+    ∙ ap (passes (is_reached id)) (sym (changes k))
+
+pub number_come : (old new : NumbersById) (was now : List (ℕ × TheirCall)) (number : ℕ) (call : TheirCall) → IsWithNumber new old call.id number
+    → IsNumberIndex old was → ((k : ℕ) → at k now ≡ cond (number == k) (Some call) (at k was)) → at number was ≡ None → call.is_cancelled ≡ false → IsNumberIndex new now
+number_come old new was now number call has index changes none fresh =
+    λ id k. has id k
+    ∙ come_step (has_id id call.id) (number == k) (is_listed old id k) (at k was) call (is_reached id) (index id k)
+    (ap (λ b. has_id id call.id && not b) fresh ∙ and_true (has_id id call.id))
+    (λ here. ap (λ n. at n was) (sym (eqb-true number k here)) ∙ none)
+    ∙ ap (passes (is_reached id)) (sym (changes k))
+
+pub number_undone : (old between new : NumbersById) (was : List (ℕ × TheirCall)) (number : ℕ) (id : Option Id) → IsWithNumber between old id number → IsWithoutNumber new between id number
+    → IsNumberIndex old was → at number was ≡ None → IsNumberIndex new was
+number_undone old between new was number id came went index none =
+    λ q k. went q k ∙ ap (λ b. if has_id q id && (number == k) then false else b) (came q k)
+    ∙ undone_step (has_id q id) (number == k) (is_listed old q k) (λ same here. index q k ∙ ap (passes (is_reached q)) (ap (λ n. at n was) (sym (eqb-true number k here)) ∙ none))
+    ∙ index q k
+
+-- ---- a cancel
+
+and_left : (a b : Bool) → (a && b) ≡ true → a ≡ true
+and_left true b is = refl
+and_left false b is = cc
+
+same_other : (id : Option Id) (reaching q : Id) → has_id reaching id ≡ true → same_id reaching q ≡ false → has_id q id ≡ false
+same_other None reaching q is other = refl
+same_other (Some one) reaching q is other = ap (λ i. same_id i q) (same-is one reaching is) ∙ other
+
+pub number_reached : (old new : NumbersById) (was now : List (ℕ × TheirCall)) (number : ℕ) (id : Id) (call : TheirCall)
+    → ((q : Id) (k : ℕ) → is_listed new q k ≡ (if same_id id q && (number == k) then false else is_listed old q k))
+    → IsNumberIndex old was → ((k : ℕ) → at k now ≡ cond (number == k) (Some (cancelled call)) (at k was)) → at number was ≡ Some call → is_reached id call ≡ true → IsNumberIndex new now
+number_reached old new was now number id call has index changes there is =
+    λ q k. has q k
+    ∙ gone_step (same_id id q) (number == k) (is_listed old q k) (at k was) (Some (cancelled call)) (is_reached q) (index q k) (and_false (has_id q call.id))
+    (λ here apart. passes_at (is_reached q) number k call was there here
+    ∙ false_and (has_id q call.id) (not call.is_cancelled) (same_other call.id id q (and_left (has_id id call.id) (not call.is_cancelled) is) apart))
+    ∙ ap (passes (is_reached q)) (sym (changes k))
+
+unreached : (index : NumbersById) (es : List (ℕ × TheirCall)) (id : Id) (n : ℕ) (x : TheirCall) → IsNumberIndex index es → at n es ≡ Some x → is_listed index id n ≡ false → is_reached id x ≡ false
+unreached index es id n x is there none = ap (passes (is_reached id)) (sym there) ∙ sym (is id n) ∙ none
+
+pub reached_none : (index : NumbersById) (es : List (ℕ × TheirCall)) (id : Id) → Ascending es → IsNumberIndex index es → ((k : ℕ) → is_listed index id k ≡ false)
+    → None ≡ reached id es
+reached_none index es id order is none =
+    sym (ap (λ o. option_map (λ e. e.0) o) (find_none (λ e. is_reached id e.1) es order (λ n x there. unreached index es id n x is there (none n))))
+
+pub reached_some : (index : NumbersById) (es : List (ℕ × TheirCall)) (id : Id) (number : ℕ) (call : TheirCall) → Ascending es → IsNumberIndex index es → at number es ≡ Some call
+    → is_listed index id number ≡ true → ((k : ℕ) → k < number → is_listed index id k ≡ false) → Some number ≡ reached id es
+reached_some index es id number call order is there listed least =
+    sym (ap (λ o. option_map (λ e. e.0) o) (find_first (λ e. is_reached id e.1) number call es order there
+    (ap (passes (is_reached id)) (sym there) ∙ sym (is id number) ∙ listed)
+    (λ n y under it. unreached index es id n y is it (least n under))))
+
+true_not_false : true ≡ false → ⊥
+true_not_false is = cc
+
+pub listed_open : (index : NumbersById) (es : List (ℕ × TheirCall)) (id : Id) (number : ℕ) → IsNumberIndex index es → is_listed index id number ≡ true → at number es ≡ None → ⊥
+listed_open index es id number is listed none = true_not_false (sym listed ∙ is id number ∙ ap (passes (is_reached id)) none)

@@ -1,0 +1,69 @@
+-- What the indexes hold.
+use Rattle.std.specs.Prelude.{ℕ, suc, ◌≡◌, ◌==◌, ◌&&◌, Bool, true, false, if◌then◌else◌, List, Option, Some, None}
+use Rattle.std.specs.Ordering.{nat_cmp, ordering_then}
+use Rattle.std.specs.Option.{option_map_or}
+use Rattle.std.specs.declared.cmp.Ordering.{Ordering}
+use Rattle.std.specs.BTreeMap as tree
+use Rattle.std.specs.BTreeSet as sorted
+use Rattle.rpc_messages.specs.declared.id.Id.{Id}
+use Rattle.rpc_messages.specs.Ids.{id_cmp, has_id}
+use Rattle.open_calls.specs.declared.own_call.OwnCall.{OwnCall}
+use Rattle.open_calls.specs.declared.their_call.TheirCall.{TheirCall}
+use Rattle.open_calls.specs.declared.keys_by_caller.KeysByCaller.{KeysByCaller}
+use Rattle.open_calls.specs.declared.numbers_by_id.NumbersById.{NumbersById}
+use Rattle.open_calls.specs.Numbered.{at, Above, Below, Ascending}
+use Rattle.open_calls.specs.Owed.{OwedUnit}
+use Rattle.open_calls.specs.Own.{is_wanted_by}
+use Rattle.open_calls.specs.Theirs.{is_reached}
+
+abbrev pub pair_cmp : ℕ × ℕ → ℕ × ℕ → Ordering
+pair_cmp a b = ordering_then (nat_cmp a.0 b.0) (nat_cmp a.1 b.1)
+
+-- whether this key stands there under this caller
+abbrev pub has_key : KeysByCaller → ℕ → ℕ → Bool
+has_key index caller key = sorted.contains pair_cmp index.pairs (caller, key)
+
+abbrev pub is_in : ℕ → Option (sorted.BTreeSet ℕ) → Bool
+is_in number None = false
+is_in number (Some numbers) = sorted.contains nat_cmp numbers number
+
+-- whether this number stands there under this id
+abbrev pub is_listed : NumbersById → Id → ℕ → Bool
+is_listed index id number = is_in number (tree.get id_cmp index.numbers id)
+
+-- the index has the entries that pass
+abbrev pub passes : {X : Type 0} → (X → Bool) → Option X → Bool
+passes test entry = option_map_or test entry false
+
+abbrev pub IsKeyIndex : KeysByCaller → (ℕ → OwnCall → Bool) → List (ℕ × OwnCall) → Type 0
+IsKeyIndex index test waiting = (caller key : ℕ) → has_key index caller key ≡ passes (test caller) (at key waiting)
+
+abbrev pub IsNumberIndex : NumbersById → List (ℕ × TheirCall) → Type 0
+IsNumberIndex index calls = (id : Id) (number : ℕ) → is_listed index id number ≡ passes (is_reached id) (at number calls)
+
+abbrev pub is_of : ℕ → OwnCall → Bool
+is_of caller call = call.caller == caller
+
+pub record IsOwn (made : ℕ) (waiting : List (ℕ × OwnCall)) (all kept : KeysByCaller) : Type 0 where
+  pub ascending : Ascending waiting
+  pub positive : Above 0 waiting
+  pub numbered : Below (suc made) waiting
+  pub by_caller : IsKeyIndex all is_of waiting
+  pub wanted : IsKeyIndex kept is_wanted_by waiting
+
+pub record IsTheirs (came : ℕ) (calls : List (ℕ × TheirCall)) (index : NumbersById) : Type 0 where
+  pub ascending : Ascending calls
+  pub numbered : Below (suc came) calls
+  pub by_id : IsNumberIndex index calls
+
+pub record IsOwed (places : ℕ) (owed : List (ℕ × OwedUnit)) : Type 0 where
+  pub ascending : Ascending owed
+  pub numbered : Below places owed
+
+-- the index with this number of a request
+abbrev pub IsWithNumber : NumbersById → NumbersById → Option Id → ℕ → Type 0
+IsWithNumber now was id number = (q : Id) (k : ℕ) → is_listed now q k ≡ (if has_id q id && (number == k) then true else is_listed was q k)
+
+-- the index without this number of a request
+abbrev pub IsWithoutNumber : NumbersById → NumbersById → Option Id → ℕ → Type 0
+IsWithoutNumber now was id number = (q : Id) (k : ℕ) → is_listed now q k ≡ (if has_id q id && (number == k) then false else is_listed was q k)

@@ -1,0 +1,5 @@
+pub mod Inner
+pub mod Numbered
+pub mod Owed
+pub mod Own
+pub mod Theirs

@@ -1,0 +1,163 @@
+ghost use Rattle.std.specs.Prelude.{◌≡◌, ◌+◌, ◌-◌, ◌<◌, ◌^◌, ◌++◌, ◌∷◌, [], length, OnOk, OnErr, option_copied};
+ghost use Rattle.open_calls.specs.Numbered.{at, without, changed_at, first_number, next_number};
+
+use crate::owed::Owed;
+use std::alloc::{AllocError, Global};
+use std::collections::BTreeMap;
+use std::marker::Model;
+use std::ops::Bound;
+
+/// The units whose answer isn't out, by their places 0, 1, .. in the order in which they came.
+#[derive(Drop)]
+pub struct OwedAnswers {
+    places: u64,
+    owed: BTreeMap<u64, Owed>,
+}
+
+impl Model for OwedAnswers {
+    ghost use Rattle.open_calls.specs.Owed.{OwedState};
+
+    ghost Value = { OwedState };
+
+    ghost use Rattle.open_calls.specs.Inner.{IsOwed};
+
+    ghost view = { λ a. record { places = a.places; owed = a.owed.entries } };
+
+    ghost invariant = { λ a. IsOwed a.places a.owed.entries };
+}
+
+impl OwedAnswers {
+    ghost use Rattle.open_calls.specs.Owed.{seen_slots, lacking_in, given, IsCompleteUnit, text_or_none};
+
+    pub fn new(alloc: Global) -> OwedAnswers
+        ensures { result ≡ record { places = 0; owed = [] } }
+    {
+        OwedAnswers {
+            places: 0,
+            owed: BTreeMap::new(alloc),
+        }
+    }
+
+    /// How many units are owed an answer.
+    pub fn len(&self) -> u64
+        ensures { result ≡ length self.now.owed }
+    {
+        self.owed.len() as u64
+    }
+
+    /// The unit at the next place is owed these answers.
+    pub fn open_unit(
+        &mut self,
+        is_batch: bool,
+        slots: Vec<Option<Vec<u8>>>,
+    ) -> Result<(), AllocError>
+        requires { self.old.places < 2 ^ 64 - 1 }
+        ensures ok { OnOk result (self.new ≡ record {
+          places = self.old.places + 1;
+          owed = self.old.owed ++ (
+            self.old.places,
+            record {
+              is_batch = is_batch;
+              slots = seen_slots slots.items;
+            },
+          ) ∷ [];
+        }) }
+        ensures err { OnErr result (self.new ≡ self.old) }
+    {
+        self.owed.insert(self.places, Owed::new(is_batch, slots))?;
+        self.places += 1;
+        Ok(())
+    }
+
+    /// The unit at the next place is owed nothing.
+    pub fn skip(&mut self)
+        requires { self.old.places < 2 ^ 64 - 1 }
+        ensures { self.new ≡ record self.old { places = self.old.places + 1 } }
+    {
+        self.places += 1;
+    }
+
+    /// The last place is as if its unit had never come.
+    pub fn undo_unit(&mut self)
+        requires { 0 < self.old.places }
+        ensures { self.new ≡ record {
+          places = self.old.places - 1;
+          owed = without (self.old.places - 1) self.old.owed;
+        } }
+    {
+        let place = self.places - 1;
+        drop(self.owed.remove(&place));
+        self.places = place;
+    }
+
+    /// How many texts the unit at this place lacks.
+    pub fn lacks(&self, place: u64) -> u64
+        ensures { result ≡ lacking_in (at place self.now.owed) }
+    {
+        match self.owed.get(&place) {
+            Some(unit) => unit.lacking(),
+            None => 0,
+        }
+    }
+
+    /// Gives the text of this slot of the unit at this place, where there is one.
+    pub fn give(&mut self, place: u64, slot: u64, text: Vec<u8>)
+        ensures { self.new ≡ record self.old {
+          owed = changed_at place (given slot text.items) self.old.owed;
+        } }
+    {
+        let unit = match self.owed.get_mut(&place) {
+            Some(unit) => unit,
+            None => return,
+        };
+        unit.give(slot, text);
+    }
+
+    /// The unit at this place, where it is owed an answer.
+    pub fn get(&self, place: u64) -> Option<&Owed>
+        ensures { option_copied result ≡ at place self.now.owed }
+    {
+        self.owed.get(&place)
+    }
+
+    /// Puts the answer of the unit at this place behind these bytes.
+    pub fn put_text(&self, place: u64, bytes: &mut Vec<u8>) -> Result<(), AllocError>
+        requires { IsCompleteUnit (at place self.now.owed) }
+        ensures ok { OnOk result (bytes.new.items ≡
+            bytes.old.items ++ text_or_none (at place self.now.owed)) }
+        ensures err { OnErr result (bytes.new.items ≡ bytes.old.items) }
+    {
+        match self.owed.get(&place) {
+            Some(unit) => unit.put_text(bytes),
+            None => Ok(()),
+        }
+    }
+
+    /// The unit at this place is owed nothing any more.
+    pub fn remove(&mut self, place: u64)
+        ensures { self.new ≡ record self.old { owed = without place self.old.owed } }
+    {
+        drop(self.owed.remove(&place));
+    }
+
+    /// The least place whose unit is owed an answer.
+    pub fn first(&self) -> Option<u64>
+        ensures { result ≡ first_number self.now.owed }
+    {
+        match self.owed.first_key_value() {
+            Some((place, _)) => Some(*place),
+            None => None,
+        }
+    }
+
+    /// The least place above `after` whose unit is owed an answer.
+    pub fn next(&self, after: u64) -> Option<u64>
+        ensures { result ≡ next_number after self.now.owed }
+    {
+        let above = (Bound::Excluded(after), Bound::Unbounded);
+        match self.owed.range(above).next() {
+            Some((place, _)) => Some(*place),
+            None => None,
+        }
+    }
+}

@@ -1,0 +1,220 @@
+ghost use Rattle.std.specs.Prelude.{◌≡◌, ℕ, ◌==◌, ◌&&◌, true, false, if◌then◌else◌, ◌+◌, ◌-◌, ◌<◌, ◌≤◌, ◌^◌, ◌++◌, ◌∷◌, [], length, OnOk, OnErr, IfOk, Option, Some, None};
+ghost use Rattle.open_calls.specs.Inner.{has_key};
+ghost use Rattle.open_calls.specs.Numbered.{at, without, up_to, changed_at, next_number};
+
+use crate::keys_by_caller::KeysByCaller;
+use crate::own_call::OwnCall;
+use std::alloc::{AllocError, Global};
+use std::collections::BTreeMap;
+use std::marker::Model;
+use std::ops::Bound;
+
+/// Our calls that wait for a reply. They have the keys 1, 2, .. in the order in which they were made.
+#[derive(Drop)]
+pub struct OwnCalls {
+    made: u64,
+    waiting: BTreeMap<u64, OwnCall>,
+    /// The keys of all that wait.
+    by_caller: KeysByCaller,
+    /// The keys of those that aren't withdrawn.
+    wanted: KeysByCaller,
+}
+
+impl Model for OwnCalls {
+    ghost use Rattle.open_calls.specs.Own.{OwnState};
+
+    ghost Value = { OwnState };
+
+    ghost use Rattle.open_calls.specs.Inner.{IsOwn};
+
+    ghost view = { λ a. record { made = a.made; waiting = a.waiting.entries } };
+
+    ghost invariant = { λ a. IsOwn a.made a.waiting.entries a.by_caller a.wanted };
+}
+
+impl OwnCalls {
+    ghost use Rattle.open_calls.specs.Own.{new_call, new_calls, withdrawn, without_caller, next_wanted};
+
+    pub fn new(alloc: Global) -> OwnCalls
+        ensures { result ≡ record { made = 0; waiting = [] } }
+    {
+        OwnCalls {
+            made: 0,
+            waiting: BTreeMap::new(alloc),
+            by_caller: KeysByCaller::new(alloc),
+            wanted: KeysByCaller::new(alloc),
+        }
+    }
+
+    /// How many wait.
+    pub fn len(&self) -> u64
+        ensures { result ≡ length self.now.waiting }
+    {
+        self.waiting.len() as u64
+    }
+
+    /// How many were made.
+    pub fn made(&self) -> u64
+        ensures { result ≡ self.now.made }
+    {
+        self.made
+    }
+
+    /// Makes so many calls on behalf of this caller, and answers the key of the first.
+    pub fn make(&mut self, caller: u64, count: u64) -> Result<u64, AllocError>
+        requires { self.old.made + count < 2 ^ 53 }
+        ensures first { IfOk result (λ first. first ≡ self.old.made + 1) }
+        ensures ok { OnOk result (self.new ≡ record {
+          made = self.old.made + count;
+          waiting = self.old.waiting ++ new_calls self.old.made caller count;
+        }) }
+        ensures err { OnErr result (self.new ≡ self.old) }
+    {
+        let made = self.made;
+        for _index in 0..count {
+            match self.make_one(caller) {
+                Ok(()) => {}
+                Err(refused) => {
+                    self.take_back(made);
+                    return Err(refused);
+                }
+            }
+        }
+        Ok(made + 1)
+    }
+
+    fn make_one(&mut self, caller: u64) -> Result<(), AllocError>
+        requires { self.old.made < 2 ^ 53 }
+        ensures ok { OnOk result (self.new ≡ record {
+          made = self.old.made + 1;
+          waiting = self.old.waiting ++ (self.old.made + 1, new_call caller) ∷ [];
+        }) }
+        ensures err { OnErr result (self.new ≡ self.old) }
+    {
+        let key = self.made + 1;
+        add_to_both(&mut self.by_caller, &mut self.wanted, caller, key)?;
+        let call = OwnCall {
+            caller,
+            is_withdrawn: false,
+        };
+        match self.waiting.insert(key, call) {
+            Ok(_) => {
+                self.made = key;
+                Ok(())
+            }
+            Err(_) => {
+                self.by_caller.remove(caller, key);
+                self.wanted.remove(caller, key);
+                Err(AllocError)
+            }
+        }
+    }
+
+    /// All calls with keys above this one are as if they had never been made.
+    fn take_back(&mut self, made: u64)
+        requires { made ≤ self.old.made }
+        ensures { self.new ≡ record { made = made; waiting = up_to made self.old.waiting } }
+    {
+        while self.made > made {
+            self.remove_last();
+        }
+    }
+
+    /// The call that was made last is as if it had never been made.
+    fn remove_last(&mut self)
+        requires { 0 < self.old.made }
+        ensures { self.new ≡ record {
+          made = self.old.made - 1;
+          waiting = without self.old.made self.old.waiting;
+        } }
+    {
+        let key = self.made;
+        self.remove(key);
+        self.made = key - 1;
+    }
+
+    /// The call with this key, where it waits.
+    pub fn get(&self, key: u64) -> Option<OwnCall>
+        ensures { result ≡ at key self.now.waiting }
+    {
+        self.waiting.get(&key).copied()
+    }
+
+    /// Marks the call with this key as withdrawn, where it waits.
+    pub fn withdraw(&mut self, key: u64)
+        ensures { self.new ≡ record self.old { waiting = changed_at key withdrawn self.old.waiting } }
+    {
+        let caller = match self.waiting.get_mut(&key) {
+            Some(call) => {
+                call.is_withdrawn = true;
+                call.caller
+            }
+            None => return,
+        };
+        self.wanted.remove(caller, key);
+    }
+
+    /// The call with this key doesn't wait any more.
+    pub fn remove(&mut self, key: u64)
+        ensures { self.new ≡ record self.old { waiting = without key self.old.waiting } }
+    {
+        if let Some(call) = self.waiting.remove(&key) {
+            self.by_caller.remove(call.caller, key);
+            self.wanted.remove(call.caller, key);
+        }
+    }
+
+    /// No call of this caller waits any more.
+    pub fn end_caller(&mut self, caller: u64)
+        ensures { self.new ≡ record self.old { waiting = without_caller caller self.old.waiting } }
+    {
+        while let Some(key) = self.by_caller.next(caller, 0) {
+            self.remove(key);
+        }
+    }
+
+    /// The least key above `after` of a call of this caller that isn't withdrawn.
+    pub fn next_of(&self, caller: u64, after: u64) -> Option<u64>
+        ensures { result ≡ next_wanted caller after self.now.waiting }
+    {
+        self.wanted.next(caller, after)
+    }
+
+    /// The least key above `after` of a call that waits.
+    pub fn next(&self, after: u64) -> Option<u64>
+        ensures { result ≡ next_number after self.now.waiting }
+    {
+        let above = (Bound::Excluded(after), Bound::Unbounded);
+        match self.waiting.range(above).next() {
+            Some((key, _)) => Some(*key),
+            None => None,
+        }
+    }
+}
+
+/// Puts a key into both indexes, or into none.
+fn add_to_both(
+    by_caller: &mut KeysByCaller,
+    wanted: &mut KeysByCaller,
+    caller: u64,
+    key: u64,
+) -> Result<(), AllocError>
+    requires { (c : ℕ) → has_key by_caller.old c key ≡ false }
+    ensures by_caller { OnOk result ((c k : ℕ) → has_key by_caller.new c k ≡
+        (if (caller == c) && (key == k) then true else has_key by_caller.old c k)) }
+    ensures wanted { OnOk result ((c k : ℕ) → has_key wanted.new c k ≡
+        (if (caller == c) && (key == k) then true else has_key wanted.old c k)) }
+    ensures by_caller_err { OnErr result ((c k : ℕ) →
+        has_key by_caller.new c k ≡ has_key by_caller.old c k) }
+    ensures wanted_err { OnErr result ((c k : ℕ) →
+        has_key wanted.new c k ≡ has_key wanted.old c k) }
+{
+    by_caller.add(caller, key)?;
+    match wanted.add(caller, key) {
+        Ok(()) => Ok(()),
+        Err(refused) => {
+            by_caller.remove(caller, key);
+            Err(refused)
+        }
+    }
+}

@@ -1,0 +1,176 @@
+ghost use Rattle.std.specs.Prelude.{◌≡◌, ℕ, ◌+◌, ◌-◌, ◌<◌, ◌≤◌, ◌^◌, ◌++◌, ◌∷◌, [], length, OnOk, OnErr, IfOk, Option, Some, None, MatchOption, option_copied};
+ghost use Rattle.open_calls.specs.Inner.{is_listed, IsWithNumber, IsWithoutNumber};
+ghost use Rattle.rpc_messages.specs.declared.id.Id.{Id};
+ghost use Rattle.open_calls.specs.Numbered.{at, without, up_to, changed_at};
+
+use crate::numbers_by_id::NumbersById;
+use crate::their_call::TheirCall;
+use rpc_messages::Id;
+use std::alloc::{AllocError, Global};
+use std::collections::BTreeMap;
+use std::marker::Model;
+
+/// The other side's calls that are open. They have the numbers 1, 2, .. in the order in which they came.
+#[derive(Drop)]
+pub struct TheirCalls {
+    came: u64,
+    calls: BTreeMap<u64, TheirCall>,
+    /// The numbers of the requests that no cancel has reached.
+    by_id: NumbersById,
+}
+
+impl Model for TheirCalls {
+    ghost use Rattle.open_calls.specs.Theirs.{TheirState};
+
+    ghost Value = { TheirState };
+
+    ghost use Rattle.open_calls.specs.Inner.{IsTheirs};
+
+    ghost view = { λ a. record { came = a.came; calls = a.calls.entries } };
+
+    ghost invariant = { λ a. IsTheirs a.came a.calls.entries a.by_id };
+}
+
+impl TheirCalls {
+    ghost use Rattle.open_calls.specs.Theirs.{new_call, cancelled, reached, cancelled_at};
+
+    pub fn new(alloc: Global) -> TheirCalls
+        ensures { result ≡ record { came = 0; calls = [] } }
+    {
+        TheirCalls {
+            came: 0,
+            calls: BTreeMap::new(alloc),
+            by_id: NumbersById::new(alloc),
+        }
+    }
+
+    /// How many are open.
+    pub fn len(&self) -> u64
+        ensures { result ≡ length self.now.calls }
+    {
+        self.calls.len() as u64
+    }
+
+    /// How many came.
+    pub fn came(&self) -> u64
+        ensures { result ≡ self.now.came }
+    {
+        self.came
+    }
+
+    /// Takes a call in, whose answer belongs into this slot of the unit at this place, and answers its number. A
+    /// notification has no id.
+    pub fn add(&mut self, id: Option<Id>, place: u64, slot: u64) -> Result<u64, AllocError>
+        requires { self.old.came < 2 ^ 64 - 1 }
+        ensures number { IfOk result (λ number. number ≡ self.old.came + 1) }
+        ensures ok { OnOk result (self.new ≡ record {
+          came = self.old.came + 1;
+          calls = self.old.calls ++ (self.old.came + 1, new_call id place slot) ∷ [];
+        }) }
+        ensures err { OnErr result (self.new ≡ self.old) }
+    {
+        let number = self.came + 1;
+        note_id(&mut self.by_id, &id, number)?;
+        let call = TheirCall {
+            id,
+            is_cancelled: false,
+            place,
+            slot,
+        };
+        match self.calls.insert(number, call) {
+            Ok(_) => {
+                self.came = number;
+                Ok(number)
+            }
+            Err(refused) => {
+                let (_, call) = refused.value;
+                forget_id(&mut self.by_id, &call.id, number);
+                Err(AllocError)
+            }
+        }
+    }
+
+    /// All calls with numbers above this one are as if they had never come.
+    pub fn take_back(&mut self, came: u64)
+        requires { came ≤ self.old.came }
+        ensures { self.new ≡ record { came = came; calls = up_to came self.old.calls } }
+    {
+        while self.came > came {
+            self.close_last();
+        }
+    }
+
+    /// The call that came last is as if it had never come.
+    fn close_last(&mut self)
+        requires { 0 < self.old.came }
+        ensures { self.new ≡ record {
+          came = self.old.came - 1;
+          calls = without self.old.came self.old.calls;
+        } }
+    {
+        let number = self.came;
+        drop(self.close(number));
+        self.came = number - 1;
+    }
+
+    /// The call with this number, where it is open.
+    pub fn get(&self, number: u64) -> Option<&TheirCall>
+        ensures { option_copied result ≡ at number self.now.calls }
+    {
+        self.calls.get(&number)
+    }
+
+    /// The call with this number isn't open any more.
+    pub fn close(&mut self, number: u64) -> Option<TheirCall>
+        ensures call { result ≡ at number self.old.calls }
+        ensures state { self.new ≡ record self.old { calls = without number self.old.calls } }
+    {
+        let call = match self.calls.remove(&number) {
+            Some(call) => call,
+            None => return None,
+        };
+        forget_id(&mut self.by_id, &call.id, number);
+        Some(call)
+    }
+
+    /// Cancels the first request with this id that no cancel has reached, and answers its number.
+    pub fn reach(&mut self, id: &Id) -> Option<u64>
+        ensures number { result ≡ reached id.now self.old.calls }
+        ensures state { self.new ≡ record self.old {
+          calls = cancelled_at (reached id.now self.old.calls) self.old.calls;
+        } }
+    {
+        let number = match self.by_id.least(id) {
+            Some(number) => number,
+            None => return None,
+        };
+        let call = match self.calls.get_mut(&number) {
+            Some(call) => call,
+            None => return None,
+        };
+        call.is_cancelled = true;
+        self.by_id.remove(id, number);
+        Some(number)
+    }
+}
+
+/// Puts the number of a request into the index.
+fn note_id(by_id: &mut NumbersById, id: &Option<Id>, number: u64) -> Result<(), AllocError>
+    ensures ok { OnOk result (IsWithNumber by_id.new by_id.old id.now number) }
+    ensures err { OnErr result ((q : Id) (k : ℕ) →
+        is_listed by_id.new q k ≡ is_listed by_id.old q k) }
+{
+    match id {
+        Some(id) => by_id.add(id, number),
+        None => Ok(()),
+    }
+}
+
+/// Takes the number of a request out of the index.
+fn forget_id(by_id: &mut NumbersById, id: &Option<Id>, number: u64)
+    ensures { IsWithoutNumber by_id.new by_id.old id.now number }
+{
+    if let Some(id) = id {
+        by_id.remove(id, number);
+    }
+}
