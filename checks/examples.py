@@ -1,7 +1,9 @@
 """Plays each stream of examples/ with the table there, read as it comes, lazily, and with the last method first, and compares what is
-printed with the file beside the stream; and runs the commands of its page, of the first one and of the page on commands."""
+printed with the file beside the stream; and runs the commands of its page, of the first one and of the page on commands. Each link of a page
+leads somewhere, and the page on changes begins with the program's version."""
 import glob
 import os
+import re
 import subprocess
 import tempfile
 
@@ -46,6 +48,32 @@ def check_page(count, *place):
                 count.check(f"{place}: {text!r}", (ended.returncode, output) == (0, printed), f"{ended.returncode}, {output!r}, {ended.stderr!r}")
 
 
+def prose_of(file):
+    return re.sub(r"^```.*?^```", "", text_of(file), flags=re.M | re.S)
+
+
+def anchors_of(file):
+    """The names by which a page's headings are linked."""
+    headings = re.findall(r"^#+ (.*)$", prose_of(file), re.M)
+    return {re.sub(r"[^\w\- ]", "", it.strip().lower()).replace(" ", "-") for it in headings}
+
+
+def check_links(count):
+    """Each link of a page that doesn't leave the repository leads to a file, and to a heading where it names one."""
+    for page in glob.glob(f"{ran.TOP}/*.md") + glob.glob(f"{ran.TOP}/*/*.md"):
+        for link in re.findall(r"\]\((?!http)([^)\s]+)\)", prose_of(page)):
+            place, _, heading = link.partition("#")
+            file = os.path.join(os.path.dirname(page), place) if place else page
+            well = os.path.exists(file) and (not heading or heading in anchors_of(file))
+            count.check(f"{os.path.relpath(page, ran.TOP)} links to {link}", well)
+
+
+def check_version(count):
+    _, printed, _ = ran.run(["--version"])
+    latest = re.search(r"^## (\S+?),?(?: |$)", text_of(f"{ran.TOP}/CHANGELOG.md"), re.M)
+    count.check("the latest changes are those of this version", latest and printed.decode() == f"rpc_tool {latest[1]}\n", f"{printed!r}")
+
+
 count = ran.Count()
 ran.built()
 names = sorted(os.path.basename(it)[: -len(".in")] for it in glob.glob(f"{FOLDER}/*.in"))
@@ -59,4 +87,6 @@ count.check("each output is compared", not strange, f"{strange}")
 check_page(count, "examples", "README.md")
 check_page(count, "README.md")
 check_page(count, "docs", "commands.md")
+check_links(count)
+check_version(count)
 count.end()
