@@ -21,6 +21,7 @@ NO_TABLE = b"table: Memory, method 0, step 0\n"
 GO_ON = (
     "a_piece_is_taken_again_after_memory",
     "a_content_is_read_again_after_memory",
+    "a_unit_is_read_again_after_memory",
     "a_refused_growth_is_a_failure_of_the_sink",
     "contents_are_taken_and_written_again_after_memory",
 )
