@@ -49,9 +49,10 @@ fn keeps_our_calls(rt: HostRuntime) -> Result<(), Fail> {
 #[test]
 fn keeps_their_calls(rt: HostRuntime) -> Result<(), Fail> {
     let mut calls = TheirCalls::new(rt.alloc());
-    for (id, place) in [(Some(4), 0), (None, 1), (Some(4), 2), (Some(5), 2)] {
-        let _number = calls.add(id.map(Id::Unsigned), place, 0)?;
-    }
+    assert_eq!(rt; calls.add(Some(Id::Unsigned(4)), 0, 0)?, 1);
+    assert_eq!(rt; calls.add(None, 1, 0)?, 2);
+    assert_eq!(rt; calls.add(Some(Id::Unsigned(4)), 2, 0)?, 3);
+    assert_eq!(rt; calls.add(Some(Id::Unsigned(5)), 2, 1)?, 4);
     assert_eq!(rt; (calls.came(), calls.len()), (4, 4));
     assert_eq!(rt; calls.reach(&Id::Null), None);
     assert_eq!(rt; calls.reach(&Id::Unsigned(4)), Some(1));
@@ -77,7 +78,11 @@ fn keeps_their_calls(rt: HostRuntime) -> Result<(), Fail> {
 
 fn text_at(alloc: Global, owed: &OwedAnswers, place: u64) -> Result<Vec<u8>, AllocError> {
     let mut bytes = Vec::new(alloc);
-    if owed.lacks(place) == 0 && owed.get(place).is_some() {
+    let unit = match owed.get(place) {
+        Some(unit) => unit,
+        None => return Ok(bytes),
+    };
+    if unit.len() > 0 && unit.lacking() == 0 {
         owed.put_text(place, &mut bytes)?;
     }
     Ok(bytes)
