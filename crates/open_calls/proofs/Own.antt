@@ -1,5 +1,5 @@
 -- The indexes of our calls after a change, and the state that is seen.
-use Rattle.std.proofs.Common.{◌≡◌, ℕ, ◌+◌, ◌<◌, ◌==◌, ◌&&◌, not, Bool, true, false, cond, if◌then◌else◌, List, Option, Some, None, MatchOption, refl, ap, sym, ◌∙◌, arith, nat_lt, nat_le, zero, suc, ◌++◌, ◌∷◌, [], append_assoc}
+use Rattle.std.proofs.Common.{◌≡◌, ℕ, ◌+◌, ◌<◌, ◌==◌, ◌&&◌, Bool, true, false, cond, if◌then◌else◌, List, Option, Some, None, MatchOption, refl, ap, sym, ◌∙◌, arith, nat_lt, nat_le, zero, suc, ◌++◌, ◌∷◌, [], append_assoc}
 use Rattle.std.proofs.lemmas.List.{append-nil}
 use Rattle.std.proofs.lemmas.List.Elements.{filter-append}
 use Rattle.std.proofs.lemmas.Bool.{eqb-true, ltb-true, lt-ltb}
@@ -7,8 +7,8 @@ use Rattle.std.specs.Option.{option_map}
 use Rattle.open_calls.specs.declared.own_call.OwnCall.{OwnCall}
 use Rattle.open_calls.specs.declared.keys_by_caller.KeysByCaller.{KeysByCaller}
 use Rattle.open_calls.specs.Numbered.{at, up_to, Above, Below, Ascending}
-use Rattle.open_calls.specs.Own.{OwnState, is_wanted_by, next_wanted, new_call, new_calls, withdrawn}
-use Rattle.open_calls.specs.Inner.{has_key, passes, is_of, IsKeyIndex}
+use Rattle.open_calls.specs.Own.{OwnState, is_wanted_by, next_wanted, new_call, new_calls}
+use Rattle.open_calls.specs.Inner.{has_key, passes, IsKeyIndex}
 use Rattle.open_calls.proofs.Numbered.{find_none, find_first, above_push, up_to_all, up_to_above}
 
 abbrev pub state_of : ℕ → List (ℕ × OwnCall) → OwnState

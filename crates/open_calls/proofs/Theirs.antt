@@ -1,5 +1,5 @@
 -- The index of the other side's calls after a change, and the state that is seen.
-use Rattle.std.proofs.Common.{◌≡◌, ℕ, ◌<◌, ◌==◌, ◌&&◌, not, Bool, true, false, cond, if◌then◌else◌, List, Option, Some, None, MatchOption, refl, ap, sym, ◌∙◌}
+use Rattle.std.proofs.Common.{◌≡◌, ℕ, ◌<◌, ◌==◌, ◌&&◌, not, Bool, true, false, cond, if◌then◌else◌, List, Option, Some, None, refl, ap, sym, ◌∙◌}
 use Rattle.std.proofs.lemmas.Bool.{eqb-true}
 use Rattle.std.specs.Option.{option_map}
 use Rattle.rpc_messages.specs.declared.id.Id.{Id}
@@ -11,7 +11,7 @@ use Rattle.open_calls.specs.Numbered.{at, Ascending}
 use Rattle.open_calls.specs.Theirs.{TheirState, is_reached, reached, cancelled}
 use Rattle.open_calls.specs.Inner.{is_listed, passes, IsNumberIndex, IsWithNumber, IsWithoutNumber}
 use Rattle.open_calls.proofs.Numbered.{find_none, find_first}
-use Rattle.open_calls.proofs.Own.{gone_step, come_step, passes_at, undone_step, some_of, and_true, and_false, false_and}
+use Rattle.open_calls.proofs.Own.{gone_step, come_step, passes_at, undone_step, and_true, and_false, false_and}
 
 abbrev pub state_of : ℕ → List (ℕ × TheirCall) → TheirState
 state_of came calls = record { came = came; calls = calls }

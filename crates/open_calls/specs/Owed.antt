@@ -1,5 +1,5 @@
 -- The answers that aren't out yet.
-use Rattle.std.specs.Prelude.{ℕ, ◌≡◌, ◌<◌, Bool, true, false, List, [], ◌∷◌, Option, Some, None, MatchOption, length, map, slice_set, count_by, if◌then◌else◌}
+use Rattle.std.specs.Prelude.{ℕ, ◌≡◌, ◌<◌, Bool, List, [], ◌∷◌, Option, Some, None, length, map, slice_set, count_by, if◌then◌else◌}
 use Rattle.std.specs.Option.{is_none, option_map, unwrap_or}
 use Rattle.std.specs.Global.{Vec}
 use Rattle.connection_messages.specs.Texts.{batch_text}

@@ -1,4 +1,4 @@
-use Rattle.std.proofs.Common.{Some, true, refl, ap, sym, rules}
+use Rattle.std.proofs.Common.{Some, true, ap, sym, rules}
 use Rattle.open_calls.specs.Inner.{is_in}
 use Rattle.open_calls.proofs.Listed.{listed-put, listed-changed, listed-same, on_err_of}
 use Rattle.open_calls.proofs.numbers_by_id.NumbersById.add.Goals as goal

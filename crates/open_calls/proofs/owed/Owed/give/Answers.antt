@@ -1,4 +1,4 @@
-use Rattle.std.proofs.Common.{◌≡◌, ◌+◌, ◌-◌, Some, ap, set, arith}
+use Rattle.std.proofs.Common.{Some, ap, arith}
 use Rattle.std.proofs.lemmas.List.{map-set}
 use Rattle.open_calls.specs.Owed.{given}
 use Rattle.open_calls.proofs.OwedLemmas.{through, unit_of, text_seen, give_count}

@@ -1,4 +1,4 @@
-use Rattle.std.proofs.Common.{◌≡◌, ◌+◌, ◌++◌, ◌∷◌, [], subst, sym, ap, ◌∙◌, arith}
+use Rattle.std.proofs.Common.{◌+◌, ◌++◌, ◌∷◌, [], subst, sym, ap, ◌∙◌, arith}
 use Rattle.open_calls.specs.Numbered.{Below}
 use Rattle.open_calls.specs.Owed.{seen_slots}
 use Rattle.open_calls.proofs.Numbered.{ascending, pushed, below_push}

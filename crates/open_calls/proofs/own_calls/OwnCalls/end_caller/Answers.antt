@@ -1,4 +1,4 @@
-use Rattle.std.proofs.Common.{◌≡◌, ◌<◌, ◌==◌, not, false, true, length, ◌∙◌, ap, subst, sym, arith}
+use Rattle.std.proofs.Common.{◌≡◌, ◌<◌, ◌==◌, not, length, ◌∙◌, ap, subst, sym}
 use Rattle.open_calls.specs.Numbered.{at, without}
 use Rattle.open_calls.specs.Own.{OwnState, without_caller}
 use Rattle.open_calls.specs.Inner.{is_of, passes}

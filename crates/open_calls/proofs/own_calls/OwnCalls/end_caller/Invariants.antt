@@ -1,6 +1,5 @@
 use Rattle.std.proofs.Common.{◌≡◌, length}
 use Rattle.open_calls.specs.Own.{without_caller}
-use Rattle.open_calls.proofs.Own.{state_of}
 use Rattle.open_calls.proofs.own_calls.OwnCalls.end_caller.Given as goal
 
 abbrev pub invariant-loop-key : goal.invariant-loop-key

@@ -1,5 +1,5 @@
-use Rattle.std.proofs.Common.{◌≡◌, ℕ, ◌+◌, ◌++◌, ◌∷◌, [], suc, Some, None, ◌∙◌, ◌==◌, ap, subst, sym, refl, arith, add-one}
-use Rattle.open_calls.specs.Numbered.{at, Above, Below}
+use Rattle.std.proofs.Common.{◌≡◌, ◌+◌, ◌++◌, ◌∷◌, [], suc, Some, ◌∙◌, ◌==◌, ap, subst, sym, refl, arith, add-one}
+use Rattle.open_calls.specs.Numbered.{Above, Below}
 use Rattle.open_calls.specs.Own.{is_wanted_by, new_call}
 use Rattle.open_calls.specs.Inner.{is_of, passes}
 use Rattle.open_calls.proofs.Numbered.{ascending, pushed, below_push, above_push, at_updates, at_below}

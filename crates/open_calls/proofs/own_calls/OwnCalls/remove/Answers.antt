@@ -1,4 +1,4 @@
-use Rattle.std.proofs.Common.{◌≡◌, ℕ, suc, Some, None, ◌∙◌, ◌==◌, not, ap, subst, sym, refl}
+use Rattle.std.proofs.Common.{◌≡◌, suc, Some, None, ◌∙◌, ◌==◌, not, subst, sym, refl}
 use Rattle.open_calls.specs.Numbered.{at, without, Above, Below}
 use Rattle.open_calls.specs.Own.{is_wanted_by}
 use Rattle.open_calls.specs.Inner.{is_of}

@@ -1,4 +1,4 @@
-use Rattle.std.proofs.Common.{◌≡◌, ℕ, suc, Some, None, ◌∙◌, ◌==◌, not, ap, subst, sym, refl, rules}
+use Rattle.std.proofs.Common.{◌≡◌, ℕ, suc, Some, ◌∙◌, ◌==◌, not, ap, subst, sym, refl, rules}
 use Rattle.std.specs.BTreeMap as tree
 use Rattle.open_calls.specs.declared.own_call.OwnCall.{OwnCall}
 use Rattle.open_calls.specs.Numbered.{at, changed_at, Above, Below}

@@ -1,5 +1,5 @@
 use Rattle.std.proofs.Common.{◌≡◌, ◌+◌, ◌++◌, ◌∷◌, [], suc, Some, ◌∙◌, subst, sym, refl, arith, add-one}
-use Rattle.open_calls.specs.Numbered.{at, Below}
+use Rattle.open_calls.specs.Numbered.{Below}
 use Rattle.open_calls.specs.Theirs.{new_call}
 use Rattle.open_calls.proofs.Numbered.{ascending, pushed, below_push, at_updates, at_below}
 use Rattle.open_calls.proofs.OwedLemmas.{through}

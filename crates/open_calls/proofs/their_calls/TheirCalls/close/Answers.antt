@@ -1,4 +1,4 @@
-use Rattle.std.proofs.Common.{◌≡◌, suc, Some, None, ◌∙◌, ◌==◌, not, ap, subst, sym}
+use Rattle.std.proofs.Common.{◌≡◌, suc, Some, None, ◌∙◌, ◌==◌, not, subst, sym}
 use Rattle.open_calls.specs.Numbered.{at, without, Below}
 use Rattle.open_calls.proofs.Numbered.{ascending, removed, below_filter, at_updates, at-get}
 use Rattle.open_calls.proofs.OwedLemmas.{through}
