@@ -130,8 +130,8 @@ def judge_wrong(body: Body, output: Output, is_alone: bool) -> Optional[Judged]:
         return Judged(body, False, "unfit", f"the check has no line on {lost}") if is_alone else None
     goals = [f"{it.name.split('::', 1)[1]}: {short(it.goals)}" for it in lines if it.goals]
     answers = [f"{it.name.split('::', 1)[1]}: {short(it.answers)}" for it in lines if it.falls_by_itself and not it.goals]
-    if any(it.word == "could not tell" for it in lines):
-        return Judged(body, False, "unfit", "the prover could not tell") if is_alone else None
+    if not all(it.is_judged for it in lines):
+        return Judged(body, False, "unfit", f"the prover could not judge it: {rest_of([it for it in lines if not it.is_judged])}") if is_alone else None
     if goals:
         return Judged(body, True, "refused", short(goals))
     if any(it.falls_by_itself for it in lines):

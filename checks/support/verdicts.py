@@ -7,6 +7,9 @@ ONLY = re.compile(r"only=(?P<asked>\d+) proved=(?P<proved>\d+)")
 GOAL = re.compile(r"note: (?P<place>\S+:\d+:\d+): it is not proved that (?P<what>.*?) \(`(?P<goal>[^`]+)`\)(?P<rest>.*)")
 ERROR = re.compile(r"(?:\./)?(?P<file>(?:src|specs|proofs)/\S+?):(?P<line>\d+):\d+: error: (?P<what>.*)")
 GONE = re.compile(r"has no field|is not in scope|has no `|was not admitted")
+OWED = re.compile(r"it calls |it waits for the proof of |the borrow checker's part in its proof is not made yet: a call of .*, which has no proof")
+OWED_IN_CYCLE = re.compile(r"`search` did not prove |expected answers in ")
+UNCOVERED = re.compile(r"the borrow checker(?: does not cover this function yet|'s part in its proof is not made yet)")
 UNREAD = re.compile(r"is not in scope|has no field|is no name|operand is missing|expected the end|cannot continue")
 
 
@@ -31,21 +34,26 @@ class Verdict:
         return "+" in self.name
 
     @property
+    def reasons(self) -> list[str]:
+        """Why it isn't proved, as its line says."""
+        return [it.strip() for it in self.rest.lstrip(":; ").split("; ") if it.strip()]
+
+    @property
+    def is_judged(self) -> bool:
+        """Whether the prover judged it. It did not where it can't tell, or has no rule for a statement, whatever the contract says."""
+        return self.word != "could not tell" and not any(UNCOVERED.search(it) and not OWED.search(it) for it in self.reasons)
+
+    @property
     def falls_by_itself(self) -> bool:
         """Whether it falls for a reason of its own, and not only because it calls what isn't proved."""
         if self.is_proved:
             return False
         if self.goals or self.answers:
             return True
-        rest = self.rest.lstrip(":; ")
-        if re.match(r"in `[^`]+`, of this cycle of calls: ", rest):
+        if re.match(r"in `[^`]+`, of this cycle of calls: ", self.rest.lstrip(":; ")):
             return False
-        reasons = [it.strip() for it in rest.split("; ") if it.strip()]
-        of_others = ["it calls ", "it waits for the proof of "]
-        if self.cycle:
-            # (its line then tells of the whole cycle)
-            of_others += ["`search` did not prove ", "expected answers in "]
-        is_owed = bool(reasons) and all(it.startswith(tuple(of_others)) for it in reasons)
+        # (of a member of a cycle of calls the line tells of the whole cycle)
+        is_owed = bool(self.reasons) and all(OWED.match(it) or self.cycle and OWED_IN_CYCLE.match(it) for it in self.reasons)
         return not is_owed or self.kind == "fn" and self.word != "no proof"
 
     @property
