@@ -1,4 +1,4 @@
-"""Runs programs under a malloc that refuses, or one that counts."""
+"""Runs programs under a malloc that refuses, or one that counts; or where a thread can't be started."""
 import os
 import struct
 import subprocess
@@ -59,18 +59,19 @@ def requests_for_memory(words, given=b""):
 
 
 class Refusals:
-    """The library that refuses, compiled in a folder that goes with it."""
+    """The library that refuses memory, or threads, compiled in a folder that goes with it."""
 
-    def __init__(self):
+    def __init__(self, name="refuse_malloc"):
         self.room = tempfile.TemporaryDirectory(prefix="refused-")
-        self.library = compiled("refuse_malloc", self.room.name)
+        self.library = compiled(name, self.room.name)
 
     def run(self, words, given, how, number):
         """Runs a program under refusals: its status, what it wrote to its two outputs, and whether anything was refused. `how` is
-        REFUSE_NTH, REFUSE_FROM or REFUSE_OVER, as refuse_malloc.c says."""
+        REFUSE_NTH, REFUSE_FROM or REFUSE_OVER, as refuse_malloc.c says; of threads it is REFUSE_NTH. The input is bytes, or a file."""
         told, tell = os.pipe()
         env = {**os.environ, "LD_PRELOAD": self.library, how: str(number), "REFUSE_TELL": str(tell)}
-        ended = subprocess.run(words, input=given, capture_output=True, timeout=120, env=env, pass_fds=[tell], check=False)
+        stream = {"input": given} if isinstance(given, bytes) else {"stdin": given}
+        ended = subprocess.run(words, capture_output=True, timeout=120, env=env, pass_fds=[tell], check=False, **stream)
         os.close(tell)
         was_refused = os.read(told, 1) != b""
         os.close(told)
