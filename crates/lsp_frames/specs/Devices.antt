@@ -1,5 +1,5 @@
 -- Where bytes come from and where they go to.
-use Rattle.std.specs.Prelude.{◌≡◌, ℕ, ◌+◌, ◌-◌, ◌^◌, ◌<◌, min, List, [], ◌++◌, take, Result, Ok, Err, MatchResult}
+use Rattle.std.specs.Prelude.{◌≡◌, ℕ, ◌+◌, ◌-◌, ◌^◌, ◌<◌, min, List, [], ◌++◌, take, Option, Some, IfSome, Result, Ok, Err, MatchResult}
 use Rattle.lsp_frames.specs.declared.device.IoFault.{IoFault}
 
 -- A call that fails counts one failure more, up to u64's greatest value. No other call counts one.
@@ -28,3 +28,7 @@ GivesNext before after (Err fault) room = before [] Failed
 pub record GivesFrontOf (held bytes : List ℕ) (ending : Ending) : Type 0 where
   pub front : (rest : List ℕ) × (held ≡ bytes ++ rest)
   pub whole : ending ≡ Finished → bytes ≡ held
+
+-- What a sink has handed on, where that is known, is all that it has taken.
+abbrev pub HandsOnAll : Option (List ℕ) → Option (List ℕ) → Type 0
+HandsOnAll handed taken = IfSome handed (λ bytes. taken ≡ Some bytes)

@@ -1,8 +1,8 @@
 //! Where bytes come from and where they go to.
 
-ghost use Rattle.std.specs.Prelude.{◌≡◌, ◌<◌, ◌≤◌, ℕ, List, [], Option, length, take, IfOk, IfErr, OnOk};
+ghost use Rattle.std.specs.Prelude.{◌≡◌, ◌<◌, ◌≤◌, ℕ, List, [], Option, None, length, take, IfOk, IfErr, OnOk};
 ghost use Rattle.std.specs.Io.KnownBytes.{Keeps, Appends, WriteAppends};
-ghost use Rattle.lsp_frames.specs.Devices.{CountsFailure, Ending, Unfinished, GivesNext};
+ghost use Rattle.lsp_frames.specs.Devices.{CountsFailure, Ending, Unfinished, GivesNext, HandsOnAll};
 
 /// A device failed; its count of failures tells so too.
 #[derive(Clone, Copy, Debug, PartialEq, Eq)]
@@ -35,6 +35,9 @@ pub trait Sink {
     /// The bytes that it has taken, where they are known.
     ghost bytes_taken: { Self → Option (List ℕ) };
 
+    /// The bytes that it has handed on, where they are known: those that it had taken by its last flush.
+    ghost handed_on: { Self → Option (List ℕ) } = { λ _. None };
+
     /// How many of its calls have failed, up to u64's greatest value.
     ghost failures: { Self → ℕ };
 
@@ -49,6 +52,7 @@ pub trait Sink {
     /// Hands on what was taken and is still kept.
     fn flush(&mut self) -> Result<(), IoFault>
         ensures bytes { Keeps (bytes_taken self.old) (bytes_taken self.new) }
+        ensures handed_on { OnOk result (HandsOnAll (handed_on self.new) (bytes_taken self.new)) }
         ensures cause { CountsFailure (failures self.old) (failures self.new) result };
 
     fn failures(&self) -> u64

@@ -98,6 +98,8 @@ impl MemSink {
 impl Sink for MemSink {
     ghost bytes_taken = { λ sink. Some sink.taken };
 
+    ghost handed_on = { λ sink. Some sink.taken };
+
     ghost failures = { λ sink. sink.failures };
 
     fn put(&mut self, bytes: &[u8]) -> Result<usize, IoFault>

@@ -71,6 +71,8 @@ impl<W: Write> StdSink<W> {
 impl<W: Write> Sink for StdSink<W> {
     ghost bytes_taken = { λ sink. W.contents sink.writer };
 
+    ghost handed_on = { λ sink. W.contents sink.writer };
+
     ghost failures = { λ sink. sink.failures };
 
     fn put(&mut self, bytes: &[u8]) -> Result<usize, IoFault> {

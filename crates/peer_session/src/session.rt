@@ -1,9 +1,10 @@
 //! One session of a peer.
 
-ghost use Rattle.std.specs.Prelude.{◌≡◌, ◌↔◌, ◌≤◌, ◌+◌, ℕ, IsTrue, IfOk, IfSome, OnErr, is_none, length, take, option_map, None, true, false, ◌-◌, ◌^◌, min, if◌then◌else◌};
+ghost use Rattle.std.specs.Prelude.{◌≡◌, ◌↔◌, ◌<◌, ◌≤◌, ◌+◌, ℕ, IsTrue, IfOk, IfSome, OnErr, OnOk, is_none, length, take, option_map, None, true, false, ◌-◌, ◌^◌, min, if◌then◌else◌};
 ghost use Rattle.std.specs.Io.KnownBytes.{Appends};
+ghost use Rattle.lsp_frames.specs.Devices.{HandsOnAll};
 ghost use Rattle.rpc_messages.specs.Unit.{unit_of};
-ghost use Rattle.session_state.specs.Turning.{ready};
+ghost use Rattle.session_state.specs.Turning.{due_bytes, ready};
 ghost use Rattle.peer_session.specs.Events.{ended, TakesUnit, LeavesAt, picked, with_job_back, DrainsTo, CountsDrain};
 ghost use Rattle.peer_session.specs.SessionState.{SessionState, IsDone, new_session, report_of};
 
@@ -214,6 +215,8 @@ impl<'a> Session<'a> {
             (S.bytes_taken sink.new) }
         ensures cause { CountsDrain (view self.old) (S.failures sink.old) result
             (S.failures sink.new) }
+        ensures handed_on { 0 < length (due_bytes (view self.old).core) →
+            OnOk result (HandsOnAll (S.handed_on sink.new) (S.bytes_taken sink.new)) }
     {
         if self.is_broken {
             return Err(DrainFault::Write);
@@ -256,6 +259,8 @@ fn write<S: Sink>(sink: &mut S, bytes: &[u8]) -> bool
         Appends (S.bytes_taken sink.old) (S.bytes_taken sink.new) bytes.now }
     ensures part { result ≡ false → (count : ℕ) × Appends (S.bytes_taken sink.old)
         (S.bytes_taken sink.new) (take count bytes.now) }
+    ensures handed_on { result ≡ true → 0 < length bytes.now →
+        HandsOnAll (S.handed_on sink.new) (S.bytes_taken sink.new) }
 {
     if bytes.is_empty() {
         return true;

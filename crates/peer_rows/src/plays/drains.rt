@@ -10,11 +10,12 @@ use std::io::{self, Write};
 use std::process::Abort;
 use std::test::Fail;
 
-/// Takes all bytes, and counts them and its flushes.
+/// Takes all bytes, and counts them, its flushes, and the bytes that stood before the last of these.
 #[derive(Drop)]
 struct Counter {
     bytes: usize,
     flushes: u32,
+    handed_on: usize,
 }
 
 impl Write for Counter {
@@ -25,6 +26,7 @@ impl Write for Counter {
 
     fn flush(&mut self) -> io::Result<()> {
         self.flushes = self.flushes.saturating_add(1);
+        self.handed_on = self.bytes;
         Ok(())
     }
 }
@@ -38,7 +40,7 @@ fn take(alloc: Global, session: &mut Session<'_>, content: &str) -> Result<(), A
     Ok(())
 }
 
-/// Whether the counter has so many bytes and flushes once the session has written what is due.
+/// Whether the counter has so many bytes, all handed on, and so many flushes once the session has written what is due.
 fn is_drained(
     session: &mut Session<'_>,
     counter: &mut Counter,
@@ -47,6 +49,7 @@ fn is_drained(
 ) -> bool {
     session.drain(&mut StdSink::new(&mut *counter)).is_ok()
         && counter.bytes == bytes
+        && counter.handed_on == bytes
         && counter.flushes == flushes
 }
 
@@ -71,6 +74,7 @@ fn each_is_drained(
     let mut counter = Counter {
         bytes: 0,
         flushes: 0,
+        handed_on: 0,
     };
     for (content, bytes, flushes) in DRAINS {
         take(alloc, session, content)?;

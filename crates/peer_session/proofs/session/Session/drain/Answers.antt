@@ -1,5 +1,5 @@
 -- What is due is put, and then written, all of it or some.
-use Rattle.std.proofs.Common.{◌≡◌, ◌+◌, ◌-◌, ◌^◌, ◌++◌, min, take, refl, ap, subst, ◌∙◌}
+use Rattle.std.proofs.Common.{◌≡◌, ℕ, ◌+◌, ◌-◌, ◌^◌, ◌<◌, List, ◌++◌, length, min, take, refl, sym, ap, subst, ◌∙◌}
 use Rattle.std.specs.Io.KnownBytes.{Appends}
 use Rattle.session_state.specs.Turning.{due_bytes}
 use Rattle.peer_session.specs.Events.{broken}
@@ -64,3 +64,10 @@ unfolding view
 returns-else-is_written-clause-cause g c =
     c.write-is_written.ensures.cause ∙ told-false (g.S.Sink.failures c.args.sink.now) (min (g.S.Sink.failures c.args.sink.now + 1) (2 ^ 64 - 1)) c.write-is_written.result c.if-is_written.false
     ∙ now-broken (g.S.Sink.failures c.args.sink.now) c.args.self.now.is_broken c.if-self.false
+
+pub returns-then-is_written-clause-handed_on : goal.returns-then-is_written-clause-handed_on
+unfolding view
+returns-then-is_written-clause-handed_on g c = λ some.
+    let due = due_bytes c.args.self.now.runs in
+    let out : c.as_slice.result.now ≡ due = c.as_slice.ensures.value ∙ c.in-Ok.ensures.bytes ∙ ap (λ l. l ++ due) c.clear.ensures.items in
+    c.write-is_written.ensures.handed_on c.if-is_written.true (subst (λ (l : List ℕ). 0 < length l) (sym out) some)
