@@ -22,6 +22,7 @@ WAYS = {
     "lazy": ["play lazy first"],
     "last": ["play eager last"],
     "listed": ["play eager 1"],  # (the place 1 first, and then the place 0)
+    "places": ["play lazy 1,0"],  # (the place 1, the place 0, and then the place 0 each time)
     "served": [f"serve {it}" for it in (1, 2, 3, 4, 64)],
 }
 COUNTS = {"numbers": "numbers", "messages": "messages", "call frames": "calls", "answers": "answers", "polls": "polls"}

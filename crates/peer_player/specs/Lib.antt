@@ -2,3 +2,4 @@ pub mod Inner
 pub mod Play
 pub mod Player
 pub mod Playing
+pub mod Schedule

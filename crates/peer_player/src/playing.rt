@@ -13,6 +13,7 @@ ghost use Rattle.session_state.specs.Turning.{ready};
 ghost use Rattle.peer_session.specs.Events.{CountsDrain};
 ghost use Rattle.peer_session.specs.Session.{view};
 ghost use Rattle.peer_player.specs.Playing.{HasDrained, HasWritten, HasSettled, HasStopped, close_by, HasEnded};
+ghost use Rattle.peer_player.specs.Schedule.{TurnsPicked, turns_after};
 
 use crate::known::known;
 use crate::schedule::Schedule;
@@ -198,6 +199,10 @@ impl<'a, S: Sink> Playing<'a, S> {
             all_turns_left (view self.old.session).core.stages }
         ensures none { result ≡ false → (ready (view self.new.session).core ≡ []) × (view
             self.new.session ≡ view self.old.session) }
+        ensures picked { IsTrue result → TurnsPicked self.old.schedule.now.picks self.old.turned
+            (view self.old.session) (view self.new.session) }
+        ensures counted { self.new.turned ≡ turns_after result self.old.turned }
+        ensures schedule { self.new.schedule ≡ self.old.schedule }
         ensures sink { self.new.sink ≡ self.old.sink }
         ensures same { (view self.new.session).is_broken ≡ (view self.old.session).is_broken }
     {

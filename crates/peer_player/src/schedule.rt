@@ -1,5 +1,8 @@
 //! When a player turns handlers, and which.
 
+ghost use Rattle.std.specs.Prelude.{◌≡◌};
+ghost use Rattle.peer_player.specs.Schedule.{place_of};
+
 use json_values::Items;
 
 /// The order in which a player does its work. It decides which of the allowed outputs is written.
@@ -24,7 +27,9 @@ pub enum Picks {
 
 impl Picks {
     /// The place of the handler that is turned where so many were turned before and so many are ready.
-    pub(crate) fn place(&self, turned: usize, ready: u32) -> u32 {
+    pub(crate) fn place(&self, turned: usize, ready: u32) -> u32
+        ensures { result ≡ place_of self.now turned ready }
+    {
         match self {
             Picks::First => 0,
             Picks::Last => ready.saturating_sub(1),
