@@ -29,7 +29,7 @@ returns g c = λ start had.
           (subst (λ looks. ServesAfter start.table start.limits (received self.ring) start.taken self.decoder
           (with_job_back s c.in-Some.gated.job.handler c.in-Some.gated.job.outcome c.in-Some.gated.job.polls) looks at) (sym c.in-Some.ensures.emptied)
           (comes-home c.known.ensures start.table start.limits (received self.ring) start.taken self.decoder s (looks_of self.seat) at had.after
-          c.args.slot told.0 c.in-Some.gated told.1 told.2));
+          c.args.slot told.0 c.in-Some.gated told.1 told.2.1));
       ring = had.ring;
       unfailing = had.unfailing;
     }

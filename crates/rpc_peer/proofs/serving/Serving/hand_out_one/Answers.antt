@@ -41,9 +41,9 @@ returns-clause-ok g c = λ start had.
           c.offer-offered.ensures.placed))
           (goes-out c.known.ensures start.table start.limits (received self.ring) start.taken self.decoder (view self.session) (looks_of self.seat) at had.after
           slot c.new.result c.in-Some.job.handler (view c.next_job.new.self) c.in-Some.ensures.leaves
-          (ap (λ (job : Job). job.handler) c.new.ensures) c.in-Some.ensures.number
-          (ap (λ (job : Job). job.outcome) c.new.ensures ∙ c.in-Some.ensures.unturned.0)
-          (ap (λ (job : Job). job.polls) c.new.ensures ∙ c.in-Some.ensures.unturned.1));
+          (ap (λ (job : Job). job.handler) c.new.ensures.job) c.in-Some.ensures.number
+          (ap (λ (job : Job). job.outcome) c.new.ensures.job ∙ c.in-Some.ensures.unturned.0)
+          (ap (λ (job : Job). job.polls) c.new.ensures.job ∙ c.in-Some.ensures.unturned.1));
       ring = had.ring;
       unfailing = had.unfailing;
     }
