@@ -2,6 +2,8 @@
 ghost use Rattle.std.specs.Prelude.{◌≡◌};
 ghost use Rattle.job_slots.specs.Seats.{IsClerkOf, IsWorkerOf};
 
+mod closings;
+
 use job_slots::{ClerkSeat, JobSlots, Ran, Turns, WorkerSeat};
 use std::alloc::Global;
 use std::process::Abort;
