@@ -48,6 +48,7 @@ LENDS_HELPED = LENDS + ": help: prove it first"
 LENDS_AND_CALLS = LENDS + "; it calls `inner`, which has no proof"
 LENDS_AND_FALLS = LENDS + "; `search` did not prove `returns-clause`"
 UNCOVERED = "fn toy::{0}: no proof: the borrow checker does not cover this function yet: two branches join: help: choose in a function of its own"
+UNCOVERED_BY_HAND = "fn toy::{0}: no proof: expected `{0}_spec` in ./proofs/{0}/Proof.antt; the borrow checker does not cover this function yet: src/lib.rt:6:5: it is lent"
 UNMADE = "fn toy::{0}: no proof: the borrow checker's part in its proof is not made yet: help: write the method in each `impl`"
 UNTOLD = "fn toy::{0}: could not tell: the search met a limit"
 
@@ -65,6 +66,7 @@ CASES = [
     ("a loan and a call", LENDS_AND_CALLS, None, "unfit"),
     ("a loan and an open goal", LENDS_AND_FALLS, "refused", "refused"),
     ("a function that isn't covered", UNCOVERED, None, "unfit"),
+    ("the same, with a proof by hand", UNCOVERED_BY_HAND, None, "unfit"),
     ("a part of a proof that can't be made", UNMADE, None, "unfit"),
     ("a verdict that couldn't be had", UNTOLD, None, "unfit"),
 ]
