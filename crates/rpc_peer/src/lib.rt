@@ -55,4 +55,4 @@ pub use gate::{Gate, OpenGate};
 pub use gated::Gated;
 pub use peer_player::{Picks, PlayFault, Player, Schedule, play, play_to};
 pub use peer_session::{Close, DrainFault, Job, Limits, Report, Session, Taken};
-pub use server::{MOST_WORKERS, serve, serve_by, serve_with};
+pub use server::{MOST_WORKERS, limit_of_workers_in_figures, serve, serve_by, serve_with};

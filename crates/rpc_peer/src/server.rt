@@ -31,6 +31,11 @@ use std::thread::Threads;
 /// The most workers that a server may have.
 pub const MOST_WORKERS: u32 = 64;
 
+/// The limit in figures. All other definitions and clauses cite the constant.
+pub fn limit_of_workers_in_figures()
+    ensures { MOST_WORKERS ≡ 64 }
+{}
+
 /// So many pieces of the input may wait for the clerk.
 const PIECES: usize = 64;
 
