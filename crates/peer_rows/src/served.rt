@@ -2,6 +2,7 @@
 
 mod crew;
 mod devices;
+mod held_back;
 
 use crate::cuts;
 use lsp_frames::{MemSink, MemSource};
