@@ -16,7 +16,7 @@ pub use call::Call;
 pub use entry::Entry;
 pub use outgoing::Outgoing;
 pub use params::Params;
-pub use read::unit::{MOST_DEPTH, UnitReader};
+pub use read::unit::{MOST_DEPTH, UnitReader, limit_of_depth_in_figures};
 pub use reply::{Reply, ReplyError};
 pub use texts::{write_answer, write_call, write_calls, write_notice, write_withdrawal};
 pub use unit::Unit;

@@ -5,6 +5,7 @@ ghost use Rattle.std.specs.Prelude.{false};
 ghost use Rattle.json.specs.Tree.{HasNumbers, ItemsHaveNumbers};
 ghost use Rattle.json.specs.Value.{value_view, items_view};
 ghost use Rattle.connection_messages.specs.Reading.{entries_of, batch_of, value_unit, unit_of};
+ghost use Rattle.connection_messages.specs.declared.read.unit.TheConstants.{MOST_DEPTH};
 
 use super::entry::{read_entries, read_entry};
 use crate::entry::Entry;
@@ -18,6 +19,11 @@ use std::marker::Model;
 
 /// Contents nest at most this deep, each array or object counting one.
 pub const MOST_DEPTH: usize = 127;
+
+/// The limit in figures. All other definitions and clauses cite the constant.
+pub fn limit_of_depth_in_figures()
+    ensures { MOST_DEPTH ≡ 127 }
+{}
 
 /// The room that reading takes is kept from one content to the next where the content is at most this long, in bytes.
 const KEPT_ROOM: usize = 65_536;
