@@ -1,12 +1,15 @@
 //! The program over any reader and any two writers.
 use crate::command_line::{Subcommand, read};
+use crate::explanation::{Asked, explain};
 use crate::playing::play;
 use crate::run_failure::RunFailure;
+use crate::run_notes::RunNotes;
 use crate::serving::serve_streams;
 use crate::table_file::check;
 use lsp_frames::FrameFault;
 use program_edge::answer_words;
 use rpc_peer::Close;
+use std::alloc::Global;
 use std::io::{Read, Write};
 use std::rt::Files;
 use std::sync::Wait;
@@ -22,16 +25,47 @@ where
     W: Write,
     E: Write,
 {
-    match read(rt.alloc(), words) {
-        Ok(Subcommand::Serve(options)) => ended(serve_streams(rt, options, input, output), errors),
-        Ok(Subcommand::Play(options)) => ended(play(rt, options, input, output), errors),
-        Ok(Subcommand::Check { table }) => checked(check(rt, table, output), errors),
+    let alloc = rt.alloc();
+    match read(alloc, words) {
+        Ok(Subcommand::Serve(options)) => {
+            let asked = Asked::of_serve(options);
+            let mut notes = asked.notes(alloc);
+            let outcome = serve_streams(rt, options, input, output, &mut notes);
+            told(alloc, asked, &notes, outcome, errors)
+        }
+        Ok(Subcommand::Play(options)) => {
+            let asked = Asked::of_play(options);
+            let mut notes = asked.notes(alloc);
+            let outcome = play(rt, options, input, output, &mut notes);
+            told(alloc, asked, &notes, outcome, errors)
+        }
+        Ok(Subcommand::Check(options)) => {
+            let asked = Asked::of_check(options);
+            let mut notes = asked.notes(alloc);
+            let outcome = check(rt, options.table, output, &mut notes);
+            told(alloc, asked, &notes, outcome, errors)
+        }
         Err(refusal) => answer_words(&refusal, output, errors),
     }
 }
 
+/// Tells how a run ended, and more of it where that is asked for, and gives the status.
+fn told<E: Write>(
+    alloc: Global,
+    asked: Asked<'_>,
+    notes: &RunNotes,
+    outcome: Result<Close, RunFailure>,
+    errors: &mut E,
+) -> u8 {
+    let status = tell_end(outcome, errors);
+    if asked.explain {
+        let _ = explain(alloc, asked, notes, outcome, errors);
+    }
+    status
+}
+
 /// Tells how the input ended, where it isn't cleanly, or why nothing came of it, and gives the status.
-fn ended<E: Write>(outcome: Result<Close, RunFailure>, errors: &mut E) -> u8 {
+fn tell_end<E: Write>(outcome: Result<Close, RunFailure>, errors: &mut E) -> u8 {
     match outcome {
         Ok(Close::Clean) => 0,
         Ok(close) => {
@@ -39,14 +73,6 @@ fn ended<E: Write>(outcome: Result<Close, RunFailure>, errors: &mut E) -> u8 {
             let _ = writeln!(errors, "input ended: {name}");
             1
         }
-        Err(failure) => checked(Err(failure), errors),
-    }
-}
-
-/// Tells why a command wasn't done, where it wasn't, and gives the status.
-fn checked<E: Write>(outcome: Result<(), RunFailure>, errors: &mut E) -> u8 {
-    match outcome {
-        Ok(()) => 0,
         Err(failure) => {
             let _ = writeln!(errors, "{failure}");
             failure.status()

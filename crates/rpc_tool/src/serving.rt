@@ -1,7 +1,9 @@
 //! The command `serve`: the input is served as it comes, by several threads.
 use crate::command_line::ServeOptions;
 use crate::limits::limits_of;
+use crate::noted::{NotedReader, NotedWriter};
 use crate::run_failure::RunFailure;
+use crate::run_notes::RunNotes;
 use crate::table_file::table_in;
 use lsp_frames::{StdSink, StdSource};
 use program_edge::Failure;
@@ -17,15 +19,23 @@ pub fn serve_streams<R, I, W>(
     options: ServeOptions<'_>,
     input: I,
     output: &mut W,
+    notes: &mut RunNotes,
 ) -> Result<Close, RunFailure>
 where
     R: Files + AllocGlobal + Threads + Wait + Sync,
     I: Read + Drop + Send,
     W: Write,
 {
-    let table = table_in(rt, options.table)?;
+    let table = table_in(rt, options.table, notes)?;
     let limits = limits_of(options.limits)?;
-    let (source, sink) = (StdSource::new(input), StdSink::new(output));
+    let source = StdSource::new(NotedReader {
+        reader: input,
+        notes: &mut notes.input,
+    });
+    let sink = StdSink::new(NotedWriter {
+        writer: output,
+        failure: &mut notes.output,
+    });
     match serve(
         rt,
         rt.alloc(),
