@@ -1,5 +1,5 @@
 //! The lines that `--explain` adds.
-use crate::command_line::{CheckOptions, LimitOptions, PlayOptions, ServeOptions};
+use crate::command_line::{LimitOptions, Subcommand};
 use crate::refused_table::tell_refused;
 use crate::run_failure::RunFailure;
 use crate::run_notes::{InputNotes, RunNotes};
@@ -27,49 +27,44 @@ pub struct Asked<'a> {
 }
 
 impl<'a> Asked<'a> {
-    pub fn of_serve(options: ServeOptions<'a>) -> Asked<'a> {
-        Asked {
-            explain: options.explain,
-            table: options.table,
-            workers: Some(options.workers),
-            lines: false,
-            limits: Some(options.limits),
+    /// What a command asks for.
+    pub fn of(subcommand: Subcommand<'a>) -> Asked<'a> {
+        match subcommand {
+            Subcommand::Serve(options) => Asked {
+                explain: options.explain,
+                table: options.table,
+                workers: Some(options.workers),
+                lines: false,
+                limits: Some(options.limits),
+            },
+            Subcommand::Play(options) => Asked {
+                explain: options.explain,
+                table: options.table,
+                workers: None,
+                lines: options.lines,
+                limits: Some(options.limits),
+            },
+            Subcommand::Check(options) => Asked {
+                explain: options.explain,
+                table: Some(options.table),
+                workers: None,
+                lines: false,
+                limits: None,
+            },
         }
     }
 
-    pub fn of_play(options: PlayOptions<'a>) -> Asked<'a> {
-        Asked {
-            explain: options.explain,
-            table: options.table,
-            workers: None,
-            lines: options.lines,
-            limits: Some(options.limits),
-        }
-    }
-
-    pub fn of_check(options: CheckOptions<'a>) -> Asked<'a> {
-        Asked {
-            explain: options.explain,
-            table: Some(options.table),
-            workers: None,
-            lines: false,
-            limits: None,
-        }
-    }
-
-    /// The notes of a run that begins. Its input is followed only where it is to be explained.
-    pub fn notes(&self, alloc: Global) -> RunNotes {
-        match self.limits {
-            Some(limits) if self.explain => {
-                let content = limits.content.min(LARGEST_CONTENT);
-                RunNotes::new(Some(if self.lines {
-                    Watch::Lines(LineWatch::new(content))
-                } else {
-                    Watch::Frames(FrameWatch::new(alloc, content))
-                }))
-            }
-            _ => RunNotes::new(None),
-        }
+    /// What follows the input, where its end is to be explained.
+    pub fn watch(&self, alloc: Global) -> Option<Watch> {
+        let content = match self.limits {
+            Some(limits) if self.explain => limits.content.min(LARGEST_CONTENT),
+            _ => return None,
+        };
+        Some(if self.lines {
+            Watch::Lines(LineWatch::new(content))
+        } else {
+            Watch::Frames(FrameWatch::new(alloc, content))
+        })
     }
 }
 
@@ -77,7 +72,7 @@ impl<'a> Asked<'a> {
 pub fn explain<E: Write>(
     alloc: Global,
     asked: Asked<'_>,
-    notes: &RunNotes,
+    notes: RunNotes<'_>,
     outcome: Result<Close, RunFailure>,
     errors: &mut E,
 ) -> io::Result<()> {
@@ -85,15 +80,15 @@ pub fn explain<E: Write>(
         Ok(Close::Clean) => Ok(()),
         Ok(Close::Frame(_)) => tell_place(notes, errors),
         Ok(Close::Full) => tell_limit(asked, errors),
-        Ok(Close::Read) => tell_input(&notes.input, errors),
+        Ok(Close::Read) => tell_input(notes.input, errors),
         Err(RunFailure::Program(failure)) => tell_failure(asked, notes, failure, errors),
         Err(RunFailure::UnreadableTable) => {
             tell_file(asked, errors)?;
-            tell_read_cause(&notes.file, errors)
+            tell_read_cause(notes.table.failure, errors)
         }
         Err(RunFailure::RefusedTable { .. }) => {
             tell_file(asked, errors)?;
-            match &notes.refused {
+            match &notes.table.refused {
                 Some(refused) => tell_refused(alloc, refused, errors),
                 None => Ok(()),
             }
@@ -110,23 +105,23 @@ fn tell_limit<E: Write>(asked: Asked<'_>, errors: &mut E) -> io::Result<()> {
 
 fn tell_failure<E: Write>(
     asked: Asked<'_>,
-    notes: &RunNotes,
+    notes: RunNotes<'_>,
     failure: Failure,
     errors: &mut E,
 ) -> io::Result<()> {
     match failure {
         Failure::Memory => tell_missing(asked, notes, errors),
-        Failure::Read => tell_input(&notes.input, errors),
+        Failure::Read => tell_input(notes.input, errors),
         Failure::Write => tell_output(notes, errors),
-        Failure::Long => writeln!(errors, "  limit: 16777216 bytes for a line; a frame has none"),
+        Failure::Long => writeln!(errors, "  limit: 16777216 bytes a line; frames have none"),
         Failure::Words | Failure::Thread | Failure::Clock => Ok(()),
     }
 }
 
 /// Tells what could not be made. A server makes its threads before it reads.
-fn tell_missing<E: Write>(asked: Asked<'_>, notes: &RunNotes, errors: &mut E) -> io::Result<()> {
+fn tell_missing<E: Write>(asked: Asked<'_>, notes: RunNotes<'_>, errors: &mut E) -> io::Result<()> {
     match asked.workers {
-        _ if !notes.has_table => {
+        _ if !notes.table.is_there => {
             tell_file(asked, errors)?;
             writeln!(errors, "  missing: memory for the table")
         }
@@ -147,18 +142,18 @@ fn tell_file<E: Write>(asked: Asked<'_>, errors: &mut E) -> io::Result<()> {
 
 fn tell_input<E: Write>(input: &InputNotes, errors: &mut E) -> io::Result<()> {
     writeln!(errors, "  stream: standard input")?;
-    tell_read_cause(input, errors)
+    tell_read_cause(input.failure, errors)
 }
 
 /// Tells why a stream wasn't read to its end.
-fn tell_read_cause<E: Write>(input: &InputNotes, errors: &mut E) -> io::Result<()> {
-    match input.failure {
+fn tell_read_cause<E: Write>(failure: Option<io::Error>, errors: &mut E) -> io::Result<()> {
+    match failure {
         Some(error) => writeln!(errors, "  cause: {error}"),
         None => writeln!(errors, "  cause: it didn't end within 1000000 reads"),
     }
 }
 
-fn tell_output<E: Write>(notes: &RunNotes, errors: &mut E) -> io::Result<()> {
+fn tell_output<E: Write>(notes: RunNotes<'_>, errors: &mut E) -> io::Result<()> {
     writeln!(errors, "  stream: standard output")?;
     match notes.output {
         Some(error) => writeln!(errors, "  cause: {error}"),
@@ -167,7 +162,7 @@ fn tell_output<E: Write>(notes: &RunNotes, errors: &mut E) -> io::Result<()> {
 }
 
 /// Tells where the input is at fault.
-fn tell_place<E: Write>(notes: &RunNotes, errors: &mut E) -> io::Result<()> {
+fn tell_place<E: Write>(notes: RunNotes<'_>, errors: &mut E) -> io::Result<()> {
     match &notes.input.watch {
         Some(Watch::Frames(watch)) => match watch.place() {
             Some((before, count)) => {

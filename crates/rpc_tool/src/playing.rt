@@ -4,12 +4,11 @@ ghost use Rattle.std.specs.Prelude.{◌<◌};
 use crate::command_line::PlayOptions;
 use crate::input::InputStream;
 use crate::limits::limits_of;
-use crate::noted::{NotedReader, NotedWriter};
 use crate::output::{write_frames, write_lines};
 use crate::pieces::Pieces;
 use crate::reading::read_all;
 use crate::run_failure::RunFailure;
-use crate::run_notes::RunNotes;
+use crate::run_notes::TableNotes;
 use crate::table_file::table_in;
 use method_steps::Table;
 use program_edge::Failure;
@@ -27,22 +26,14 @@ pub fn play<R: Files + AllocGlobal, I: Read + Drop, W: Write>(
     options: PlayOptions<'_>,
     input: I,
     output: &mut W,
-    notes: &mut RunNotes,
+    notes: &mut TableNotes,
 ) -> Result<Close, RunFailure> {
     let table = table_in(rt, options.table, notes)?;
-    let input = NotedReader {
-        reader: input,
-        notes: &mut notes.input,
-    };
     let (bytes, report) = played(rt.alloc(), &table, options, input)?;
-    let mut output = NotedWriter {
-        writer: output,
-        failure: &mut notes.output,
-    };
     if options.lines {
-        write_lines(rt.alloc(), bytes.as_slice(), &mut output)?;
+        write_lines(rt.alloc(), bytes.as_slice(), output)?;
     } else {
-        write_frames(bytes.as_slice(), &mut output)?;
+        write_frames(bytes.as_slice(), output)?;
     }
     Ok(report.end)
 }

@@ -1,15 +1,15 @@
 //! The program over any reader and any two writers.
 use crate::command_line::{Subcommand, read};
 use crate::explanation::{Asked, explain};
+use crate::noted::{NotedReader, NotedWriter};
 use crate::playing::play;
 use crate::run_failure::RunFailure;
-use crate::run_notes::RunNotes;
+use crate::run_notes::{RunNotes, TableNotes};
 use crate::serving::serve_streams;
 use crate::table_file::check;
 use lsp_frames::FrameFault;
 use program_edge::answer_words;
 use rpc_peer::Close;
-use std::alloc::Global;
 use std::io::{Read, Write};
 use std::rt::Files;
 use std::sync::Wait;
@@ -26,39 +26,28 @@ where
     E: Write,
 {
     let alloc = rt.alloc();
-    match read(alloc, words) {
-        Ok(Subcommand::Serve(options)) => {
-            let asked = Asked::of_serve(options);
-            let mut notes = asked.notes(alloc);
-            let outcome = serve_streams(rt, options, input, output, &mut notes);
-            told(alloc, asked, &notes, outcome, errors)
+    let subcommand = match read(alloc, words) {
+        Ok(subcommand) => subcommand,
+        Err(refusal) => return answer_words(&refusal, output, errors),
+    };
+    let asked = Asked::of(subcommand);
+    let mut input = NotedReader::new(input, asked.watch(alloc));
+    let mut output = NotedWriter::new(output);
+    let mut table = TableNotes::new();
+    let outcome = match subcommand {
+        Subcommand::Serve(options) => {
+            serve_streams(rt, options, &mut input, &mut output, &mut table)
         }
-        Ok(Subcommand::Play(options)) => {
-            let asked = Asked::of_play(options);
-            let mut notes = asked.notes(alloc);
-            let outcome = play(rt, options, input, output, &mut notes);
-            told(alloc, asked, &notes, outcome, errors)
-        }
-        Ok(Subcommand::Check(options)) => {
-            let asked = Asked::of_check(options);
-            let mut notes = asked.notes(alloc);
-            let outcome = check(rt, options.table, output, &mut notes);
-            told(alloc, asked, &notes, outcome, errors)
-        }
-        Err(refusal) => answer_words(&refusal, output, errors),
-    }
-}
-
-/// Tells how a run ended, and more of it where that is asked for, and gives the status.
-fn told<E: Write>(
-    alloc: Global,
-    asked: Asked<'_>,
-    notes: &RunNotes,
-    outcome: Result<Close, RunFailure>,
-    errors: &mut E,
-) -> u8 {
+        Subcommand::Play(options) => play(rt, options, &mut input, &mut output, &mut table),
+        Subcommand::Check(options) => check(rt, options.table, &mut output, &mut table),
+    };
     let status = tell_end(outcome, errors);
     if asked.explain {
+        let notes = RunNotes {
+            table: &table,
+            input: &input.notes,
+            output: output.failure,
+        };
         let _ = explain(alloc, asked, notes, outcome, errors);
     }
     status

@@ -17,6 +17,9 @@ pub fn tell_refused<E: Write>(
     errors: &mut E,
 ) -> io::Result<()> {
     let RefusedText { text, fault } = refused;
+    if fault.kind == FaultKind::Memory {
+        return writeln!(errors, "  missing: memory for the table");
+    }
     match toml::table_from_slice(alloc, text.as_slice()) {
         Ok(top) => tell_entry(&top, *fault, errors),
         Err(error) if error.is_memory() => Ok(()),

@@ -3,6 +3,35 @@ use crate::watch::Watch;
 use method_steps::TableFault;
 use std::io;
 
+/// What is known of the table.
+#[derive(Drop)]
+pub struct TableNotes {
+    /// Why its file couldn't be opened or read, where the system said so.
+    pub failure: Option<io::Error>,
+    /// The text of that file, where it was refused.
+    pub refused: Option<RefusedText>,
+    /// Whether the run has got its table.
+    pub is_there: bool,
+}
+
+/// A text that was refused as a table.
+#[derive(Drop)]
+pub struct RefusedText {
+    pub text: Vec<u8>,
+    pub fault: TableFault,
+}
+
+impl TableNotes {
+    /// Nothing was done yet.
+    pub fn new() -> TableNotes {
+        TableNotes {
+            failure: None,
+            refused: None,
+            is_there: false,
+        }
+    }
+}
+
 /// What is known of a stream that was read.
 #[derive(Drop)]
 pub struct InputNotes {
@@ -14,48 +43,12 @@ pub struct InputNotes {
     pub watch: Option<Watch>,
 }
 
-impl InputNotes {
-    /// Nothing was read yet.
-    pub fn new(watch: Option<Watch>) -> InputNotes {
-        InputNotes {
-            was_read: false,
-            failure: None,
-            watch,
-        }
-    }
-}
-
-/// A text that was refused as a table.
-#[derive(Drop)]
-pub struct RefusedText {
-    pub text: Vec<u8>,
-    pub fault: TableFault,
-}
-
-/// What is known of a run.
-#[derive(Drop)]
-pub struct RunNotes {
-    /// Of the file of the table.
-    pub file: InputNotes,
-    /// The text of that file, where it was refused.
-    pub refused: Option<RefusedText>,
-    /// Whether the table was read.
-    pub has_table: bool,
+/// What is known of a run that is over.
+#[derive(Clone, Copy)]
+pub struct RunNotes<'a> {
+    pub table: &'a TableNotes,
     /// Of standard input.
-    pub input: InputNotes,
+    pub input: &'a InputNotes,
     /// Why standard output failed, where it did.
     pub output: Option<io::Error>,
-}
-
-impl RunNotes {
-    /// Nothing was done yet.
-    pub fn new(watch: Option<Watch>) -> RunNotes {
-        RunNotes {
-            file: InputNotes::new(None),
-            refused: None,
-            has_table: false,
-            input: InputNotes::new(watch),
-            output: None,
-        }
-    }
 }

@@ -1,9 +1,8 @@
 //! The command `serve`: the input is served as it comes, by several threads.
 use crate::command_line::ServeOptions;
 use crate::limits::limits_of;
-use crate::noted::{NotedReader, NotedWriter};
 use crate::run_failure::RunFailure;
-use crate::run_notes::RunNotes;
+use crate::run_notes::TableNotes;
 use crate::table_file::table_in;
 use lsp_frames::{StdSink, StdSource};
 use program_edge::Failure;
@@ -19,7 +18,7 @@ pub fn serve_streams<R, I, W>(
     options: ServeOptions<'_>,
     input: I,
     output: &mut W,
-    notes: &mut RunNotes,
+    notes: &mut TableNotes,
 ) -> Result<Close, RunFailure>
 where
     R: Files + AllocGlobal + Threads + Wait + Sync,
@@ -28,14 +27,7 @@ where
 {
     let table = table_in(rt, options.table, notes)?;
     let limits = limits_of(options.limits)?;
-    let source = StdSource::new(NotedReader {
-        reader: input,
-        notes: &mut notes.input,
-    });
-    let sink = StdSink::new(NotedWriter {
-        writer: output,
-        failure: &mut notes.output,
-    });
+    let (source, sink) = (StdSource::new(input), StdSink::new(output));
     match serve(
         rt,
         rt.alloc(),

@@ -1,13 +1,13 @@
 //! The table of methods, read from its file and judged.
-use crate::noted::{NotedReader, NotedWriter};
+use crate::noted::NotedReader;
 use crate::reading::read_all;
 use crate::run_failure::RunFailure;
-use crate::run_notes::{InputNotes, RefusedText, RunNotes};
+use crate::run_notes::{RefusedText, TableNotes};
 use method_steps::{Table, TableFault};
 use program_edge::Failure;
 use rpc_peer::Close;
 use std::fs;
-use std::io::{ErrorKind, Write};
+use std::io::{Error, ErrorKind, Write};
 use std::rt::Files;
 
 /// How many bytes of a table's file are read at a time: so few that all reads that the program makes give at most 256 MiB.
@@ -17,22 +17,22 @@ const TABLE_PIECE: usize = 256;
 pub fn table_in<R: Files + AllocGlobal>(
     rt: &R,
     path: Option<&str>,
-    notes: &mut RunNotes,
+    notes: &mut TableNotes,
 ) -> Result<Table, RunFailure> {
     let table = match path {
         Some(path) => read_table(rt, path, notes)?,
         None => Table::empty(rt.alloc()),
     };
-    notes.has_table = true;
+    notes.is_there = true;
     Ok(table)
 }
 
 fn read_table<R: Files + AllocGlobal>(
     rt: &R,
     path: &str,
-    notes: &mut RunNotes,
+    notes: &mut TableNotes,
 ) -> Result<Table, RunFailure> {
-    let text = read_file(rt, path, &mut notes.file)?;
+    let text = read_file(rt, path, &mut notes.failure)?;
     match Table::read(rt.alloc(), text.as_slice()) {
         Ok(table) => Ok(table),
         Err(fault) => {
@@ -45,7 +45,7 @@ fn read_table<R: Files + AllocGlobal>(
 fn read_file<R: Files + AllocGlobal>(
     rt: &R,
     path: &str,
-    notes: &mut InputNotes,
+    failure: &mut Option<Error>,
 ) -> Result<Vec<u8>, RunFailure> {
     let file = match fs::open(rt, path) {
         Ok(file) => file,
@@ -53,20 +53,20 @@ fn read_file<R: Files + AllocGlobal>(
             return Err(RunFailure::Program(Failure::Memory));
         }
         Err(error) => {
-            notes.failure = Some(error);
+            *failure = Some(error);
             return Err(RunFailure::UnreadableTable);
         }
     };
-    let mut reader = NotedReader {
-        reader: file,
-        notes,
-    };
+    let mut reader = NotedReader::new(file, None);
     let mut text = Vec::new(rt.alloc());
     let mut room = [0u8; TABLE_PIECE];
     match read_all(&mut reader, &mut room, &mut text) {
         Ok(()) => Ok(text),
         Err(Failure::Memory) => Err(RunFailure::Program(Failure::Memory)),
-        Err(_) => Err(RunFailure::UnreadableTable),
+        Err(_) => {
+            *failure = reader.notes.failure;
+            Err(RunFailure::UnreadableTable)
+        }
     }
 }
 
@@ -83,13 +83,9 @@ pub fn check<R: Files + AllocGlobal, W: Write>(
     rt: &R,
     path: &str,
     output: &mut W,
-    notes: &mut RunNotes,
+    notes: &mut TableNotes,
 ) -> Result<Close, RunFailure> {
     let methods = table_in(rt, Some(path), notes)?.len();
-    let mut output = NotedWriter {
-        writer: output,
-        failure: &mut notes.output,
-    };
     if writeln!(output, "ok: {methods} methods").is_err() || output.flush().is_err() {
         return Err(RunFailure::Program(Failure::Write));
     }

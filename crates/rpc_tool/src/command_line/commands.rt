@@ -119,5 +119,5 @@ pub const CALLS: NumberOption = NumberOption {
 
 pub const EXPLAIN: FlagOption = FlagOption {
     name: "explain",
-    help: "Write more lines to standard error, after the one that says why a run ended: what failed, where and why",
+    help: "Add lines to the one on standard error that says why a run ended: what failed, where and why",
 };

@@ -1,0 +1,236 @@
+"""What `--explain` adds to the one line on standard error: for each cause its lines, which are those of the table of docs/commands.md, in its
+order; without the option the line stands alone. And what else the program says to its user: help, and refused words."""
+import errno
+import os
+import re
+import resource
+import subprocess
+import tempfile
+
+from support import ran
+from support import rows
+
+count = ran.Count()
+ran.built()
+ROOM = tempfile.TemporaryDirectory()
+FRAME = rows.frames(rows.REQUEST)
+LINE = f"{rows.REQUEST}\n".encode()
+STANDARD_INPUT, STANDARD_OUTPUT = "stream: standard input", "stream: standard output"
+ENDLESS = "cause: it didn't end within 1000000 reads"
+
+
+def page_of(*place):
+    with open(os.path.join(ran.TOP, *place), encoding="utf-8") as it:
+        return it.read()
+
+
+def pattern_of(template):
+    """What a text of the page stands for: N is a number, and any other word in capitals some text."""
+    words = re.split(r"\b([A-Z]+)\b", template)
+    return "".join(r"\d+" if it == "N" else ".+" if number % 2 else re.escape(it) for number, it in enumerate(words))
+
+
+def table_of_page():
+    """For each first line that standard error may have, the lines that may stand behind it, as docs/commands.md has them."""
+    section = page_of("docs", "commands.md").split("## More lines\n")[1].split("\n## ")[0]
+    found = [it.strip("|").split("|") for it in section.splitlines() if it.startswith("| `")]
+    return [([pattern_of(it) for it in re.findall(r"`(.+?)`", first)], re.findall(r"`(\w+: .+?)`", added)) for first, added in found]
+
+
+PAGE = table_of_page()
+SEEN = set()
+
+
+def templates_for(first, added):
+    """Checks that the lines behind the first are those of the page, in its order."""
+    mine = [lines for patterns, lines in PAGE if any(re.fullmatch(it, first) for it in patterns)]
+    templates = iter(mine[0] if mine else [])
+    for line in added:
+        template = next((it for it in templates if re.fullmatch(pattern_of(it), line)), None)
+        count.check(f"the page has {line!r} behind {first!r}", template is not None)
+        SEEN.add((first.split(":")[0], template))
+
+
+def expect(name, run, first, *added, status=1):
+    """Compares what a run says with the option and without; its status and its output are the same."""
+    plain, more = run([]), run(["--explain"])
+    said = "".join([f"{first}\n", *(f"  {it}\n" for it in added)]).encode()
+    count.check(f"{name}: one line", (plain[0], plain[2]) == (status, f"{first}\n".encode()), f"{plain}")
+    count.check(f"{name}: explained", more == (*plain[:2], said), f"{more} in place of {said}")
+    templates_for(first, added)
+
+
+def words_of(*words, given=b"", **more):
+    return lambda added: ran.run([*words, *added], given, **more)
+
+
+def file_of(name, text):
+    path = os.path.join(ROOM.name, name)
+    with open(path, "w", encoding="utf-8") as it:
+        it.write(text)
+    return path
+
+
+def system_says(number):
+    return f"cause: {os.strerror(number)} (os error {number})"
+
+
+# Frames at fault behind a frame of 62 bytes, each with how many bytes of it show the fault. Bytes count from 1.
+LENGTH = b"Content-Length: "
+FAULTS = [
+    ("BadHead", b"x\r\n", 3),
+    ("BadHead", LENGTH + b"2\n", 18),
+    ("BadHead", b"x\r\n" + FRAME, 3),
+    ("TwoLengths", LENGTH + b"1\r\n" + LENGTH + b"1\r\n", 38),
+    ("BadLength", LENGTH + b"x\r\n", 19),
+    ("TooLarge", LENGTH + b"16777217\r\n\r\n{}", 26),
+    ("NoLength", b"\r\n", 2),
+    ("HeadTooLong", b"X:" + b"a" * 5_000, 4_096),
+    ("Truncated", LENGTH + b"40\r\n\r\n{", 23),
+    ("Truncated", b"C", 1),
+]
+COMMANDS = (["play"], ["play", "--piece", "1"], ["serve"])
+for fault, rest, shown in FAULTS:
+    for command in COMMANDS:
+        first = f"input ended: {fault}"
+        name = f"{command}, {rest[:40]}"
+        expect(name, words_of(*command, given=rest), first, "frame: from byte 1", f"fault: at byte {shown}")
+        expect(f"{name} behind a frame", words_of(*command, given=FRAME + rest), first, "frame: from byte 63", f"fault: at byte {62 + shown}")
+for command in COMMANDS:
+    # (the line with the length has 20 bytes)
+    limited = words_of(*command, "--content", "39", given=FRAME)
+    expect(f"{command}, a lower limit", limited, "input ended: TooLarge", "frame: from byte 1", "fault: at byte 20")
+    full = words_of(*command, "--calls", "2", given=FRAME * 3)
+    expect(f"{command}, too many calls", full, "input ended: Full", "limit: 2 calls")
+for given, number in ((LINE, 1), (b"\n{}\r\n" + LINE + b"{}\n", 3), (b"\n" * 70_000 + LINE[:-1], 70_001)):
+    expect(f"a long line, {number}", words_of("play", "--lines", "--content", "39", given=given), "input ended: TooLarge", f"line: {number}")
+
+# Streams that fail: an input that isn't one, one that is reset, and one that would block; outputs that are full.
+FOLDER = os.open("/", os.O_RDONLY)
+for command, first in ((["play"], "failed: Read"), (["play", "--lines"], "failed: Read"), (["serve"], "input ended: Read")):
+
+    def on_folder(more, command=command):
+        ended = subprocess.run([ran.BUILT, *command, *more], stdin=FOLDER, capture_output=True, timeout=60, check=False)
+        return ended.returncode, ended.stdout, ended.stderr
+
+    def on_idle(more, command=command):
+        its, ours = os.pipe2(os.O_NONBLOCK)
+        ended = subprocess.run([ran.BUILT, *command, *more], stdin=its, capture_output=True, timeout=60, check=False)
+        os.close(its)
+        os.close(ours)
+        return ended.returncode, ended.stdout, ended.stderr
+
+    expect(f"{command} of a folder", on_folder, first, STANDARD_INPUT, system_says(errno.EISDIR))
+    expect(f"{command} of what doesn't block", on_idle, first, STANDARD_INPUT, system_says(errno.EAGAIN))
+for command, given, first in ((["play", "--lines"], LINE, "failed: Read"), (["serve"], FRAME, "input ended: Read")):
+    broken = lambda more, command=command, given=given: ran.run_on_broken([*command, *more], given)
+    expect(f"{command} of what is reset", broken, first, STANDARD_INPUT, system_says(errno.ECONNRESET))
+TABLE = file_of("methods.toml", rows.METHODS)
+for command, given in ((["play", "--lines"], LINE), (["serve"], FRAME), (["check", "--table", TABLE], b"")):
+
+    def on_full(more, command=command, given=given):
+        with open("/dev/full", "wb") as full:
+            ended = subprocess.run([ran.BUILT, *command, *more], input=given, stdout=full, stderr=subprocess.PIPE, timeout=60, check=False)
+        return ended.returncode, b"", ended.stderr
+
+    narrow = lambda more, command=command, given=given: ran.run_into(5, [*command, *more], given)
+    expect(f"{command} into a full device", on_full, "failed: Write", STANDARD_OUTPUT, system_says(errno.ENOSPC))
+    expect(f"{command} into an output of five bytes", narrow, "failed: Write", STANDARD_OUTPUT, system_says(errno.EFBIG))
+LONG = LINE + b"[1" + b",1" * 210_000 + b"]\n"
+expect("an answer that is no line", words_of("play", "--lines", given=LONG), "failed: Long", "limit: 16777216 bytes a line; frames have none")
+
+# What could not be made, in little room: the tree of a content, the text of a table, and the stacks of threads.
+SMALL = {"preexec_fn": lambda: resource.setrlimit(resource.RLIMIT_AS, (100 << 20, 100 << 20))}
+MEMORY, TREE = "failed: Memory", rows.frames("[" + "1," * 8_000_000 + "1]")
+expect("a content of many values", words_of("play", given=TREE, **SMALL), MEMORY, "missing: memory for the input and what comes of it")
+expect("64 threads", words_of("serve", "--workers", "64", given=FRAME, **SMALL), MEMORY, "missing: memory, or one of 64 threads for methods and one for the input")
+large = file_of("large.toml", "#" * (150 << 20))
+expect("a large table", words_of("check", "--table", large, **SMALL), MEMORY, f"file: {large}", "missing: memory for the table")
+os.remove(large)
+
+# Tables that can't be read. 1,000,000 reads give 256,000,000 bytes.
+CANT_READ = "table: cannot be read"
+for path, shown, number in (
+    ("none.toml", "none.toml", errno.ENOENT),
+    ("two\nlines\x1b[31m\x85", r"two\nlines\u{1b}[31m\u{85}", errno.ENOENT),
+    ("/", "/", errno.EISDIR),
+    ("/dev/full/none", "/dev/full/none", errno.ENOTDIR),
+):
+    for command in (["check"], ["play"], ["serve"]):
+        expect(f"{command}, {path!r}", words_of(*command, "--table", path), CANT_READ, f"file: {shown}", system_says(number), status=2)
+endless = file_of("endless.toml", "")
+os.truncate(endless, 256_000_000)
+expect("a table of too many bytes", words_of("check", "--table", endless), CANT_READ, f"file: {endless}", ENDLESS, status=2)
+os.truncate(endless, 0)
+
+# Tables that are refused: text, fault, method, step, and the lines behind the file's.
+METHOD = 'version = 2\n[[method]]\nname = "first"\n[[method]]\nname = "seco\\nnd"\n'
+STEP = METHOD + "[[method.step]]\n"
+RESERVED = "cause: JSON-RPC reserves the codes from -32768 to -32100"
+UNKNOWN, MISSING = "cause: no such field stands here", "cause: the field is missing"
+REFUSED = [
+    ("version = 1\n\n[[method]\n", "NotToml", 0, 0, ["line: 3"]),
+    ("version = 3\n", "Version", 0, 0, ["field: version", "cause: the version is neither 1 nor 2"]),
+    ("version = 1\nopening = []\n", "Field", 0, 0, ["field: opening", UNKNOWN]),
+    ("version = 2\nmethod = 1\n", "Field", 0, 0, ["field: method", "cause: the field isn't a list of tables"]),
+    (METHOD + "stop = 1\n", "Field", 2, 0, [r"method: seco\nnd", "field: stop", UNKNOWN]),
+    ("version = 1\n[[method]]\n", "Field", 1, 0, ["field: name", MISSING]),
+    (METHOD.replace("seco\\nnd", "first"), "Name", 2, 0, ["method: first", "field: name", "cause: the name is empty, too long or reserved, or an earlier method has it"]),
+    (STEP + 'kind = "go"\n', "Step", 2, 1, [r"method: seco\nnd", "kind: go", "field: kind", "cause: this version has no such kind of step"]),
+    (STEP + 'kind = "call"\nto = "r"\nmethod = "m"\nparms = []\n', "Field", 2, 1, [r"method: seco\nnd", "kind: call", "field: parms", UNKNOWN]),
+    (STEP + 'kind = "call"\nto = "r"\n', "Field", 2, 1, [r"method: seco\nnd", "kind: call", "field: method", MISSING]),
+    (STEP + 'kind = "call"\nto = 1\nmethod = "m"\n', "Field", 2, 1, [r"method: seco\nnd", "kind: call", "field: to", "cause: the field isn't a string"]),
+    (STEP + 'kind = "skip"\nleft = 1\nright = 1\ncount = "2"\n', "Field", 2, 1, [r"method: seco\nnd", "kind: skip", "field: count", "cause: the field isn't a whole number"]),
+    (STEP + 'kind = "set"\nto = "r"\nvalue = [{ a = 0.5 }]\n', "Field", 2, 1, [r"method: seco\nnd", "kind: set", "field: value", "cause: a float or a date stands in the field"]),
+    (STEP + 'kind = "each"\nto = "r"\nover = []\nmethod = "m"\non_error = "x"\n', "Field", 2, 1, [r"method: seco\nnd", "kind: each", "field: on_error", 'cause: the field is neither "fail" nor "keep"']),
+    (STEP + 'kind = "calls"\nto = "r"\nlist = [{ method = "m" }, { params = 1 }]\n', "Field", 2, 1, [r"method: seco\nnd", "kind: calls", "field: list", "cause: the field isn't a list of calls"]),
+    (STEP + 'kind = "fail"\ncode = -32100\nmessage = "m"\n', "Code", 2, 1, [r"method: seco\nnd", "kind: fail", "field: code", RESERVED]),
+    (STEP + 'kind = "answer"\nvalue = "$r"\n', "Register", 2, 1, [r"method: seco\nnd", "kind: answer", "cause: a register or a reference breaks its rule, or no earlier step sets the register"]),
+    (STEP + 'kind = "skip"\nleft = 1\nright = 1\ncount = 65\n', "Limit", 2, 1, [r"method: seco\nnd", "kind: skip", "cause: a number, a length or a depth is out of its range"]),
+    ('version = 2\n[[opening]]\nkind = "notify"\n', "Field", 0, 1, ["kind: notify", "field: method", MISSING]),
+]
+for number, (text, kind, method, step, added) in enumerate(REFUSED, 1):
+    path, first = file_of("refused.toml", text), f"table: {kind}, method {method}, step {step}"
+    if kind == "NotToml":
+        # (how the reader of TOML puts it isn't ours)
+        said = ran.run(["check", "--table", path, "--explain"])[2].decode().splitlines()
+        added = [*added, said[-1].strip()]
+    for command in (["check"], ["play"], ["serve"]):
+        expect(f"{command}, refused table {number}", words_of(*command, "--table", path), first, f"file: {path}", *added, status=2)
+
+# Each line of the page was seen.
+for patterns, templates in PAGE:
+    for template in templates:
+        firsts = {it.split(":")[0] for it in patterns}
+        count.check(f"a row shows {template!r} behind {patterns}", any((it, template) in SEEN for it in firsts))
+count.check("the page has eight kinds of first lines at least", len(PAGE) >= 8, f"{PAGE}")
+
+# Nothing is added to a run that does what it was asked.
+for words, given, output in ((["play"], FRAME, rows.frames(rows.NOT_FOUND)), (["serve"], FRAME, rows.frames(rows.NOT_FOUND)), (["check", "--table", TABLE], b"", b"ok: 6 methods\n")):
+    got = ran.run([*words, "--explain"], given)
+    count.check(f"{words} that ends well", got == (0, output, b""), f"{got}")
+
+# Refused words are shown on one line each, whatever stands in them.
+for words in (["pl\nay"], ["play", "--no\x1b[31m\nsuch"], ["play", "--piece", "5\n"], ["serve", "--lines\r"], ["check", "--table", TABLE, "a\tb\x7f\x9b"], ["play", "--workers=\n"]):
+    status, output, errors = ran.run(words, LINE)
+    escaped = [it.replace("\n", r"\n").replace("\r", r"\r").replace("\t", r"\t").replace("\x1b", r"\u{1b}").replace("\x7f", r"\u{7f}").replace("\x9b", r"\u{9b}") for it in words]
+    alike = ran.run(escaped, LINE)
+    text = errors.decode()
+    well = status == 2 and output == b"" and text.startswith("error: ") and not [it for it in text if it != "\n" and (ord(it) < 32 or 127 <= ord(it) < 160)]
+    count.check(f"refused words {words} are shown escaped", well and (status, output, errors) == alike, f"{status}, {errors!r}")
+
+# Help has each status with its line, and what a caller has to know.
+HELP = ran.run(["--help"])[1].decode()
+FAULT_NAMES = re.findall(r"^\| `(\w+)` \|", page_of("docs", "protocol.md").split("### Faults")[1].split("\n## ")[0], re.M)
+count.check("there are seven faults of frames", len(FAULT_NAMES) == 7, f"{FAULT_NAMES}")
+ENDS = re.findall(r"^\| (\d) \| `([^`]+)` ", page_of("docs", "commands.md").split("## How a run ends")[1].split("\n## ")[0], re.M)
+wanted = [(status, line) for status, line in ENDS if line != "input ended: X"] + [("1", f"input ended: {it}") for it in (*FAULT_NAMES, "Read", "Full")]
+count.check("the page has the ends of a run", len(ENDS) >= 8, f"{ENDS}")
+for status, line in wanted:
+    count.check(f"help tells of {line!r}", re.search(rf"^  {status}  {re.escape(line)}  +\w", HELP, re.M), HELP)
+for text in ("must be blocking", "CR LF is a content", "as Long. Frames have no such limit", "--explain"):
+    count.check(f"help says {text!r}", text in HELP, HELP)
+for command in ("serve", "play", "check"):
+    count.check(f"help of {command} tells of --explain", b"--explain" in ran.run([command, "--help"])[1])
+
+count.end()
