@@ -41,14 +41,14 @@ PAGE = table_of_page()
 SEEN = set()
 
 
-def templates_for(first, added):
-    """Checks that the lines behind the first are those of the page, in its order."""
-    mine = [lines for patterns, lines in PAGE if any(re.fullmatch(it, first) for it in patterns)]
-    templates = iter(mine[0] if mine else [])
+def check_against_page(first, added):
+    """The lines behind the first are those of the page, in its order."""
+    number = next((it for it, (firsts, _) in enumerate(PAGE) if any(re.fullmatch(pattern, first) for pattern in firsts)), None)
+    templates = iter(PAGE[number][1] if number is not None else [])
     for line in added:
         template = next((it for it in templates if re.fullmatch(pattern_of(it), line)), None)
         count.check(f"the page has {line!r} behind {first!r}", template is not None)
-        SEEN.add((first.split(":")[0], template))
+        SEEN.add((number, template))
 
 
 def expect(name, run, first, *added, status=1):
@@ -57,7 +57,7 @@ def expect(name, run, first, *added, status=1):
     said = "".join([f"{first}\n", *(f"  {it}\n" for it in added)]).encode()
     count.check(f"{name}: one line", (plain[0], plain[2]) == (status, f"{first}\n".encode()), f"{plain}")
     count.check(f"{name}: explained", more == (*plain[:2], said), f"{more} in place of {said}")
-    templates_for(first, added)
+    check_against_page(first, added)
 
 
 def words_of(*words, given=b"", **more):
@@ -199,10 +199,9 @@ for number, (text, kind, method, step, added) in enumerate(REFUSED, 1):
         expect(f"{command}, refused table {number}", words_of(*command, "--table", path), first, f"file: {path}", *added, status=2)
 
 # Each line of the page was seen.
-for patterns, templates in PAGE:
+for number, (firsts, templates) in enumerate(PAGE):
     for template in templates:
-        firsts = {it.split(":")[0] for it in patterns}
-        count.check(f"a row shows {template!r} behind {patterns}", any((it, template) in SEEN for it in firsts))
+        count.check(f"a row shows {template!r} behind {firsts}", (number, template) in SEEN)
 count.check("the page has eight kinds of first lines at least", len(PAGE) >= 8, f"{PAGE}")
 
 # Nothing is added to a run that does what it was asked.
