@@ -129,7 +129,10 @@ fn tell_missing<E: Write>(asked: Asked<'_>, notes: RunNotes<'_>, errors: &mut E)
             errors,
             "  missing: memory, or one of {workers} threads for methods and one for the input"
         ),
-        _ => writeln!(errors, "  missing: memory for the input and what comes of it"),
+        _ => writeln!(
+            errors,
+            "  missing: memory for the input and what comes of it"
+        ),
     }
 }
 

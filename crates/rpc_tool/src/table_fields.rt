@@ -130,10 +130,7 @@ fn is_known(fields: &[Field], name: &str) -> bool {
 }
 
 fn is_optional(form: Form) -> bool {
-    matches!(
-        form,
-        Form::OptionalTemplate | Form::OnError | Form::Tables
-    )
+    matches!(form, Form::OptionalTemplate | Form::OnError | Form::Tables)
 }
 
 fn wrong_type(form: Form) -> &'static str {
