@@ -143,7 +143,8 @@ expect("an answer that is no line", words_of("play", "--lines", given=LONG), "fa
 SMALL = {"preexec_fn": lambda: resource.setrlimit(resource.RLIMIT_AS, (100 << 20, 100 << 20))}
 MEMORY, TREE = "failed: Memory", rows.frames("[" + "1," * 8_000_000 + "1]")
 expect("a content of many values", words_of("play", given=TREE, **SMALL), MEMORY, "missing: memory for the input and what comes of it")
-expect("64 threads", words_of("serve", "--workers", "64", given=FRAME, **SMALL), MEMORY, "missing: memory, or one of 64 threads for methods and one for the input")
+threads = "missing: memory, or one of 64 threads for methods and one for the input"
+expect("64 threads", words_of("serve", "--workers", "64", given=FRAME, **SMALL), MEMORY, threads)
 large = file_of("large.toml", "#" * (150 << 20))
 expect("a large table", words_of("check", "--table", large, **SMALL), MEMORY, f"file: {large}", "missing: memory for the table")
 os.remove(large)
@@ -163,40 +164,47 @@ os.truncate(endless, 256_000_000)
 expect("a table of too many bytes", words_of("check", "--table", endless), CANT_READ, f"file: {endless}", ENDLESS, status=2)
 os.truncate(endless, 0)
 
-# Tables that are refused: text, fault, method, step, and the lines behind the file's.
-METHOD = 'version = 2\n[[method]]\nname = "first"\n[[method]]\nname = "seco\\nnd"\n'
-STEP = METHOD + "[[method.step]]\n"
-RESERVED = "cause: JSON-RPC reserves the codes from -32768 to -32100"
+# Tables that are refused: text, fault and place, and the lines behind the file's. Those of steps are of the second method's first.
+METHODS = 'version = 2\n[[method]]\nname = "first"\n[[method]]\nname = "seco\\nnd"\n'
+SECOND = r"method: seco\nnd"
 UNKNOWN, MISSING = "cause: no such field stands here", "cause: the field is missing"
+NAME = "cause: the name is empty, too long or reserved, or an earlier method has it"
 REFUSED = [
-    ("version = 1\n\n[[method]\n", "NotToml", 0, 0, ["line: 3"]),
-    ("version = 3\n", "Version", 0, 0, ["field: version", "cause: the version is neither 1 nor 2"]),
-    ("version = 1\nopening = []\n", "Field", 0, 0, ["field: opening", UNKNOWN]),
-    ("version = 2\nmethod = 1\n", "Field", 0, 0, ["field: method", "cause: the field isn't a list of tables"]),
-    (METHOD + "stop = 1\n", "Field", 2, 0, [r"method: seco\nnd", "field: stop", UNKNOWN]),
-    ("version = 1\n[[method]]\n", "Field", 1, 0, ["field: name", MISSING]),
-    (METHOD.replace("seco\\nnd", "first"), "Name", 2, 0, ["method: first", "field: name", "cause: the name is empty, too long or reserved, or an earlier method has it"]),
-    (STEP + 'kind = "go"\n', "Step", 2, 1, [r"method: seco\nnd", "kind: go", "field: kind", "cause: this version has no such kind of step"]),
-    (STEP + 'kind = "call"\nto = "r"\nmethod = "m"\nparms = []\n', "Field", 2, 1, [r"method: seco\nnd", "kind: call", "field: parms", UNKNOWN]),
-    (STEP + 'kind = "call"\nto = "r"\n', "Field", 2, 1, [r"method: seco\nnd", "kind: call", "field: method", MISSING]),
-    (STEP + 'kind = "call"\nto = 1\nmethod = "m"\n', "Field", 2, 1, [r"method: seco\nnd", "kind: call", "field: to", "cause: the field isn't a string"]),
-    (STEP + 'kind = "skip"\nleft = 1\nright = 1\ncount = "2"\n', "Field", 2, 1, [r"method: seco\nnd", "kind: skip", "field: count", "cause: the field isn't a whole number"]),
-    (STEP + 'kind = "set"\nto = "r"\nvalue = [{ a = 0.5 }]\n', "Field", 2, 1, [r"method: seco\nnd", "kind: set", "field: value", "cause: a float or a date stands in the field"]),
-    (STEP + 'kind = "each"\nto = "r"\nover = []\nmethod = "m"\non_error = "x"\n', "Field", 2, 1, [r"method: seco\nnd", "kind: each", "field: on_error", 'cause: the field is neither "fail" nor "keep"']),
-    (STEP + 'kind = "calls"\nto = "r"\nlist = [{ method = "m" }, { params = 1 }]\n', "Field", 2, 1, [r"method: seco\nnd", "kind: calls", "field: list", "cause: the field isn't a list of calls"]),
-    (STEP + 'kind = "fail"\ncode = -32100\nmessage = "m"\n', "Code", 2, 1, [r"method: seco\nnd", "kind: fail", "field: code", RESERVED]),
-    (STEP + 'kind = "answer"\nvalue = "$r"\n', "Register", 2, 1, [r"method: seco\nnd", "kind: answer", "cause: a register or a reference breaks its rule, or no earlier step sets the register"]),
-    (STEP + 'kind = "skip"\nleft = 1\nright = 1\ncount = 65\n', "Limit", 2, 1, [r"method: seco\nnd", "kind: skip", "cause: a number, a length or a depth is out of its range"]),
-    ('version = 2\n[[opening]]\nkind = "notify"\n', "Field", 0, 1, ["kind: notify", "field: method", MISSING]),
+    ("version = 3\n", "Version, method 0, step 0", "field: version", "cause: the version is neither 1 nor 2"),
+    ("version = 1\nopening = []\n", "Field, method 0, step 0", "field: opening", UNKNOWN),
+    ("version = 2\nmethod = 1\n", "Field, method 0, step 0", "field: method", "cause: the field isn't a list of tables"),
+    ("version = 1\n[[method]]\n", "Field, method 1, step 0", "field: name", MISSING),
+    (METHODS + "stop = 1\n", "Field, method 2, step 0", SECOND, "field: stop", UNKNOWN),
+    (METHODS.replace("seco\\nnd", "first"), "Name, method 2, step 0", "method: first", "field: name", NAME),
+    ('version = 2\n[[opening]]\nkind = "notify"\n', "Field, method 0, step 1", "kind: notify", "field: method", MISSING),
 ]
-for number, (text, kind, method, step, added) in enumerate(REFUSED, 1):
-    path, first = file_of("refused.toml", text), f"table: {kind}, method {method}, step {step}"
-    if kind == "NotToml":
-        # (how the reader of TOML puts it isn't ours)
-        said = ran.run(["check", "--table", path, "--explain"])[2].decode().splitlines()
-        added = [*added, said[-1].strip()]
-    for command in (["check"], ["play"], ["serve"]):
-        expect(f"{command}, refused table {number}", words_of(*command, "--table", path), first, f"file: {path}", *added, status=2)
+# kind, its other fields, fault, the field at fault, what is wrong
+STEPS = [
+    ("go", "", "Step", "kind", "this version has no such kind of step"),
+    ("call", 'to = "r", method = "m", parms = []', "Field", "parms", "no such field stands here"),
+    ("call", 'to = "r"', "Field", "method", "the field is missing"),
+    ("call", 'to = 1, method = "m"', "Field", "to", "the field isn't a string"),
+    ("skip", 'left = 1, right = 1, count = "2"', "Field", "count", "the field isn't a whole number"),
+    ("set", 'to = "r", value = [{ a = 0.5 }]', "Field", "value", "a float or a date stands in the field"),
+    ("each", 'to = "r", over = [], method = "m", on_error = "x"', "Field", "on_error", 'the field is neither "fail" nor "keep"'),
+    ("calls", 'to = "r", list = [{ method = "m" }, { params = 1 }]', "Field", "list", "the field isn't a list of calls"),
+    ("fail", 'code = -32100, message = "m"', "Code", "code", "JSON-RPC reserves the codes from -32768 to -32100"),
+    ("answer", 'value = "$r"', "Register", "", "a register or a reference breaks its rule, or no earlier step sets the register"),
+    ("skip", "left = 1, right = 1, count = 65", "Limit", "", "a number, a length or a depth is out of its range"),
+]
+for kind, fields, fault, field, cause in STEPS:
+    text = METHODS + "step = [{ " + ", ".join(filter(None, (f'kind = "{kind}"', fields))) + " }]\n"
+    named = [f"field: {field}"] if field else []
+    REFUSED.append((text, f"{fault}, method 2, step 1", SECOND, f"kind: {kind}", *named, f"cause: {cause}"))
+for number, (text, fault, *added) in enumerate(REFUSED, 1):
+    path = file_of("refused.toml", text)
+    for command in ("check", "play", "serve"):
+        expect(f"{command}, refused table {number}", words_of(command, "--table", path), f"table: {fault}", f"file: {path}", *added, status=2)
+# (how the reader of TOML puts its cause isn't ours)
+path = file_of("refused.toml", "version = 1\n\n[[method]\n")
+cause = ran.run(["check", "--table", path, "--explain"])[2].decode().splitlines()[-1].strip()
+added = (f"file: {path}", "line: 3", cause)
+expect("a text that isn't TOML", words_of("check", "--table", path), "table: NotToml, method 0, step 0", *added, status=2)
 
 # Each line of the page was seen.
 for number, (firsts, templates) in enumerate(PAGE):
@@ -205,25 +213,37 @@ for number, (firsts, templates) in enumerate(PAGE):
 count.check("the page has eight kinds of first lines at least", len(PAGE) >= 8, f"{PAGE}")
 
 # Nothing is added to a run that does what it was asked.
-for words, given, output in ((["play"], FRAME, rows.frames(rows.NOT_FOUND)), (["serve"], FRAME, rows.frames(rows.NOT_FOUND)), (["check", "--table", TABLE], b"", b"ok: 6 methods\n")):
-    got = ran.run([*words, "--explain"], given)
+ANSWERED = rows.frames(rows.NOT_FOUND)
+for words, output in ((["play"], ANSWERED), (["serve"], ANSWERED), (["check", "--table", TABLE], b"ok: 6 methods\n")):
+    got = ran.run([*words, "--explain"], FRAME)
     count.check(f"{words} that ends well", got == (0, output, b""), f"{got}")
 
-# Refused words are shown on one line each, whatever stands in them.
-for words in (["pl\nay"], ["play", "--no\x1b[31m\nsuch"], ["play", "--piece", "5\n"], ["serve", "--lines\r"], ["check", "--table", TABLE, "a\tb\x7f\x9b"], ["play", "--workers=\n"]):
+# Words are refused as if their control characters stood escaped in them, and shown so.
+ESCAPED = {"\n": r"\n", "\r": r"\r", "\t": r"\t", "\x1b": r"\u{1b}", "\x7f": r"\u{7f}", "\x9b": r"\u{9b}"}
+REFUSED_WORDS = (
+    ["pl\nay"],
+    ["play", "--no\x1b[31m\nsuch"],
+    ["play", "--piece", "5\n"],
+    ["serve", "--workers=\n"],
+    ["serve", "--lines\r"],
+    ["check", "--table", TABLE, "a\tb\x7f\x9b"],
+)
+for words in REFUSED_WORDS:
     status, output, errors = ran.run(words, LINE)
-    escaped = [it.replace("\n", r"\n").replace("\r", r"\r").replace("\t", r"\t").replace("\x1b", r"\u{1b}").replace("\x7f", r"\u{7f}").replace("\x9b", r"\u{9b}") for it in words]
-    alike = ran.run(escaped, LINE)
-    text = errors.decode()
-    well = status == 2 and output == b"" and text.startswith("error: ") and not [it for it in text if it != "\n" and (ord(it) < 32 or 127 <= ord(it) < 160)]
-    count.check(f"refused words {words} are shown escaped", well and (status, output, errors) == alike, f"{status}, {errors!r}")
+    escaped = ["".join(ESCAPED.get(it, it) for it in word) for word in words]
+    is_plain = not re.search(r"[\x00-\x09\x0b-\x1f\x7f-\x9f]", errors.decode())
+    well = is_plain and errors.startswith(b"error: ") and (status, output, errors) == (2, b"", ran.run(escaped, LINE)[2])
+    count.check(f"refused words {words} are shown escaped", well, f"{status}, {output!r}, {errors!r}")
+    found = [it for it in escaped if "\\" in it and it.split("=")[-1] in errors.decode()]
+    count.check(f"what was refused of {words} is shown", found, f"{errors!r}")
 
 # Help has each status with its line, and what a caller has to know.
 HELP = ran.run(["--help"])[1].decode()
 FAULT_NAMES = re.findall(r"^\| `(\w+)` \|", page_of("docs", "protocol.md").split("### Faults")[1].split("\n## ")[0], re.M)
 count.check("there are seven faults of frames", len(FAULT_NAMES) == 7, f"{FAULT_NAMES}")
 ENDS = re.findall(r"^\| (\d) \| `([^`]+)` ", page_of("docs", "commands.md").split("## How a run ends")[1].split("\n## ")[0], re.M)
-wanted = [(status, line) for status, line in ENDS if line != "input ended: X"] + [("1", f"input ended: {it}") for it in (*FAULT_NAMES, "Read", "Full")]
+of_input = [("1", f"input ended: {it}") for it in (*FAULT_NAMES, "Read", "Full")]
+wanted = [it for it in ENDS if it[1] != "input ended: X"] + of_input
 count.check("the page has the ends of a run", len(ENDS) >= 8, f"{ENDS}")
 for status, line in wanted:
     count.check(f"help tells of {line!r}", re.search(rf"^  {status}  {re.escape(line)}  +\w", HELP, re.M), HELP)
