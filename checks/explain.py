@@ -31,7 +31,7 @@ def pattern_of(template):
 
 
 def table_of_page():
-    """For each first line that standard error may have, the lines that may stand behind it, as docs/commands.md has them."""
+    """For each first line that standard error may have, the lines that may stand after it, as docs/commands.md has them."""
     section = page_of("docs", "commands.md").split("## More lines\n")[1].split("\n## ")[0]
     found = [it.strip("|").split("|") for it in section.splitlines() if it.startswith("| `")]
     return [([pattern_of(it) for it in re.findall(r"`(.+?)`", first)], re.findall(r"`(\w+: .+?)`", added)) for first, added in found]
@@ -42,12 +42,12 @@ SEEN = set()
 
 
 def check_against_page(first, added):
-    """The lines behind the first are those of the page, in its order."""
+    """The lines after the first are those of the page, in its order."""
     number = next((it for it, (firsts, _) in enumerate(PAGE) if any(re.fullmatch(pattern, first) for pattern in firsts)), None)
     templates = iter(PAGE[number][1] if number is not None else [])
     for line in added:
         template = next((it for it in templates if re.fullmatch(pattern_of(it), line)), None)
-        count.check(f"the page has {line!r} behind {first!r}", template is not None)
+        count.check(f"the page has {line!r} after {first!r}", template is not None)
         SEEN.add((number, template))
 
 
@@ -75,7 +75,7 @@ def system_says(number):
     return f"cause: {os.strerror(number)} (os error {number})"
 
 
-# Frames at fault behind a frame of 62 bytes, each with how many bytes of it show the fault. Bytes count from 1.
+# Frames at fault after a frame of 62 bytes, each with how many bytes of it show the fault. Bytes count from 1.
 LENGTH = b"Content-Length: "
 FAULTS = [
     ("BadHead", b"x\r\n", 3),
@@ -95,7 +95,7 @@ for fault, rest, shown in FAULTS:
         first = f"input ended: {fault}"
         name = f"{command}, {rest[:40]}"
         expect(name, words_of(*command, given=rest), first, "frame: from byte 1", f"fault: at byte {shown}")
-        expect(f"{name} behind a frame", words_of(*command, given=FRAME + rest), first, "frame: from byte 63", f"fault: at byte {62 + shown}")
+        expect(f"{name} after a frame", words_of(*command, given=FRAME + rest), first, "frame: from byte 63", f"fault: at byte {62 + shown}")
 for command in COMMANDS:
     # (the line with the length has 20 bytes)
     limited = words_of(*command, "--content", "39", given=FRAME)
@@ -164,7 +164,7 @@ os.truncate(endless, 256_000_000)
 expect("a table of too many bytes", words_of("check", "--table", endless), CANT_READ, f"file: {endless}", ENDLESS, status=2)
 os.truncate(endless, 0)
 
-# Tables that are refused: text, fault and place, and the lines behind the file's. Those of steps are of the second method's first.
+# Tables that are refused: text, fault and place, and the lines after the file's. Those of steps are of the second method's first.
 METHODS = 'version = 2\n[[method]]\nname = "first"\n[[method]]\nname = "seco\\nnd"\n'
 SECOND = r"method: seco\nnd"
 UNKNOWN, MISSING = "cause: no such field stands here", "cause: the field is missing"
@@ -209,7 +209,7 @@ expect("a text that isn't TOML", words_of("check", "--table", path), "table: Not
 # Each line of the page was seen.
 for number, (firsts, templates) in enumerate(PAGE):
     for template in templates:
-        count.check(f"a row shows {template!r} behind {firsts}", (number, template) in SEEN)
+        count.check(f"a row shows {template!r} after {firsts}", (number, template) in SEEN)
 count.check("the page has eight kinds of first lines at least", len(PAGE) >= 8, f"{PAGE}")
 
 # Nothing is added to a run that does what it was asked.

@@ -122,8 +122,8 @@ def served(refused: Refused, tables: dict[str, str]) -> None:
 
 
 def explained(refused: Refused, room: str) -> None:
-    """With `--explain` the first line is one that stands alone without it. Behind it lines are left out that found no memory, and where that ran
-    out before, what was missing is told, if the words were read."""
+    """With `--explain` the first line is one that stands alone without it. Lines that found no memory are left out after it; where memory ran out
+    before, what was missing is told, if the words were read."""
     broken = os.path.join(room, "broken.toml")
     with open(broken, "w", encoding="utf-8") as it:
         it.write(rows.METHODS + '[[method.step]]\nkind = "nosuch"\n')

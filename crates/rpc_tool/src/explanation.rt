@@ -120,11 +120,11 @@ fn tell_failure<E: Write>(
 
 /// Tells what could not be made. A server makes its threads before it reads.
 fn tell_missing<E: Write>(asked: Asked<'_>, notes: RunNotes<'_>, errors: &mut E) -> io::Result<()> {
+    if !notes.table.is_there {
+        tell_file(asked, errors)?;
+        return writeln!(errors, "  missing: memory for the table");
+    }
     match asked.workers {
-        _ if !notes.table.is_there => {
-            tell_file(asked, errors)?;
-            writeln!(errors, "  missing: memory for the table")
-        }
         Some(workers) if !notes.input.was_read => writeln!(
             errors,
             "  missing: memory, or one of {workers} threads for methods and one for the input"

@@ -1,4 +1,4 @@
-//! What a run notes as it goes, for who asks it to explain how it ended.
+//! What a run notes as it goes, so that it can explain how it ended.
 use crate::watch::Watch;
 use method_steps::TableFault;
 use std::io;

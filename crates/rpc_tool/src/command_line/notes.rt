@@ -1,10 +1,10 @@
-//! What help says behind the commands.
+//! What help says after the commands.
 
 /// What each status and each line on standard error means, and what a caller has to know of the streams.
 pub const NOTES: &str = "\
 Status and standard error:
   A run that does all that it was asked has the status 0 and writes nothing to standard error. Otherwise one
-  line says why. --explain adds lines behind it: what failed, where and why.
+  line says why. --explain adds lines after it: what failed, where and why.
 
   0                                  The input ended between two frames, or the table is well formed
   1  input ended: BadHead            A line of a head isn't name:value CR LF
