@@ -6,6 +6,7 @@ import re
 import resource
 import subprocess
 import tempfile
+from functools import partial
 
 from support import ran
 from support import rows
@@ -60,8 +61,23 @@ def expect(name, run, first, *added, status=1):
     check_against_page(first, added)
 
 
+def after(run, *words):
+    """What runs the program with these words and some more."""
+    return lambda more: run([*words, *more])
+
+
 def words_of(*words, given=b"", **more):
-    return lambda added: ran.run([*words, *added], given, **more)
+    return after(partial(ran.run, given=given, **more), *words)
+
+
+def on_streams(*words, **streams):
+    """What runs the program on streams of its own."""
+
+    def run(all_words):
+        ended = subprocess.run([ran.BUILT, *all_words], **{"stdout": subprocess.PIPE, **streams}, stderr=subprocess.PIPE, timeout=60, check=False)
+        return ended.returncode, ended.stdout, ended.stderr
+
+    return after(run, *words)
 
 
 def file_of(name, text):
@@ -105,36 +121,19 @@ for command in COMMANDS:
 for given, number in ((LINE, 1), (b"\n{}\r\n" + LINE + b"{}\n", 3), (b"\n" * 70_000 + LINE[:-1], 70_001)):
     expect(f"a long line, {number}", words_of("play", "--lines", "--content", "39", given=given), "input ended: TooLarge", f"line: {number}")
 
-# Streams that fail: an input that isn't one, one that is reset, and one that would block; outputs that are full.
-FOLDER = os.open("/", os.O_RDONLY)
-for command, first in ((["play"], "failed: Read"), (["play", "--lines"], "failed: Read"), (["serve"], "input ended: Read")):
-
-    def on_folder(more, command=command):
-        ended = subprocess.run([ran.BUILT, *command, *more], stdin=FOLDER, capture_output=True, timeout=60, check=False)
-        return ended.returncode, ended.stdout, ended.stderr
-
-    def on_idle(more, command=command):
-        its, ours = os.pipe2(os.O_NONBLOCK)
-        ended = subprocess.run([ran.BUILT, *command, *more], stdin=its, capture_output=True, timeout=60, check=False)
-        os.close(its)
-        os.close(ours)
-        return ended.returncode, ended.stdout, ended.stderr
-
-    expect(f"{command} of a folder", on_folder, first, STANDARD_INPUT, system_says(errno.EISDIR))
-    expect(f"{command} of what doesn't block", on_idle, first, STANDARD_INPUT, system_says(errno.EAGAIN))
-for command, given, first in ((["play", "--lines"], LINE, "failed: Read"), (["serve"], FRAME, "input ended: Read")):
-    broken = lambda more, command=command, given=given: ran.run_on_broken([*command, *more], given)
-    expect(f"{command} of what is reset", broken, first, STANDARD_INPUT, system_says(errno.ECONNRESET))
+# Streams that fail: an input that is a folder, one that would block, and one that is reset; a full device, and an output of five bytes.
 TABLE = file_of("methods.toml", rows.METHODS)
+FOLDER, (IDLE, _writer), FULL = os.open("/", os.O_RDONLY), os.pipe2(os.O_NONBLOCK), os.open("/dev/full", os.O_WRONLY)
+PLAYED, SERVED = "failed: Read", "input ended: Read"
+for command, given, first in ((["play"], FRAME, PLAYED), (["play", "--lines"], LINE, PLAYED), (["serve"], FRAME, SERVED)):
+    expect(f"{command} of a folder", on_streams(*command, stdin=FOLDER), first, STANDARD_INPUT, system_says(errno.EISDIR))
+    expect(f"{command} of what doesn't block", on_streams(*command, stdin=IDLE), first, STANDARD_INPUT, system_says(errno.EAGAIN))
+    broken = partial(ran.run_on_broken, given=given)
+    expect(f"{command} of what is reset", after(broken, *command), first, STANDARD_INPUT, system_says(errno.ECONNRESET))
 for command, given in ((["play", "--lines"], LINE), (["serve"], FRAME), (["check", "--table", TABLE], b"")):
-
-    def on_full(more, command=command, given=given):
-        with open("/dev/full", "wb") as full:
-            ended = subprocess.run([ran.BUILT, *command, *more], input=given, stdout=full, stderr=subprocess.PIPE, timeout=60, check=False)
-        return ended.returncode, b"", ended.stderr
-
-    narrow = lambda more, command=command, given=given: ran.run_into(5, [*command, *more], given)
-    expect(f"{command} into a full device", on_full, "failed: Write", STANDARD_OUTPUT, system_says(errno.ENOSPC))
+    full = on_streams(*command, input=given, stdout=FULL)
+    expect(f"{command} into a full device", full, "failed: Write", STANDARD_OUTPUT, system_says(errno.ENOSPC))
+    narrow = after(partial(ran.run_into, 5, given=given), *command)
     expect(f"{command} into an output of five bytes", narrow, "failed: Write", STANDARD_OUTPUT, system_says(errno.EFBIG))
 LONG = LINE + b"[1" + b",1" * 210_000 + b"]\n"
 expect("an answer that is no line", words_of("play", "--lines", given=LONG), "failed: Long", "limit: 16777216 bytes a line; frames have none")
