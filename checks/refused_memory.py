@@ -121,6 +121,34 @@ def served(refused: Refused, tables: dict[str, str]) -> None:
         refused.peer(f"{name}, served", words, rows.frames(*given), [rows.frames(*it) for it in outputs])
 
 
+def explained(refused: Refused, room: str) -> None:
+    """With `--explain` the first line is one that stands alone without it. Lines that found no memory are left out after it; where memory ran out
+    before, what was missing is told, if the words were read."""
+    broken = os.path.join(room, "broken.toml")
+    with open(broken, "w", encoding="utf-8") as it:
+        it.write(rows.METHODS + '[[method.step]]\nkind = "nosuch"\n')
+    named = ["  method: note", "  kind: nosuch", "  field: kind", "  cause: this version has no such kind of step"]
+    refused_table = ["table: Step, method 6, step 2", f"  file: {broken}", *named]
+    at_fault = ["input ended: BadHead", "  frame: from byte 63", "  fault: at byte 65"]
+    no_word = ["error: unexpected argument '--no\\u{1b}such' found", "", "Usage: rpc_tool play [OPTIONS]", "", "For more information, try '--help'."]
+    cut, answer = rows.frames(rows.REQUEST) + b"x\r\n", rows.frames(rows.NOT_FOUND)
+    for words, given, whole in (
+        (["check", "--table", broken, "--explain"], b"", (2, b"", refused_table)),
+        (["play", "--explain"], cut, (1, answer, at_fault)),
+        (["serve", "--explain", "--workers", "2"], cut, (1, answer, at_fault)),
+        (["play", "--no\x1bsuch"], b"", (2, b"", no_word)),
+    ):
+
+        def is_well(status: int, wrote: bytes, said: bytes, was_refused: bool, whole: tuple[int, bytes, list[str]] = whole) -> bool:
+            first, *added = said.decode().splitlines()
+            if (status, wrote, first) == (*whole[:2], whole[2][0]):
+                return added == whole[2][1:] or was_refused and all(it in whole[2] for it in added)
+            is_missing = (status, f"{first}\n".encode()) in ((1, NO_MEMORY), (2, NO_TABLE))
+            return was_refused and is_missing and whole[1].startswith(wrote) and (not added or added[-1].startswith("  missing: memory"))
+
+        refused.each(f"{words}", [ran.BUILT, *words], given, is_well)
+
+
 def main() -> None:
     count = ran.Count()
     ran.built()
@@ -136,6 +164,7 @@ def main() -> None:
         played(refused, tables)
         checked(refused, tables)
         served(refused, tables)
+        explained(refused, room)
     for name in GO_ON:
         refused.test(name, goes_on, WAYS[:1])
     for name in END:

@@ -59,4 +59,5 @@ static PROGRAM: Program = Program {
     commands: &[SLOTS, QUEUE, DESK, ANSWER, COMPARE, LOCKSTEP, CASES],
     needs_command: false,
     options: &[],
+    notes: "",
 };

@@ -10,6 +10,7 @@ pub fn command_of<'a>(alloc: Global, program: &Program) -> Result<Command<'a>, A
     let command = Command::new(alloc, program.name)
         .version(program.version)
         .about(program.about)
+        .after_help(program.notes)
         .subcommand_required(program.needs_command)
         .arg_required_else_help(program.needs_command);
     let command = with_commands(alloc, command, program.commands)?;

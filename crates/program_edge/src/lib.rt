@@ -9,6 +9,7 @@ mod options;
 mod program;
 mod reading;
 mod refusal;
+mod shown;
 mod telling;
 mod words;
 
@@ -17,5 +18,6 @@ pub use options::{ChoiceOption, CommandOption, FlagOption, NumberOption, TextOpt
 pub use program::{Program, ProgramCommand};
 pub use reading::read_words;
 pub use refusal::Refusal;
+pub use shown::Shown;
 pub use telling::{answer_words, tell_end};
 pub use words::Words;

@@ -2,16 +2,22 @@
 #![tactic(auto)]
 
 mod command_line;
+mod explanation;
 mod input;
 mod limits;
+mod noted;
 mod output;
 mod pieces;
 mod playing;
 mod program;
 mod reading;
+mod refused_table;
 mod run_failure;
+mod run_notes;
 mod serving;
+mod table_fields;
 mod table_file;
+mod watch;
 
 use program_edge::{read_words, tell_end};
 use std::process::ExitCode;

@@ -8,6 +8,7 @@ use crate::output::{write_frames, write_lines};
 use crate::pieces::Pieces;
 use crate::reading::read_all;
 use crate::run_failure::RunFailure;
+use crate::run_notes::TableNotes;
 use crate::table_file::table_in;
 use method_steps::Table;
 use program_edge::Failure;
@@ -16,14 +17,18 @@ use std::alloc::Global;
 use std::io::{Read, Write};
 use std::rt::Files;
 
+/// How many bytes of the input are read at a time.
+const INPUT_PIECE: usize = 65_536;
+
 /// Plays the whole of the input, and gives how it ended. The table's file is read and judged before.
 pub fn play<R: Files + AllocGlobal, I: Read + Drop, W: Write>(
     rt: &R,
     options: PlayOptions<'_>,
     input: I,
     output: &mut W,
+    notes: &mut TableNotes,
 ) -> Result<Close, RunFailure> {
-    let table = table_in(rt, options.table)?;
+    let table = table_in(rt, options.table, notes)?;
     let (bytes, report) = played(rt.alloc(), &table, options, input)?;
     if options.lines {
         write_lines(rt.alloc(), bytes.as_slice(), output)?;
@@ -48,7 +53,8 @@ fn played<I: Read + Drop>(
     } else {
         InputStream::of_frames(alloc, pieces)
     };
-    read_all(&mut input, &mut intake)?;
+    let mut room = [0u8; INPUT_PIECE];
+    read_all(&mut input, &mut room, &mut intake)?;
     Ok(intake.finish()?)
 }
 

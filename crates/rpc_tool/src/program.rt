@@ -1,7 +1,10 @@
 //! The program over any reader and any two writers.
 use crate::command_line::{Subcommand, read};
+use crate::explanation::{Asked, explain};
+use crate::noted::{NotedReader, NotedWriter};
 use crate::playing::play;
 use crate::run_failure::RunFailure;
+use crate::run_notes::{RunNotes, TableNotes};
 use crate::serving::serve_streams;
 use crate::table_file::check;
 use lsp_frames::FrameFault;
@@ -22,16 +25,36 @@ where
     W: Write,
     E: Write,
 {
-    match read(rt.alloc(), words) {
-        Ok(Subcommand::Serve(options)) => ended(serve_streams(rt, options, input, output), errors),
-        Ok(Subcommand::Play(options)) => ended(play(rt, options, input, output), errors),
-        Ok(Subcommand::Check { table }) => checked(check(rt, table, output), errors),
-        Err(refusal) => answer_words(&refusal, output, errors),
+    let alloc = rt.alloc();
+    let subcommand = match read(alloc, words) {
+        Ok(subcommand) => subcommand,
+        Err(refusal) => return answer_words(&refusal, output, errors),
+    };
+    let asked = Asked::of(subcommand);
+    let mut input = NotedReader::new(input, asked.watch(alloc));
+    let mut output = NotedWriter::new(output);
+    let mut table = TableNotes::new();
+    let outcome = match subcommand {
+        Subcommand::Serve(options) => {
+            serve_streams(rt, options, &mut input, &mut output, &mut table)
+        }
+        Subcommand::Play(options) => play(rt, options, &mut input, &mut output, &mut table),
+        Subcommand::Check(options) => check(rt, options.table, &mut output, &mut table),
+    };
+    let status = tell_end(outcome, errors);
+    if asked.explain {
+        let notes = RunNotes {
+            table: &table,
+            input: &input.notes,
+            output: output.failure,
+        };
+        let _ = explain(alloc, asked, notes, outcome, errors);
     }
+    status
 }
 
 /// Tells how the input ended, where it isn't cleanly, or why nothing came of it, and gives the status.
-fn ended<E: Write>(outcome: Result<Close, RunFailure>, errors: &mut E) -> u8 {
+fn tell_end<E: Write>(outcome: Result<Close, RunFailure>, errors: &mut E) -> u8 {
     match outcome {
         Ok(Close::Clean) => 0,
         Ok(close) => {
@@ -39,14 +62,6 @@ fn ended<E: Write>(outcome: Result<Close, RunFailure>, errors: &mut E) -> u8 {
             let _ = writeln!(errors, "input ended: {name}");
             1
         }
-        Err(failure) => checked(Err(failure), errors),
-    }
-}
-
-/// Tells why a command wasn't done, where it wasn't, and gives the status.
-fn checked<E: Write>(outcome: Result<(), RunFailure>, errors: &mut E) -> u8 {
-    match outcome {
-        Ok(()) => 0,
         Err(failure) => {
             let _ = writeln!(errors, "{failure}");
             failure.status()

@@ -18,14 +18,17 @@ impl Taker for Vec<u8> {
     }
 }
 
-/// Gives all bytes of a reader to a taker.
+/// Gives all bytes of a reader to a taker, as many at a time as there is room for.
 ///
 /// # Errors
 /// `Read` where the reader fails or hasn't ended after 1,000,000 reads, `Memory` where a growth is refused.
-pub fn read_all<I: Read, T: Taker>(input: &mut I, taker: &mut T) -> Result<(), Failure> {
-    let mut room = [0u8; 65_536];
+pub fn read_all<I: Read, T: Taker>(
+    input: &mut I,
+    room: &mut [u8],
+    taker: &mut T,
+) -> Result<(), Failure> {
     for _ in 0..MOST_READS {
-        match input.read(&mut room) {
+        match input.read(room) {
             Ok(0) => return Ok(()),
             Ok(count) => taker.take(&room[..count])?,
             Err(_) => return Err(Failure::Read),

@@ -2,6 +2,7 @@
 use crate::command_line::ServeOptions;
 use crate::limits::limits_of;
 use crate::run_failure::RunFailure;
+use crate::run_notes::TableNotes;
 use crate::table_file::table_in;
 use lsp_frames::{StdSink, StdSource};
 use program_edge::Failure;
@@ -17,13 +18,14 @@ pub fn serve_streams<R, I, W>(
     options: ServeOptions<'_>,
     input: I,
     output: &mut W,
+    notes: &mut TableNotes,
 ) -> Result<Close, RunFailure>
 where
     R: Files + AllocGlobal + Threads + Wait + Sync,
     I: Read + Drop + Send,
     W: Write,
 {
-    let table = table_in(rt, options.table)?;
+    let table = table_in(rt, options.table, notes)?;
     let limits = limits_of(options.limits)?;
     let (source, sink) = (StdSource::new(input), StdSink::new(output));
     match serve(

@@ -1,35 +1,73 @@
 //! The table of methods, read from its file and judged.
+use crate::noted::NotedReader;
 use crate::reading::read_all;
 use crate::run_failure::RunFailure;
+use crate::run_notes::{RefusedText, TableNotes};
 use method_steps::{Table, TableFault};
 use program_edge::Failure;
+use rpc_peer::Close;
 use std::fs;
-use std::io::{ErrorKind, Write};
+use std::io::{Error, ErrorKind, Write};
 use std::rt::Files;
 
+/// How many bytes of a table's file are read at a time: so few that all reads that the program makes give at most 256 MiB.
+const TABLE_PIECE: usize = 256;
+
 /// Reads the table in a file; without a file it is empty.
-pub fn table_in<R: Files + AllocGlobal>(rt: &R, path: Option<&str>) -> Result<Table, RunFailure> {
-    match path {
-        Some(path) => read_table(rt, path),
-        None => Ok(Table::empty(rt.alloc())),
+pub fn table_in<R: Files + AllocGlobal>(
+    rt: &R,
+    path: Option<&str>,
+    notes: &mut TableNotes,
+) -> Result<Table, RunFailure> {
+    let table = match path {
+        Some(path) => read_table(rt, path, notes)?,
+        None => Table::empty(rt.alloc()),
+    };
+    notes.is_there = true;
+    Ok(table)
+}
+
+fn read_table<R: Files + AllocGlobal>(
+    rt: &R,
+    path: &str,
+    notes: &mut TableNotes,
+) -> Result<Table, RunFailure> {
+    let text = read_file(rt, path, &mut notes.failure)?;
+    match Table::read(rt.alloc(), text.as_slice()) {
+        Ok(table) => Ok(table),
+        Err(fault) => {
+            notes.refused = Some(RefusedText { text, fault });
+            Err(refused(fault))
+        }
     }
 }
 
-fn read_table<R: Files + AllocGlobal>(rt: &R, path: &str) -> Result<Table, RunFailure> {
-    let mut bytes = Vec::new(rt.alloc());
-    let mut file = match fs::open(rt, path) {
+fn read_file<R: Files + AllocGlobal>(
+    rt: &R,
+    path: &str,
+    failure: &mut Option<Error>,
+) -> Result<Vec<u8>, RunFailure> {
+    let file = match fs::open(rt, path) {
         Ok(file) => file,
         Err(error) if error.kind() == ErrorKind::OutOfMemory => {
             return Err(RunFailure::Program(Failure::Memory));
         }
-        Err(_) => return Err(RunFailure::UnreadableTable),
+        Err(error) => {
+            *failure = Some(error);
+            return Err(RunFailure::UnreadableTable);
+        }
     };
-    match read_all(&mut file, &mut bytes) {
-        Ok(()) => {}
-        Err(Failure::Memory) => return Err(RunFailure::Program(Failure::Memory)),
-        Err(_) => return Err(RunFailure::UnreadableTable),
+    let mut reader = NotedReader::new(file, None);
+    let mut text = Vec::new(rt.alloc());
+    let mut room = [0u8; TABLE_PIECE];
+    match read_all(&mut reader, &mut room, &mut text) {
+        Ok(()) => Ok(text),
+        Err(Failure::Memory) => Err(RunFailure::Program(Failure::Memory)),
+        Err(_) => {
+            *failure = reader.notes.failure;
+            Err(RunFailure::UnreadableTable)
+        }
     }
-    Table::read(rt.alloc(), bytes.as_slice()).map_err(refused)
 }
 
 fn refused(fault: TableFault) -> RunFailure {
@@ -40,15 +78,16 @@ fn refused(fault: TableFault) -> RunFailure {
     }
 }
 
-/// The command `check`: reads the table in a file, and says how many methods it has.
+/// The command `check`: reads the table in a file, and says how many methods it has. It reads no input, so that ends cleanly.
 pub fn check<R: Files + AllocGlobal, W: Write>(
     rt: &R,
     path: &str,
     output: &mut W,
-) -> Result<(), RunFailure> {
-    let methods = read_table(rt, path)?.len();
+    notes: &mut TableNotes,
+) -> Result<Close, RunFailure> {
+    let methods = table_in(rt, Some(path), notes)?.len();
     if writeln!(output, "ok: {methods} methods").is_err() || output.flush().is_err() {
         return Err(RunFailure::Program(Failure::Write));
     }
-    Ok(())
+    Ok(Close::Clean)
 }

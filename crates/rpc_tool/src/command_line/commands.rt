@@ -1,14 +1,16 @@
 //! The commands of `rpc_tool`, with the options of each.
+use super::notes::NOTES;
 use program_edge::{CommandOption, FlagOption, NumberOption, Program, ProgramCommand, TextOption};
 
 /// The program, with all of its commands.
 pub static PROGRAM: Program = Program {
     name: "rpc_tool",
-    version: "0.1.0",
+    version: "0.2.0",
     about: "A JSON-RPC 2.0 peer over standard input and output, framed as in the Language Server Protocol",
     commands: &[SERVE, PLAY, CHECK],
     needs_command: true,
     options: &[],
+    notes: NOTES,
 };
 
 const SERVE: ProgramCommand = ProgramCommand {
@@ -19,6 +21,7 @@ const SERVE: ProgramCommand = ProgramCommand {
         CommandOption::Number(WORKERS),
         CommandOption::Number(CONTENT),
         CommandOption::Number(CALLS),
+        CommandOption::Flag(EXPLAIN),
     ],
 };
 
@@ -33,13 +36,17 @@ const PLAY: ProgramCommand = ProgramCommand {
         CommandOption::Flag(LINES),
         CommandOption::Number(CONTENT),
         CommandOption::Number(CALLS),
+        CommandOption::Flag(EXPLAIN),
     ],
 };
 
 const CHECK: ProgramCommand = ProgramCommand {
     name: "check",
     about: "Judge a table of methods, and say how many methods it has",
-    options: &[CommandOption::Text(JUDGED_TABLE)],
+    options: &[
+        CommandOption::Text(JUDGED_TABLE),
+        CommandOption::Flag(EXPLAIN),
+    ],
 };
 
 pub const TABLE: TextOption = TextOption {
@@ -87,7 +94,7 @@ pub const PIECE: NumberOption = NumberOption {
 
 pub const LINES: FlagOption = FlagOption {
     name: "lines",
-    help: "Read one content a line, and write one a line, in place of frames",
+    help: "Read one content a line, and write one a line, in place of frames; a CR is part of its line",
 };
 
 /// The limit of a content.
@@ -108,4 +115,9 @@ pub const CALLS: NumberOption = NumberOption {
     least: 1,
     greatest: 1_000_000,
     usual: "1000000",
+};
+
+pub const EXPLAIN: FlagOption = FlagOption {
+    name: "explain",
+    help: "Add lines to the one on standard error that says why a run ended: what failed, where and why",
 };

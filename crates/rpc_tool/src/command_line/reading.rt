@@ -1,8 +1,8 @@
 //! The words of a command line, read.
 use super::commands::{
-    CALLS, CONTENT, JUDGED_TABLE, LAST, LAZY, LINES, PIECE, PROGRAM, TABLE, WORKERS,
+    CALLS, CONTENT, EXPLAIN, JUDGED_TABLE, LAST, LAZY, LINES, PIECE, PROGRAM, TABLE, WORKERS,
 };
-use super::subcommand::{LimitOptions, PlayOptions, ServeOptions, Subcommand};
+use super::subcommand::{CheckOptions, LimitOptions, PlayOptions, ServeOptions, Subcommand};
 use program_edge::{Refusal, Words};
 use std::alloc::Global;
 
@@ -16,9 +16,10 @@ pub fn read<'a>(alloc: Global, words: &'a [String]) -> Result<Subcommand<'a>, Re
         Some("serve") => Subcommand::Serve(serve_options(&words)),
         Some("play") => Subcommand::Play(play_options(&words)),
         // Words without a command are refused, and `check` without its table.
-        _ => Subcommand::Check {
+        _ => Subcommand::Check(CheckOptions {
             table: words.text(&JUDGED_TABLE).unwrap_or(""),
-        },
+            explain: words.flag(&EXPLAIN),
+        }),
     })
 }
 
@@ -27,6 +28,7 @@ fn serve_options<'a>(words: &Words<'a>) -> ServeOptions<'a> {
         table: words.text(&TABLE),
         workers: words.number(&WORKERS),
         limits: limit_options(words),
+        explain: words.flag(&EXPLAIN),
     }
 }
 
@@ -38,6 +40,7 @@ fn play_options<'a>(words: &Words<'a>) -> PlayOptions<'a> {
         piece: words.number(&PIECE),
         lines: words.flag(&LINES),
         limits: limit_options(words),
+        explain: words.flag(&EXPLAIN),
     }
 }
 

@@ -8,7 +8,7 @@ pub enum Subcommand<'a> {
     /// Plays the whole of standard input.
     Play(PlayOptions<'a>),
     /// Judges the table of methods in this file.
-    Check { table: &'a str },
+    Check(CheckOptions<'a>),
 }
 
 /// How much of its input the program takes.
@@ -28,6 +28,8 @@ pub struct ServeOptions<'a> {
     /// How many threads run methods, from 1 to 64.
     pub workers: u32,
     pub limits: LimitOptions,
+    /// Whether standard error says more than one line.
+    pub explain: bool,
 }
 
 /// How `play` reads its input, runs methods and writes its output.
@@ -44,4 +46,15 @@ pub struct PlayOptions<'a> {
     /// Whether each line of the input is one content, and each content written is one line.
     pub lines: bool,
     pub limits: LimitOptions,
+    /// Whether standard error says more than one line.
+    pub explain: bool,
+}
+
+/// What `check` judges.
+#[derive(Clone, Copy)]
+pub struct CheckOptions<'a> {
+    /// The file of the table of methods.
+    pub table: &'a str,
+    /// Whether standard error says more than one line.
+    pub explain: bool,
 }
