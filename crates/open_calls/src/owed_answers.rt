@@ -27,7 +27,7 @@ impl Model for OwedAnswers {
 }
 
 impl OwedAnswers {
-    ghost use Rattle.open_calls.specs.Owed.{seen_slots, lacking_in, given, IsCompleteUnit, text_or_none};
+    ghost use Rattle.open_calls.specs.Owed.{seen_slot, seen_slots, lacking_in, given, slot_at, replaced, IsCompleteUnit, text_or_none};
 
     pub fn new(alloc: Global) -> OwedAnswers
         ensures { result ≡ record { places = 0; owed = [] } }
@@ -43,6 +43,13 @@ impl OwedAnswers {
         ensures { result ≡ length self.now.owed }
     {
         self.owed.len() as u64
+    }
+
+    /// How many places there were.
+    pub fn places(&self) -> u64
+        ensures { result ≡ self.now.places }
+    {
+        self.places
     }
 
     /// The unit at the next place is owed these answers.
@@ -111,6 +118,20 @@ impl OwedAnswers {
             None => return,
         };
         unit.give(slot, text);
+    }
+
+    /// Puts a text, or none, into this slot of the unit at this place, and answers what stood there. Where there is no such
+    /// slot nothing changes. Takes no memory.
+    pub fn replace(&mut self, place: u64, slot: u64, text: Option<Vec<u8>>) -> Option<Vec<u8>>
+        ensures was { seen_slot result ≡ slot_at slot (at place self.old.owed) }
+        ensures state { self.new ≡ record self.old {
+          owed = changed_at place (replaced slot (seen_slot text)) self.old.owed;
+        } }
+    {
+        match self.owed.get_mut(&place) {
+            Some(unit) => unit.replace(slot, text),
+            None => None,
+        }
     }
 
     /// The unit at this place, where it is owed an answer.

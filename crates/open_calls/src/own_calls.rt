@@ -7,6 +7,7 @@ use crate::own_call::OwnCall;
 use std::alloc::{AllocError, Global};
 use std::collections::BTreeMap;
 use std::marker::Model;
+use std::mem;
 use std::ops::Bound;
 
 /// Our calls that wait for a reply. They have the keys 1, 2, .. in the order in which they were made.
@@ -171,6 +172,20 @@ impl OwnCalls {
         while let Some(key) = self.by_caller.next(caller, 0) {
             self.remove(key);
         }
+    }
+
+    /// No call waits any more. Those that did come as calls of their own, with the same keys. Takes no memory.
+    pub fn take_waiting(&mut self, alloc: Global) -> OwnCalls
+        ensures calls { result ≡ self.old }
+        ensures state { self.new ≡ record self.old { waiting = [] } }
+    {
+        let none = OwnCalls {
+            made: self.made,
+            waiting: BTreeMap::new(alloc),
+            by_caller: KeysByCaller::new(alloc),
+            wanted: KeysByCaller::new(alloc),
+        };
+        mem::replace(self, none)
     }
 
     /// The least key above `after` of a call of this caller that isn't withdrawn.
