@@ -18,24 +18,27 @@ impl Model for History {
 
 impl History {
     pub fn new() -> History
-        ensures written { result.written ≡ [] }
-        ensures taken { result.taken ≡ 0 }
+        ensures { result ≡ record { written = []; taken = 0 } }
     {
         History {}
     }
 
     /// The same, after this text was put too.
     pub fn with_text(&self, _text: &[u8]) -> History
-        ensures written { result.written ≡ self.now.written ++ _text.now ∷ [] }
-        ensures taken { result.taken ≡ self.now.taken }
+        ensures { result ≡ record {
+          written = self.now.written ++ _text.now ∷ [];
+          taken = self.now.taken;
+        } }
     {
         History {}
     }
 
     /// The same, after so much more was taken.
     pub fn with_taken(&self, _count: usize) -> History
-        ensures written { result.written ≡ self.now.written }
-        ensures taken { result.taken ≡ self.now.taken + _count }
+        ensures { result ≡ record {
+          written = self.now.written;
+          taken = self.now.taken + _count;
+        } }
     {
         History {}
     }
