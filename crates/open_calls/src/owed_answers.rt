@@ -45,9 +45,10 @@ impl OwedAnswers {
         self.owed.len() as u64
     }
 
-    /// How many places there were.
+    /// How many places there were. No unit that is owed an answer has this place or a greater one.
     pub fn places(&self) -> u64
-        ensures { result ≡ self.now.places }
+        ensures places { result ≡ self.now.places }
+        ensures owed { without self.now.places self.now.owed ≡ self.now.owed }
     {
         self.places
     }
