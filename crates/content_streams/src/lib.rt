@@ -3,6 +3,7 @@
 
 mod ending;
 mod framing;
+mod past;
 
 pub use ending::{HowEnded, StreamEnd};
 pub use framing::Framing;
