@@ -1,0 +1,2 @@
+pub mod OwnEntries
+pub mod OwnPicked
