@@ -115,7 +115,8 @@ reply_entry past front j r =
     ∙ ap (λ l. record { made = key_count past; waiting = l })
     (sym (filter-picked (λ e. not (j == e.0)) (λ k. is_waiting k past && is_none (first_reply k front)) (λ k. own_call k past) (key_count past)))
 
-one_entry : (past : History) (front : List Entry) (e : Entry) → unreplied past (front ++ e ∷ []) ≡ own_after e (unreplied past front)
+-- one entry more
+pub one_entry : (past : History) (front : List Entry) (e : Entry) → unreplied past (front ++ e ∷ []) ≡ own_after e (unreplied past front)
 one_entry past front (Call c) = other_entry past front (Call c) (λ k. refl)
 one_entry past front (Cancel id) = other_entry past front (Cancel id) (λ k. refl)
 one_entry past front (Reply j r) = reply_entry past front j r
