@@ -1,5 +1,5 @@
 -- Our calls that wait, as a unit comes entry by entry.
-use Rattle.std.proofs.Common.{◌≡◌, ℕ, zero, suc, ◌<◌, ◌≤◌, ◌==◌, ◌&&◌, not, List, [], ◌∷◌, ◌++◌, length, Bool, true, false, cond, Option, Some, None, refl, sym, ap, ◌∙◌, append_assoc, append-nil, arith}
+use Rattle.std.proofs.Common.{◌≡◌, ℕ, zero, suc, ◌<◌, ◌≤◌, ◌==◌, ◌&&◌, not, List, [], ◌∷◌, ◌++◌, Bool, true, false, cond, Option, Some, None, refl, sym, ap, ◌∙◌, append-nil}
 use Rattle.std.specs.Prelude.{is_some, unwrap_or}
 use Rattle.std.specs.Option.{is_none, option_map_or}
 use Rattle.connection_messages.specs.declared.entry.Entry.{Entry}
@@ -28,6 +28,7 @@ use Rattle.connection_states.proofs.OwnPicked.{picked, picked-agree, at-picked, 
 abbrev pub own_list : ℕ → (ℕ → Bool) → (ℕ → OwnCall) → OwnState
 own_list n p v = record { made = n; waiting = picked p v n }
 
+-- tests that agree, and calls that agree where they pass
 pub own-agree : (n : ℕ) (p q : ℕ → Bool) (v w : ℕ → OwnCall) → ((k : ℕ) → 0 < k → k ≤ n → p k ≡ q k) → ((k : ℕ) → 0 < k → k ≤ n → q k ≡ true → v k ≡ w k) → own_list n p v ≡ own_list n q w
 own-agree n p q v w test value = ap (λ l. record { made = n; waiting = l }) (picked-agree p q v w n test value)
 
@@ -45,6 +46,7 @@ own-changed past h q w count test value =
 pub waits_within : (history : History) (key : ℕ) → is_waiting key history ≡ true → (0 < key) × (key ≤ key_count history)
 waits_within history key h = let w = waits key history h in caller_of-within key history w.number w.caller
 
+-- what stands under its key
 pub found : (history : History) (key : ℕ) → at key (own_of history).waiting ≡ cond (is_waiting key history) (Some (own_call key history)) None
 found history key = at-picked (λ k. is_waiting k history) (λ k. own_call k history) key (key_count history) (waits_within history key)
 
@@ -52,6 +54,7 @@ is_some-cond : (b : Bool) (c : OwnCall) → is_some (cond b (Some c) None) ≡ b
 is_some-cond true c = refl
 is_some-cond false c = refl
 
+-- whether it waits
 pub waits_at : (history : History) (key : ℕ) → is_waiting key history ≡ is_some (at key (own_of history).waiting)
 waits_at history key = sym (ap is_some (found history key) ∙ is_some-cond (is_waiting key history) (own_call key history))
 
@@ -86,6 +89,7 @@ own_nothing past =
 abbrev pub unreplied : History → List Entry → OwnState
 unreplied past es = own_list (key_count past) (λ k. is_waiting k past && is_none (first_reply k es)) (λ k. own_call k past)
 
+-- when a unit comes, our calls wait on unless their reply is there
 pub own-came : (cancels : Bool) (past : History) (u : Unit) → IsLawful cancels past → own_of (came u ∷ past) ≡ unreplied past (entries_in u)
 own-came cancels past u lawful =
     own-changed past (came u) (λ k. is_waiting k past && is_none (first_reply k (entries_in u))) (λ k. own_call k past) (key_count-other past (came u) refl)
@@ -115,7 +119,7 @@ reply_entry past front j r =
     ∙ ap (λ l. record { made = key_count past; waiting = l })
     (sym (filter-picked (λ e. not (j == e.0)) (λ k. is_waiting k past && is_none (first_reply k front)) (λ k. own_call k past) (key_count past)))
 
--- one entry more
+-- with one entry more
 pub one_entry : (past : History) (front : List Entry) (e : Entry) → unreplied past (front ++ e ∷ []) ≡ own_after e (unreplied past front)
 one_entry past front (Call c) = other_entry past front (Call c) (λ k. refl)
 one_entry past front (Cancel id) = other_entry past front (Cancel id) (λ k. refl)

@@ -1,5 +1,5 @@
 -- What each happening changes of our calls that wait.
-use Rattle.std.proofs.Common.{◌≡◌, ◌≢◌, ℕ, zero, suc, ◌+◌, ◌<◌, ◌≤◌, ◌==◌, ◌&&◌, ◌||◌, not, nat_lt, List, [], ◌∷◌, ◌++◌, length, map, Bool, true, false, cond, ◌⊎◌, inl, inr, Option, Some, None, refl, sym, ap, subst, ◌∙◌, append_assoc, append-nil, arith}
+use Rattle.std.proofs.Common.{◌≡◌, ◌≢◌, ℕ, zero, suc, ◌+◌, ◌<◌, ◌≤◌, ◌==◌, ◌&&◌, ◌||◌, not, nat_lt, List, [], ◌∷◌, ◌++◌, length, map, Bool, true, false, cond, Option, Some, None, refl, sym, ap, subst, ◌∙◌, append_assoc, append-nil, arith}
 use Rattle.std.specs.Prelude.{filter, unwrap_or}
 use Rattle.connection_messages.specs.declared.answer.Answer.{Answer}
 use Rattle.connection_messages.specs.declared.entry.Entry.{Entry}
@@ -10,14 +10,15 @@ use Rattle.connection_history.specs.declared.close.Close.{Close}
 use Rattle.connection_history.specs.declared.refused.Refused.{Refused}
 use Rattle.connection_history.specs.declared.refused.Refused.TheVariants.{NotOpen, NotWaiting, Over, Empty, Full}
 use Rattle.connection_history.specs.Stream.{entries_in}
-use Rattle.connection_history.specs.History.{Happening, came, called, called_all, noticed, withdrew, answered, ended, History, is_over, is_open, key_count, callers_at, caller_of, is_waiting, withdraws, is_withdrawn, numbers_to}
+use Rattle.connection_history.specs.History.{Happening, came, called, called_all, noticed, withdrew, answered, ended, History, is_over, is_open, key_count, caller_of, is_waiting, withdraws, is_withdrawn, numbers_to}
 use Rattle.connection_history.specs.Refusals.{first_of, most_keys, call_refusal, IsLawful}
 use Rattle.connection_history.proofs.OurCalls.{key_count-more, key_count-other, key_count-called, key_count-called_all, caller_of-made, caller_of-other, caller_of-called, caller_of-called_all}
-use Rattle.connection_history.proofs.Tests.{two, same, apart, different, and-left, and-right, not-true, or-left}
-use Rattle.connection_history.proofs.Waiting.{waiting-noticed, waiting-withdrew, waiting-called_made, waiting-called_all_made, made_waits, waiting-answered, waiting-answered_other, waiting-ended}
+use Rattle.connection_history.proofs.Tests.{same, apart, different, and-left, and-right, or-left}
+use Rattle.connection_history.proofs.Waiting.{waiting-withdrew, waiting-called_made, waiting-called_all_made, made_waits, waiting-answered, waiting-answered_other, waiting-ended}
 use Rattle.open_calls.specs.declared.own_call.OwnCall.{OwnCall}
 use Rattle.open_calls.specs.Numbered.{changed_at}
-use Rattle.open_calls.specs.Own.{OwnState, new_call, new_calls, withdrawn, without_caller}
+use Rattle.open_calls.specs.Own.{new_call, new_calls, withdrawn, without_caller}
+use Rattle.open_calls.proofs.Own.{and_true, and_false}
 use Rattle.connection_states.specs.States.{own_call, own_of}
 use Rattle.connection_states.specs.Steps.{own_after_all, own_with}
 use Rattle.connection_states.proofs.OwnEntries.{own_list, own-changed, waits_within, own_nothing, unreplied, own-came, one_entry}
@@ -26,10 +27,12 @@ use Rattle.connection_states.proofs.OwnPicked.{with_value, picked, picked-more, 
 
 -- ---- a unit comes
 
+-- entry by entry
 along : (past : History) (front es : List Entry) → unreplied past (front ++ es) ≡ own_after_all es (unreplied past front)
 along past front [] = ap (unreplied past) (append-nil front)
 along past front (e ∷ es) = ap (unreplied past) (sym (append_assoc front (e ∷ []) es)) ∙ along past (front ++ e ∷ []) es ∙ ap (own_after_all es) (one_entry past front e)
 
+-- our calls wait on, but for those whose reply came
 pub own_came : (cancels : Bool) (past : History) (u : Unit) → IsLawful cancels past → own_of (came u ∷ past) ≡ own_after_all (entries_in u) (own_of past)
 own_came cancels past u lawful =
     own-came cancels past u lawful ∙ along past [] (entries_in u)
@@ -53,7 +56,7 @@ none_passed false h = refl
 may_call : (past : History) (n count : ℕ) → call_refusal past n count ≡ None → (is_open n past ≡ true) × (is_over past ≡ false)
 may_call past n count h = open_passed (is_open n past) (is_over past) ((count == 0, Empty) ∷ (nat_lt most_keys (key_count past + count), Full) ∷ []) h
 
--- ---- calls that are withdrawn were made
+-- ---- a call that is withdrawn was made
 
 unmade_withdraws : (cancels : Bool) (past : History) (h : Happening) (k : ℕ) → IsLawful cancels (h ∷ past) → key_count past < k → withdraws k h ≡ false
 unmade_withdraws cancels past (came u) k lawful new = refl
@@ -75,7 +78,7 @@ unmade_withdrawn cancels (h ∷ past) k lawful new =
     let before : key_count past < k = omega (arith, key_count-more past h) in
     λ i. unmade_withdraws cancels past h k lawful before i || unmade_withdrawn cancels past k lawful.1 before i
 
--- ---- our calls
+-- ---- calls that are made
 
 -- more numbers that all pass, each with a new call
 picked-new : (p q : ℕ → Bool) (v w : ℕ → OwnCall) (n caller c : ℕ) → ((k : ℕ) → 0 < k → k ≤ n → p k ≡ q k) → ((k : ℕ) → 0 < k → k ≤ n → q k ≡ true → v k ≡ w k)
@@ -116,22 +119,17 @@ one_new past n o k more within =
     let it : key_count past + 1 ≡ k = omega arith in
     subst (λ j. caller_of j (called n o ∷ past) ≡ Some n) it (caller_of-called past n o)
 
+-- a call that is made waits
 pub own_called : (cancels : Bool) (past : History) (n : ℕ) (o : Outgoing) → IsLawful cancels (called n o ∷ past) → own_of (called n o ∷ past) ≡ own_with n 1 (own_of past)
 own_called cancels past n o lawful =
     own_made cancels past (called n o) n 1 lawful.1 (may_call past n 1 lawful.0) (key_count-called past n o) (λ k. refl)
     (λ k within. waiting-called_made k past n o within) (one_new past n o)
 
+-- each call of a batch waits
 pub own_called_all : (cancels : Bool) (past : History) (n : ℕ) (os : List Outgoing) → IsLawful cancels (called_all n os ∷ past) → own_of (called_all n os ∷ past) ≡ own_with n (length os) (own_of past)
 own_called_all cancels past n os lawful =
     own_made cancels past (called_all n os) n (length os) lawful.1 (may_call past n (length os) lawful.0) (key_count-called_all past n os) (λ k. refl)
     (λ k within. waiting-called_all_made k past n os within) (λ k more within. caller_of-called_all k past n os more within)
-
--- ---- a notification of ours
-
-pub own_noticed : (past : History) (o : Outgoing) → own_of (noticed o ∷ past) ≡ own_of past
-own_noticed past o =
-    own-changed past (noticed o) (λ k. is_waiting k past) (λ k. own_call k past) (key_count-other past (noticed o) refl)
-    (λ k some h. waiting-noticed k past o) (λ k some h waiting_now. own_call-kept past (noticed o) k (caller_of-other k past (noticed o) refl) refl)
 
 -- ---- a withdrawal
 
@@ -143,6 +141,7 @@ own_call-withdrew : (past : History) (j k : ℕ) → own_call k (withdrew j ∷ 
 own_call-withdrew past j k =
     ap (λ o. record { caller = unwrap_or o 0; is_withdrawn = (j == k) || is_withdrawn k past }) (caller_of-other k past (withdrew j) refl) ∙ withdrawn_if (j == k) (own_call k past)
 
+-- a call that is withdrawn waits on
 pub own_withdrew : (cancels : Bool) (past : History) (key : ℕ) → IsLawful cancels (withdrew key ∷ past)
     → own_of (withdrew key ∷ past) ≡ record (own_of past) { waiting = changed_at key withdrawn (own_of past).waiting }
 own_withdrew cancels past key lawful =
@@ -152,21 +151,13 @@ own_withdrew cancels past key lawful =
 
 -- ---- an answer
 
-and_nothing : (b : Bool) → (b && true) ≡ b
-and_nothing true = refl
-and_nothing false = refl
-
-and_never : (b : Bool) → (b && false) ≡ false
-and_never true = refl
-and_never false = refl
-
 -- the calls made on behalf of what is answered wait no more
 answered_made : (past : History) (m : ℕ) (a : Answer) (k n : ℕ) (b : Bool) → 0 < m → caller_of k past ≡ Some n → (n == m) ≡ b → is_waiting k (answered m a ∷ past) ≡ (is_waiting k past && not b)
 answered_made past m a k n true some caller is =
-    waiting-answered k past m a some (caller ∙ ap Some (same n m is)) ∙ sym (and_never (is_waiting k past))
+    waiting-answered k past m a some (caller ∙ ap Some (same n m is)) ∙ sym (and_false (is_waiting k past))
 answered_made past m a k n false some caller is =
     waiting-answered_other k past m a (λ l called_by e. let it : Some l ≡ Some n = sym called_by ∙ caller in let other = apart n m is in other (sym (cc)))
-    ∙ sym (and_nothing (is_waiting k past))
+    ∙ sym (and_true (is_waiting k past))
 
 answered_by : (past : History) (m : ℕ) (a : Answer) (k : ℕ) (o : Option ℕ) → 0 < m → caller_of k past ≡ o → is_waiting k (answered m a ∷ past) ≡ (is_waiting k past && not (unwrap_or o 0 == m))
 answered_by past m a k None some caller =
@@ -177,6 +168,7 @@ answered_by past m a k (Some n) some caller = answered_made past m a k n (n == m
 not_zero : (m : ℕ) (other : Bool) → ((m == 0) || other) ≡ false → 0 < m
 not_zero m other h = let ne : m ≢ 0 = apart m 0 (or-left (m == 0) other h) in omega arith
 
+-- the calls made on behalf of others wait on
 pub own_answered : (cancels : Bool) (past : History) (m : ℕ) (a : Answer) → IsLawful cancels (answered m a ∷ past)
     → own_of (answered m a ∷ past) ≡ record (own_of past) { waiting = without_caller m (own_of past).waiting }
 own_answered cancels past m a lawful =
@@ -191,6 +183,7 @@ none_passes : (ks : List ℕ) → filter (λ k. false) ks ≡ []
 none_passes [] = refl
 none_passes (k ∷ ks) = none_passes ks
 
+-- none waits
 pub own_ended : (past : History) (close : Close) → own_of (ended close ∷ past) ≡ record (own_of past) { waiting = [] }
 own_ended past close =
     own-changed past (ended close) (λ k. false) (λ k. own_call k past) (key_count-other past (ended close) refl)

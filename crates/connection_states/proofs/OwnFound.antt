@@ -1,5 +1,5 @@
 -- What is seen of our calls that wait.
-use Rattle.std.proofs.Common.{◌≡◌, ℕ, ◌==◌, ◌&&◌, not, List, [], ◌∷◌, ◌++◌, map, Bool, true, false, cond, Option, Some, None, refl, sym, ap, ◌∙◌}
+use Rattle.std.proofs.Common.{◌≡◌, ℕ, ◌==◌, ◌&&◌, not, [], ◌∷◌, ◌++◌, map, Bool, true, false, cond, Option, Some, None, refl, sym, ap, ◌∙◌}
 use Rattle.std.specs.Prelude.{filter, unwrap_or, option_map}
 use Rattle.std.specs.Option.{is_none, option_map_or}
 use Rattle.connection_history.specs.declared.close.Close.{Close}
@@ -19,6 +19,7 @@ use Rattle.connection_states.proofs.OwnPicked.{filter-picked, map-with_value, nu
 
 -- ---- a call that waits
 
+-- it is found by its key
 pub found_waiting : (history : History) (key : ℕ) → is_waiting key history ≡ true → at key (own_of history).waiting ≡ Some (own_call key history)
 found_waiting history key h = found history key ∙ ap (λ b. cond b (Some (own_call key history)) None) h
 
@@ -52,6 +53,7 @@ same_wanted (Some m) n w d idle = sym (swapped (m == n) w d)
 pub unmade_idle : (k : ℕ) (history : History) → caller_of k history ≡ None → is_waiting k history ≡ false
 unmade_idle k history none = ap (λ o. option_map_or (λ n. is_open n history) o false && is_none (reply_to k history) && not (is_over history)) none
 
+-- the keys of those that a caller still wants
 pub withdrawable_found : (history : History) (number : ℕ) → withdrawable number history ≡ map (λ e. e.0) (filter (λ e. is_wanted_by number e.1) (own_of history).waiting)
 withdrawable_found history number =
     sym (ap (map (λ (e : ℕ × OwnCall). e.0)) (filter-picked (λ e. is_wanted_by number e.1) (λ k. is_waiting k history) (λ k. own_call k history) (key_count history))
@@ -61,5 +63,6 @@ withdrawable_found history number =
 
 -- ---- the end
 
+-- each call that waits is told to have no reply
 pub ended_found : (past : History) (close : Close) → events_at past (ended close) ≡ told_at_end close (own_of past)
 ended_found past close = ap (λ l. l ++ event.Over close ∷ []) (sym (map-with_value (λ e. event.Unanswered e.0) (λ k. own_call k past) (waiting past)))

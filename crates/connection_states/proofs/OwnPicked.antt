@@ -1,5 +1,5 @@
 -- What passes of the numbers to n, each with its value.
-use Rattle.std.proofs.Common.{◌≡◌, ℕ, zero, suc, ◌+◌, ◌<◌, ◌≤◌, ◌==◌, ◌&&◌, not, List, [], ◌∷◌, ◌++◌, map, Bool, true, false, cond, inl, inr, Option, Some, None, refl, sym, ap, subst, ◌∙◌, append_assoc, append-nil, arith}
+use Rattle.std.proofs.Common.{◌≡◌, ℕ, zero, suc, ◌<◌, ◌≤◌, ◌==◌, ◌&&◌, List, [], ◌∷◌, ◌++◌, map, Bool, true, false, cond, inl, inr, Option, Some, None, refl, sym, ap, subst, ◌∙◌, arith}
 use Rattle.std.proofs.lemmas.Bool.{cases_lt}
 use Rattle.std.proofs.lemmas.List.{map-append}
 use Rattle.std.proofs.lemmas.List.Elements.{filter-append}
@@ -12,6 +12,7 @@ use Rattle.open_calls.specs.Numbered.{at, changed_at}
 abbrev pub with_value : {X : Type 0} → (ℕ → X) → ℕ → ℕ × X
 with_value v k = (k, v k)
 
+-- those that pass, each with its value
 abbrev pub picked : {X : Type 0} → (ℕ → Bool) → (ℕ → X) → ℕ → List (ℕ × X)
 picked p v n = map (with_value v) (filter p (numbers_to n))
 
@@ -23,6 +24,7 @@ last_picked : {X : Type 0} (b : Bool) (v : ℕ → X) (n : ℕ) → map (with_va
 last_picked true v n = refl
 last_picked false v n = refl
 
+-- with one number more
 pub picked-more : {X : Type 0} (p : ℕ → Bool) (v : ℕ → X) (n : ℕ) → picked p v (suc n) ≡ picked p v n ++ cond (p (suc n)) ((suc n, v (suc n)) ∷ []) []
 picked-more p v n =
     ap (map (with_value v)) (filter-append p (numbers_to n) (suc n ∷ []))
@@ -51,6 +53,7 @@ at_step : {X : Type 0} (b : Bool) (x : X) (o p later : Option X) → o ≡ or_el
 at_step true x o p later h = refl
 at_step false x o p later h = h
 
+-- in a list and then another
 pub at-append : {X : Type 0} (k : ℕ) (es fs : List (ℕ × X)) → at k (es ++ fs) ≡ or_else (at k es) (at k fs)
 at-append k [] fs = refl
 at-append k (e ∷ es) fs = at_step (k == e.0) e.1 (at k (es ++ fs)) (at k es) (at k fs) (at-append k es fs)
