@@ -1,0 +1,4 @@
+pub mod OwnEntries
+pub mod OwnFollows
+pub mod OwnFound
+pub mod OwnPicked
