@@ -1,6 +1,7 @@
 ghost use Rattle.std.specs.Prelude.{◌≡◌, ◌++◌, ◌∷◌, [], ℕ, Bool, true, false, length, not, None, Some, is_some, option_to_list, option_map, OnOk, OnErr};
 
 use crate::events::Events;
+use crate::tally::Tally;
 use connection_history::{Event, Order};
 use content_streams::Framing;
 use open_calls::{OwedAnswers, OwnCalls, TheirCalls};
@@ -24,6 +25,7 @@ pub struct Desk {
     pub(crate) is_over: bool,
     pub(crate) events: Events,
     pub(crate) outbox: Outbox,
+    pub(crate) tally: Tally,
     /// Room for the next text.
     pub(crate) room: Vec<u8>,
 }
@@ -72,6 +74,7 @@ impl Desk {
             is_over: false,
             events: Events::new(alloc),
             outbox: Outbox::new(alloc, framing),
+            tally: Tally::NONE,
             room: Vec::new(alloc),
         }
     }
@@ -88,6 +91,32 @@ impl Desk {
         ensures { result ≡ self.now.state.theirs.came }
     {
         self.theirs.came()
+    }
+
+    /// How many calls of the other side are open.
+    pub fn open(&self) -> u64
+        ensures { result ≡ length self.now.state.theirs.calls }
+    {
+        self.theirs.len()
+    }
+
+    /// How many calls of ours wait for a reply.
+    pub fn waiting(&self) -> u64
+        ensures { result ≡ length self.now.state.own.waiting }
+    {
+        self.own.len()
+    }
+
+    /// How many calls of ours were made.
+    pub fn made(&self) -> u64
+        ensures { result ≡ self.now.state.own.made }
+    {
+        self.own.made()
+    }
+
+    /// How often some things have happened.
+    pub fn tally(&self) -> Tally {
+        self.tally
     }
 
     /// Whether this call is a request. There is none where it isn't open.

@@ -9,5 +9,7 @@ mod events;
 mod intake;
 mod leaving;
 mod saying;
+mod tally;
 
 pub use desk::Desk;
+pub use tally::Tally;
