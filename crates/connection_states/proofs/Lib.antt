@@ -1,0 +1,4 @@
+pub mod TheirAfter
+pub mod TheirEntries
+pub mod TheirFound
+pub mod TheirSites
