@@ -1,22 +1,19 @@
 -- The calls that are open after one more thing happened.
-use Rattle.std.proofs.Common.{◌≡◌, ◌≢◌, ℕ, zero, suc, ◌+◌, ◌<◌, ◌≤◌, ◌==◌, List, [], ◌∷◌, ◌++◌, length, Bool, true, false, cond, ◌&&◌, not, refl, sym, ap, subst, ◌∙◌, append-nil, arith}
+use Rattle.std.proofs.Common.{◌≡◌, ℕ, ◌<◌, ◌≤◌, ◌==◌, List, [], ◌∷◌, ◌++◌, length, Bool, true, false, cond, not, refl, sym, ap, subst, ◌∙◌, append-nil}
 use Rattle.std.proofs.lemmas.List.Elements.{filter-append}
-use Rattle.std.specs.Prelude.{is_some, filter}
-use Rattle.std.specs.Option.{is_none}
 use Rattle.connection_messages.specs.declared.answer.Answer.{Answer}
 use Rattle.connection_messages.specs.declared.entry.Entry.{Entry}
 use Rattle.connection_messages.specs.declared.outgoing.Outgoing.{Outgoing}
-use Rattle.connection_messages.specs.declared.unit.Unit.{Unit}
 use Rattle.connection_history.specs.declared.close.Close.{Close}
-use Rattle.connection_history.specs.Stream.{calls_in, call_numbered, is_cancelled}
-use Rattle.connection_history.specs.History.{Happening, called, called_all, noticed, withdrew, answered, ended, History, units_of, units_at, stream, is_open, answer_to}
+use Rattle.connection_history.specs.Stream.{calls_in, is_cancelled}
+use Rattle.connection_history.specs.History.{Happening, called, called_all, noticed, withdrew, answered, ended, History, units_of, units_at, stream, is_open}
 use Rattle.connection_history.proofs.OpenCalls.{stream-said, open-called, open-called_all, open-noticed, open-withdrew, open-ended, open-answered, open-answered_other}
 use Rattle.connection_history.proofs.Tests.{same, apart}
 use Rattle.open_calls.specs.declared.their_call.TheirCall.{TheirCall}
 use Rattle.open_calls.specs.Numbered.{without}
 use Rattle.open_calls.specs.Theirs.{TheirState}
 use Rattle.connection_states.specs.States.{theirs_of}
-use Rattle.connection_states.proofs.TheirSites.{sites_in, sites_of, seen_as, seen, all_seen, theirs-seen, IsSite, AreSites, all-are}
+use Rattle.connection_states.proofs.TheirSites.{sites_in, sites_of, seen_as, seen, all_seen, theirs-seen, AreSites, all-are}
 
 -- ---- what is seen the same
 

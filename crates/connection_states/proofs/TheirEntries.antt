@@ -1,5 +1,5 @@
 -- The calls that are open after one more entry came, and after a unit.
-use Rattle.std.proofs.Common.{◌≡◌, ℕ, zero, suc, ◌+◌, ◌<◌, ◌≤◌, List, [], ◌∷◌, ◌++◌, length, map, None, Bool, true, false, cond, ◌&&◌, ◌||◌, not, refl, sym, ap, subst, ◌∙◌, append_assoc, append-nil, arith}
+use Rattle.std.proofs.Common.{◌≡◌, ℕ, zero, suc, ◌+◌, ◌<◌, ◌≤◌, List, [], ◌∷◌, ◌++◌, length, None, Bool, true, false, cond, ◌&&◌, ◌||◌, not, refl, sym, ap, ◌∙◌, append_assoc, append-nil, arith}
 use Rattle.std.proofs.lemmas.List.{map-append}
 use Rattle.std.specs.Prelude.{is_some}
 use Rattle.std.specs.Option.{is_none}
@@ -10,7 +10,7 @@ use Rattle.connection_messages.specs.declared.entry.Entry.{Entry}
 use Rattle.connection_messages.specs.declared.entry.Entry.TheVariants.{Call, Cancel, Reply, Stray, Invalid}
 use Rattle.connection_messages.specs.declared.unit.Unit.{Unit}
 use Rattle.connection_messages.specs.declared.unit.Unit.TheVariants.{Batch}
-use Rattle.connection_history.specs.Stream.{entries_in, entries_along, call_in, calls_in, call_numbered, request_id, after_call, cancels, is_cancelled}
+use Rattle.connection_history.specs.Stream.{entries_in, call_in, calls_in, call_numbered, request_id, after_call, cancels, is_cancelled}
 use Rattle.connection_history.specs.Events.{call_count}
 use Rattle.connection_history.specs.History.{came, History, units_of, stream, is_open, answer_to}
 use Rattle.connection_history.specs.Refusals.{IsLawful}
@@ -22,10 +22,10 @@ use Rattle.connection_history.proofs.Streams.{length-calls_in-append, call_numbe
 use Rattle.connection_history.proofs.Tests.{or-false}
 use Rattle.open_calls.specs.declared.their_call.TheirCall.{TheirCall}
 use Rattle.open_calls.specs.Theirs.{new_call, cancelled}
-use Rattle.connection_states.specs.States.{theirs_of, slot_count}
+use Rattle.connection_states.specs.States.{theirs_of}
 use Rattle.connection_states.specs.Steps.{cancelled_if, cancelled_all, theirs_after, theirs_after_all}
 use Rattle.connection_states.proofs.TheirAfter.{seen-agree, theirs-from, theirs-same}
-use Rattle.connection_states.proofs.TheirSites.{site, sites_along, sites_in, sites_of, slots_in, seen_as, seen, all_seen, all_seen-append, theirs-seen, sites-entry, sites-unit, slots-entry, IsSite, AreSites, all-are}
+use Rattle.connection_states.proofs.TheirSites.{site, sites_along, sites_of, slots_in, seen_as, seen, all_seen, all_seen-append, theirs-seen, sites-entry, sites-unit, slots-entry, AreSites, all-are}
 
 -- ---- an array that has brought nothing, and one that brings a unit's entries
 

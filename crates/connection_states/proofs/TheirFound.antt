@@ -1,5 +1,5 @@
 -- A call is looked up by its number.
-use Rattle.std.proofs.Common.{◌≡◌, ℕ, zero, suc, ◌<◌, ◌≤◌, ◌==◌, List, [], ◌∷◌, ◌++◌, Option, Some, Bool, true, false, cond, ◌&&◌, ◌||◌, inl, inr, refl, sym, ap, ◌∙◌, arith}
+use Rattle.std.proofs.Common.{◌≡◌, ℕ, zero, suc, ◌<◌, ◌≤◌, ◌==◌, List, [], ◌∷◌, ◌++◌, Some, Bool, true, false, cond, ◌&&◌, ◌||◌, inl, inr, refl, sym, ap, ◌∙◌, arith}
 use Rattle.std.proofs.lemmas.Bool.{cases_lt}
 use Rattle.std.specs.Prelude.{is_some}
 use Rattle.connection_history.specs.Stream.{is_cancelled}
@@ -7,11 +7,11 @@ use Rattle.connection_history.specs.Events.{call_count}
 use Rattle.connection_history.specs.History.{History, stream, units_of, is_open, numbers_to}
 use Rattle.connection_history.proofs.Histories.{open_known}
 use Rattle.connection_history.proofs.Streams.{call_numbered-within}
-use Rattle.connection_history.proofs.Tests.{same, same_test}
+use Rattle.connection_history.proofs.Tests.{same, same_test, or-false, or_assoc}
 use Rattle.open_calls.specs.declared.their_call.TheirCall.{TheirCall}
 use Rattle.open_calls.specs.Numbered.{at}
 use Rattle.connection_states.specs.States.{theirs_of}
-use Rattle.connection_states.proofs.TheirSites.{sites_of, seen_as, seen, all_seen, theirs-seen, numbers_in, all-numbers}
+use Rattle.connection_states.proofs.TheirSites.{sites_of, seen_as, all_seen, theirs-seen, numbers_in, all-numbers}
 
 -- whether a number is among these
 abbrev pub is_among : ℕ → List ℕ → Bool
@@ -27,25 +27,20 @@ found_step k s rest true hit false this more is alike there =
 found_step k s rest false hit true this more is alike there = there ∙ ap (λ b. b && more) (alike refl) ∙ sym (ap (λ b. b && true) (alike refl))
 found_step k s rest false hit false this more is alike there = there
 
+and-false : (b : Bool) → (b && false) ≡ false
+and-false true = refl
+and-false false = refl
+
 -- what is seen under a number
 pub seen-at : (k : ℕ) (history : History) (ss : List (ℕ × TheirCall)) → is_some (at k (all_seen history ss)) ≡ (is_open k history && is_among k (numbers_in ss))
-seen-at k history [] = none (is_open k history) where
-  none : (b : Bool) → false ≡ (b && false)
-  none true = refl
-  none false = refl
+seen-at k history [] = sym (and-false (is_open k history))
 seen-at k history (s ∷ ss) =
     found_step k s (all_seen history ss) (is_open s.0 history) (is_cancelled s.0 (stream history)) (k == s.0) (is_open k history) (is_among k (numbers_in ss)) refl
     (λ here. ap (λ n. is_open n history) (same k s.0 here)) (seen-at k history ss)
 
 among-push : (k n : ℕ) (ns : List ℕ) → is_among k (ns ++ n ∷ []) ≡ (is_among k ns || (k == n))
-among-push k n [] = last (k == n) where
-  last : (b : Bool) → (b || false) ≡ b
-  last true = refl
-  last false = refl
-among-push k n (m ∷ ns) = ap (λ b. (k == m) || b) (among-push k n ns) ∙ three (k == m) (is_among k ns) (k == n) where
-  three : (a b c : Bool) → (a || (b || c)) ≡ ((a || b) || c)
-  three true b c = refl
-  three false b c = refl
+among-push k n [] = or-false (k == n)
+among-push k n (m ∷ ns) = ap (λ b. (k == m) || b) (among-push k n ns) ∙ sym (or_assoc (k == m) (is_among k ns) (k == n))
 
 or-true : (b : Bool) → (b || true) ≡ true
 or-true true = refl

@@ -1,5 +1,5 @@
 -- What a unit tells, entry by entry.
-use Rattle.std.proofs.Common.{◌≡◌, ℕ, ◌+◌, List, [], ◌∷◌, ◌++◌, length, map, Bool, true, false, cond, ◌&&◌, not, refl, sym, ap, ◌∙◌, append_assoc}
+use Rattle.std.proofs.Common.{◌≡◌, ℕ, ◌+◌, List, [], ◌∷◌, ◌++◌, length, map, Bool, true, false, cond, ◌&&◌, not, refl, sym, ap, ◌∙◌}
 use Rattle.std.proofs.lemmas.List.{map-append}
 use Rattle.std.specs.Prelude.{filter}
 use Rattle.rpc_messages.specs.Ids.{has_id}
@@ -17,24 +17,24 @@ use Rattle.open_calls.specs.declared.their_call.TheirCall.{TheirCall}
 use Rattle.open_calls.specs.Own.{OwnState}
 use Rattle.open_calls.specs.Theirs.{TheirState, new_call, cancelled, is_reached as reaches}
 use Rattle.connection_states.specs.States.{own_of, theirs_of}
-use Rattle.connection_states.specs.Steps.{reached_numbers, cancelled_if, cancelled_all, theirs_after, own_after, told_of, told_of_all}
+use Rattle.connection_states.specs.Steps.{reached_numbers, cancelled_all, theirs_after, own_after, told_of, told_of_all}
 use Rattle.connection_states.proofs.OwnEntries.{waits_at, own_nothing, own_entry}
 use Rattle.connection_states.proofs.TheirEntries.{theirs-none, theirs-entry}
 use Rattle.connection_states.proofs.TheirSites.{sites_of, slots_in, seen_as, all_seen, theirs-seen, AreSites, all-are, numbers_in, all-numbers}
 
 -- ---- what a cancel reaches
 
+-- the numbers of those that it reaches, with one more in front if that is reached
+abbrev with_one : Id → Bool → ℕ × TheirCall → List (ℕ × TheirCall) → List ℕ
+with_one id b s rest = map (λ e. e.0) (cond b (s ∷ filter (λ e. reaches id e.1) rest) (filter (λ e. reaches id e.1) rest))
+
 reached_one : (id : Id) (s : ℕ × TheirCall) (ns : List ℕ) (rest : List (ℕ × TheirCall)) (has opened hit : Bool) → has_id id s.1.id ≡ has → ns ≡ reached_numbers id rest
     → cond (has && opened && not hit) (s.0 ∷ ns) ns ≡ reached_numbers id (seen_as opened hit s ++ rest)
 reached_one id s ns rest true false hit is there = there
 reached_one id s ns rest false false hit is there = there
-reached_one id s ns rest true true true is there =
-    there ∙ sym (ap (λ b. map (λ (e : ℕ × TheirCall). e.0) (cond (b && false) ((s.0, record s.1 { is_cancelled = true }) ∷ filter (λ (e : ℕ × TheirCall). reaches id e.1) rest) (filter (λ (e : ℕ × TheirCall). reaches id e.1) rest))) is)
-reached_one id s ns rest true true false is there =
-    ap (λ l. s.0 ∷ l) there
-    ∙ sym (ap (λ b. map (λ (e : ℕ × TheirCall). e.0) (cond (b && true) ((s.0, record s.1 { is_cancelled = false }) ∷ filter (λ (e : ℕ × TheirCall). reaches id e.1) rest) (filter (λ (e : ℕ × TheirCall). reaches id e.1) rest))) is)
-reached_one id s ns rest false true hit is there =
-    there ∙ sym (ap (λ b. map (λ (e : ℕ × TheirCall). e.0) (cond (b && not hit) ((s.0, record s.1 { is_cancelled = hit }) ∷ filter (λ (e : ℕ × TheirCall). reaches id e.1) rest) (filter (λ (e : ℕ × TheirCall). reaches id e.1) rest))) is)
+reached_one id s ns rest true true true is there = there ∙ sym (ap (λ b. with_one id (b && false) (s.0, record s.1 { is_cancelled = true }) rest) is)
+reached_one id s ns rest true true false is there = ap (λ l. s.0 ∷ l) there ∙ sym (ap (λ b. with_one id (b && true) (s.0, record s.1 { is_cancelled = false }) rest) is)
+reached_one id s ns rest false true hit is there = there ∙ sym (ap (λ b. with_one id (b && not hit) (s.0, record s.1 { is_cancelled = hit }) rest) is)
 
 reached-seen : (id : Id) (h : History) (ss : List (ℕ × TheirCall)) → AreSites (stream h) ss → filter (is_reached id h) (numbers_in ss) ≡ reached_numbers id (all_seen h ss)
 reached-seen id h [] are = refl
@@ -84,15 +84,15 @@ bare_after place slot (Reply k r) s = refl
 bare_after place slot Stray s = refl
 bare_after place slot Invalid s = refl
 
-bare_one : (n : ℕ) (b : Bool) (s t : ℕ × TheirCall) (ss ts : List (ℕ × TheirCall)) → s.0 ≡ t.0 → map (λ (e : ℕ × TheirCall). e.0) ss ≡ map (λ (e : ℕ × TheirCall). e.0) ts
-    → map (λ (e : ℕ × TheirCall). e.0) (cond b (s ∷ ss) ss) ≡ map (λ (e : ℕ × TheirCall). e.0) (cond b (t ∷ ts) ts)
-bare_one n true s t ss ts is more = λ i. is i ∷ more i
-bare_one n false s t ss ts is more = more
+bare_one : (b : Bool) (e : ℕ × TheirCall) (es fs : List (ℕ × TheirCall)) → map (λ (d : ℕ × TheirCall). d.0) es ≡ map (λ (d : ℕ × TheirCall). d.0) fs
+    → map (λ (d : ℕ × TheirCall). d.0) (cond b (e ∷ es) es) ≡ map (λ (d : ℕ × TheirCall). d.0) (cond b ((e.0, bare_call e.1) ∷ fs) fs)
+bare_one true e es fs more = ap (λ l. e.0 ∷ l) more
+bare_one false e es fs more = more
 
 bare_reached : (id : Id) (calls : List (ℕ × TheirCall)) → reached_numbers id calls ≡ reached_numbers id (bare_calls calls)
 bare_reached id [] = refl
 bare_reached id (e ∷ calls) =
-    bare_one 0 (reaches id e.1) e (e.0, bare_call e.1) (filter (λ (d : ℕ × TheirCall). reaches id d.1) calls) (filter (λ (d : ℕ × TheirCall). reaches id d.1) (bare_calls calls)) refl (bare_reached id calls)
+    bare_one (reaches id e.1) e (filter (λ (d : ℕ × TheirCall). reaches id d.1) calls) (filter (λ (d : ℕ × TheirCall). reaches id d.1) (bare_calls calls)) (bare_reached id calls)
 
 bare_told : (own : OwnState) (s : TheirState) (e : Entry) → told_of own s e ≡ told_of own (bare s) e
 bare_told own s (Call c) = refl
