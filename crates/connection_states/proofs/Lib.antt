@@ -2,3 +2,8 @@ pub mod OwnEntries
 pub mod OwnFollows
 pub mod OwnFound
 pub mod OwnPicked
+pub mod TheirAfter
+pub mod TheirEntries
+pub mod TheirFound
+pub mod TheirSites
+pub mod ToldEntries
