@@ -12,9 +12,8 @@ mod settings;
 mod taking;
 
 pub use connection::Connection;
-pub use report::Report;
-pub use settings::{MOST_CONTENT, Settings};
-
 pub use connection_history::{Close, Event, Order, Refused};
 pub use connection_messages::{Answer, AnswerError, Call, Outgoing, Params, Reply, ReplyError};
 pub use content_streams::{Framing, HowEnded};
+pub use report::Report;
+pub use settings::{MOST_CONTENT, Settings};
