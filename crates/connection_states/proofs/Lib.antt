@@ -1,0 +1,3 @@
+pub mod OwedRows
+pub mod OwedSame
+pub mod OwedSlots
