@@ -1,3 +1,5 @@
+pub mod OwedChanges
 pub mod OwedRows
 pub mod OwedSame
 pub mod OwedSlots
+pub mod OwedSteps
