@@ -1,4 +1,5 @@
 pub mod OwedChanges
+pub mod OwedGiven
 pub mod OwedRows
 pub mod OwedSame
 pub mod OwedSlots
