@@ -1,16 +1,16 @@
 -- Slots that are given, and units that come: what goes out then, and what stays.
-use Rattle.std.proofs.Common.{◌≡◌, ℕ, suc, ◌+◌, List, [], ◌∷◌, ◌++◌, map, length, Bool, true, false, cond, not, Option, Some, None, refl, sym, ap, ◌∙◌, append_assoc, arith}
+use Rattle.std.proofs.Common.{◌≡◌, ℕ, suc, ◌+◌, List, [], ◌∷◌, ◌++◌, map, length, Bool, true, false, cond, not, Option, None, refl, sym, ap, ◌∙◌, append_assoc, arith}
 use Rattle.std.proofs.lemmas.List.{map-append}
 use Rattle.std.proofs.lemmas.List.Elements.{filter-append}
 use Rattle.std.specs.Prelude.{⊤, filter}
 use Rattle.connection_history.specs.declared.order.Order.{Order}
 use Rattle.connection_history.specs.declared.order.Order.TheVariants.{AsAnswered, AsCame}
-use Rattle.connection_history.specs.Answers.{Due, open_yet, nothing, text}
+use Rattle.connection_history.specs.Answers.{Due, open_yet, text}
 use Rattle.connection_history.specs.Items.{answer, text_if_due, out, newly_at, newly_out}
 use Rattle.open_calls.specs.Owed.{OwedUnit, unit_text}
 use Rattle.connection_states.specs.States.{owed_slots}
 use Rattle.connection_states.specs.Steps.{is_complete, complete_front, incomplete_rest, leaving, staying, answers_of}
-use Rattle.connection_states.proofs.OwedSlots.{Slots, all_given, lacking_none, unit_with, due_slots, due_owed}
+use Rattle.connection_states.proofs.OwedSlots.{Slots, all_given, lacking_none, unit_with, due_slots}
 use Rattle.connection_states.proofs.OwedRows.{placed, dues_of}
 
 abbrev HasSlots : Slots → Type 0

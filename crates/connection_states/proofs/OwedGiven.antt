@@ -12,7 +12,7 @@ use Rattle.connection_messages.specs.declared.unit.Unit.{Unit}
 use Rattle.connection_messages.specs.declared.unit.Unit.TheVariants.{Unreadable, Single, Batch}
 use Rattle.connection_history.specs.declared.order.Order.{Order}
 use Rattle.connection_history.specs.declared.refused.Refused.TheVariants.{NotOpen}
-use Rattle.connection_history.specs.Stream.{entries_in, call_in, calls_in, is_cancelled}
+use Rattle.connection_history.specs.Stream.{entries_in, calls_in, is_cancelled}
 use Rattle.connection_history.specs.History.{answered, History, stream, units_of, or_else, answer_to, is_open}
 use Rattle.connection_history.specs.Items.{answers_at}
 use Rattle.connection_history.specs.Refusals.{first_of, IsLawful}
@@ -177,9 +177,20 @@ module _ (past : History) (n : ℕ) (a : Answer) where
         let rest = theirs_along past place (m + 1) (first + id_slots c.id) es in
         let open_here : is_open m past ≡ true = ap (λ k. is_open k past) (sym is) ∙ opened in
         subst (λ o. IsGiven place first n (m + length (calls_in (Call c ∷ es))) a o (slots_along past m (Call c ∷ es)) (slots_along now m (Call c ∷ es)))
-        (sym (found_entry (is_open m past) n m (their_call place m first c) rest open_here here))
-        (0, (refl, (omega arith, (omega arith, its-slot m c.id (slots_along past (m + 1) es) (slots_along now (m + 1) es) is
-        (entries-same now past (m + 1) es (same-after (m + 1) (omega arith)))))))
+        (sym (found_entry (is_open m past) n m (their_call place m first c) rest open_here here)) (
+          0,
+          (
+            refl,
+            (
+              omega arith,
+              (
+                omega arith,
+                its-slot m c.id (slots_along past (m + 1) es) (slots_along now (m + 1) es) is
+                    (entries-same now past (m + 1) es (same-after (m + 1) (omega arith))),
+              ),
+            ),
+          ),
+        )
     call-given place m first c es (inr other) others =
         let rest = theirs_along past place (m + 1) (first + id_slots c.id) es in
         subst (λ o. IsGiven place first n (m + length (calls_in (Call c ∷ es))) a o (slots_along past m (Call c ∷ es)) (slots_along now m (Call c ∷ es)))

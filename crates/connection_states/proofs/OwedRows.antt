@@ -1,5 +1,5 @@
 -- The units that came, each with the slots of its answer, and which of them are owed.
-use Rattle.std.proofs.Common.{◌≡◌, ℕ, ◌+◌, ◌==◌, List, [], ◌∷◌, ◌++◌, map, length, Bool, true, false, cond, not, Option, Some, None, refl, sym, ap, ◌∙◌}
+use Rattle.std.proofs.Common.{◌≡◌, ℕ, ◌+◌, List, [], ◌∷◌, ◌++◌, map, length, Bool, true, false, cond, not, Option, Some, None, refl, sym, ap, ◌∙◌}
 use Rattle.std.proofs.lemmas.List.Elements.{filter-append}
 use Rattle.std.specs.Prelude.{filter}
 use Rattle.connection_messages.specs.declared.unit.Unit.{Unit}
@@ -7,7 +7,7 @@ use Rattle.connection_history.specs.declared.order.Order.{Order}
 use Rattle.connection_history.specs.declared.order.Order.TheVariants.{AsAnswered, AsCame}
 use Rattle.connection_history.specs.Stream.{entries_in, calls_in}
 use Rattle.connection_history.specs.History.{Happening, History, units_of}
-use Rattle.connection_history.specs.Answers.{Due, open_yet, nothing, text, dues_along, dues}
+use Rattle.connection_history.specs.Answers.{Due, open_yet, text, dues_along, dues}
 use Rattle.connection_history.specs.Items.{text_if_due, out, newly_out, answers_at}
 use Rattle.open_calls.specs.Owed.{OwedState, OwedUnit, unit_text}
 use Rattle.connection_states.specs.States.{unit_slots, is_batch, owed_slots, owed_unit, owed_along, owed_of}
