@@ -1,3 +1,9 @@
+pub mod OwedChanges
+pub mod OwedGiven
+pub mod OwedRows
+pub mod OwedSame
+pub mod OwedSlots
+pub mod OwedSteps
 pub mod OwnEntries
 pub mod OwnFollows
 pub mod OwnFound
