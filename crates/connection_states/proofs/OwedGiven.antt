@@ -95,29 +95,47 @@ given-list (Some c) a es = call-list c.id c a es
 
 -- ---- the slot of a call that is open
 
--- what the slots of a unit at a place, from this one on, are after the answer to call n, where this is the call that was found and its calls end there
+-- Where the answer to call n stands among the slots of a unit at a place, from this one on, whose calls end there.
+record StandsIn (place first n end : ℕ) (a : Answer) (c : TheirCall) (was now : Slots) : Type 0 where
+  index : ℕ
+  same_place : c.place ≡ place
+  same_slot : c.slot ≡ first + index
+  within : n < end
+  given : now ≡ slots_given c.id index a was
+
+-- the slots after the answer, where this is the call that was found among theirs
 abbrev IsGiven : ℕ → ℕ → ℕ → ℕ → Answer → Option TheirCall → Slots → Slots → Type 0
 IsGiven place first n end a None was now = now ≡ was
-IsGiven place first n end a (Some c) was now = (i : ℕ) × ((c.place ≡ place) × ((c.slot ≡ first + i) × ((n < end) × (now ≡ slots_given c.id i a was))))
+IsGiven place first n end a (Some c) was now = StandsIn place first n end a c was now
+
+stands-from : (place first next n end last : ℕ) (a : Answer) (c : TheirCall) (was now : Slots) → first ≡ next → end ≡ last → StandsIn place first n end a c was now → StandsIn place next n last a c was now
+stands-from place first next n end last a c was now same_first same_end it =
+    record { index = it.index; same_place = it.same_place; same_slot = omega arith; within = omega arith; given = it.given }
 
 given-from : (place first next n end last : ℕ) (a : Answer) (o : Option TheirCall) (was now : Slots) → first ≡ next → end ≡ last → IsGiven place first n end a o was now → IsGiven place next n last a o was now
-given-from place first next n end last a None was now same_first same_end given = given
-given-from place first next n end last a (Some c) was now same_first same_end given =
-    let slot : c.slot ≡ first + given.0 = given.1.1.0 in
-    let below : n < end = given.1.1.1.0 in
-    (given.0, (given.1.0, (omega arith, (omega arith, given.1.1.1.1))))
+given-from place first next n end last a None was now same_first same_end it = it
+given-from place first next n end last a (Some c) was now same_first same_end it = stands-from place first next n end last a c was now same_first same_end it
 
 slots_given-on : (id : Option Id) (i : ℕ) (a : Answer) (s : Option (List ℕ)) (ss : Slots) → s ∷ slots_given id i a ss ≡ slots_given id (suc i) a (s ∷ ss)
 slots_given-on None i a s ss = refl
 slots_given-on (Some id) i a s ss = refl
 
 -- one more slot stands in front
+stands-on : (place first n end : ℕ) (a : Answer) (c : TheirCall) (s t : Option (List ℕ)) (was now : Slots) → t ≡ s → StandsIn place (first + 1) n end a c was now
+    → StandsIn place first n end a c (s ∷ was) (t ∷ now)
+stands-on place first n end a c s t was now same_text it =
+    record {
+      index = suc it.index;
+      same_place = it.same_place;
+      same_slot = omega arith;
+      within = it.within;
+      given = (λ i. same_text i ∷ it.given i) ∙ slots_given-on c.id it.index a s was;
+    }
+
 given-on : (place first n end : ℕ) (a : Answer) (o : Option TheirCall) (s t : Option (List ℕ)) (was now : Slots) → t ≡ s → IsGiven place (first + 1) n end a o was now
     → IsGiven place first n end a o (s ∷ was) (t ∷ now)
-given-on place first n end a None s t was now same_slot given = λ i. same_slot i ∷ given i
-given-on place first n end a (Some c) s t was now same_slot given =
-    let slot : c.slot ≡ first + 1 + given.0 = given.1.1.0 in
-    (suc given.0, (given.1.0, (omega arith, (given.1.1.1.0, (λ i. same_slot i ∷ given.1.1.1.1 i) ∙ slots_given-on c.id given.0 a s was))))
+given-on place first n end a None s t was now same_text it = λ i. same_text i ∷ it i
+given-on place first n end a (Some c) s t was now same_text it = stands-on place first n end a c s t was now same_text it
 
 passed_entry : (b : Bool) (n m : ℕ) (c : TheirCall) (rest : List (ℕ × TheirCall)) → (n == m) ≡ false → at n (cond b ((m, c) ∷ []) [] ++ rest) ≡ at n rest
 passed_entry true n m c rest other = ap (λ t. cond t (Some c) (at n rest)) other
@@ -177,20 +195,15 @@ module _ (past : History) (n : ℕ) (a : Answer) where
         let rest = theirs_along past place (m + 1) (first + id_slots c.id) es in
         let open_here : is_open m past ≡ true = ap (λ k. is_open k past) (sym is) ∙ opened in
         subst (λ o. IsGiven place first n (m + length (calls_in (Call c ∷ es))) a o (slots_along past m (Call c ∷ es)) (slots_along now m (Call c ∷ es)))
-        (sym (found_entry (is_open m past) n m (their_call place m first c) rest open_here here)) (
-          0,
-          (
-            refl,
-            (
-              omega arith,
-              (
-                omega arith,
-                its-slot m c.id (slots_along past (m + 1) es) (slots_along now (m + 1) es) is
-                    (entries-same now past (m + 1) es (same-after (m + 1) (omega arith))),
-              ),
-            ),
-          ),
-        )
+        (sym (found_entry (is_open m past) n m (their_call place m first c) rest open_here here))
+        (record {
+          index = 0;
+          same_place = refl;
+          same_slot = omega arith;
+          within = omega arith;
+          given = its-slot m c.id (slots_along past (m + 1) es) (slots_along now (m + 1) es) is
+              (entries-same now past (m + 1) es (same-after (m + 1) (omega arith)));
+        })
     call-given place m first c es (inr other) others =
         let rest = theirs_along past place (m + 1) (first + id_slots c.id) es in
         subst (λ o. IsGiven place first n (m + length (calls_in (Call c ∷ es))) a o (slots_along past m (Call c ∷ es)) (slots_along now m (Call c ∷ es)))
@@ -253,16 +266,19 @@ module _ (past : History) (n : ℕ) (a : Answer) where
     from-next place None from = tt
     from-next place (Some c) from = let later : place + 1 ≤ c.place = from in omega arith
 
+    stands-unit : (place end : ℕ) (batch : Bool) (c : TheirCall) (was later : Slots) (ws vs : List OwedUnit) → StandsIn place 0 n end a c was later
+        → (n < end → vs ≡ ws) → AreGiven place (Some c) (unit_with batch was ∷ ws) (unit_with batch later ∷ vs)
+    stands-unit place end batch c was later ws vs here rest = (
+      λ i. unit_with batch ((here.given ∙ as-here c.id c place here.index was here.same_place here.same_slot) i)
+          ∷ (rest here.within ∙ sym (all-before c (place + 1) ws (omega arith))) i,
+      omega arith,
+    )
+
     given-unit : (place end : ℕ) (batch : Bool) (o p : Option TheirCall) (was later : Slots) (ws vs : List OwedUnit) → IsGiven place 0 n end a o was later
         → (n < end → vs ≡ ws) → AreGiven (place + 1) p ws vs → AreGiven place (or_else o p) (unit_with batch was ∷ ws) (unit_with batch later ∷ vs)
     given-unit place end batch None p was later ws vs here rest others =
         (λ i. unit_with batch ((here ∙ sym (at-before p place was others.1)) i) ∷ others.0 i, from-next place p others.1)
-    given-unit place end batch (Some c) p was later ws vs here rest others =
-        let is : c.place ≡ place = here.1.0 in
-        let slot : c.slot ≡ 0 + here.0 = here.1.1.0 in (
-          λ i. unit_with batch ((here.1.1.1.1 ∙ as-here c.id c place here.0 was is slot) i) ∷ (rest here.1.1.1.0 ∙ sym (all-before c (place + 1) ws (omega arith))) i,
-          omega arith,
-        )
+    given-unit place end batch (Some c) p was later ws vs here rest others = stands-unit place end batch c was later ws vs here rest
 
     units-given : (place m : ℕ) (us : List Unit) → AreGiven place (at n (theirs_in past place m us)) (with_slots past m us) (with_slots now m us)
     units-given place m [] = (refl, tt)
