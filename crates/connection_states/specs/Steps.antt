@@ -1,5 +1,5 @@
 -- What each happening changes of what stands open.
-use Rattle.std.specs.Prelude.{ℕ, zero, ◌+◌, ◌==◌, not, List, [], ◌∷◌, ◌++◌, Bool, true, map, filter, flat_map, length, Option, Some, None, is_some, if◌then◌else◌}
+use Rattle.std.specs.Prelude.{ℕ, ◌+◌, ◌==◌, not, List, [], ◌∷◌, ◌++◌, Bool, true, map, filter, flat_map, Option, Some, None, is_some, if◌then◌else◌}
 use Rattle.rpc_messages.specs.declared.id.Id.{Id}
 use Rattle.connection_messages.specs.Texts.{answer_text}
 use Rattle.connection_messages.specs.declared.answer.Answer.{Answer}
