@@ -1,7 +1,5 @@
-use Rattle.std.proofs.Common.{◌≡◌, ℕ, ◌≤◌, List, length, take, ap, sym, ◌∙◌, subst}
-use Rattle.content_streams.specs.declared.framing.Framing.{Framing}
-use Rattle.outbox.specs.Output.{Output, OnlyPutSince}
-use Rattle.outbox.specs.Inner.{IsKept, IsMarked}
+use Rattle.std.proofs.Common.{subst}
+use Rattle.outbox.specs.Inner.{IsKept}
 use Rattle.outbox.proofs.Left.{bytes_fit, kept_back, seen_since}
 use Rattle.outbox.proofs.outbox.Outbox.back_to.Goals as goal
 

@@ -1,5 +1,4 @@
 use Rattle.std.proofs.Common.{◌≡◌, ◌+◌, ◌++◌, ◌<◌, ◌≤◌, take, drop, length, refl, ap, sym, ◌∙◌, subst, arith}
-use Rattle.content_streams.specs.declared.framing.Framing.{Framing}
 use Rattle.content_streams.specs.declared.framing.Framing.TheVariants.{Contents}
 use Rattle.outbox.specs.Output.{Output, bytes_given, given_of}
 use Rattle.outbox.specs.Inner.{IsKept}
