@@ -1,4 +1,4 @@
-ghost use Rattle.std.specs.Prelude.{◌≡◌, ◌≤◌, ◌++◌, ◌∷◌, [], length, take, drop, OnOk, OnErr};
+ghost use Rattle.std.specs.Prelude.{◌≡◌, ◌≤◌, ◌++◌, ◌∷◌, [], ◌+◌, length, take, drop, OnOk, OnErr};
 ghost use Rattle.outbox.specs.Output.{framed};
 
 use content_streams::Framing;
@@ -62,6 +62,7 @@ impl BytesLeft {
         ensures { self.new ≡ take count self.old }
     {
         self.bytes.truncate(self.start + count);
+        self.close_up();
     }
 
     /// Moves the first so many bytes to the front of the room.
@@ -77,26 +78,38 @@ impl BytesLeft {
         self.close_up();
     }
 
-    /// Moves the bytes to the start of their memory, once no more are left than were taken. So a byte is moved a
+    /// Moves the bytes to the start of their memory, once no more are left than were taken. So each byte is moved a
     /// constant number of times on average.
     fn close_up(&mut self)
         ensures { self.new ≡ self.old }
     {
         if self.start >= self.bytes.len() - self.start {
-            self.bytes.drain(..self.start);
+            move_to_front(&mut self.bytes, self.start);
             self.start = 0;
-            give_room_back(&mut self.bytes);
         }
+        give_room_back(&mut self.bytes);
     }
 }
 
-/// Gives memory back where less than a quarter is in use.
+/// Keeps the bytes from this place on.
+fn move_to_front(bytes: &mut Vec<u8>, start: usize)
+    requires start { start ≤ length bytes.old.items }
+    requires few { length bytes.old.items ≤ start + start }
+    ensures { bytes.new.items ≡ drop start bytes.old.items }
+{
+    let left = bytes.len() - start;
+    let (front, back) = bytes.as_mut_slice().split_at_mut(start);
+    front[..left].copy_from_slice(back);
+    bytes.truncate(left);
+}
+
+/// Gives memory back where less than a quarter is in use. What is left stays where it is if no smaller memory is to be had.
 fn give_room_back(bytes: &mut Vec<u8>)
     ensures { bytes.new.items ≡ bytes.old.items }
 {
     let room = bytes.capacity();
     if room > KEPT_ROOM && room / 4 > bytes.len() {
-        bytes.shrink_to((room / 2).max(KEPT_ROOM));
+        bytes.shrink_to((2 * bytes.len()).max(KEPT_ROOM));
     }
 }
 

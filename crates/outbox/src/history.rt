@@ -16,6 +16,11 @@ impl Model for History {
     ghost also_owns = { λ _. ftrue };
 }
 
+// It owns nothing.
+unsafe impl Send for History {}
+
+unsafe impl Sync for History {}
+
 impl History {
     pub fn new() -> History
         ensures { result ≡ record { written = []; taken = 0 } }

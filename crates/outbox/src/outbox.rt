@@ -92,6 +92,7 @@ impl Outbox {
     {
         self.bytes.truncate(mark.byte_count);
         self.lengths.truncate(mark.length_count);
+        give_lengths_back(&mut self.lengths);
         self.history = mark.history;
     }
 
@@ -181,6 +182,6 @@ fn give_lengths_back(lengths: &mut VecDeque<usize>)
 {
     let room = lengths.capacity();
     if room > KEPT_LENGTHS && room / 4 > lengths.len() {
-        lengths.shrink_to((room / 2).max(KEPT_LENGTHS));
+        lengths.shrink_to((2 * lengths.len()).max(KEPT_LENGTHS));
     }
 }

@@ -44,6 +44,9 @@ fn gives_whole_texts(rt: HostRuntime) -> Result<(), Fail> {
     assert_eq!(rt; texts.take(&mut larger), 5);
     assert_eq!(rt; larger.as_slice(), b"[1,2]".as_slice());
     assert_eq!(rt; (texts.take(&mut room), texts.is_empty()), (3, true));
+    texts.put(b"")?;
+    assert_eq!(rt; (texts.pending(), texts.is_empty()), (0, false));
+    assert_eq!(rt; (texts.take(&mut room), texts.is_empty()), (0, true));
     Ok(())
 }
 
@@ -66,5 +69,15 @@ fn goes_back_to_a_mark(rt: HostRuntime) -> Result<(), Fail> {
     texts.put(b"[2]")?;
     texts.back_to(mark);
     assert_eq!(rt; (texts.take(&mut room), texts.is_empty()), (3, true));
+    Ok(())
+}
+
+fn goes_between_threads<T: Send + Sync>(_value: &T) {}
+
+#[test]
+fn may_go_between_threads(rt: HostRuntime) -> Result<(), Fail> {
+    let outbox = Outbox::new(rt.alloc(), Framing::Lines);
+    goes_between_threads(&outbox);
+    goes_between_threads(&outbox.mark());
     Ok(())
 }
