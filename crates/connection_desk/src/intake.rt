@@ -1,12 +1,12 @@
-//! Units that come.
+//! Units that come. What needs memory is done first, for the whole unit; what its entries do is settled then, in their order.
 
 ghost use Rattle.std.specs.Prelude.{◌≡◌, ◌≤◌, ◌<◌, ◌+◌, ◌-◌, ◌^◌, ◌++◌, ◌∷◌, [], length, false, OnOk, OnErr};
 ghost use Rattle.connection_history.specs.Stream.{calls_in, entries_in};
 
 use crate::desk::Desk;
 use crate::leaving::{remove_leaving, write_leaving};
-use connection_history::Event;
-use connection_messages::{Answer, Call, Entry, Reply, Unit, write_answer};
+use crate::settling::settle;
+use connection_messages::{Answer, Entry, Unit, write_answer};
 use open_calls::TheirCalls;
 use rpc_messages::{Id, Standard};
 use std::alloc::{AllocError, Global};
@@ -28,7 +28,14 @@ impl Desk {
         let came = self.theirs.came();
         match self.admit(&unit) {
             Ok(()) => {
-                self.settle(came, unit);
+                settle(
+                    &mut self.own,
+                    &mut self.theirs,
+                    &mut self.events,
+                    &mut self.tally,
+                    came,
+                    unit,
+                );
                 Ok(())
             }
             Err(refused) => {
@@ -69,65 +76,6 @@ impl Desk {
                 Err(refused)
             }
         }
-    }
-
-    /// What the entries of a unit do, once it was admitted. Takes no memory.
-    fn settle(&mut self, came: u64, unit: Unit) {
-        let mut number = came;
-        match unit {
-            Unit::Unreadable => self.tally.unreadable = self.tally.unreadable.saturating_add(1),
-            Unit::Single(entry) => self.settle_entry(&mut number, entry),
-            Unit::Batch(entries) => {
-                for entry in entries.into_vec() {
-                    self.settle_entry(&mut number, entry);
-                }
-            }
-        }
-    }
-
-    /// What an entry does: it is told, and it cancels or ends what it reaches. `number` is that of the call before it.
-    fn settle_entry(&mut self, number: &mut u64, entry: Entry) {
-        match entry {
-            Entry::Call(call) => {
-                *number += 1;
-                self.tell_call(*number, call);
-            }
-            Entry::Cancel(id) => self.tell_cancels(*number, &id),
-            Entry::Reply { key, reply } => self.tell_reply(key, reply),
-            Entry::Stray => self.ignore(),
-            Entry::Invalid => self.tally.invalid = self.tally.invalid.saturating_add(1),
-        }
-    }
-
-    fn tell_call(&mut self, number: u64, call: Call) {
-        if call.id.is_some() {
-            self.tally.requests = self.tally.requests.saturating_add(1);
-        }
-        self.events.push(Event::Call { number, call });
-    }
-
-    /// Tells the requests with this id, up to this number, that they are cancelled.
-    fn tell_cancels(&mut self, most: u64, id: &Id) {
-        let mut is_ignored = true;
-        while let Some(number) = self.theirs.reach_up_to(id, most) {
-            self.events.push(Event::Cancelled { number });
-            is_ignored = false;
-        }
-        if is_ignored {
-            self.ignore();
-        }
-    }
-
-    fn tell_reply(&mut self, key: u64, reply: Reply) {
-        if self.own.get(key).is_none() {
-            return self.ignore();
-        }
-        self.own.remove(key);
-        self.events.push(Event::Replied { key, reply });
-    }
-
-    fn ignore(&mut self) {
-        self.tally.ignored = self.tally.ignored.saturating_add(1);
     }
 }
 

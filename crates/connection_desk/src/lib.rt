@@ -9,6 +9,7 @@ mod events;
 mod intake;
 mod leaving;
 mod saying;
+mod settling;
 mod tally;
 
 pub use desk::Desk;

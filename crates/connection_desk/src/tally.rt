@@ -21,4 +21,9 @@ impl Tally {
         invalid: 0,
         ignored: 0,
     };
+
+    /// One more entry was ignored.
+    pub(crate) fn ignore(&mut self) {
+        self.ignored = self.ignored.saturating_add(1);
+    }
 }
