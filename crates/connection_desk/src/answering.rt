@@ -3,7 +3,7 @@
 ghost use Rattle.std.specs.Prelude.{◌≡◌, ◌++◌, ◌∷◌, [], None, IfErr, OnOk, OnErr};
 
 use crate::desk::Desk;
-use crate::leaving::{remove_leaving, write_leaving};
+use crate::leaving::{let_out, write_leaving};
 use connection_history::Refused;
 use connection_messages::{Answer, write_answer, write_withdrawal};
 use rpc_messages::Standard;
@@ -81,7 +81,7 @@ impl Desk {
         match write_leaving(self.order, &self.owed, place, &mut self.outbox, &mut room) {
             Ok(()) => {
                 drop(was);
-                remove_leaving(self.order, &mut self.owed, place);
+                let_out(self.order, &mut self.owed, place, &mut self.tally);
                 self.keep_room(room);
                 Ok(())
             }

@@ -4,7 +4,7 @@ ghost use Rattle.std.specs.Prelude.{◌≡◌, ◌≤◌, ◌<◌, ◌+◌, ◌-
 ghost use Rattle.connection_history.specs.Stream.{calls_in, entries_in};
 
 use crate::desk::Desk;
-use crate::leaving::{remove_leaving, write_leaving};
+use crate::leaving::{let_out, write_leaving};
 use crate::settling::settle;
 use connection_messages::{Answer, Entry, Unit, write_answer};
 use open_calls::TheirCalls;
@@ -67,7 +67,7 @@ impl Desk {
         let mut room = self.take_room();
         match write_leaving(self.order, &self.owed, place, &mut self.outbox, &mut room) {
             Ok(()) => {
-                remove_leaving(self.order, &mut self.owed, place);
+                let_out(self.order, &mut self.owed, place, &mut self.tally);
                 self.keep_room(room);
                 Ok(())
             }

@@ -7,6 +7,7 @@ ghost use Rattle.connection_desk.specs.Inner.{HaveSlots, OnlyAt, complete_at, co
 ghost use Rattle.outbox.specs.Output.{OnlyPutSince};
 ghost use Rattle.open_calls.specs.Numbered.{without};
 
+use crate::tally::Tally;
 use connection_history::Order;
 use open_calls::OwedAnswers;
 use outbox::Outbox;
@@ -105,8 +106,18 @@ fn write_each_in_front(
     Ok(())
 }
 
-/// The units whose answers can go out are owed nothing any more.
-pub(crate) fn remove_leaving(order: Order, owed: &mut OwedAnswers, place: u64)
+/// The units whose answers can go out are owed nothing any more, and are counted.
+pub(crate) fn let_out(order: Order, owed: &mut OwedAnswers, place: u64, tally: &mut Tally)
+    requires { OnlyAt order place owed.old.owed }
+    ensures { owed.new ≡ record owed.old { owed = staying order owed.old.owed } }
+{
+    let before = owed.len();
+    remove_leaving(order, owed, place);
+    let count = before.saturating_sub(owed.len());
+    tally.answers = tally.answers.saturating_add(count);
+}
+
+fn remove_leaving(order: Order, owed: &mut OwedAnswers, place: u64)
     requires { OnlyAt order place owed.old.owed }
     ensures { owed.new ≡ record owed.old { owed = staying order owed.old.owed } }
 {
