@@ -68,13 +68,7 @@ impl Owed {
     pub fn give(&mut self, slot: u64, text: Vec<u8>)
         ensures { self.new ≡ given slot text.items self.old }
     {
-        let slot = slot as usize;
-        if slot >= self.slots.len() {
-            return;
-        }
-        let was_lacking = self.slots[slot].is_none();
-        self.slots[slot] = Some(text);
-        self.lacking -= was_lacking as u64;
+        drop(self.replace(slot, Some(text)));
     }
 
     /// Puts a text, or none, into this slot, and answers what stood there.

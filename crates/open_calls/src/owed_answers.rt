@@ -114,11 +114,7 @@ impl OwedAnswers {
           owed = changed_at place (given slot text.items) self.old.owed;
         } }
     {
-        let unit = match self.owed.get_mut(&place) {
-            Some(unit) => unit,
-            None => return,
-        };
-        unit.give(slot, text);
+        drop(self.replace(place, slot, Some(text)));
     }
 
     /// Puts a text, or none, into this slot of the unit at this place, and answers what stood there. Where there is no such
@@ -129,10 +125,11 @@ impl OwedAnswers {
           owed = changed_at place (replaced slot (seen_slot text)) self.old.owed;
         } }
     {
-        match self.owed.get_mut(&place) {
-            Some(unit) => unit.replace(slot, text),
-            None => None,
-        }
+        let unit = match self.owed.get_mut(&place) {
+            Some(unit) => unit,
+            None => return None,
+        };
+        unit.replace(slot, text)
     }
 
     /// The unit at this place, where it is owed an answer.
