@@ -95,3 +95,11 @@ all_fit-yes limit line lines does = ap (λ t. t && all_fit limit lines) does
 pub all_fit-no : (limit : ℕ) (line : List ℕ) (lines : List (List ℕ)) → fits limit (without_cr line) ≡ false → all_fit limit (line ∷ lines) ≡ false
 unfolding all_fit
 all_fit-no limit line lines isnt = ap (λ t. t && all_fit limit lines) isnt
+
+pub none_fit : (limit : ℕ) → all_fit limit [] ≡ true
+unfolding all_fit
+none_fit limit = refl
+
+pub no_lines : (limit : ℕ) → line_contents limit [] ≡ []
+unfolding line_contents
+no_lines limit = refl
