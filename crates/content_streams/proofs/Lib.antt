@@ -1,3 +1,4 @@
 pub mod Fitting
 pub mod LineTexts
+pub mod LineSteps
 pub mod Peeling

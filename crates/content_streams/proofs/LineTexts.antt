@@ -120,7 +120,7 @@ last_behind bytes more = ap last_line (parts_behind bytes more) ∙ last_line-ap
 
 -- ---- what is read of a text that comes in parts
 
-standing_is : (limit : ℕ) (lines : List (List ℕ)) (line : List ℕ) → Within line ≡ line_standing limit lines → (all_fit limit lines ≡ true) × (line ≡ last_line lines)
+pub standing_is : (limit : ℕ) (lines : List (List ℕ)) (line : List ℕ) → Within line ≡ line_standing limit lines → (all_fit limit lines ≡ true) × (line ≡ last_line lines)
 standing_is limit lines line is = go (all_fit limit lines) refl is
   where
     go : (t : Bool) → all_fit limit lines ≡ t → Within line ≡ cond t (Within (last_line lines)) Over → (all_fit limit lines ≡ true) × (line ≡ last_line lines)
