@@ -2,3 +2,4 @@ pub mod Fitting
 pub mod LineTexts
 pub mod LineSteps
 pub mod Peeling
+pub mod Streaming
