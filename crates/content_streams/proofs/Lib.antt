@@ -1,5 +1,6 @@
 pub mod Fitting
 pub mod LineTexts
+pub mod Keeping
 pub mod LineSteps
 pub mod Peeling
 pub mod Streaming

@@ -128,7 +128,7 @@ standing_is limit lines line is = go (all_fit limit lines) refl is
     go false e h = (cc)
 
 -- All fit, so those whose LF has come do.
-ended_fit : (limit : ℕ) (bytes : List ℕ) → all_fit limit (parts bytes) ≡ true → all_fit limit (ended_lines bytes) ≡ true
+pub ended_fit : (limit : ℕ) (bytes : List ℕ) → all_fit limit (parts bytes) ≡ true → all_fit limit (ended_lines bytes) ≡ true
 ended_fit limit bytes all = go (all_fit limit (ended_lines bytes)) refl
   where
     go : (t : Bool) → all_fit limit (ended_lines bytes) ≡ t → all_fit limit (ended_lines bytes) ≡ true

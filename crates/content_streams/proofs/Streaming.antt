@@ -1,5 +1,5 @@
 -- What a cutter knows of the pieces, and more pieces.
-use Rattle.std.proofs.Common.{◌≡◌, ◌≢◌, ℕ, ◌+◌, Option, Some, None, Result, Ok, Err, Vec, Global, Bool, true, false, cond, not, List, [], ◌∷◌, ◌++◌, length, drop, map, refl, ap, sym, ◌∙◌, subst, append-nil, append_assoc}
+use Rattle.std.proofs.Common.{◌≡◌, ◌≢◌, ℕ, ◌+◌, Option, Some, None, Result, Ok, Err, Vec, Global, Bool, true, false, cond, not, List, [], ◌∷◌, ◌++◌, length, drop, map, refl, ap, sym, ◌∙◌, subst, append-nil, append_assoc, arith}
 use Rattle.std.specs.Result.{IfOk, OnOk}
 use Rattle.std.specs.List.{list_all, take_while, concat}
 use Rattle.std.proofs.lemmas.List.{map-append}
@@ -20,6 +20,7 @@ use Rattle.content_streams.specs.Inner.Cutting.{LineStanding, Within, Over, line
 use Rattle.content_streams.specs.Inner.Cutters.{fault_at_end}
 use Rattle.content_streams.proofs.Fitting.{all_first, not_all_first, not_all_append, all_append}
 use Rattle.content_streams.proofs.LineTexts.{contents_to_end, parts-are, is_long, IsLong, AnEnded, TheLast, long_parts}
+use Rattle.content_streams.proofs.LineSteps.{standing_one, fits_at}
 use Rattle.content_streams.proofs.Peeling.{are_contents, are_frames, is_standing}
 
 pub joined_more : (pieces : List (List ℕ)) (piece : List ℕ) → joined (pieces ++ piece ∷ []) ≡ joined pieces ++ piece
@@ -114,5 +115,4 @@ lines_stand (Ok given) limit limit' standing standing' piece same fed = λ piece
 -- ---- nothing came
 
 pub nothing_stands : (limit : ℕ) → text_standing limit [] ≡ Within []
-unfolding all_fit
-nothing_stands limit = refl
+nothing_stands limit = standing_one limit [] ∙ ap (λ t. cond t (Within []) Over) (fits_at limit [] (omega arith))

@@ -1,8 +1,5 @@
-use Rattle.std.proofs.Common.{rules, ◌≡◌, ◌≤◌, ◌+◌, ◌++◌, ◌∷◌, [], Some, None, IsSome, IsOk, IsTrue, OnOk, OnErr, is_some, option_copied, ℕ, ◌-◌, ◌*◌, ◌<◌, length, ◌/◌, ◌%◌, Bool, true, false, nat_eq, nat_lt, List, slice_index_or, slice_set, bit_and, bit_or, Fits, w8, w32, w64, Bor, MutBor}
-use Rattle.lsp_frames.specs.declared.limits.TheConstants.{LARGEST_CONTENT as MOST_BYTES}
-use Rattle.content_streams.specs.Streams.{next_content, close_of}
+use Rattle.content_streams.proofs.Keeping.{starts}
 use Rattle.content_streams.proofs.content_stream.ContentStream.new.Goals as goal
 
--- src/content_stream.rt:48:5
 pub invariant_of-result : goal.invariant_of-result
-invariant_of-result c = ?
+invariant_of-result c = starts c.new.result c.new-2.result c.new-3.result.pieces c.new-3.result.taken c.new.ensures.stands c.new-2.ensures.items c.new-2.ensures.last c.new-3.ensures.0 c.new-3.ensures.1

@@ -1,8 +1,15 @@
-use Rattle.std.proofs.Common.{rules, ◌≡◌, ◌≤◌, ◌+◌, ◌++◌, ◌∷◌, [], Some, None, IsSome, IsOk, IsTrue, OnOk, OnErr, is_some, option_copied, ℕ, ◌-◌, ◌*◌, ◌<◌, length, ◌/◌, ◌%◌, Bool, true, false, nat_eq, nat_lt, List, slice_index_or, slice_set, bit_and, bit_or, Fits, w8, w32, w64, Bor, MutBor}
-use Rattle.lsp_frames.specs.declared.limits.TheConstants.{LARGEST_CONTENT as MOST_BYTES}
-use Rattle.content_streams.specs.Streams.{next_content, close_of}
+use Rattle.std.proofs.Common.{◌≡◌, ℕ, List, sym, subst}
+use Rattle.std.specs.List.{slice_get}
+use Rattle.std.specs.Option.{IsSome}
+use Rattle.content_streams.specs.Streams.{Stream, next_content}
+use Rattle.content_streams.specs.Inner.Cutters.{IsStream, read_by}
+use Rattle.content_streams.proofs.Keeping.{popped}
 use Rattle.content_streams.proofs.content_stream.ContentStream.pop.Goals as goal
 
--- src/content_stream.rt:112:5
 pub invariant_of-self : goal.invariant_of-self
-invariant_of-self c = ?
+invariant_of-self c =
+    let there : IsSome (slice_get (read_by c.self.inside.cutter c.self.inside.past.pieces c.self.inside.ended) c.self.inside.past.taken) = subst (λ (s : Stream). IsSome (next_content s)) (sym c.self.view_is) c.requires in
+    let next = popped c.self.inside.cutter c.self.inside.row c.pop.new.self c.self.inside.past.pieces c.self.inside.ended c.self.inside.past.taken c.self.invariant there c.pop.ensures.items c.pop.ensures.last in
+    let P : List (List ℕ) → Type 0 = λ pieces. IsStream c.self.inside.cutter c.pop.new.self pieces c.self.inside.ended c.with_one_taken-self-inside.result.taken in
+    let Q : ℕ → Type 0 = λ taken. IsStream c.self.inside.cutter c.pop.new.self c.self.inside.past.pieces c.self.inside.ended taken in
+    subst P (sym c.with_one_taken-self-inside.ensures.0) (subst Q (sym c.with_one_taken-self-inside.ensures.1) next)
