@@ -168,7 +168,7 @@ cr_size line false = omega arith
 pub length-without_cr : (line : List ℕ) → length (without_cr line) ≡ length line - cond (ends_in_cr line) 1 0
 length-without_cr line = cr_size line (ends_in_cr line)
 
-at_most_one : (t : Bool) → cond t 1 0 ≤ 1
+pub at_most_one : (t : Bool) → cond t 1 0 ≤ 1
 at_most_one true = lit≤ tt
 at_most_one false = lit≤ tt
 
