@@ -1,19 +1,19 @@
 -- What a stream holds, and more pieces.
-use Rattle.std.proofs.Common.{◌≡◌, ◌≢◌, ℕ, zero, suc, ◌+◌, Option, Some, None, Bool, true, false, cond, not, List, [], ◌∷◌, ◌++◌, length, drop, map, refl, ap, sym, ◌∙◌, subst, append-nil, append_assoc, length-append, arith}
-use Rattle.std.specs.List.{list_all, take_while, concat, slice_get}
+use Rattle.std.proofs.Common.{◌≡◌, ℕ, ◌+◌, Option, Some, None, Bool, true, false, cond, not, List, [], ◌∷◌, ◌++◌, length, drop, map, refl, ap, sym, ◌∙◌, subst, append-nil, append_assoc, length-append}
+use Rattle.std.specs.List.{list_all, take_while, slice_get}
 use Rattle.std.specs.Option.{IsSome}
 use Rattle.std.proofs.lemmas.List.{map-append}
 use Rattle.std.proofs.lemmas.List.Folds.{concat-append}
 use Rattle.lsp_frames.specs.Contents as frames
 use Rattle.lsp_frames.specs.Contents.{Standing, IsContents}
-use Rattle.lsp_frames.specs.Decoding.{Decoding, Known, StandsAfter, known}
+use Rattle.lsp_frames.specs.Decoding.{StandsAfter, known}
 use Rattle.lsp_frames.specs.declared.frame.Frame.{Frame}
 use Rattle.lsp_frames.specs.declared.frame.FrameFault.{FrameFault}
 use Rattle.lsp_frames.specs.declared.frame.FrameFault.TheVariants.{TooLarge}
 use Rattle.content_streams.specs.Framed.{frames_of, standing_of, peeled}
-use Rattle.content_streams.specs.Lines.{parts, ended_lines, without_last, fits, all_fit, line_contents}
+use Rattle.content_streams.specs.Lines.{parts, ended_lines, fits, all_fit, line_contents}
 use Rattle.content_streams.specs.Streams.{joined, plain, lines_read, fault_left, fault_of, contents_of}
-use Rattle.content_streams.specs.Inner.Cutting.{LineStanding, Within, Over, line_fault, text_standing, line_standing, last_line, ended_contents, last_contents}
+use Rattle.content_streams.specs.Inner.Cutting.{line_fault, text_standing, last_line}
 use Rattle.content_streams.specs.Inner.Rows.{row_items}
 use Rattle.content_streams.specs.Inner.Cutters.{framing_of, limit_of, Tells, Stands, read_by, IsStream}
 use Rattle.content_streams.specs.declared.cutter.Cutter.{Cutter}
@@ -23,7 +23,7 @@ use Rattle.content_streams.specs.declared.ending.HowEnded.TheVariants.{Closed, R
 use Rattle.content_streams.specs.declared.framing.Framing.{Framing}
 use Rattle.content_streams.specs.declared.framing.Framing.TheVariants.{Frames, Lines, Contents}
 use Rattle.content_streams.specs.declared.row.Row.{Row}
-use Rattle.content_streams.proofs.Fitting.{all_first, not_all_first, not_all_append, all_append, lines_all_first, no_lines}
+use Rattle.content_streams.proofs.Fitting.{all_first, not_all_first, not_all_append, lines_all_first}
 use Rattle.content_streams.proofs.LineTexts.{long_stays, long_ended, long_parts, contents_behind, parts_behind, ended_fit}
 use Rattle.content_streams.proofs.LineSteps.{standing_long}
 use Rattle.content_streams.proofs.Peeling.{Goes, goes, keeps_frames, keeps_fault, are_contents, is_standing}
@@ -49,19 +49,22 @@ long_read limit (Some Closed) bytes more long = long_parts limit bytes more long
 
 pub ignores : (framing : Framing) (limit : ℕ) (pieces more : List (List ℕ)) (ended : Option HowEnded) (fault : FrameFault) → fault_of framing limit pieces ≡ Some fault → Ignores framing limit pieces more ended fault
 ignores Frames limit pieces more ended fault is =
-    let broken = broken_at (standing_of limit (joined pieces)) fault is in
-    (ap (λ bytes. fault_left (standing_of limit bytes)) (concat-append pieces more) ∙ ap fault_left (keeps_fault limit (joined pieces) (joined more) fault broken),
-     ap (frames_of limit) (concat-append pieces more) ∙ keeps_frames limit (joined pieces) (joined more) fault broken)
+    let broken = broken_at (standing_of limit (joined pieces)) fault is in (
+      ap (λ bytes. fault_left (standing_of limit bytes)) (concat-append pieces more) ∙ ap fault_left (keeps_fault limit (joined pieces) (joined more) fault broken),
+      ap (frames_of limit) (concat-append pieces more) ∙ keeps_frames limit (joined pieces) (joined more) fault broken,
+    )
 ignores Lines limit pieces more ended fault is =
-    let long = test_is (all_fit limit (parts (joined pieces))) fault is in
-    (ap (λ bytes. cond (all_fit limit (parts bytes)) None (Some TooLarge)) (concat-append pieces more)
-     ∙ ap (λ t. cond t None (Some TooLarge)) (long_stays limit (joined pieces) (joined more) long.0) ∙ long.1,
-     ap (λ bytes. map plain (line_contents limit (lines_read ended bytes))) (concat-append pieces more)
-     ∙ ap (map plain) (long_read limit ended (joined pieces) (joined more) long.0))
+    let long = test_is (all_fit limit (parts (joined pieces))) fault is in (
+      ap (λ bytes. cond (all_fit limit (parts bytes)) None (Some TooLarge)) (concat-append pieces more)
+          ∙ ap (λ t. cond t None (Some TooLarge)) (long_stays limit (joined pieces) (joined more) long.0) ∙ long.1,
+      ap (λ bytes. map plain (line_contents limit (lines_read ended bytes))) (concat-append pieces more)
+          ∙ ap (map plain) (long_read limit ended (joined pieces) (joined more) long.0),
+    )
 ignores Contents limit pieces more ended fault is =
-    let long = test_is (list_all (fits limit) pieces) fault is in
-    (ap (λ t. cond t None (Some TooLarge)) (not_all_append (fits limit) pieces more long.0) ∙ long.1,
-     ap (map plain) (not_all_first (fits limit) pieces more long.0))
+    let long = test_is (list_all (fits limit) pieces) fault is in (
+      ap (λ t. cond t None (Some TooLarge)) (not_all_append (fits limit) pieces more long.0) ∙ long.1,
+      ap (map plain) (not_all_first (fits limit) pieces more long.0),
+    )
 
 -- ---- more pieces add contents
 

@@ -1,9 +1,8 @@
 -- What a cutter of lines does with bytes, line by line.
-use Rattle.std.proofs.Common.{◌≡◌, ◌≢◌, ℕ, ◌+◌, ◌-◌, ◌<◌, ◌≤◌, min, Option, Some, None, Bool, true, false, cond, List, [], ◌∷◌, ◌++◌, length, take, drop, map, refl, ap, sym, ◌∙◌, subst, append-nil, append_assoc, length-take, arith}
+use Rattle.std.proofs.Common.{◌≡◌, ◌≢◌, ℕ, ◌+◌, ◌-◌, ◌≤◌, min, Some, None, Bool, true, false, cond, List, [], ◌∷◌, ◌++◌, length, take, drop, map, refl, ap, sym, ◌∙◌, subst, append-nil, length-take, arith}
 use Rattle.std.specs.List.{position}
-use Rattle.std.specs.Option.{option_to_list}
 use Rattle.std.proofs.lemmas.Bool.Decides.{nat_tests}
-use Rattle.std.proofs.lemmas.List.{map-append, take_all, take_rest}
+use Rattle.std.proofs.lemmas.List.{map-append, take_all}
 use Rattle.lsp_frames.specs.declared.frame.Frame.{Frame}
 use Rattle.content_streams.specs.Lines.{is_lf, parts, without_last, ended_lines, ends_in_cr, without_cr, is_blank, fits, all_fit, line_contents}
 use Rattle.content_streams.specs.Streams.{plain}
@@ -60,17 +59,19 @@ last_kept limit line fit =
 
 pub rest_long : (limit : ℕ) (rest : List ℕ) (end : ℕ) → Some end ≡ position is_lf rest → false ≡ fits limit (without_cr (take end rest)) → (ended_contents limit rest ≡ []) × (text_standing limit rest ≡ Over)
 rest_long limit rest end found long =
-    let first = first_line rest end (sym found) in
-    (ap (λ lines. map plain (line_contents limit (without_last lines))) first.1 ∙ ended_long limit (take end rest) (parts (drop (end + 1) rest)) (parts-some (drop (end + 1) rest)) (sym long),
-     standing_long limit (parts rest) (ap (all_fit limit) first.1 ∙ all_fit-no limit (take end rest) (parts (drop (end + 1) rest)) (sym long)))
+    let first = first_line rest end (sym found) in (
+      ap (λ lines. map plain (line_contents limit (without_last lines))) first.1 ∙ ended_long limit (take end rest) (parts (drop (end + 1) rest)) (parts-some (drop (end + 1) rest)) (sym long),
+      standing_long limit (parts rest) (ap (all_fit limit) first.1 ∙ all_fit-no limit (take end rest) (parts (drop (end + 1) rest)) (sym long)),
+    )
 
 pub rest_goes : (limit : ℕ) (rest : List ℕ) (end : ℕ) → Some end ≡ position is_lf rest → true ≡ fits limit (without_cr (take end rest))
     → (ended_contents limit rest ≡ map plain (kept (without_cr (take end rest))) ++ ended_contents limit (drop (end + 1) rest)) × (text_standing limit rest ≡ text_standing limit (drop (end + 1) rest))
 rest_goes limit rest end found fit =
     let first = first_line rest end (sym found) in
-    let behind = drop (end + 1) rest in
-    (ap (λ lines. map plain (line_contents limit (without_last lines))) first.1 ∙ ended_first limit (take end rest) (parts behind) (parts-some behind) (sym fit),
-     ap (line_standing limit) first.1 ∙ standing_cons limit (take end rest) (parts behind) (parts-some behind) (sym fit))
+    let behind = drop (end + 1) rest in (
+      ap (λ lines. map plain (line_contents limit (without_last lines))) first.1 ∙ ended_first limit (take end rest) (parts behind) (parts-some behind) (sym fit),
+      ap (line_standing limit) first.1 ∙ standing_cons limit (take end rest) (parts behind) (parts-some behind) (sym fit),
+    )
 
 pub rest_ends : (limit : ℕ) (rest : List ℕ) → None ≡ position is_lf rest → (ended_contents limit rest ≡ []) × (text_standing limit rest ≡ grown limit rest)
 rest_ends limit rest none =

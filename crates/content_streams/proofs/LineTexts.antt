@@ -1,13 +1,13 @@
 -- The lines of a text that comes in parts.
-use Rattle.std.proofs.Common.{◌≡◌, ◌≢◌, ℕ, ◌+◌, ◌-◌, ◌<◌, ◌≤◌, ◌⊎◌, inl, inr, Option, Some, None, Bool, true, false, cond, ltb, eqb, not, ◌&&◌, List, [], ◌∷◌, ◌++◌, length, get_or, take, drop, map, refl, ap, sym, ◌∙◌, subst, append-nil, append_assoc, length-append, length-take, lit≤, arith}
-use Rattle.std.specs.List.{slice_split, onto_first, position, position_or_len, before_first, after_first}
+use Rattle.std.proofs.Common.{◌≡◌, ◌≢◌, ℕ, ◌+◌, ◌-◌, ◌<◌, ◌≤◌, Some, None, Bool, true, false, cond, ltb, eqb, List, [], ◌∷◌, ◌++◌, length, get_or, take, drop, refl, ap, sym, ◌∙◌, subst, append-nil, length-append, length-take, lit≤, arith}
+use Rattle.std.specs.List.{onto_first, position, position_or_len}
 use Rattle.std.proofs.lemmas.List.{get_or-append-add}
 use Rattle.std.proofs.lemmas.List.Sums.{fails_before_first}
 use Rattle.std.proofs.lemmas.List.Splits.{slice_split_first, slice_split_none}
 use Rattle.std.proofs.lemmas.Bool.Decides.{nat_tests}
-use Rattle.content_streams.specs.Lines.{is_lf, parts, without_last, ended_lines, ends_in_cr, without_cr, is_blank, fits, all_fit, line_contents}
-use Rattle.content_streams.specs.Inner.Cutting.{LineStanding, Within, Over, last_line, line_standing, text_standing, grown}
-use Rattle.content_streams.proofs.Fitting.{lines_all_first, lines_not_all_first, all_fit_behind, not_all_fit, first_fits, first_is_too_long, all_fit-yes, all_fit-no, none_fit, no_lines}
+use Rattle.content_streams.specs.Lines.{is_lf, parts, without_last, ended_lines, ends_in_cr, without_cr, fits, all_fit, line_contents}
+use Rattle.content_streams.specs.Inner.Cutting.{Within, Over, last_line, line_standing, text_standing}
+use Rattle.content_streams.proofs.Fitting.{lines_all_first, lines_not_all_first, all_fit_behind, not_all_fit, first_is_too_long, all_fit-yes, all_fit-no, none_fit}
 
 -- ---- parts
 

@@ -5,7 +5,7 @@ use Rattle.lsp_frames.specs.Frames.{Front, Whole, Faulty, Less, front, lines_tex
 use Rattle.lsp_frames.specs.Heads.{head_at, head_from}
 use Rattle.lsp_frames.specs.declared.frame.Frame.{Frame}
 use Rattle.lsp_frames.specs.declared.frame.FrameFault.{FrameFault}
-use Rattle.lsp_frames.proofs.Laws.{front_is_a_frame, contents_are_unique, contents_keep_a_fault, contents_go_on, contents_exist}
+use Rattle.lsp_frames.proofs.Laws.{front_is_a_frame, contents_are_unique, contents_keep_a_fault, contents_go_on}
 use Rattle.content_streams.specs.Framed.{with_front, peeled, frames_of, standing_of}
 
 front-nil : (limit : ℕ) → front limit [] ≡ Less

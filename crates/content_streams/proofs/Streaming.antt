@@ -1,27 +1,25 @@
 -- What a cutter knows of the pieces, and more pieces.
-use Rattle.std.proofs.Common.{◌≡◌, ◌≢◌, ℕ, ◌+◌, Option, Some, None, Result, Ok, Err, Vec, Global, Bool, true, false, cond, not, List, [], ◌∷◌, ◌++◌, length, drop, map, refl, ap, sym, ◌∙◌, subst, append-nil, append_assoc, arith}
+use Rattle.std.proofs.Common.{◌≡◌, ◌≢◌, ℕ, Some, None, Result, Ok, Err, Vec, Global, Bool, true, false, cond, not, List, [], ◌∷◌, ◌++◌, map, refl, ap, sym, ◌∙◌, subst, append-nil, arith}
 use Rattle.std.specs.Result.{IfOk, OnOk}
-use Rattle.std.specs.List.{list_all, take_while, concat}
+use Rattle.std.specs.List.{list_all, take_while}
 use Rattle.std.proofs.lemmas.List.{map-append}
 use Rattle.std.proofs.lemmas.List.Folds.{concat-append}
 use Rattle.lsp_frames.specs.Contents as frames
 use Rattle.lsp_frames.specs.Contents.{Standing, IsContents}
-use Rattle.lsp_frames.specs.Decoding.{Decoding, Known, StandsAfter, known}
-use Rattle.lsp_frames.specs.declared.frame.End.{End}
-use Rattle.lsp_frames.specs.declared.frame.End.TheVariants as ends
+use Rattle.lsp_frames.specs.Decoding.{Decoding, StandsAfter}
 use Rattle.lsp_frames.specs.declared.frame.Frame.{Frame}
 use Rattle.lsp_frames.specs.declared.frame.FrameFault.{FrameFault}
 use Rattle.lsp_frames.specs.declared.frame.FrameFault.TheVariants.{BadHead, BadLength, TwoLengths, TooLarge, NoLength, HeadTooLong, Truncated}
 use Rattle.lsp_frames.proofs.Laws.{no_bytes_show_an_end}
 use Rattle.content_streams.specs.Framed.{frames_of, standing_of}
 use Rattle.content_streams.specs.Lines.{parts, ended_lines, fits, all_fit, line_contents}
-use Rattle.content_streams.specs.Streams.{joined, plain, fault_left, fault_of, contents_of}
+use Rattle.content_streams.specs.Streams.{joined, plain, fault_left}
 use Rattle.content_streams.specs.Inner.Cutting.{LineStanding, Within, Over, line_fault, text_standing, last_line, ended_contents, last_contents}
 use Rattle.content_streams.specs.Inner.Cutters.{fault_at_end}
-use Rattle.content_streams.proofs.Fitting.{all_first, not_all_first, not_all_append, all_append}
-use Rattle.content_streams.proofs.LineTexts.{contents_to_end, parts-are, is_long, IsLong, AnEnded, TheLast, long_parts}
+use Rattle.content_streams.proofs.Fitting.{all_first}
+use Rattle.content_streams.proofs.LineTexts.{contents_to_end, long_parts}
 use Rattle.content_streams.proofs.LineSteps.{standing_one, fits_at}
-use Rattle.content_streams.proofs.Peeling.{are_contents, are_frames, is_standing}
+use Rattle.content_streams.proofs.Peeling.{are_contents, are_frames}
 
 pub joined_more : (pieces : List (List ℕ)) (piece : List ℕ) → joined (pieces ++ piece ∷ []) ≡ joined pieces ++ piece
 joined_more pieces piece = concat-append pieces (piece ∷ []) ∙ ap (λ xs. joined pieces ++ xs) (append-nil piece)

@@ -1,4 +1,4 @@
-use Rattle.std.proofs.Common.{◌≡◌, ◌++◌, ℕ, List, sym, subst}
+use Rattle.std.proofs.Common.{◌++◌, List, sym, subst}
 use Rattle.lsp_frames.specs.Decoding.{StandsAfter}
 use Rattle.lsp_frames.specs.declared.frame.Frame.{Frame}
 use Rattle.content_streams.proofs.frames.feed_frames.Goals as goal

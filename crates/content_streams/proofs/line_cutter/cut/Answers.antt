@@ -1,9 +1,9 @@
-use Rattle.std.proofs.Common.{◌≡◌, ◌+◌, ◌-◌, ℕ, List, [], ◌∷◌, ◌++◌, length, take, drop, map, Bool, true, cond, ap, sym, ◌∙◌, subst, refl, append-nil, append_assoc}
+use Rattle.std.proofs.Common.{◌≡◌, ◌+◌, ◌-◌, ℕ, List, [], ◌∷◌, ◌++◌, length, take, drop, map, cond, ap, sym, ◌∙◌, append-nil, append_assoc}
 use Rattle.std.proofs.lemmas.List.{take_rest}
 use Rattle.lsp_frames.specs.declared.frame.Frame.{Frame}
 use Rattle.content_streams.specs.Lines.{without_cr, is_blank}
 use Rattle.content_streams.specs.Streams.{plain}
-use Rattle.content_streams.specs.Inner.Cutting.{Within, Over, LineStanding, LineCutting, ended_contents, text_standing, grown}
+use Rattle.content_streams.specs.Inner.Cutting.{LineCutting, ended_contents, text_standing, grown}
 use Rattle.content_streams.proofs.LineSteps.{cutting, rest_long, rest_goes, rest_ends, kept_frames}
 use Rattle.content_streams.proofs.line_cutter.cut.Goals as goal
 

@@ -1,8 +1,7 @@
-use Rattle.std.proofs.Common.{◌≡◌, [], List, ap, sym, ◌∙◌, subst}
+use Rattle.std.proofs.Common.{◌≡◌, [], List, sym, subst}
 use Rattle.lsp_frames.specs.Decoding.{StandsAfter}
 use Rattle.lsp_frames.specs.declared.frame.Frame.{Frame}
-use Rattle.content_streams.specs.Inner.Cutting.{LineCutting, grown, text_standing, Within}
-use Rattle.content_streams.proofs.LineSteps.{cutting}
+use Rattle.content_streams.specs.Inner.Cutting.{LineCutting, text_standing}
 use Rattle.content_streams.proofs.Streaming.{stands_frames, nothing_stands}
 use Rattle.content_streams.proofs.cutter.Cutter.new.Goals as goal
 

@@ -1,12 +1,9 @@
-use Rattle.std.proofs.Common.{◌≡◌, ◌+◌, ◌-◌, ℕ, List, [], ◌∷◌, ◌++◌, length, take, drop, set, map, Vec, Global, Option, Some, None, Bool, true, false, cond, ap, sym, ◌∙◌, subst, refl, append-nil, append_assoc}
+use Rattle.std.proofs.Common.{◌≡◌, ◌+◌, ◌-◌, ℕ, List, ◌++◌, length, take, drop, set, Vec, Global, true, false, ap, sym, ◌∙◌}
 use Rattle.std.proofs.lemmas.List.{take_rest}
-use Rattle.std.specs.Option.{option_to_list}
-use Rattle.std.specs.List.{remove}
 use Rattle.lsp_frames.specs.declared.frame.Frame.{Frame}
-use Rattle.content_streams.specs.Lines.{without_cr, is_blank, fits}
-use Rattle.content_streams.specs.Streams.{plain}
-use Rattle.content_streams.specs.Inner.Cutting.{Within, Over, LineStanding, LineCutting, standing_at, ended_contents, last_contents, text_standing, grown}
-use Rattle.content_streams.proofs.LineSteps.{cutting, seen_within, line_known, within_is, held_contents, held_standing, long_contents, long_standing, more_contents, more_standing, whole_seen, one_pushed}
+use Rattle.content_streams.specs.Lines.{without_cr, fits}
+use Rattle.content_streams.specs.Inner.Cutting.{Within, LineCutting, standing_at, ended_contents, last_contents, text_standing}
+use Rattle.content_streams.proofs.LineSteps.{cutting, line_known, within_is, held_contents, held_standing, long_contents, long_standing, more_contents, more_standing, whole_seen, one_pushed}
 use Rattle.content_streams.proofs.line_cutter.LineCutter.feed.Goals as goal
 use Rattle.content_streams.proofs.line_cutter.LineCutter.feed.Goals.{in-Some-into_content, in-None}
 
@@ -59,8 +56,8 @@ returns-clause-given c bytes stands =
     let rest : take (length c.args.piece.now - (c.in-Some.end + 1)) behind ≡ behind = take_rest c.args.piece.now (c.in-Some.end + 1) in
     let later = ended_contents limit behind in
     let cut = one_pushed c.cut.new.contents.items c.push.new.self.items c.new-contents.result.items later (record { content = c.new.result; foreign = false })
-        (c.in_ok-next.ensures.given ∙ ap (λ (xs : List ℕ). c.push.new.self.items ++ ended_contents c.self.inside.limit xs) rest ∙ ap (λ n. c.push.new.self.items ++ ended_contents n behind) (sym known.0))
-        c.in_ok-push.ensures.items c.new-contents.ensures.items in
+    (c.in_ok-next.ensures.given ∙ ap (λ (xs : List ℕ). c.push.new.self.items ++ ended_contents c.self.inside.limit xs) rest ∙ ap (λ n. c.push.new.self.items ++ ended_contents n behind) (sym known.0))
+    c.in_ok-push.ensures.items c.new-contents.ensures.items in
     let whole : c.replace-whole.result ≡ cutting limit (Within (line ++ front)) =
     c.replace-whole.ensures.value ∙ ap (λ (xs : List ℕ). cutting c.self.inside.limit (standing_at c.self.inside.is_over xs)) c.in_ok-extend_from_slice.ensures.items
     ∙ whole_seen c.self.inside.limit c.self.inside.is_over line (line ++ front) c.args.self.now c.self.view_is c.requires in

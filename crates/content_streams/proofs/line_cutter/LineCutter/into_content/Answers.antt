@@ -1,5 +1,4 @@
-use Rattle.std.proofs.Common.{◌≡◌, ℕ, List, [], ◌∷◌, Bool, true, false, cond, length, take, ap, sym, ◌∙◌}
-use Rattle.lsp_frames.specs.declared.frame.Frame.{Frame}
+use Rattle.std.proofs.Common.{◌≡◌, ℕ, List, [], ◌∷◌, true, false, cond, length, take, ap, sym, ◌∙◌}
 use Rattle.content_streams.specs.Lines.{without_cr, is_blank}
 use Rattle.content_streams.specs.Streams.{plain}
 use Rattle.content_streams.proofs.LineSteps.{content_seen, take_without_cr}
