@@ -75,10 +75,12 @@ impl Events {
         if let Some(event) = self.items.pop_front() {
             return Some(event);
         }
-        if let Some(key) = self.unanswered.next(0) {
-            self.unanswered.remove(key);
+        if let Some(key) = self.unanswered.pop_first() {
             return Some(Event::Unanswered { key });
         }
-        self.over.take().map(Event::Over)
+        match self.over.take() {
+            Some(close) => Some(Event::Over(close)),
+            None => None,
+        }
     }
 }
