@@ -32,7 +32,10 @@ impl Events {
     pub fn is_empty(&self) -> bool
         ensures { IsTrue result ↔ (untold_of self.now ≡ []) }
     {
-        self.items.is_empty() && self.unanswered.len() == 0 && self.over.is_none()
+        if !self.items.is_empty() || self.unanswered.len() > 0 {
+            return false;
+        }
+        self.over.is_none()
     }
 
     /// Makes room for so many more events.
