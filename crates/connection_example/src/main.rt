@@ -40,12 +40,11 @@ fn hear(alloc: Global, connection: &mut Connection, piece: &[u8]) -> Result<(), 
         connection.feed(piece)?;
     }
     for _ in 0..u64::MAX {
-        match connection.next_event()? {
-            Some(Event::Call { number, call }) => {
-                connection.answer(number, &answer_to(alloc, &call)?)?;
-            }
-            Some(_) => {}
-            None => break,
+        let Some(event) = connection.next_event()? else {
+            break;
+        };
+        if let Event::Call { number, call } = &event {
+            connection.answer(*number, &answer_to(alloc, call)?)?;
         }
     }
     Ok(())
