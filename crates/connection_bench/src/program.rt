@@ -10,13 +10,7 @@ use std::io::{Read, Write};
 
 /// Does what the words ask for, of which the first is the program's name, and gives the exit status: 0, or 1 where the
 /// input of the host did not end cleanly or something failed, or 2 where the words or a line of the script are refused.
-pub fn run<I, W, E>(
-    alloc: Global,
-    words: &[String],
-    input: I,
-    output: &mut W,
-    errors: &mut E,
-) -> u8
+pub fn run<I, W, E>(alloc: Global, words: &[String], input: I, output: &mut W, errors: &mut E) -> u8
 where
     I: Read + Drop,
     W: Write,

@@ -1,9 +1,11 @@
 //! The host: what it does at each event.
+ghost use Rattle.std.specs.Prelude.{◌≤◌, length};
+
 use super::asking::Asking;
 use super::methods::{add, echo, passed_on, question};
 use connection::{
-    Answer, Call, Close, Connection, Event, Framing, HowEnded, MOST_CONTENT, Order, Refused,
-    Reply, Settings,
+    Answer, Call, Close, Connection, Event, Framing, HowEnded, MOST_CONTENT, Order, Refused, Reply,
+    Settings,
 };
 use json::Scratch;
 use json_texts::TextReader;

@@ -32,12 +32,7 @@ pub fn put_event(alloc: Global, line: &mut Line, event: &Event) -> Result<(), Al
     }
 }
 
-fn put_call(
-    alloc: Global,
-    line: &mut Line,
-    number: u64,
-    call: &Call,
-) -> Result<(), AllocError> {
+fn put_call(alloc: Global, line: &mut Line, number: u64, call: &Call) -> Result<(), AllocError> {
     line.put("call")?;
     line.put_number(number)?;
     line.put_bytes(call.method.as_bytes())?;

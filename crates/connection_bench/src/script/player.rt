@@ -88,7 +88,10 @@ impl Player {
     ) -> Result<(), Refusal> {
         self.must_speak(number)?;
         let outgoings = outgoings_of(self.alloc, &mut self.texts, spoken)?;
-        key_of(self.connection.call_batch(number, outgoings.as_slice()), line)
+        key_of(
+            self.connection.call_batch(number, outgoings.as_slice()),
+            line,
+        )
     }
 
     fn notify(&mut self, spoken: &Spoken, line: &mut Line) -> Result<(), Refusal> {

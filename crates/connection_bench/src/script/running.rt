@@ -67,9 +67,7 @@ impl Script {
     /// Reads the next line. Says whether there is one.
     fn read<B: BufRead>(&mut self, input: &mut B) -> Result<bool, RunFailure> {
         self.read.clear();
-        let count = input
-            .read_until(b'\n', &mut self.read)
-            .map_err(failure_of)?;
+        let count = input.read_until(b'\n', &mut self.read).map_err(failure_of)?;
         if count == 0 {
             return Ok(false);
         }
