@@ -34,6 +34,14 @@ impl Model for Settings {
     } };
 
     ghost invariant = { λ s. are_possible s.content s.calls ≡ true };
+
+    ghost inverse = { λ c. record {
+      framing = c.framing;
+      order = c.order;
+      takes_cancels = c.takes_cancels;
+      content = c.content;
+      calls = c.calls;
+    } };
 }
 
 impl Settings {
