@@ -138,7 +138,7 @@ IsRefusal why refusal = (why ≡ Memory) ⊎ (refusal ≡ Some why)
 
 pub record IsDone (c : Connection) (history : History) (told : List Event) : Type 0 where
   pub over : is_over history ≡ true
-  pub told : events_of history ≡ told
+  pub all_told : events_of history ≡ told
   -- no call is open
   pub answered : (theirs_of history).calls ≡ []
   pub taken : IsAllTaken c.desk.out
