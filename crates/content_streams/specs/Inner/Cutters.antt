@@ -47,7 +47,7 @@ Stands (Frames decoder) pieces = Tells (Frames decoder) pieces
 Stands (Lines cutter) pieces = cutter.standing ≡ text_standing cutter.limit (joined pieces)
 Stands (Contents cutter) pieces = Tells (Contents cutter) pieces
 
--- It has shown no fault that would have to be asked for.
+-- A piece may be fed: no line and no piece was too large. A decoder of frames takes pieces in any case.
 abbrev pub MayFeed : Cutter → Type 0
 MayFeed (Frames decoder) = Unit {0}
 MayFeed (Lines cutter) = IsWithin cutter.standing
