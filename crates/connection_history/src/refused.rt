@@ -1,3 +1,5 @@
+use std::alloc::AllocError;
+
 /// Why a connection didn't do what its host said. A refusal changes nothing.
 #[derive(Clone, Copy, Debug, Drop, PartialEq, Eq)]
 pub enum Refused {
@@ -13,4 +15,15 @@ pub enum Refused {
     Empty,
     /// There are no more keys for calls of ours.
     Full,
+}
+
+impl From<AllocError> for Refused {
+    ghost use Rattle.std.specs.Prelude.{◌≡◌};
+    ghost use Rattle.connection_history.specs.declared.refused.Refused.TheVariants.{Memory};
+
+    ghost from_gives = { λ _ why. why ≡ Memory };
+
+    fn from(_: AllocError) -> Self {
+        Refused::Memory
+    }
 }

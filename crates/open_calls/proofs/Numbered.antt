@@ -71,6 +71,11 @@ without_above n [] above = refl
 without_above n (e ∷ es) above =
     ap (λ b. cond (not b) (e ∷ without n es) (without n es)) (apart n e.0 above.0) ∙ ap (λ t. e ∷ t) (without_above n es above.1)
 
+pub without_below : {X : Type 0} (n : ℕ) (es : List (ℕ × X)) → Below n es → without n es ≡ es
+without_below n [] under = refl
+without_below n (e ∷ es) under =
+    ap (λ b. cond (not b) (e ∷ without n es) (without n es)) (apart_after n e.0 under.0) ∙ ap (λ t. e ∷ t) (without_below n es under.1)
+
 removed_step : {X : Type 0} (b : Bool) (e : ℕ × X) (es rest wanted : List (ℕ × X)) → (b ≡ true → es ≡ wanted) → rest ≡ wanted
     → cond b es (e ∷ rest) ≡ cond (not b) (e ∷ wanted) wanted
 removed_step true e es rest wanted here there = here refl
@@ -144,6 +149,15 @@ find_first p k x (e ∷ es) order is passes fails =
     found_step (k == e.0) p k x e es (at k es) is passes (eqb-true k e.0)
     (λ there. fails e.0 e.1 (at_above e.0 k x es order.0 there) (at_here e es))
     (λ there. find_first p k x es order.1 there passes (λ n y lt it. fails n y lt (at_later e es n y order.0 it)))
+
+kept_step : {X : Type 0} (b : Bool) (p : X → Bool) (e : X) (es : List X) (found : Option X) → find p es ≡ found → find p (cond b (e ∷ es) es) ≡ cond (b && p e) (Some e) found
+kept_step true p e es found is = ap (λ o. cond (p e) (Some e) o) is
+kept_step false p e es found is = is
+
+-- the first that passes, among those that pass another test
+pub find_among : {X : Type 0} (p q : X → Bool) (es : List X) → find p (filter q es) ≡ find (λ e. q e && p e) es
+find_among p q [] = refl
+find_among p q (e ∷ es) = kept_step (q e) p e (filter q es) (find (λ x. q x && p x) es) (find_among p q es)
 
 -- ---- numbers that are all below or above one
 
@@ -312,3 +326,12 @@ pub shorter : {X : Type 0} (key : ℕ) (x : X) (es : List (ℕ × X)) → at key
 shorter key x [] is = absurd (cc)
 shorter key x (e ∷ es) is =
     shorter_step (key == e.0) x e (at key es) es (without key es) is (fewer (λ e. not (key == e.0)) es) (λ there. shorter key x es there)
+
+-- ---- the first entry goes
+
+pub without_first : {X : Type 0} (n : ℕ) (x : X) (es : List (ℕ × X)) → Ascending es → slice_get es 0 ≡ Some (n, x) → es ≡ (n, x) ∷ without n es
+without_first n x [] order is = cc
+without_first n x (e ∷ es) order is =
+    let here : (n, x) ≡ e = cc in
+    subst (λ d. e ∷ es ≡ d ∷ without d.0 (e ∷ es)) (sym here)
+    (ap (λ t. e ∷ t) (sym (ap (λ b. cond (not b) (e ∷ without e.0 es) (without e.0 es)) (eq-eqb e.0 e.0 refl) ∙ without_above e.0 es order.0)))

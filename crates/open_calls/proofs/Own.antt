@@ -103,7 +103,7 @@ pub some_of : {X : Type 0} (p : X → Bool) (o : Option X) → passes p o ≡ tr
 some_of p None is = absurd (cc)
 some_of p (Some x) is = (x, refl, is)
 
-both_false : (a b : Bool) → (a ≡ true → b ≡ false) → (a && b) ≡ false
+pub both_false : (a b : Bool) → (a ≡ true → b ≡ false) → (a && b) ≡ false
 both_false true b is = is refl
 both_false false b is = refl
 

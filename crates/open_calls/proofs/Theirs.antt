@@ -1,17 +1,17 @@
 -- The index of the other side's calls after a change, and the state that is seen.
-use Rattle.std.proofs.Common.{◌≡◌, ℕ, ◌<◌, ◌==◌, ◌&&◌, not, Bool, true, false, cond, if◌then◌else◌, List, Option, Some, None, refl, ap, sym, ◌∙◌}
-use Rattle.std.proofs.lemmas.Bool.{eqb-true}
+use Rattle.std.proofs.Common.{◌≡◌, ℕ, ◌<◌, ◌≤◌, ◌==◌, ◌&&◌, not, Bool, true, false, cond, if◌then◌else◌, List, Option, Some, None, refl, ap, sym, subst, ◌∙◌, nat_le}
+use Rattle.std.proofs.lemmas.Bool.{eqb-true, leb-true, le-leb}
 use Rattle.std.specs.Option.{option_map}
 use Rattle.rpc_messages.specs.declared.id.Id.{Id}
 use Rattle.rpc_messages.specs.Ids.{same_id, has_id}
 use Rattle.rpc_messages.proofs.Ids.{same-is}
 use Rattle.open_calls.specs.declared.their_call.TheirCall.{TheirCall}
 use Rattle.open_calls.specs.declared.numbers_by_id.NumbersById.{NumbersById}
-use Rattle.open_calls.specs.Numbered.{at, Ascending}
+use Rattle.open_calls.specs.Numbered.{at, up_to, number_of_first, Ascending}
 use Rattle.open_calls.specs.Theirs.{TheirState, is_reached, reached, cancelled}
 use Rattle.open_calls.specs.Inner.{is_listed, passes, IsNumberIndex, IsWithNumber, IsWithoutNumber}
-use Rattle.open_calls.proofs.Numbered.{find_none, find_first}
-use Rattle.open_calls.proofs.Own.{gone_step, come_step, passes_at, undone_step, and_true, and_false, false_and}
+use Rattle.open_calls.proofs.Numbered.{find_none, find_first, find_among}
+use Rattle.open_calls.proofs.Own.{gone_step, come_step, passes_at, undone_step, and_true, and_false, false_and, some_of, both_false}
 
 abbrev pub state_of : ℕ → List (ℕ × TheirCall) → TheirState
 state_of came calls = record { came = came; calls = calls }
@@ -77,6 +77,25 @@ reached_some index es id number call order is there listed least =
     sym (ap (λ o. option_map (λ e. e.0) o) (find_first (λ e. is_reached id e.1) number call es order there
     (ap (passes (is_reached id)) (sym there) ∙ sym (is id number) ∙ listed)
     (λ n y under it. unreached index es id n y is it (least n under))))
+
+reached_among : (id : Id) (most : ℕ) (es : List (ℕ × TheirCall)) → reached id (up_to most es) ≡ number_of_first (λ e. nat_le e.0 most && is_reached id e.1) es
+reached_among id most es = ap (λ o. option_map (λ e. e.0) o) (find_among (λ (e : ℕ × TheirCall). is_reached id e.1) (λ e. nat_le e.0 most) es)
+
+pub none_up_to : (index : NumbersById) (came : ℕ) (es : List (ℕ × TheirCall)) (state : TheirState) (id : Id) (most : ℕ) → state_of came es ≡ state → Ascending es → IsNumberIndex index es
+    → ((k : ℕ) → k ≤ most → is_listed index id k ≡ false) → None ≡ reached id (up_to most state.calls)
+none_up_to index came es state id most seen order is none =
+    subst (λ (s : TheirState). None ≡ reached id (up_to most s.calls)) seen (sym (reached_among id most es ∙ ap (λ o. option_map (λ e. e.0) o) (find_none (λ e. nat_le e.0 most && is_reached id e.1) es order
+    (λ n x there. both_false (nat_le n most) (is_reached id x) (λ within. unreached index es id n x is there (none n (leb-true n most within)))))))
+
+-- the first of all, where its number is at most this one
+pub first_up_to : (index : NumbersById) (came : ℕ) (es : List (ℕ × TheirCall)) (state : TheirState) (id : Id) (number most : ℕ) → state_of came es ≡ state → Ascending es → IsNumberIndex index es
+    → number ≤ most → is_listed index id number ≡ true → ((k : ℕ) → k < number → is_listed index id k ≡ false) → reached id state.calls ≡ reached id (up_to most state.calls)
+first_up_to index came es state id number most seen order is within listed least =
+    let found = some_of (is_reached id) (at number es) (sym (is id number) ∙ listed) in
+    subst (λ (s : TheirState). reached id s.calls ≡ reached id (up_to most s.calls)) seen (sym (reached_some index es id number found.0 order is found.1 listed least)
+    ∙ sym (reached_among id most es ∙ ap (λ o. option_map (λ e. e.0) o) (find_first (λ e. nat_le e.0 most && is_reached id e.1) number found.0 es order found.1
+    (ap (λ b. b && is_reached id found.0) (le-leb number most within) ∙ found.2)
+    (λ n y under it. both_false (nat_le n most) (is_reached id y) (λ _. unreached index es id n y is it (least n under))))))
 
 true_not_false : true ≡ false → ⊥
 true_not_false is = cc

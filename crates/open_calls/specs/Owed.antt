@@ -1,5 +1,5 @@
 -- The answers that aren't out yet.
-use Rattle.std.specs.Prelude.{ℕ, ◌≡◌, ◌<◌, Bool, List, [], ◌∷◌, Option, Some, None, length, map, slice_set, count_by, if◌then◌else◌}
+use Rattle.std.specs.Prelude.{ℕ, ◌≡◌, ◌<◌, Bool, List, [], ◌∷◌, Option, Some, None, length, map, slice_get, slice_set, count_by, if◌then◌else◌}
 use Rattle.std.specs.Option.{is_none, option_map, unwrap_or}
 use Rattle.std.specs.Global.{Vec}
 use Rattle.connection_messages.specs.Texts.{batch_text}
@@ -36,6 +36,18 @@ lacking_in (Some unit) = lacking unit
 -- this slot's text is given
 abbrev pub given : ℕ → List ℕ → OwedUnit → OwedUnit
 given slot text unit = record unit { slots = slice_set unit.slots slot (Some text) }
+
+-- what stands in this slot, where there is one
+abbrev pub slot_in : ℕ → List (Option (List ℕ)) → Option (List ℕ)
+slot_in slot slots = unwrap_or (slice_get slots slot) None
+
+abbrev pub slot_at : ℕ → Option OwedUnit → Option (List ℕ)
+slot_at slot None = None
+slot_at slot (Some unit) = slot_in slot unit.slots
+
+-- this, or nothing, stands in the slot
+abbrev pub replaced : ℕ → Option (List ℕ) → OwedUnit → OwedUnit
+replaced slot text unit = record unit { slots = slice_set unit.slots slot text }
 
 -- the text that stands in a slot
 abbrev pub slot_text : Option (List ℕ) → List ℕ

@@ -6,6 +6,7 @@ ghost use Rattle.open_calls.specs.Owed.{seen_slot, seen_slots, slot_text, slot_t
 
 use std::alloc::AllocError;
 use std::marker::Model;
+use std::mem;
 
 /// A unit whose answer isn't out: of each entry that has an answer its text, once it is given.
 #[derive(Drop)]
@@ -29,7 +30,7 @@ impl Model for Owed {
 }
 
 impl Owed {
-    ghost use Rattle.open_calls.specs.Owed.{IsComplete, seen_slots, lacking, given, unit_text, texts_of};
+    ghost use Rattle.open_calls.specs.Owed.{IsComplete, seen_slot, seen_slots, lacking, given, slot_in, replaced, unit_text, texts_of};
 
     pub fn new(is_batch: bool, slots: Vec<Option<Vec<u8>>>) -> Owed
         ensures { result ≡ record { is_batch = is_batch; slots = seen_slots slots.items } }
@@ -67,13 +68,23 @@ impl Owed {
     pub fn give(&mut self, slot: u64, text: Vec<u8>)
         ensures { self.new ≡ given slot text.items self.old }
     {
+        drop(self.replace(slot, Some(text)));
+    }
+
+    /// Puts a text, or none, into this slot, and answers what stood there.
+    pub fn replace(&mut self, slot: u64, text: Option<Vec<u8>>) -> Option<Vec<u8>>
+        ensures was { seen_slot result ≡ slot_in slot self.old.slots }
+        ensures state { self.new ≡ replaced slot (seen_slot text) self.old }
+    {
         let slot = slot as usize;
         if slot >= self.slots.len() {
-            return;
+            return None;
         }
-        let was_lacking = self.slots[slot].is_none();
-        self.slots[slot] = Some(text);
-        self.lacking -= was_lacking as u64;
+        let lacks = text.is_none();
+        let was = mem::replace(&mut self.slots[slot], text);
+        self.lacking += lacks as u64;
+        self.lacking -= was.is_none() as u64;
+        was
     }
 
     /// Puts the unit's answer behind these bytes.

@@ -1,5 +1,5 @@
 ghost use Rattle.std.specs.Prelude.{◌≡◌, ◌+◌, ◌-◌, ◌<◌, ◌^◌, ◌++◌, ◌∷◌, [], length, OnOk, OnErr, option_copied};
-ghost use Rattle.open_calls.specs.Numbered.{at, without, changed_at, first_number, next_number};
+ghost use Rattle.open_calls.specs.Numbered.{at, without, changed_at, first_number, next_number, Ascending};
 
 use crate::owed::Owed;
 use std::alloc::{AllocError, Global};
@@ -27,7 +27,7 @@ impl Model for OwedAnswers {
 }
 
 impl OwedAnswers {
-    ghost use Rattle.open_calls.specs.Owed.{seen_slots, lacking_in, given, IsCompleteUnit, text_or_none};
+    ghost use Rattle.open_calls.specs.Owed.{seen_slot, seen_slots, lacking_in, given, slot_at, replaced, IsCompleteUnit, text_or_none};
 
     pub fn new(alloc: Global) -> OwedAnswers
         ensures { result ≡ record { places = 0; owed = [] } }
@@ -43,6 +43,14 @@ impl OwedAnswers {
         ensures { result ≡ length self.now.owed }
     {
         self.owed.len() as u64
+    }
+
+    /// How many places there were. No unit that is owed an answer has this place or a greater one.
+    pub fn places(&self) -> u64
+        ensures places { result ≡ self.now.places }
+        ensures owed { without self.now.places self.now.owed ≡ self.now.owed }
+    {
+        self.places
     }
 
     /// The unit at the next place is owed these answers.
@@ -106,11 +114,22 @@ impl OwedAnswers {
           owed = changed_at place (given slot text.items) self.old.owed;
         } }
     {
+        drop(self.replace(place, slot, Some(text)));
+    }
+
+    /// Puts a text, or none, into this slot of the unit at this place, and answers what stood there. Where there is no such
+    /// slot nothing changes. Takes no memory.
+    pub fn replace(&mut self, place: u64, slot: u64, text: Option<Vec<u8>>) -> Option<Vec<u8>>
+        ensures was { seen_slot result ≡ slot_at slot (at place self.old.owed) }
+        ensures state { self.new ≡ record self.old {
+          owed = changed_at place (replaced slot (seen_slot text)) self.old.owed;
+        } }
+    {
         let unit = match self.owed.get_mut(&place) {
             Some(unit) => unit,
-            None => return,
+            None => return None,
         };
-        unit.give(slot, text);
+        unit.replace(slot, text)
     }
 
     /// The unit at this place, where it is owed an answer.
@@ -140,9 +159,10 @@ impl OwedAnswers {
         drop(self.owed.remove(&place));
     }
 
-    /// The least place whose unit is owed an answer.
+    /// The least place whose unit is owed an answer. Places ascend.
     pub fn first(&self) -> Option<u64>
-        ensures { result ≡ first_number self.now.owed }
+        ensures place { result ≡ first_number self.now.owed }
+        ensures ascending { Ascending self.now.owed }
     {
         match self.owed.first_key_value() {
             Some((place, _)) => Some(*place),

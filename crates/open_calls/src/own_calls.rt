@@ -1,5 +1,6 @@
-ghost use Rattle.std.specs.Prelude.{◌≡◌, ℕ, ◌==◌, ◌&&◌, true, false, if◌then◌else◌, ◌+◌, ◌-◌, ◌<◌, ◌≤◌, ◌^◌, ◌++◌, ◌∷◌, [], length, OnOk, OnErr, IfOk, Option, Some, None};
+ghost use Rattle.std.specs.Prelude.{◌≡◌, ℕ, ◌==◌, ◌&&◌, true, false, if◌then◌else◌, ◌+◌, ◌-◌, ◌<◌, ◌≤◌, ◌^◌, ◌++◌, ◌∷◌, [], length, OnOk, OnErr, IfOk, MatchOption, Option, Some, None};
 ghost use Rattle.open_calls.specs.Inner.{has_key};
+ghost use Rattle.open_calls.specs.declared.own_call.OwnCall.{OwnCall};
 ghost use Rattle.open_calls.specs.Numbered.{at, without, up_to, changed_at, next_number};
 
 use crate::keys_by_caller::KeysByCaller;
@@ -7,6 +8,7 @@ use crate::own_call::OwnCall;
 use std::alloc::{AllocError, Global};
 use std::collections::BTreeMap;
 use std::marker::Model;
+use std::mem;
 use std::ops::Bound;
 
 /// Our calls that wait for a reply. They have the keys 1, 2, .. in the order in which they were made.
@@ -171,6 +173,35 @@ impl OwnCalls {
         while let Some(key) = self.by_caller.next(caller, 0) {
             self.remove(key);
         }
+    }
+
+    /// No call waits any more. Those that did come as calls of their own, with the same keys. Takes no memory.
+    pub fn take_waiting(&mut self, alloc: Global) -> OwnCalls
+        ensures calls { result ≡ self.old }
+        ensures state { self.new ≡ record self.old { waiting = [] } }
+    {
+        let none = OwnCalls {
+            made: self.made,
+            waiting: BTreeMap::new(alloc),
+            by_caller: KeysByCaller::new(alloc),
+            wanted: KeysByCaller::new(alloc),
+        };
+        mem::replace(self, none)
+    }
+
+    /// The first call that waits doesn't wait any more. Answers its key.
+    pub fn pop_first(&mut self) -> Option<u64>
+        ensures first { MatchOption result (self.old.waiting ≡ [])
+            (λ key. (call : OwnCall) × (self.old.waiting ≡ (key, call) ∷ self.new.waiting)) }
+        ensures none { result ≡ None → self.new ≡ self.old }
+        ensures made { self.new.made ≡ self.old.made }
+    {
+        let key = match self.waiting.first_key_value() {
+            Some((key, _)) => *key,
+            None => return None,
+        };
+        self.remove(key);
+        Some(key)
     }
 
     /// The least key above `after` of a call of this caller that isn't withdrawn.

@@ -51,9 +51,10 @@ impl TheirCalls {
         self.calls.len() as u64
     }
 
-    /// How many came.
+    /// How many came. No call that is open has a greater number.
     pub fn came(&self) -> u64
-        ensures { result ≡ self.now.came }
+        ensures came { result ≡ self.now.came }
+        ensures numbers { up_to self.now.came self.now.calls ≡ self.now.calls }
     {
         self.came
     }
@@ -151,6 +152,19 @@ impl TheirCalls {
         call.is_cancelled = true;
         self.by_id.remove(id, number);
         Some(number)
+    }
+
+    /// Cancels the first request with this id and at most this number that no cancel has reached, and answers its number.
+    pub fn reach_up_to(&mut self, id: &Id, most: u64) -> Option<u64>
+        ensures number { result ≡ reached id.now (up_to most self.old.calls) }
+        ensures state { self.new ≡ record self.old {
+          calls = cancelled_at (reached id.now (up_to most self.old.calls)) self.old.calls;
+        } }
+    {
+        match self.by_id.least(id) {
+            Some(number) if number <= most => self.reach(id),
+            _ => None,
+        }
     }
 }
 

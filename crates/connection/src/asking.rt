@@ -1,0 +1,120 @@
+//! What the host is told.
+
+ghost use Rattle.std.specs.Prelude.{◌≡◌, ◌++◌, ◌∷◌, [], List, Ok, Some, None, IfOk, IfSome, OnErr, true, false, length};
+ghost use mir.Val.{bool_byte};
+ghost use Rattle.connection_history.specs.Stream.{calls_in, call_in};
+ghost use Rattle.connection.specs.Connections.{calls_of, close_of as close_as};
+ghost use Rattle.connection_history.specs.declared.event.Event.{Event as Told};
+ghost use Rattle.connection_history.specs.History.{History, came, ended, is_over};
+ghost use Rattle.connection_history.specs.Events.{events_of};
+
+use crate::connection::Connection;
+use connection_history::{Close, Event};
+use connection_messages::{Entry, Unit};
+use content_streams::StreamEnd;
+use std::alloc::AllocError;
+
+impl Connection {
+    ghost use Rattle.connection.specs.Connections.{GoesOn, IsStill, StandsAfter, Step, HasGoneOn, HasStepped};
+
+    /// The next event. There is none where all is told that has come. Where it is refused for memory nothing is told, and
+    /// it may be asked for again; contents without events may have come.
+    pub fn next_event(&mut self) -> Result<Option<Event>, AllocError>
+        ensures told { (history : History) (told : List Told) → StandsAfter self.old history told →
+            IfOk result (λ next. IfSome next (λ event. (now : History) × GoesOn self.old told history now ×
+            StandsAfter self.new now (told ++ event ∷ []))) }
+        ensures none { (history : History) (told : List Told) → StandsAfter self.old history told →
+            IfOk result (λ next. next ≡ None → (now : History) × GoesOn self.old told history now ×
+            StandsAfter self.new now told × IsStill self.new now told) }
+        ensures err { (history : History) (told : List Told) → StandsAfter self.old history told →
+            OnErr result (HasGoneOn self.old self.new history told) }
+        ensures settings { self.new.settings ≡ self.old.settings }
+    {
+        loop {
+            if let Some(event) = self.desk.next_event() {
+                return Ok(Some(event));
+            }
+            if !self.go_on()? {
+                return Ok(None);
+            }
+        }
+    }
+
+    /// Reads the next content, or ends the input. Says whether there was either.
+    fn go_on(&mut self) -> Result<bool, AllocError>
+        ensures went { (history : History) (told : List Told) → StandsAfter self.old history told →
+            events_of history ≡ told → result ≡ Ok true → HasStepped self.old self.new history told }
+        ensures still { (history : History) (told : List Told) → StandsAfter self.old history told →
+            events_of history ≡ told → result ≡ Ok false →
+            (self.new ≡ self.old) × IsStill self.old history told }
+        ensures err { OnErr result (self.new ≡ self.old) }
+    {
+        if self.desk.is_over() {
+            return Ok(false);
+        }
+        let Some(frame) = self.stream.front() else {
+            return Ok(self.end_if_closed());
+        };
+        let unit = self.reader.read(frame)?;
+        self.take_in(unit)
+    }
+
+    /// Takes in the unit of the next content, or ends the input where it has too many calls.
+    fn take_in(&mut self, unit: Unit) -> Result<bool, AllocError> {
+        if call_count(&unit) > self.settings.calls().saturating_sub(self.desk.came()) {
+            self.desk.end(Close::Full);
+            return Ok(true);
+        }
+        self.desk.take_in(unit)?;
+        self.stream.pop();
+        Ok(true)
+    }
+
+    /// Ends the input where its stream has ended.
+    fn end_if_closed(&mut self) -> bool {
+        match self.stream.close() {
+            Some(end) => {
+                self.desk.end(close_of(end));
+                true
+            }
+            None => false,
+        }
+    }
+}
+
+fn close_of(end: StreamEnd) -> Close
+    ensures { result ≡ close_as end }
+{
+    match end {
+        StreamEnd::Clean => Close::Clean,
+        StreamEnd::Fault(fault) => Close::Fault(fault),
+        StreamEnd::ReadFailed => Close::ReadFailed,
+    }
+}
+
+/// How many calls a unit has.
+fn call_count(unit: &Unit) -> u64
+    ensures { result ≡ calls_of unit.now }
+{
+    match unit {
+        Unit::Unreadable => 0,
+        Unit::Single(entry) => is_call(entry) as u64,
+        Unit::Batch(entries) => count_calls(entries.as_slice()),
+    }
+}
+
+fn count_calls(entries: &[Entry]) -> u64
+    ensures { result ≡ length (calls_in entries.now) }
+{
+    let mut count = 0;
+    for entry in entries {
+        count += is_call(entry) as u64;
+    }
+    count
+}
+
+fn is_call(entry: &Entry) -> bool
+    ensures { bool_byte result ≡ length (call_in entry.now) }
+{
+    matches!(entry, Entry::Call(_))
+}

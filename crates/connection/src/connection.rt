@@ -1,0 +1,46 @@
+ghost use Rattle.std.specs.Prelude.{◌≡◌, [], ◌+◌};
+
+use crate::settings::Settings;
+use connection_desk::Desk;
+use connection_messages::UnitReader;
+use content_streams::ContentStream;
+use std::alloc::Global;
+use std::marker::Model;
+
+/// One end of a JSON-RPC conversation.
+#[derive(Drop)]
+pub struct Connection {
+    pub(crate) settings: Settings,
+    pub(crate) stream: ContentStream,
+    pub(crate) reader: UnitReader,
+    pub(crate) desk: Desk,
+}
+
+impl Model for Connection {
+    ghost use Rattle.std.specs.Prelude.{◌≡◌};
+    ghost use Rattle.connection.specs.Connections.{Connection as Seen};
+
+    ghost Value = { Seen };
+
+    ghost view = { λ c. record { settings = c.settings; stream = c.stream; desk = c.desk } };
+
+    ghost invariant = { λ c. c.reader ≡ c.settings.takes_cancels };
+}
+
+impl Connection {
+    ghost use Rattle.connection.specs.Connections.{StandsAfter};
+
+    /// A connection where nothing has happened. Takes no memory.
+    pub fn new(alloc: Global, settings: Settings) -> Connection
+        ensures settings { result.settings ≡ settings }
+        ensures stands { StandsAfter result [] [] }
+    {
+        let cancels = settings.takes_cancels();
+        Connection {
+            stream: ContentStream::new(alloc, settings.framing(), settings.content()),
+            reader: UnitReader::new(alloc, cancels),
+            desk: Desk::new(alloc, settings.framing(), settings.order(), cancels),
+            settings,
+        }
+    }
+}

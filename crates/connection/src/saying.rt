@@ -1,0 +1,103 @@
+//! What the host says.
+
+ghost use Rattle.std.specs.Prelude.{◌≡◌, ◌+◌, ◌∷◌, List, None, IfOk, IfErr, OnOk, OnErr};
+ghost use Rattle.rpc_messages.specs.declared.standard.Standard.TheVariants.{Cancelled};
+ghost use Rattle.connection_messages.specs.declared.answer.Answer.TheVariants.{Standard};
+ghost use Rattle.connection_history.specs.declared.event.Event.{Event};
+ghost use Rattle.connection_history.specs.History.{History, called, called_all, noticed, withdrew, answered, key_count};
+ghost use Rattle.connection_history.specs.Refusals.{refusal, after, cancel_of};
+
+use crate::connection::Connection;
+use connection_history::Refused;
+use connection_messages::{Answer, Outgoing};
+use std::alloc::AllocError;
+
+impl Connection {
+    ghost use Rattle.connection.specs.Connections.{IsRefusal, StandsAfter};
+
+    /// Calls the other side on behalf of the open call with this number, or of the host itself where it is 0, and answers
+    /// the key of the call.
+    pub fn call(&mut self, number: u64, outgoing: &Outgoing) -> Result<u64, Refused>
+        ensures key { (history : History) (told : List Event) →
+            StandsAfter self.old history told → IfOk result (λ key. key ≡ key_count history + 1) }
+        ensures ok { (history : History) (told : List Event) →
+            StandsAfter self.old history told → OnOk result
+            ((refusal self.old.settings.takes_cancels history (called number outgoing.now) ≡ None) ×
+            StandsAfter self.new (called number outgoing.now ∷ history) told) }
+        ensures err { IfErr result (λ why. (self.new ≡ self.old) ×
+            ((history : History) (told : List Event) → StandsAfter self.old history told →
+            IsRefusal why (refusal self.old.settings.takes_cancels history (called number outgoing.now)))) }
+    {
+        self.desk.call(number, outgoing)
+    }
+
+    /// Calls the other side several times, in one array, and answers the key of the first. The other keys follow it.
+    pub fn call_batch(&mut self, number: u64, outgoings: &[Outgoing]) -> Result<u64, Refused>
+        ensures key { (history : History) (told : List Event) →
+            StandsAfter self.old history told → IfOk result (λ key. key ≡ key_count history + 1) }
+        ensures ok { (history : History) (told : List Event) →
+            StandsAfter self.old history told → OnOk result
+            ((refusal self.old.settings.takes_cancels history (called_all number outgoings.now) ≡ None) ×
+            StandsAfter self.new (called_all number outgoings.now ∷ history) told) }
+        ensures err { IfErr result (λ why. (self.new ≡ self.old) ×
+            ((history : History) (told : List Event) → StandsAfter self.old history told →
+            IsRefusal why (refusal self.old.settings.takes_cancels history (called_all number outgoings.now)))) }
+    {
+        self.desk.call_batch(number, outgoings)
+    }
+
+    /// Notifies the other side.
+    pub fn notify(&mut self, outgoing: &Outgoing) -> Result<(), AllocError>
+        ensures ok { (history : History) (told : List Event) →
+            StandsAfter self.old history told → OnOk result (StandsAfter self.new (noticed outgoing.now ∷ history) told) }
+        ensures err { OnErr result (self.new ≡ self.old) }
+    {
+        self.desk.notify(outgoing)
+    }
+
+    /// Withdraws our call with this key. It still waits for its reply.
+    pub fn withdraw(&mut self, key: u64) -> Result<(), Refused>
+        ensures ok { (history : History) (told : List Event) →
+            StandsAfter self.old history told → OnOk result
+            ((refusal self.old.settings.takes_cancels history (withdrew key) ≡ None) ×
+            StandsAfter self.new (withdrew key ∷ history) told) }
+        ensures err { IfErr result (λ why. (self.new ≡ self.old) ×
+            ((history : History) (told : List Event) → StandsAfter self.old history told →
+            IsRefusal why (refusal self.old.settings.takes_cancels history (withdrew key)))) }
+    {
+        self.desk.withdraw(key)
+    }
+
+    /// Answers the open call with this number. For a notification it says that the host is done with it, and nothing is
+    /// written.
+    pub fn answer(&mut self, number: u64, answer: &Answer) -> Result<(), Refused>
+        ensures ok { (history : History) (told : List Event) →
+            StandsAfter self.old history told → OnOk result
+            ((refusal self.old.settings.takes_cancels history (answered number answer.now) ≡ None) ×
+            StandsAfter self.new (answered number answer.now ∷ history) told) }
+        ensures err { IfErr result (λ why. (self.new ≡ self.old) ×
+            ((history : History) (told : List Event) → StandsAfter self.old history told →
+            IsRefusal why (refusal self.old.settings.takes_cancels history (answered number answer.now)))) }
+    {
+        self.desk.answer(number, answer)
+    }
+
+    /// Withdraws the calls of the open call with this number that wait, and answers it with the error `Request cancelled`;
+    /// all or nothing.
+    pub fn cancel(&mut self, number: u64) -> Result<(), Refused>
+        ensures ok { (history : History) (told : List Event) →
+            StandsAfter self.old history told → OnOk result
+            ((refusal self.old.settings.takes_cancels history (answered number (Standard Cancelled)) ≡ None) ×
+            StandsAfter self.new (after history (cancel_of self.old.settings.takes_cancels number history)) told) }
+        ensures err { IfErr result (λ why. (self.new ≡ self.old) ×
+            ((history : History) (told : List Event) → StandsAfter self.old history told →
+            IsRefusal why (refusal self.old.settings.takes_cancels history (answered number (Standard Cancelled))))) }
+    {
+        self.desk.cancel(number)
+    }
+
+    /// Whether this call is a request, and so has an answer. There is none where it isn't open.
+    pub fn is_request(&self, number: u64) -> Option<bool> {
+        self.desk.is_request(number)
+    }
+}

@@ -1,0 +1,111 @@
+ghost use Rattle.std.specs.Prelude.{◌≡◌, ◌≤◌, ◌&&◌, nat_le, Some, None, if◌then◌else◌};
+ghost use Rattle.connection.specs.Settings.{are_possible};
+
+use connection_history::Order;
+use content_streams::Framing;
+use lsp_frames::LARGEST_CONTENT;
+use std::marker::Model;
+
+/// A content has at most so many bytes, whatever the settings.
+pub const MOST_CONTENT: u32 = LARGEST_CONTENT;
+
+/// How a connection reads and writes.
+#[derive(Clone, Copy)]
+pub struct Settings {
+    framing: Framing,
+    order: Order,
+    takes_cancels: bool,
+    content: u32,
+    calls: u64,
+}
+
+impl Model for Settings {
+    ghost use Rattle.connection.specs.Settings.{Chosen, are_possible};
+    ghost use Rattle.std.specs.Prelude.{◌≡◌, true};
+
+    ghost Value = { Chosen };
+
+    ghost view = { λ s. record {
+      framing = s.framing;
+      order = s.order;
+      takes_cancels = s.takes_cancels;
+      content = s.content;
+      calls = s.calls;
+    } };
+
+    ghost invariant = { λ s. are_possible s.content s.calls ≡ true };
+
+    ghost inverse = { λ c. record {
+      framing = c.framing;
+      order = c.order;
+      takes_cancels = c.takes_cancels;
+      content = c.content;
+      calls = c.calls;
+    } };
+}
+
+impl Settings {
+    /// These settings: how contents follow one another, when a unit's answer goes out, whether the protocol has
+    /// `$/cancelRequest`, how many bytes a content may have (1 to 16,777,216), and how many calls may come (1 or more).
+    /// There are none where a number is outside of its range.
+    pub fn new(
+        framing: Framing,
+        order: Order,
+        takes_cancels: bool,
+        content: u32,
+        calls: u64,
+    ) -> Option<Settings>
+        ensures { result ≡ (if are_possible content calls then Some (record {
+          framing = framing;
+          order = order;
+          takes_cancels = takes_cancels;
+          content = content;
+          calls = calls;
+        }) else None) }
+    {
+        if content == 0 || content > MOST_CONTENT || calls == 0 {
+            return None;
+        }
+        Some(Settings {
+            framing,
+            order,
+            takes_cancels,
+            content,
+            calls,
+        })
+    }
+
+    pub fn framing(&self) -> Framing
+        ensures { result ≡ self.now.framing }
+    {
+        self.framing
+    }
+
+    pub fn order(&self) -> Order
+        ensures { result ≡ self.now.order }
+    {
+        self.order
+    }
+
+    pub fn takes_cancels(&self) -> bool
+        ensures { result ≡ self.now.takes_cancels }
+    {
+        self.takes_cancels
+    }
+
+    /// How many bytes a content may have.
+    pub fn content(&self) -> u32
+        ensures content { result ≡ self.now.content }
+        ensures some { 1 ≤ result }
+        ensures most { result ≤ MOST_CONTENT }
+    {
+        self.content
+    }
+
+    /// How many calls may come.
+    pub fn calls(&self) -> u64
+        ensures { result ≡ self.now.calls }
+    {
+        self.calls
+    }
+}

@@ -1,0 +1,174 @@
+//! The host that a script drives.
+use super::action::{Action, Spoken, Wanted};
+use super::event_line::{put_event, put_report};
+use super::line::Line;
+use super::refusal::Refusal;
+use super::saying::{answer_of, error_of, outgoing_of, outgoings_of};
+use connection::{Connection, Event, Refused, Settings};
+use json_texts::TextReader;
+use std::alloc::Global;
+
+/// A connection, and what its host needs to do an action.
+#[derive(Drop)]
+pub struct Player {
+    alloc: Global,
+    connection: Connection,
+    texts: TextReader,
+    /// What was told, where there was no memory for its line.
+    told: Option<Event>,
+}
+
+impl Player {
+    /// A player of a new connection. There is none where a number of the settings is out of its range.
+    pub fn begin(alloc: Global, wanted: &Wanted) -> Option<Player> {
+        let settings = Settings::new(
+            wanted.framing,
+            wanted.order,
+            wanted.takes_cancels,
+            u32::try_from(wanted.content).ok()?,
+            wanted.calls,
+        )?;
+        Some(Player {
+            alloc,
+            connection: Connection::new(alloc, settings),
+            texts: TextReader::new(alloc),
+            told: None,
+        })
+    }
+
+    /// Does an action, and puts what it gives into the line. Where it is refused, nothing has changed, and the line may hold anything.
+    pub fn play(&mut self, action: &Action, line: &mut Line) -> Result<(), Refusal> {
+        match action {
+            Action::Settings(_) => Err(Refusal::Settings),
+            Action::Feed(piece) => done(self.connection.feed(piece.as_slice()), line),
+            Action::End(how) => done(self.connection.end(*how), line),
+            Action::Next => self.next(line),
+            Action::Call { number, spoken } => self.call(*number, spoken, line),
+            Action::Batch { number, spoken } => self.call_batch(*number, spoken.as_slice(), line),
+            Action::Notify(spoken) => self.notify(spoken, line),
+            Action::Withdraw { key } => done(self.connection.withdraw(*key), line),
+            Action::Answer { number, result } => self.answer(*number, result, line),
+            Action::Fail {
+                number,
+                code,
+                message,
+                data,
+            } => self.fail(*number, *code, message.as_slice(), data, line),
+            Action::Cancel { number } => done(self.connection.cancel(*number), line),
+            Action::Take { room } => self.take(*room, line),
+            Action::Pending => self.pending(line),
+            Action::IsDone => self.is_done(line),
+            Action::Report => Ok(put_report(line, &self.connection.report())?),
+        }
+    }
+
+    fn next(&mut self, line: &mut Line) -> Result<(), Refusal> {
+        if self.told.is_none() {
+            self.told = self.connection.next_event()?;
+        }
+        match &self.told {
+            Some(event) => put_event(self.alloc, line, event)?,
+            None => line.put("none")?,
+        }
+        self.told = None;
+        Ok(())
+    }
+
+    fn call(&mut self, number: u64, spoken: &Spoken, line: &mut Line) -> Result<(), Refusal> {
+        self.must_speak(number)?;
+        let outgoing = outgoing_of(self.alloc, &mut self.texts, spoken)?;
+        key_of(self.connection.call(number, &outgoing), line)
+    }
+
+    fn call_batch(
+        &mut self,
+        number: u64,
+        spoken: &[Spoken],
+        line: &mut Line,
+    ) -> Result<(), Refusal> {
+        self.must_speak(number)?;
+        let outgoings = outgoings_of(self.alloc, &mut self.texts, spoken)?;
+        key_of(
+            self.connection.call_batch(number, outgoings.as_slice()),
+            line,
+        )
+    }
+
+    fn notify(&mut self, spoken: &Spoken, line: &mut Line) -> Result<(), Refusal> {
+        let outgoing = outgoing_of(self.alloc, &mut self.texts, spoken)?;
+        self.connection.notify(&outgoing)?;
+        Ok(line.put("ok")?)
+    }
+
+    fn answer(
+        &mut self,
+        number: u64,
+        given: &Option<Vec<u8>>,
+        line: &mut Line,
+    ) -> Result<(), Refusal> {
+        let is_request = self.must_be_open(number)?;
+        let answer = answer_of(&mut self.texts, is_request, given)?;
+        done(self.connection.answer(number, &answer), line)
+    }
+
+    fn fail(
+        &mut self,
+        number: u64,
+        code: i64,
+        message: &[u8],
+        data: &Option<Vec<u8>>,
+        line: &mut Line,
+    ) -> Result<(), Refusal> {
+        self.must_be_open(number)?;
+        let answer = error_of(self.alloc, &mut self.texts, code, message, data)?;
+        done(self.connection.answer(number, &answer), line)
+    }
+
+    /// Takes as many bytes as there is room for, or fewer where fewer are there. The line has its room before.
+    fn take(&mut self, room: u64, line: &mut Line) -> Result<(), Refusal> {
+        let most = self.connection.pending();
+        let size = usize::try_from(room).unwrap_or(most).min(most);
+        let mut bytes = Vec::with_capacity(self.alloc, size)?;
+        bytes.resize(size, 0u8)?;
+        line.reserve(size)?;
+        let count = self.connection.take(bytes.as_mut_slice());
+        bytes.truncate(count);
+        line.put("bytes")?;
+        Ok(line.put_bytes(bytes.as_slice())?)
+    }
+
+    fn pending(&self, line: &mut Line) -> Result<(), Refusal> {
+        line.put("pending")?;
+        Ok(line.put_number(self.connection.pending())?)
+    }
+
+    fn is_done(&self, line: &mut Line) -> Result<(), Refusal> {
+        let is_done = self.connection.is_done();
+        Ok(line.put(if is_done { "true" } else { "false" })?)
+    }
+
+    /// The call with this number is open. Says whether it is a request.
+    fn must_be_open(&self, number: u64) -> Result<bool, Refusal> {
+        let is_request = self.connection.is_request(number);
+        is_request.ok_or(Refusal::Connection(Refused::NotOpen))
+    }
+
+    /// The call with this number is open, or it is 0, on whose behalf the host may always call.
+    fn must_speak(&self, number: u64) -> Result<(), Refusal> {
+        if number != 0 {
+            self.must_be_open(number)?;
+        }
+        Ok(())
+    }
+}
+
+fn done(outcome: Result<(), Refused>, line: &mut Line) -> Result<(), Refusal> {
+    outcome?;
+    Ok(line.put("ok")?)
+}
+
+fn key_of(outcome: Result<u64, Refused>, line: &mut Line) -> Result<(), Refusal> {
+    let key = outcome?;
+    line.put("key")?;
+    Ok(line.put_number(key)?)
+}

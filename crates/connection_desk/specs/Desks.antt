@@ -1,0 +1,147 @@
+-- A desk: what stands open, what isn't told yet, and what was written.
+use Rattle.std.specs.Prelude.{ℕ, ◌+◌, ◌≡◌, ◌⊎◌, ◌==◌, ◌&&◌, ◌||◌, not, nat_lt, List, [], ◌∷◌, ◌++◌, Bool, true, false, map, length, Option, Some, None, is_some, if◌then◌else◌}
+use Rattle.std.specs.Option.{option_map_or}
+use Rattle.rpc_messages.specs.declared.standard.Standard.TheVariants.{Cancelled}
+use Rattle.connection_messages.specs.Texts.{call_text, calls_text, notice_text, withdrawal_text}
+use Rattle.connection_messages.specs.declared.answer.Answer.{Answer}
+use Rattle.connection_messages.specs.declared.answer.Answer.TheVariants.{Standard}
+use Rattle.connection_messages.specs.declared.outgoing.Outgoing.{Outgoing}
+use Rattle.connection_messages.specs.declared.unit.Unit.{Unit}
+use Rattle.connection_history.specs.declared.close.Close.{Close}
+use Rattle.connection_history.specs.declared.event.Event.{Event}
+use Rattle.connection_history.specs.declared.order.Order.{Order}
+use Rattle.connection_history.specs.declared.refused.Refused.{Refused}
+use Rattle.connection_history.specs.declared.refused.Refused.TheVariants.{Memory, NotOpen, NotWaiting, Over, Empty, Full}
+use Rattle.connection_history.specs.Refusals.{first_of, most_keys}
+use Rattle.connection_history.specs.Stream.{entries_in}
+use Rattle.connection_history.specs.Items.{text_of}
+use Rattle.open_calls.specs.declared.own_call.OwnCall.{OwnCall}
+use Rattle.open_calls.specs.Numbered.{at, changed_at}
+use Rattle.open_calls.specs.Own.{is_wanted_by}
+use Rattle.open_calls.specs.Owed.{OwedUnit, given}
+use Rattle.outbox.specs.Output.{Output, IsAllTaken}
+use Rattle.connection_states.specs.States.{State}
+use Rattle.connection_states.specs.Steps.{after_came, after_called, after_withdrew, after_answered, after_ended, answers_of, leaving, staying, owed_with, owed_given, told_of_all, told_at_end}
+use Rattle.std.specs.Prelude.{filter}
+
+pub record Desk : Type 0 where
+  -- whether cancels are told apart from calls, and calls can be withdrawn
+  pub cancels : Bool
+  pub order : Order
+  pub state : State
+  -- what the host hasn't been told yet, in its order
+  pub untold : List Event
+  pub out : Output
+
+-- Nothing is left to do.
+pub record IsDone (d : Desk) : Type 0 where
+  pub over : d.state.is_over ≡ true
+  pub told : d.untold ≡ []
+  pub answered : d.state.theirs.calls ≡ []
+  pub taken : IsAllTaken d.out
+
+-- ---- what is written
+
+abbrev pub with_texts : List (List ℕ) → Output → Output
+with_texts texts o = record { framing = o.framing; written = o.written ++ texts; taken = o.taken }
+
+-- the texts of the answers of these units
+abbrev pub answer_texts : List (ℕ × OwedUnit) → List (List ℕ)
+answer_texts owed = map text_of (answers_of owed)
+
+-- ---- what is refused
+
+-- number 0, the host itself, is always open
+abbrev pub has_call : ℕ → State → Bool
+has_call n s = (n == 0) || is_some (at n s.theirs.calls)
+
+-- a call of ours, or so many
+abbrev pub call_refused : ℕ → ℕ → State → Option Refused
+call_refused n count s =
+    first_of ((not (has_call n s), NotOpen) ∷ (s.is_over, Over) ∷ (count == 0, Empty) ∷ (nat_lt most_keys (s.own.made + count), Full) ∷ [])
+
+abbrev pub isnt_withdrawn : OwnCall → Bool
+isnt_withdrawn call = not call.is_withdrawn
+
+abbrev pub can_withdraw : Bool → ℕ → State → Bool
+can_withdraw cancels k s = cancels && option_map_or isnt_withdrawn (at k s.own.waiting) false
+
+abbrev pub withdraw_refused : Bool → ℕ → State → Option Refused
+withdraw_refused cancels k s = first_of ((not (can_withdraw cancels k s), NotWaiting) ∷ [])
+
+abbrev pub answer_refused : ℕ → State → Option Refused
+answer_refused n s = first_of ((not (is_some (at n s.theirs.calls)), NotOpen) ∷ [])
+
+-- A refusal is for memory, or this one.
+abbrev pub IsRefusal : Refused → Option Refused → Type 0
+IsRefusal why refusal = (why ≡ Memory) ⊎ (refusal ≡ Some why)
+
+-- ---- what happens
+
+abbrev pub after_unit : Unit → Desk → Desk
+after_unit u d = record {
+  cancels = d.cancels;
+  order = d.order;
+  state = after_came d.order u d.state;
+  untold = d.untold ++ told_of_all d.state.own d.state.theirs (entries_in u);
+  out = with_texts (answer_texts (leaving d.order (owed_with u d.state.owed))) d.out;
+}
+
+abbrev pub after_end : Close → Desk → Desk
+after_end close d = record {
+  cancels = d.cancels;
+  order = d.order;
+  state = after_ended d.state;
+  untold = d.untold ++ told_at_end close d.state.own;
+  out = d.out;
+}
+
+-- these texts are said, and so many calls of ours are made on behalf of n
+abbrev pub after_saying : List (List ℕ) → Desk → Desk
+after_saying texts d = record d { out = with_texts texts d.out }
+
+abbrev pub after_call : ℕ → Outgoing → Desk → Desk
+after_call n o d = after_saying (call_text (d.state.own.made + 1) o ∷ []) (record d { state = after_called n 1 d.state })
+
+abbrev pub after_calls : ℕ → List Outgoing → Desk → Desk
+after_calls n os d = after_saying (calls_text (d.state.own.made + 1) os ∷ []) (record d { state = after_called n (length os) d.state })
+
+abbrev pub after_notice : Outgoing → Desk → Desk
+after_notice o d = after_saying (notice_text o ∷ []) d
+
+abbrev pub after_withdrawal : ℕ → Desk → Desk
+after_withdrawal k d = after_saying (withdrawal_text k ∷ []) (record d { state = after_withdrew k d.state })
+
+abbrev pub after_answer : ℕ → Answer → Desk → Desk
+after_answer n a d = record {
+  cancels = d.cancels;
+  order = d.order;
+  state = after_answered d.order n a d.state;
+  untold = d.untold;
+  out = with_texts (answer_texts (leaving d.order (owed_given (at n d.state.theirs.calls) a d.state.owed.owed))) d.out;
+}
+
+-- a slot of an answer is given its text
+abbrev pub after_given : ℕ → ℕ → List ℕ → Desk → Desk
+after_given place slot text d = record {
+  cancels = d.cancels;
+  order = d.order;
+  state = record d.state { owed = record d.state.owed { owed = staying d.order (changed_at place (given slot text) d.state.owed.owed) } };
+  untold = d.untold;
+  out = with_texts (answer_texts (leaving d.order (changed_at place (given slot text) d.state.owed.owed))) d.out;
+}
+
+-- Some texts were said since, and nothing else happened.
+pub record HasWithdrawn (before now : Desk) : Type 0 where
+  pub texts : List (List ℕ)
+  pub is : now ≡ after_saying texts before
+
+-- the keys of the calls of n that aren't withdrawn
+abbrev pub wanted_keys : ℕ → State → List ℕ
+wanted_keys n s = map (λ e. e.0) (filter (λ e. is_wanted_by n e.1) s.own.waiting)
+
+-- with cancels the calls of n are withdrawn; then n is answered
+abbrev pub after_cancel : ℕ → Desk → Desk
+after_cancel n d =
+    after_answer n (Standard Cancelled)
+    (after_saying (if d.cancels then map withdrawal_text (wanted_keys n d.state) else []) d)

@@ -1,0 +1,196 @@
+ghost use Rattle.std.specs.Prelude.{◌≡◌, ◌++◌, ◌∷◌, [], ℕ, Bool, true, false, length, not, None, Some, is_some, option_to_list, option_map, OnOk, OnErr};
+
+use crate::events::Events;
+use crate::tally::Tally;
+use connection_history::{Event, Order};
+use content_streams::Framing;
+use open_calls::{OwedAnswers, OwnCalls, TheirCalls};
+use outbox::Outbox;
+use std::alloc::{AllocError, Global};
+use std::marker::Model;
+use std::mem;
+
+/// The room of a text that was written is kept for the next, where it is at most this large.
+const KEPT_ROOM: usize = 65_536;
+
+/// What stands open between a connection and its host, what the host hasn't been told yet, and what it hasn't taken yet.
+#[derive(Drop)]
+pub struct Desk {
+    pub(crate) alloc: Global,
+    pub(crate) cancels: bool,
+    pub(crate) order: Order,
+    pub(crate) own: OwnCalls,
+    pub(crate) theirs: TheirCalls,
+    pub(crate) owed: OwedAnswers,
+    pub(crate) is_over: bool,
+    pub(crate) events: Events,
+    pub(crate) outbox: Outbox,
+    pub(crate) tally: Tally,
+    /// Room for the next text.
+    pub(crate) room: Vec<u8>,
+}
+
+impl Model for Desk {
+    ghost use Rattle.connection_desk.specs.Desks.{Desk as State};
+    ghost use Rattle.connection_desk.specs.Inner.{IsDesk, untold_of};
+
+    ghost Value = { State };
+
+    ghost view = { λ d. record {
+      cancels = d.cancels;
+      order = d.order;
+      state = record { own = d.own; theirs = d.theirs; owed = d.owed; is_over = d.is_over };
+      untold = untold_of d.events;
+      out = d.outbox;
+    } };
+
+    ghost invariant = { λ d. IsDesk d.order d.owed.owed d.is_over d.events };
+}
+
+impl Desk {
+    ghost use Rattle.connection_states.specs.Initial.{initial};
+    ghost use Rattle.connection_desk.specs.Desks.{after_saying, IsDone};
+    ghost use Rattle.open_calls.specs.Numbered.{at};
+    ghost use Rattle.outbox.specs.Output.{after_take, given_of, next_of, IsAllTaken};
+    ghost use Rattle.std.specs.Prelude.{drop, IsTrue, ◌↔◌};
+
+    /// A desk where nothing has happened. With `cancels`, calls can be withdrawn. Takes no memory.
+    pub fn new(alloc: Global, framing: Framing, order: Order, cancels: bool) -> Desk
+        ensures { result ≡ record {
+          cancels = cancels;
+          order = order;
+          state = initial;
+          untold = [];
+          out = record { framing = framing; written = []; taken = 0 };
+        } }
+    {
+        Desk {
+            alloc,
+            cancels,
+            order,
+            own: OwnCalls::new(alloc),
+            theirs: TheirCalls::new(alloc),
+            owed: OwedAnswers::new(alloc),
+            is_over: false,
+            events: Events::new(alloc),
+            outbox: Outbox::new(alloc, framing),
+            tally: Tally::NONE,
+            room: Vec::new(alloc),
+        }
+    }
+
+    /// Whether the input is over.
+    pub fn is_over(&self) -> bool
+        ensures { result ≡ self.now.state.is_over }
+    {
+        self.is_over
+    }
+
+    /// How many calls have come.
+    pub fn came(&self) -> u64
+        ensures { result ≡ self.now.state.theirs.came }
+    {
+        self.theirs.came()
+    }
+
+    /// How many calls of the other side are open.
+    pub fn open(&self) -> u64
+        ensures { result ≡ length self.now.state.theirs.calls }
+    {
+        self.theirs.len()
+    }
+
+    /// How many calls of ours wait for a reply.
+    pub fn waiting(&self) -> u64
+        ensures { result ≡ length self.now.state.own.waiting }
+    {
+        self.own.len()
+    }
+
+    /// How many calls of ours were made.
+    pub fn made(&self) -> u64
+        ensures { result ≡ self.now.state.own.made }
+    {
+        self.own.made()
+    }
+
+    /// How often some things have happened.
+    pub fn tally(&self) -> Tally {
+        self.tally
+    }
+
+    /// Whether this call is a request. There is none where it isn't open.
+    pub fn is_request(&self, number: u64) -> Option<bool>
+        ensures { result ≡ option_map (λ call. is_some call.id) (at number self.now.state.theirs.calls) }
+    {
+        match self.theirs.get(number) {
+            Some(call) => Some(call.id.is_some()),
+            None => None,
+        }
+    }
+
+    /// The next event that the host hasn't been told.
+    pub fn next_event(&mut self) -> Option<Event>
+        ensures told { self.old ≡ record self.new {
+          untold = option_to_list result ++ self.new.untold;
+        } }
+        ensures none { result ≡ None → self.new.untold ≡ [] }
+    {
+        self.events.next()
+    }
+
+    /// How many bytes are to be taken; in Contents the length of the next text.
+    pub fn pending(&self) -> usize
+        ensures { result ≡ length (next_of self.now.out) }
+    {
+        self.outbox.pending()
+    }
+
+    /// Takes the next bytes, as many as there is room for; in Contents the next text, or nothing where it doesn't fit.
+    pub fn take(&mut self, room: &mut [u8]) -> usize
+        ensures count { result ≡ length (given_of self.old.out (length room.old)) }
+        ensures room { room.new ≡
+            given_of self.old.out (length room.old) ++ drop result room.old }
+        ensures state { self.new ≡ record self.old {
+          out = after_take (length room.old) self.old.out;
+        } }
+    {
+        self.outbox.take(room)
+    }
+
+    /// Whether the input is over, all is told and taken, and no call is open.
+    pub fn is_done(&self) -> bool
+        ensures { IsTrue result ↔ IsDone self.now }
+    {
+        self.is_over && self.events.is_empty() && self.theirs.len() == 0 && self.outbox.is_empty()
+    }
+
+    /// Room for a text, without bytes.
+    pub(crate) fn take_room(&mut self) -> Vec<u8>
+        ensures room { result.items ≡ [] }
+        ensures state { self.new ≡ self.old }
+    {
+        let mut room = mem::replace(&mut self.room, Vec::new(self.alloc));
+        room.clear();
+        room
+    }
+
+    /// Keeps the room of a text for the next.
+    pub(crate) fn keep_room(&mut self, room: Vec<u8>)
+        ensures { self.new ≡ self.old }
+    {
+        if room.capacity() <= KEPT_ROOM {
+            self.room = room;
+        }
+    }
+
+    /// Writes a text.
+    pub(crate) fn write(&mut self, text: Vec<u8>) -> Result<(), AllocError>
+        ensures ok { OnOk result (self.new ≡ after_saying (text.items ∷ []) self.old) }
+        ensures err { OnErr result (self.new ≡ self.old) }
+    {
+        self.outbox.put(text.as_slice())?;
+        self.keep_room(text);
+        Ok(())
+    }
+}

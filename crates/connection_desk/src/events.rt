@@ -1,0 +1,92 @@
+ghost use Rattle.std.specs.Prelude.{◌≡◌, ◌≤◌, ◌<◌, ◌+◌, ◌++◌, ◌∷◌, [], Option, Some, None, option_to_list, OnOk, IsTrue, ◌↔◌};
+ghost use Rattle.connection_history.specs.declared.event.Event.TheVariants.{Over as over_told};
+ghost use Rattle.connection_desk.specs.Inner.{untold_of, room_of, unanswered_events, IsOpenEnded};
+
+use connection_history::{Close, Event};
+use open_calls::OwnCalls;
+use std::alloc::{AllocError, Global};
+use std::collections::VecDeque;
+
+/// What the host hasn't been told yet. The calls that wait when the input ends aren't turned into events before they are told.
+#[derive(Drop)]
+pub struct Events {
+    pub(crate) items: VecDeque<Event>,
+    /// The calls that waited when the input ended.
+    pub(crate) unanswered: OwnCalls,
+    /// How the input ended, until it is told.
+    pub(crate) over: Option<Close>,
+}
+
+impl Events {
+    pub fn new(alloc: Global) -> Events
+        ensures untold { untold_of result ≡ [] }
+        ensures open { IsOpenEnded result }
+    {
+        Events {
+            items: VecDeque::new(alloc),
+            unanswered: OwnCalls::new(alloc),
+            over: None,
+        }
+    }
+
+    pub fn is_empty(&self) -> bool
+        ensures { IsTrue result ↔ (untold_of self.now ≡ []) }
+    {
+        if self.items.front().is_some() {
+            return false;
+        }
+        if self.unanswered.len() > 0 {
+            return false;
+        }
+        self.over.is_none()
+    }
+
+    /// Makes room for so many more events.
+    pub fn reserve(&mut self, count: usize) -> Result<(), AllocError>
+        ensures untold { untold_of self.new ≡ untold_of self.old }
+        ensures open { IsOpenEnded self.old → IsOpenEnded self.new }
+        ensures room { OnOk result (count ≤ room_of self.new) }
+    {
+        self.items.reserve(count)
+    }
+
+    /// Puts an event behind the others. There is room for it.
+    pub fn push(&mut self, event: Event)
+        requires room { 0 < room_of self.old }
+        requires open { IsOpenEnded self.old }
+        ensures untold { untold_of self.new ≡ untold_of self.old ++ event ∷ [] }
+        ensures open { IsOpenEnded self.new }
+        ensures room { room_of self.new + 1 ≡ room_of self.old }
+    {
+        let put = self.items.push_back(event);
+        drop(put);
+    }
+
+    /// The input is over: what waited is told, and then how it ended.
+    pub fn end(&mut self, unanswered: OwnCalls, close: Close)
+        requires { IsOpenEnded self.old }
+        ensures { untold_of self.new ≡
+            untold_of self.old ++ unanswered_events unanswered ++ over_told close ∷ [] }
+    {
+        self.unanswered = unanswered;
+        self.over = Some(close);
+    }
+
+    /// The next event.
+    pub fn next(&mut self) -> Option<Event>
+        ensures untold { untold_of self.old ≡ option_to_list result ++ untold_of self.new }
+        ensures none { result ≡ None → untold_of self.new ≡ [] }
+        ensures open { IsOpenEnded self.old → IsOpenEnded self.new }
+    {
+        if let Some(event) = self.items.pop_front() {
+            return Some(event);
+        }
+        if let Some(key) = self.unanswered.pop_first() {
+            return Some(Event::Unanswered { key });
+        }
+        match self.over.take() {
+            Some(close) => Some(Event::Over(close)),
+            None => None,
+        }
+    }
+}

@@ -1,0 +1,146 @@
+//! The answers that can go out, and those that stay.
+
+ghost use Rattle.std.specs.Prelude.{◌≡◌, ◌++◌, ◌∷◌, [], ℕ, List, OnOk, OnErr, if◌then◌else◌};
+ghost use Rattle.connection_states.specs.Steps.{complete_front, incomplete_rest, leaving, staying};
+ghost use Rattle.connection_desk.specs.Desks.{answer_texts, with_texts};
+ghost use Rattle.connection_desk.specs.Inner.{HaveSlots, OnlyAt, complete_at, complete_text_at};
+ghost use Rattle.outbox.specs.Output.{OnlyPutSince};
+ghost use Rattle.open_calls.specs.Numbered.{without};
+
+use crate::tally::Tally;
+use connection_history::Order;
+use open_calls::OwedAnswers;
+use outbox::Outbox;
+use std::alloc::AllocError;
+
+/// Writes the answers that can go out, where the one at this place may have become complete.
+pub(crate) fn write_leaving(
+    order: Order,
+    owed: &OwedAnswers,
+    place: u64,
+    outbox: &mut Outbox,
+    room: &mut Vec<u8>,
+) -> Result<(), AllocError>
+    requires slots { HaveSlots owed.now.owed }
+    requires only { OnlyAt order place owed.now.owed }
+    ensures ok { OnOk result (outbox.new ≡
+        with_texts (answer_texts (leaving order owed.now.owed)) outbox.old) }
+    ensures err { OnErr result (outbox.new ≡ outbox.old) }
+{
+    match order {
+        Order::AsAnswered => {
+            let _first = owed.first();
+            write_complete(owed, place, outbox, room)
+        }
+        Order::AsCame => write_front(owed, outbox, room),
+    }
+}
+
+/// Whether the unit at this place has all of its answers.
+fn is_complete(owed: &OwedAnswers, place: u64) -> bool
+    ensures { result ≡ complete_at place owed.now.owed }
+{
+    match owed.get(place) {
+        Some(unit) => unit.lacking() == 0,
+        None => false,
+    }
+}
+
+/// Writes the answer of the unit at this place, where it is complete.
+fn write_complete(
+    owed: &OwedAnswers,
+    place: u64,
+    outbox: &mut Outbox,
+    room: &mut Vec<u8>,
+) -> Result<(), AllocError>
+    requires slots { HaveSlots owed.now.owed }
+    ensures ok { OnOk result (outbox.new ≡
+        with_texts (complete_text_at place owed.now.owed) outbox.old) }
+    ensures err { OnErr result (outbox.new ≡ outbox.old) }
+{
+    if !is_complete(owed, place) {
+        return Ok(());
+    }
+    room.clear();
+    owed.put_text(place, room)?;
+    outbox.put(room.as_slice())
+}
+
+/// Writes the answers of the units in front that are complete, all or none.
+fn write_front(
+    owed: &OwedAnswers,
+    outbox: &mut Outbox,
+    room: &mut Vec<u8>,
+) -> Result<(), AllocError>
+    requires slots { HaveSlots owed.now.owed }
+    ensures ok { OnOk result (outbox.new ≡
+        with_texts (answer_texts (complete_front owed.now.owed)) outbox.old) }
+    ensures err { OnErr result (outbox.new ≡ outbox.old) }
+{
+    let mark = outbox.mark();
+    match write_each_in_front(owed, outbox, room) {
+        Ok(()) => Ok(()),
+        Err(refused) => {
+            outbox.back_to(mark);
+            Err(refused)
+        }
+    }
+}
+
+/// Where not all are written, some of them may be.
+fn write_each_in_front(
+    owed: &OwedAnswers,
+    outbox: &mut Outbox,
+    room: &mut Vec<u8>,
+) -> Result<(), AllocError>
+    requires slots { HaveSlots owed.now.owed }
+    ensures ok { OnOk result (outbox.new ≡
+        with_texts (answer_texts (complete_front owed.now.owed)) outbox.old) }
+    ensures err { OnErr result (OnlyPutSince outbox.old outbox.new) }
+{
+    let mut next = owed.first();
+    while let Some(place) = next {
+        if !is_complete(owed, place) {
+            break;
+        }
+        write_complete(owed, place, outbox, room)?;
+        next = owed.next(place);
+    }
+    Ok(())
+}
+
+/// The units whose answers can go out are owed nothing any more, and are counted.
+pub(crate) fn let_out(order: Order, owed: &mut OwedAnswers, place: u64, tally: &mut Tally)
+    requires { OnlyAt order place owed.old.owed }
+    ensures { owed.new ≡ record owed.old { owed = staying order owed.old.owed } }
+{
+    let before = owed.len();
+    remove_leaving(order, owed, place);
+    let count = before.saturating_sub(owed.len());
+    tally.answers = tally.answers.saturating_add(count);
+}
+
+fn remove_leaving(order: Order, owed: &mut OwedAnswers, place: u64)
+    requires { OnlyAt order place owed.old.owed }
+    ensures { owed.new ≡ record owed.old { owed = staying order owed.old.owed } }
+{
+    match order {
+        Order::AsAnswered => {
+            if is_complete(owed, place) {
+                owed.remove(place);
+            }
+        }
+        Order::AsCame => remove_front(owed),
+    }
+}
+
+fn remove_front(owed: &mut OwedAnswers)
+    ensures { owed.new ≡ record owed.old { owed = incomplete_rest owed.old.owed } }
+{
+    while let Some(place) = owed.first() {
+        if !is_complete(owed, place) {
+            break;
+        }
+        owed.remove(place);
+    }
+}

@@ -1,0 +1,16 @@
+//! What stands open between a connection and its host, and what each happening does to it: what is told, what is written and
+//! what is refused. Each public call is one equation on a plain state.
+#![tactic(auto)]
+
+mod answering;
+mod desk;
+mod ending;
+mod events;
+mod intake;
+mod leaving;
+mod saying;
+mod settling;
+mod tally;
+
+pub use desk::Desk;
+pub use tally::Tally;

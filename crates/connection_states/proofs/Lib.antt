@@ -1,0 +1,15 @@
+pub mod OwedChanges
+pub mod OwedGiven
+pub mod OwedRows
+pub mod OwedSame
+pub mod OwedSlots
+pub mod OwedSteps
+pub mod OwnEntries
+pub mod OwnFollows
+pub mod OwnFound
+pub mod OwnPicked
+pub mod TheirAfter
+pub mod TheirEntries
+pub mod TheirFound
+pub mod TheirSites
+pub mod ToldEntries

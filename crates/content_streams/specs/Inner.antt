@@ -1,0 +1,4 @@
+-- What no public clause cites.
+pub mod Cutters
+pub mod Cutting
+pub mod Rows

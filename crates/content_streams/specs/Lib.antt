@@ -1,0 +1,4 @@
+pub mod Framed
+pub mod Inner
+pub mod Lines
+pub mod Streams

@@ -1,0 +1,133 @@
+//! The input side of a connection: from pieces to contents.
+
+ghost use Rattle.std.specs.Prelude.{◌≡◌, ◌≤◌, ◌+◌, ◌++◌, ◌∷◌, [], Some, None, IsSome, IsOk, IsTrue, OnOk, OnErr, is_some, option_copied};
+ghost use Rattle.lsp_frames.specs.declared.limits.TheConstants.{LARGEST_CONTENT as MOST_BYTES};
+
+use crate::cutter::Cutter;
+use crate::ending::{HowEnded, StreamEnd};
+use crate::framing::Framing;
+use crate::past::Past;
+use crate::row::Row;
+use lsp_frames::Frame;
+use std::alloc::{AllocError, Global};
+use std::marker::Model;
+
+/// The contents of a stream that is fed piece by piece, one after another, and how it has ended.
+///
+/// It holds the contents that weren't taken, and of the rest the unfinished frame or line alone. What has passed is seen
+/// by clauses only.
+#[derive(Drop)]
+pub struct ContentStream {
+    cutter: Cutter,
+    row: Row,
+    ended: Option<HowEnded>,
+    past: Past,
+}
+
+impl Model for ContentStream {
+    ghost use Rattle.content_streams.specs.Streams.{Stream};
+    ghost use Rattle.content_streams.specs.Inner.Cutters.{IsStream, framing_of, limit_of};
+
+    ghost Value = { Stream };
+
+    ghost view = { λ a. record {
+      framing = framing_of a.cutter;
+      limit = limit_of a.cutter;
+      pieces = a.past.pieces;
+      ended = a.ended;
+      taken = a.past.taken;
+    } };
+
+    ghost invariant = { λ a. IsStream a.cutter a.row a.past.pieces a.ended a.past.taken };
+}
+
+impl ContentStream {
+    ghost use Rattle.content_streams.specs.Streams.{next_content, close_of};
+
+    /// Contents have at most `limit` bytes. Takes no memory.
+    pub fn new(alloc: Global, framing: Framing, limit: u32) -> ContentStream
+        requires some { 1 ≤ limit }
+        requires most { limit ≤ MOST_BYTES }
+        ensures { result ≡ record {
+          framing = framing;
+          limit = limit;
+          pieces = [];
+          ended = None;
+          taken = 0;
+        } }
+    {
+        ContentStream {
+            cutter: Cutter::new(alloc, framing, limit),
+            row: Row::new(alloc),
+            ended: None,
+            past: Past::new(),
+        }
+    }
+
+    /// One more piece came. Behind a fault pieces are ignored.
+    pub fn feed(&mut self, piece: &[u8]) -> Result<(), AllocError>
+        requires { self.old.ended ≡ None }
+        ensures ok { OnOk result (self.new ≡
+            record self.old { pieces = self.old.pieces ++ piece.now ∷ [] }) }
+        ensures err { OnErr result (self.new ≡ self.old) }
+        ensures ignored { IsSome (close_of self.old) → IsOk result }
+    {
+        if self.cutter.fault().is_none() {
+            self.row.make_room()?;
+            let contents = self.cutter.feed(piece)?;
+            self.row.add(contents);
+        }
+        self.past = Past::with_piece(&self.past, piece);
+        Ok(())
+    }
+
+    /// The input has ended. Takes no memory.
+    pub fn end(&mut self, how: HowEnded)
+        requires { self.old.ended ≡ None }
+        ensures { self.new ≡ record self.old { ended = Some how } }
+    {
+        if how == HowEnded::Closed
+            && let Some(content) = self.cutter.take_last()
+        {
+            self.row.add_last(content);
+        }
+        self.ended = Some(how);
+    }
+
+    /// Whether the host has said that the input ended.
+    pub fn has_ended(&self) -> bool
+        ensures { result ≡ is_some self.now.ended }
+    {
+        self.ended.is_some()
+    }
+
+    /// The next content: the first that wasn't taken.
+    pub fn front(&self) -> Option<&Frame>
+        ensures { option_copied result ≡ next_content self.now }
+    {
+        self.row.front()
+    }
+
+    /// Takes the next content.
+    pub fn pop(&mut self)
+        requires { IsSome (next_content self.old) }
+        ensures { self.new ≡ record self.old { taken = self.old.taken + 1 } }
+    {
+        self.row.pop();
+        self.past = Past::with_one_taken(&self.past);
+    }
+
+    /// How the stream has ended, once it has shown a fault or the host has said that it ended.
+    pub fn close(&self) -> Option<StreamEnd>
+        ensures { result ≡ close_of self.now }
+    {
+        if let Some(fault) = self.cutter.fault() {
+            return Some(StreamEnd::Fault(fault));
+        }
+        match self.ended {
+            Some(HowEnded::Closed) => Some(self.cutter.closed_end()),
+            Some(HowEnded::ReadFailed) => Some(StreamEnd::ReadFailed),
+            None => None,
+        }
+    }
+}

@@ -1,0 +1,113 @@
+//! What contents are cut from.
+
+ghost use Rattle.std.specs.Prelude.{◌≡◌, ◌≤◌, ◌++◌, ◌∷◌, [], ℕ, List, Some, None, OnOk, OnErr, IfOk, if◌then◌else◌};
+ghost use Rattle.std.specs.Option.{option_to_list};
+ghost use Rattle.lsp_frames.specs.declared.limits.TheConstants.{LARGEST_CONTENT as MOST_BYTES};
+ghost use Rattle.content_streams.specs.Streams.{fault_of, closed_end};
+ghost use Rattle.content_streams.specs.Inner.Cutters.{framing_of, limit_of, MayFeed, Stands, Tells, read_by};
+
+use crate::content_cutter::ContentCutter;
+use crate::ending::{HowEnded, StreamEnd};
+use crate::frames::{fault_at_end, feed_frames, stream_end};
+use crate::framing::Framing;
+use crate::line_cutter::LineCutter;
+use lsp_frames::{Decoder, Frame, FrameFault};
+use std::alloc::{AllocError, Global};
+
+/// Cuts a stream into contents, in one of the framings.
+#[derive(Drop)]
+pub(crate) enum Cutter {
+    Frames(Decoder),
+    Lines(LineCutter),
+    Contents(ContentCutter),
+}
+
+impl Cutter {
+    /// At a stream's start. Takes no memory.
+    pub(crate) fn new(alloc: Global, framing: Framing, limit: u32) -> Cutter
+        requires { limit ≤ MOST_BYTES }
+        ensures framing { framing_of result ≡ framing }
+        ensures limit { limit_of result ≡ limit }
+        ensures stands { Stands result [] }
+    {
+        match framing {
+            Framing::Frames => Cutter::Frames(Decoder::new(alloc, limit)),
+            Framing::Lines => Cutter::Lines(LineCutter::new(alloc, limit)),
+            Framing::Contents => Cutter::Contents(ContentCutter {
+                alloc,
+                limit,
+                is_over: false,
+            }),
+        }
+    }
+
+    /// The fault that was shown.
+    pub(crate) fn fault(&self) -> Option<FrameFault>
+        ensures told { (pieces : List (List ℕ)) → Tells self.now pieces →
+            result ≡ fault_of (framing_of self.now) (limit_of self.now) pieces }
+        ensures none { result ≡ None → MayFeed self.now }
+    {
+        match self {
+            Cutter::Frames(decoder) => fault_at_end(decoder.end()),
+            Cutter::Lines(cutter) => too_large_if(cutter.is_over()),
+            Cutter::Contents(cutter) => too_large_if(cutter.is_over),
+        }
+    }
+
+    /// The contents that this piece completes.
+    pub(crate) fn feed(&mut self, piece: &[u8]) -> Result<Vec<Frame>, AllocError>
+        requires { MayFeed self.old }
+        ensures framing { framing_of self.new ≡ framing_of self.old }
+        ensures limit { limit_of self.new ≡ limit_of self.old }
+        ensures given { IfOk result (λ given. (pieces : List (List ℕ)) → Stands self.old pieces →
+            read_by self.old (pieces ++ piece.now ∷ []) None
+            ≡ read_by self.old pieces None ++ given.items) }
+        ensures stands { OnOk result ((pieces : List (List ℕ)) → Stands self.old pieces →
+            Stands self.new (pieces ++ piece.now ∷ [])) }
+        ensures err { OnErr result (self.new ≡ self.old) }
+    {
+        match self {
+            Cutter::Frames(decoder) => feed_frames(decoder, piece),
+            Cutter::Lines(cutter) => cutter.feed(piece),
+            Cutter::Contents(cutter) => cutter.feed(piece),
+        }
+    }
+
+    /// The last content, where the input is closed: that of a line with no LF.
+    pub(crate) fn take_last(&mut self) -> Option<Frame>
+        ensures framing { framing_of self.new ≡ framing_of self.old }
+        ensures limit { limit_of self.new ≡ limit_of self.old }
+        ensures content { (pieces : List (List ℕ)) → Stands self.old pieces →
+            read_by self.old pieces (Some HowEnded.Closed)
+            ≡ read_by self.old pieces None ++ option_to_list result }
+        ensures tells { (pieces : List (List ℕ)) → Stands self.old pieces → Tells self.new pieces }
+    {
+        match self {
+            Cutter::Frames(_) => None,
+            Cutter::Lines(cutter) => cutter.take_last(),
+            Cutter::Contents(_) => None,
+        }
+    }
+
+    /// How the stream ends where it is closed and has shown no fault.
+    pub(crate) fn closed_end(&self) -> StreamEnd
+        ensures { (pieces : List (List ℕ)) → Tells self.now pieces →
+            result ≡ closed_end (framing_of self.now) (limit_of self.now) pieces }
+    {
+        match self {
+            Cutter::Frames(decoder) => stream_end(decoder.end()),
+            Cutter::Lines(_) => StreamEnd::Clean,
+            Cutter::Contents(_) => StreamEnd::Clean,
+        }
+    }
+}
+
+fn too_large_if(is_over: bool) -> Option<FrameFault>
+    ensures { result ≡ (if is_over then Some FrameFault.TooLarge else None) }
+{
+    if is_over {
+        Some(FrameFault::TooLarge)
+    } else {
+        None
+    }
+}

@@ -1,0 +1,233 @@
+//! Lines.
+
+ghost use Rattle.std.specs.Prelude.{◌≡◌, ◌++◌, ◌∷◌, [], ℕ, List, true, false, if◌then◌else◌, OnOk, OnErr, IfOk, map, position};
+ghost use Rattle.std.specs.Option.{option_to_list};
+ghost use Rattle.content_streams.specs.Lines.{is_lf, ends_in_cr, without_cr, is_blank, fits, line_contents, ended_lines};
+ghost use Rattle.content_streams.specs.Streams.{plain};
+ghost use Rattle.content_streams.specs.Inner.Cutting.{Within, Over, IsWithin, ended_contents, grown, last_contents, text_standing, line_fault};
+
+use json_values::Items;
+use lsp_frames::Frame;
+use std::alloc::{AllocError, Global};
+use std::marker::Model;
+use std::mem;
+
+/// Cuts a stream into lines, in whatever pieces it comes. It holds the unfinished line and no other bytes.
+#[derive(Drop)]
+pub(crate) struct LineCutter {
+    alloc: Global,
+    limit: u32,
+    /// A line was too long.
+    is_over: bool,
+    line: Vec<u8>,
+}
+
+impl Model for LineCutter {
+    ghost use Rattle.std.specs.Prelude.{◌≤◌, length};
+    ghost use Rattle.content_streams.specs.Lines.{without_cr};
+    ghost use Rattle.content_streams.specs.Inner.Cutting.{LineCutting, standing_at};
+
+    ghost Value = { LineCutting };
+
+    ghost view = { λ a. record { limit = a.limit; standing = standing_at a.is_over a.line.items } };
+
+    ghost invariant = { λ a. length (without_cr a.line.items) ≤ a.limit };
+}
+
+impl LineCutter {
+    /// At a stream's start.
+    pub(crate) fn new(alloc: Global, limit: u32) -> LineCutter
+        ensures { result ≡ record { limit = limit; standing = Within [] } }
+    {
+        LineCutter {
+            alloc,
+            limit,
+            is_over: false,
+            line: Vec::new(alloc),
+        }
+    }
+
+    /// Behind a line that is too long.
+    fn over(alloc: Global, limit: u32) -> LineCutter
+        ensures { result ≡ record { limit = limit; standing = Over } }
+    {
+        LineCutter {
+            alloc,
+            limit,
+            is_over: true,
+            line: Vec::new(alloc),
+        }
+    }
+
+    /// Whether a line was too long.
+    pub(crate) fn is_over(&self) -> bool
+        ensures over { result ≡ true → self.now.standing ≡ Over }
+        ensures within { result ≡ false → IsWithin self.now.standing }
+    {
+        self.is_over
+    }
+
+    /// The contents of the lines that this piece ends.
+    pub(crate) fn feed(&mut self, piece: &[u8]) -> Result<Vec<Frame>, AllocError>
+        requires { IsWithin self.old.standing }
+        ensures limit { self.new.limit ≡ self.old.limit }
+        ensures given { IfOk result (λ given. (bytes : List ℕ) →
+            self.old.standing ≡ text_standing self.old.limit bytes →
+            ended_contents self.old.limit (bytes ++ piece.now)
+            ≡ ended_contents self.old.limit bytes ++ given.items) }
+        ensures left { OnOk result ((bytes : List ℕ) →
+            self.old.standing ≡ text_standing self.old.limit bytes →
+            self.new.standing ≡ text_standing self.old.limit (bytes ++ piece.now)) }
+        ensures err { OnErr result (self.new ≡ self.old) }
+    {
+        let mut contents = Vec::new(self.alloc);
+        let Some(end) = place_of_lf(piece) else {
+            self.hold(piece)?;
+            return Ok(contents);
+        };
+        let (last, behind) = (&piece[..end], &piece[end + 1..]);
+        if !fits_with(self.line.as_slice(), last, self.limit) {
+            *self = LineCutter::over(self.alloc, self.limit);
+            return Ok(contents);
+        }
+        // The first line's content is put in once nothing can fail any more.
+        contents.push(Frame {
+            content: Items::new(self.alloc),
+            foreign: false,
+        })?;
+        let next = cut(self.alloc, self.limit, &mut contents, behind)?;
+        self.line.extend_from_slice(last)?;
+        let whole = mem::replace(self, next);
+        match whole.into_content() {
+            Some(content) => contents[0] = content,
+            None => drop(contents.remove(0)),
+        }
+        Ok(contents)
+    }
+
+    /// Takes bytes of the same line.
+    fn hold(&mut self, bytes: &[u8]) -> Result<(), AllocError>
+        requires { IsWithin self.old.standing }
+        ensures ok { OnOk result ((line : List ℕ) → self.old.standing ≡ Within line →
+            self.new ≡ record self.old { standing = grown self.old.limit (line ++ bytes.now) }) }
+        ensures err { OnErr result (self.new ≡ self.old) }
+    {
+        if fits_with(self.line.as_slice(), bytes, self.limit) {
+            self.line.extend_from_slice(bytes)?;
+        } else {
+            *self = LineCutter::over(self.alloc, self.limit);
+        }
+        Ok(())
+    }
+
+    /// The content of the unfinished line, unless it is blank.
+    pub(crate) fn take_last(&mut self) -> Option<Frame>
+        ensures limit { self.new.limit ≡ self.old.limit }
+        ensures fault { line_fault self.new.standing ≡ line_fault self.old.standing }
+        ensures content { option_to_list result ≡
+            last_contents self.old.limit self.old.standing }
+    {
+        if self.is_over {
+            return None;
+        }
+        let next = LineCutter::new(self.alloc, self.limit);
+        mem::replace(self, next).into_content()
+    }
+
+    /// The content of the line, unless it is blank.
+    fn into_content(self) -> Option<Frame>
+        requires { IsWithin self.standing }
+        ensures { option_to_list result ≡ last_contents self.limit self.standing }
+    {
+        let LineCutter { mut line, .. } = self;
+        let size = without_cr(line.as_slice()).len();
+        line.truncate(size);
+        if is_blank(line.as_slice()) {
+            return None;
+        }
+        Some(Frame {
+            content: line.into(),
+            foreign: false,
+        })
+    }
+}
+
+/// Cuts the lines off the front of the bytes, adds their contents to the others, and keeps what is left.
+fn cut(
+    alloc: Global,
+    limit: u32,
+    contents: &mut Vec<Frame>,
+    bytes: &[u8],
+) -> Result<LineCutter, AllocError>
+    ensures given { OnOk result (contents.new.items ≡
+        contents.old.items ++ ended_contents limit bytes.now) }
+    ensures left { IfOk result (λ left. left ≡
+        record { limit = limit; standing = text_standing limit bytes.now }) }
+{
+    let mut rest = bytes;
+    while let Some(end) = place_of_lf(rest) {
+        let line = &rest[..end];
+        if !fits_with(&[], line, limit) {
+            return Ok(LineCutter::over(alloc, limit));
+        }
+        push_content(alloc, contents, without_cr(line))?;
+        rest = &rest[end + 1..];
+    }
+    let mut left = LineCutter::new(alloc, limit);
+    left.hold(rest)?;
+    Ok(left)
+}
+
+/// Puts a content behind the others, unless it is blank.
+fn push_content(alloc: Global, contents: &mut Vec<Frame>, content: &[u8]) -> Result<(), AllocError>
+    ensures { OnOk result (contents.new.items ≡
+        contents.old.items ++ (if is_blank content.now then [] else plain content.now ∷ [])) }
+{
+    if is_blank(content) {
+        return Ok(());
+    }
+    let content = Vec::from_slice(alloc, content)?.into();
+    contents.push(Frame {
+        content,
+        foreign: false,
+    })?;
+    Ok(())
+}
+
+fn place_of_lf(bytes: &[u8]) -> Option<usize>
+    ensures { result ≡ position is_lf bytes.now }
+{
+    bytes.iter().position(|b| *b == b'\n')
+}
+
+fn ends_in_cr(line: &[u8]) -> bool
+    ensures { result ≡ ends_in_cr line.now }
+{
+    line.last() == Some(&b'\r')
+}
+
+/// The line without one CR at its end.
+fn without_cr(line: &[u8]) -> &[u8]
+    ensures { result.now ≡ without_cr line.now }
+{
+    if ends_in_cr(line) {
+        &line[..line.len() - 1]
+    } else {
+        line
+    }
+}
+
+/// Whether there is nothing but spaces and tabs.
+fn is_blank(content: &[u8]) -> bool
+    ensures { result ≡ is_blank content.now }
+{
+    content.iter().all(|b| *b == b' ' || *b == b'\t')
+}
+
+/// Whether a line that isn't too long still isn't with these bytes behind it.
+fn fits_with(line: &[u8], more: &[u8], limit: u32) -> bool
+    requires { fits limit (without_cr line.now) ≡ true }
+    ensures { result ≡ fits limit (without_cr (line.now ++ more.now)) }
+{
+    more.is_empty() || line.len() + more.len() - ends_in_cr(more) as usize <= limit as usize
+}

@@ -1,0 +1,127 @@
+use super::*;
+use lsp_frames::FrameFault;
+use std::alloc::{AllocError, Global};
+use std::test::Fail;
+
+/// Each content with a bar behind it.
+fn taken(alloc: Global, stream: &mut ContentStream) -> Result<Vec<u8>, AllocError> {
+    let mut bytes = Vec::new(alloc);
+    for _ in 0..64 {
+        match stream.front() {
+            Some(frame) => {
+                bytes.extend_from_slice(frame.content.as_slice())?;
+                bytes.push(b'|')?;
+            }
+            None => return Ok(bytes),
+        }
+        stream.pop();
+    }
+    Ok(bytes)
+}
+
+#[test]
+fn reads_frames(rt: HostRuntime) -> Result<(), Fail> {
+    let alloc = rt.alloc();
+    let mut stream = ContentStream::new(alloc, Framing::Frames, 4);
+    stream.feed(b"Content-Length: 2\r\n\r\nabContent-Len")?;
+    stream.feed(b"gth: 0\r\n\r\nContent-Length: 3\r\n\r\nxy")?;
+    assert_eq!(rt; taken(alloc, &mut stream)?.as_slice(), b"ab||".as_slice());
+    assert_eq!(rt; (stream.close(), stream.has_ended()), (None, false));
+    stream.feed(b"zContent-Length: 5\r\n\r\n")?;
+    assert_eq!(rt;
+        stream.close(),
+        Some(StreamEnd::Fault(FrameFault::TooLarge))
+    );
+    stream.feed(b"Content-Length: 0\r\n\r\n")?;
+    stream.end(HowEnded::ReadFailed);
+    assert_eq!(rt; taken(alloc, &mut stream)?.as_slice(), b"xyz|".as_slice());
+    assert_eq!(rt;
+        stream.close(),
+        Some(StreamEnd::Fault(FrameFault::TooLarge))
+    );
+    assert_eq!(rt; stream.has_ended(), true);
+    Ok(())
+}
+
+#[test]
+fn ends_inside_a_frame(rt: HostRuntime) -> Result<(), Fail> {
+    let mut stream = ContentStream::new(rt.alloc(), Framing::Frames, 4);
+    stream.feed(b"C")?;
+    stream.end(HowEnded::Closed);
+    assert_eq!(rt;
+        stream.close(),
+        Some(StreamEnd::Fault(FrameFault::Truncated))
+    );
+    let mut stream = ContentStream::new(rt.alloc(), Framing::Frames, 4);
+    stream.feed(b"C")?;
+    stream.end(HowEnded::ReadFailed);
+    assert_eq!(rt; stream.close(), Some(StreamEnd::ReadFailed));
+    let mut stream = ContentStream::new(rt.alloc(), Framing::Frames, 4);
+    stream.end(HowEnded::Closed);
+    assert_eq!(rt; stream.close(), Some(StreamEnd::Clean));
+    Ok(())
+}
+
+#[test]
+fn reads_lines(rt: HostRuntime) -> Result<(), Fail> {
+    let alloc = rt.alloc();
+    let mut stream = ContentStream::new(alloc, Framing::Lines, 4);
+    stream.feed(b"ab\r\n \t\r\n\nabcd\r\n\r\r\nc")?;
+    stream.feed(b"d")?;
+    stream.feed(b"")?;
+    stream.feed(b"e\n\nf\nabcd\r")?;
+    assert_eq!(rt;
+        taken(alloc, &mut stream)?.as_slice(),
+        b"ab|abcd|\r|cde|f|".as_slice()
+    );
+    assert_eq!(rt; (stream.close(), stream.has_ended()), (None, false));
+    stream.end(HowEnded::Closed);
+    assert_eq!(rt; taken(alloc, &mut stream)?.as_slice(), b"abcd|".as_slice());
+    assert_eq!(rt; stream.close(), Some(StreamEnd::Clean));
+    let mut stream = ContentStream::new(alloc, Framing::Lines, 4);
+    stream.feed(b"a\nb")?;
+    stream.end(HowEnded::ReadFailed);
+    assert_eq!(rt; taken(alloc, &mut stream)?.as_slice(), b"a|".as_slice());
+    assert_eq!(rt; stream.close(), Some(StreamEnd::ReadFailed));
+    Ok(())
+}
+
+#[test]
+fn finds_long_lines(rt: HostRuntime) -> Result<(), Fail> {
+    let too_large = Some(StreamEnd::Fault(FrameFault::TooLarge));
+    for piece in [
+        b"ab\nabcd \nef\n".as_slice(),
+        b"ab\nabcd\r \nef\n".as_slice(),
+        b"ab\n      ".as_slice(),
+        b"ab\nabcd\r\r".as_slice(),
+        b"ab\nabcde".as_slice(),
+    ] {
+        let mut stream = ContentStream::new(rt.alloc(), Framing::Lines, 4);
+        stream.feed(piece)?;
+        assert_eq!(rt; stream.close(), too_large);
+        stream.feed(b"\nef\n")?;
+        stream.end(HowEnded::Closed);
+        assert_eq!(rt;
+            taken(rt.alloc(), &mut stream)?.as_slice(),
+            b"ab|".as_slice()
+        );
+        assert_eq!(rt; stream.close(), too_large);
+    }
+    Ok(())
+}
+
+#[test]
+fn reads_contents(rt: HostRuntime) -> Result<(), Fail> {
+    let alloc = rt.alloc();
+    let mut stream = ContentStream::new(alloc, Framing::Contents, 4);
+    stream.feed(b"abcd")?;
+    stream.feed(b"")?;
+    stream.feed(b"abcde")?;
+    stream.feed(b"f")?;
+    assert_eq!(rt; taken(alloc, &mut stream)?.as_slice(), b"abcd||".as_slice());
+    assert_eq!(rt;
+        stream.close(),
+        Some(StreamEnd::Fault(FrameFault::TooLarge))
+    );
+    Ok(())
+}

@@ -1,0 +1,10 @@
+use Rattle.std.proofs.Common.{◌≡◌, subst}
+use Rattle.open_calls.specs.Numbered.{without}
+use Rattle.open_calls.specs.Owed.{OwedState}
+use Rattle.open_calls.proofs.Numbered.{without_below}
+use Rattle.open_calls.proofs.owed_answers.OwedAnswers.places.Goals as goal
+
+pub returns-clause-owed : goal.returns-clause-owed
+returns-clause-owed c =
+    subst (λ (s : OwedState). without s.places s.owed ≡ s.owed) c.self.view_is
+    (without_below c.self.inside.places c.self.inside.owed.entries c.self.invariant.numbered)

@@ -1,0 +1,9 @@
+use Rattle.std.proofs.Common.{◌≡◌, subst}
+use Rattle.open_calls.specs.Numbered.{up_to}
+use Rattle.open_calls.specs.Theirs.{TheirState}
+use Rattle.open_calls.proofs.Numbered.{up_to_all}
+use Rattle.open_calls.proofs.their_calls.TheirCalls.came.Goals as goal
+
+pub returns-clause-numbers : goal.returns-clause-numbers
+returns-clause-numbers c =
+    subst (λ (s : TheirState). up_to s.came s.calls ≡ s.calls) c.self.view_is (up_to_all c.self.inside.came c.self.inside.calls.entries c.self.invariant.numbered)

@@ -1,0 +1,129 @@
+ghost use Rattle.std.specs.Prelude.{◌≡◌, ◌≤◌, ◌++◌, ◌∷◌, [], ◌+◌, length, take, drop, OnOk, OnErr};
+ghost use Rattle.outbox.specs.Output.{framed};
+
+use content_streams::Framing;
+use lsp_frames::put_frame;
+use std::alloc::{AllocError, Global};
+use std::marker::Model;
+
+/// Room for so many bytes is kept, however few are left.
+const KEPT_ROOM: usize = 4096;
+
+/// Bytes that are put at the end and taken at the front. Their memory follows those that aren't taken.
+#[derive(Drop)]
+pub struct BytesLeft {
+    bytes: Vec<u8>,
+    /// Those before this place were taken.
+    start: usize,
+}
+
+impl Model for BytesLeft {
+    ghost use Rattle.std.specs.Prelude.{List, ℕ, ◌≤◌, length, drop};
+
+    ghost Value = { List ℕ };
+
+    ghost view = { λ a. drop a.start a.bytes.items };
+
+    ghost invariant = { λ a. a.start ≤ length a.bytes.items };
+}
+
+impl BytesLeft {
+    /// Takes no memory.
+    pub fn new(alloc: Global) -> BytesLeft
+        ensures { result ≡ [] }
+    {
+        BytesLeft {
+            bytes: Vec::new(alloc),
+            start: 0,
+        }
+    }
+
+    pub fn len(&self) -> usize
+        ensures { result ≡ length self.now }
+    {
+        self.bytes.len() - self.start
+    }
+
+    /// Puts the text at the end, as this framing writes it.
+    pub fn put(&mut self, framing: Framing, text: &[u8]) -> Result<(), AllocError>
+        ensures ok { OnOk result (self.new ≡ self.old ++ framed framing text.now) }
+        ensures err { OnErr result (self.new ≡ self.old) }
+    {
+        match framing {
+            Framing::Frames => put_frame(&mut self.bytes, text),
+            Framing::Lines => put_line(&mut self.bytes, text),
+            Framing::Contents => self.bytes.extend_from_slice(text),
+        }
+    }
+
+    /// Keeps the first so many bytes.
+    pub fn truncate(&mut self, count: usize)
+        requires { count ≤ length self.old }
+        ensures { self.new ≡ take count self.old }
+    {
+        self.bytes.truncate(self.start + count);
+        self.close_up();
+    }
+
+    /// Moves the first so many bytes to the front of the room.
+    pub fn take(&mut self, count: usize, room: &mut [u8])
+        requires bytes { count ≤ length self.old }
+        requires room { count ≤ length room.old }
+        ensures bytes { self.new ≡ drop count self.old }
+        ensures room { room.new ≡ take count self.old ++ drop count room.old }
+    {
+        let end = self.start + count;
+        room[..count].copy_from_slice(&self.bytes[self.start..end]);
+        self.start = end;
+        self.close_up();
+    }
+
+    /// Moves the bytes to the start of their memory, once no more are left than were taken. So each byte is moved a
+    /// constant number of times on average.
+    fn close_up(&mut self)
+        ensures { self.new ≡ self.old }
+    {
+        if self.start >= self.bytes.len() - self.start {
+            move_to_front(&mut self.bytes, self.start);
+            self.start = 0;
+        }
+        give_room_back(&mut self.bytes);
+    }
+}
+
+/// Keeps the bytes from this place on.
+fn move_to_front(bytes: &mut Vec<u8>, start: usize)
+    requires start { start ≤ length bytes.old.items }
+    requires few { length bytes.old.items ≤ start + start }
+    ensures { bytes.new.items ≡ drop start bytes.old.items }
+{
+    let left = bytes.len() - start;
+    let (front, back) = bytes.as_mut_slice().split_at_mut(start);
+    front[..left].copy_from_slice(back);
+    bytes.truncate(left);
+}
+
+/// Gives memory back where less than a quarter is in use. What is left stays where it is if no smaller memory is to be had.
+fn give_room_back(bytes: &mut Vec<u8>)
+    ensures { bytes.new.items ≡ bytes.old.items }
+{
+    let room = bytes.capacity();
+    if room > KEPT_ROOM && room / 4 > bytes.len() {
+        bytes.shrink_to((2 * bytes.len()).max(KEPT_ROOM));
+    }
+}
+
+fn put_line(bytes: &mut Vec<u8>, text: &[u8]) -> Result<(), AllocError>
+    ensures ok { OnOk result (bytes.new.items ≡ bytes.old.items ++ text.now ++ 10 ∷ []) }
+    ensures err { OnErr result (bytes.new.items ≡ bytes.old.items) }
+{
+    let before = bytes.len();
+    bytes.extend_from_slice(text)?;
+    match bytes.push(b'\n') {
+        Ok(()) => Ok(()),
+        Err(_) => {
+            bytes.truncate(before);
+            Err(AllocError)
+        }
+    }
+}
