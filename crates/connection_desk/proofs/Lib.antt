@@ -1,1 +1,4 @@
+pub mod GivenSlots
 pub mod OwedLists
+pub mod Rests
+pub mod Seen

@@ -11,6 +11,7 @@ use Rattle.open_calls.specs.Numbered.{at, without, changed_at, first_number, nex
 use Rattle.open_calls.specs.Owed.{OwedUnit, OwedState, IsComplete, IsCompleteUnit, text_or_none, unit_text}
 use Rattle.open_calls.proofs.Numbered.{without_above, at_above, shorter}
 use Rattle.open_calls.proofs.OwedLemmas.{state_of}
+use Rattle.connection_desk.proofs.Rests.{at_here, rest_from, rest_of, rest_step_from}
 use Rattle.outbox.specs.Output.{Output, OnlyPutSince}
 use Rattle.connection_desk.specs.Desks.{answer_texts, with_texts}
 use Rattle.connection_desk.specs.Inner.{HaveSlots, OnlyAt, complete_in, complete_at, complete_text_in, complete_text_at}
@@ -138,77 +139,6 @@ only_rest place (e ∷ es) order only =
 
 -- ---- as came: those in front, one by one
 
-apart : (n m : ℕ) → n < m → (n == m) ≡ false
-apart n m lt = ne_eqb n m (λ same. omega arith)
-
-apart_after : (n m : ℕ) → m < n → (n == m) ≡ false
-apart_after n m lt = ne_eqb n m (λ same. omega arith)
-
-not_above : (n m : ℕ) → m ≤ n → nat_lt n m ≡ false
-not_above n m le = false_from_ne_true (nat_lt n m) (λ over. let lt : n < m = ltb-true n m over in omega arith)
-
--- the units from this place on
-abbrev pub rest_from : ℕ → Units → Units
-rest_from place [] = []
-rest_from place (e ∷ es) = if place == e.0 then e ∷ es else rest_from place es
-
-abbrev pub rest_of : Option ℕ → Units → Units
-rest_of None owed = []
-rest_of (Some place) owed = rest_from place owed
-
-pub rest_first : (owed : Units) → rest_of (first_number owed) owed ≡ owed
-rest_first [] = refl
-rest_first (e ∷ es) = ap (λ b. cond b (e ∷ es) (rest_from e.0 es)) (eq-eqb e.0 e.0 refl)
-
-rest_skip : (o : Option ℕ) (e : ℕ × OwedUnit) (es : Units) → IfSome o (λ m. e.0 < m) → rest_of o (e ∷ es) ≡ rest_of o es
-rest_skip None e es lt = refl
-rest_skip (Some m) e es lt = ap (λ b. cond b (e ∷ es) (rest_from m es)) (apart_after m e.0 lt)
-
-over_step : (b : Bool) (m : ℕ) (e : ℕ × OwedUnit) (o : Option (ℕ × OwedUnit)) → m < e.0 → IfSome (option_map (λ x. x.0) o) (λ k. m < k)
-    → IfSome (option_map (λ x. x.0) (cond b (Some e) o)) (λ k. m < k)
-over_step true m e o lt there = lt
-over_step false m e o lt there = there
-
-next_over : (n m : ℕ) (es : Units) → Above m es → IfSome (next_number n es) (λ k. m < k)
-next_over n m [] above = tt
-next_over n m (e ∷ es) above = over_step (nat_lt n e.0) m e (find (λ x. nat_lt n x.0) es) above.0 (next_over n m es above.1)
-
-next_later : (n : ℕ) (e : ℕ × OwedUnit) (es : Units) → e.0 ≤ n → next_number n (e ∷ es) ≡ next_number n es
-next_later n e es le = ap (λ b. option_map (λ x. x.0) (cond b (Some e) (find (λ x. nat_lt n x.0) es))) (not_above n e.0 le)
-
-rest_next : (n : ℕ) (es : Units) → Above n es → rest_of (next_number n es) es ≡ es
-rest_next n [] above = refl
-rest_next n (e ∷ es) above =
-    ap (λ b. rest_of (option_map (λ x. x.0) (cond b (Some e) (find (λ x. nat_lt n x.0) es))) (e ∷ es)) (lt-ltb n e.0 above.0)
-    ∙ ap (λ b. cond b (e ∷ es) (rest_from e.0 es)) (eq-eqb e.0 e.0 refl)
-
--- the next place after a unit that is skipped
-skipped : (n : ℕ) (e : ℕ × OwedUnit) (es : Units) → Above e.0 es → e.0 ≤ n → rest_of (next_number n (e ∷ es)) (e ∷ es) ≡ rest_of (next_number n es) es
-skipped n e es above le =
-    ap (λ o. rest_of o (e ∷ es)) (next_later n e es le) ∙ rest_skip (next_number n es) e es (next_over n e.0 es above)
-
-rest_here : (n : ℕ) (unit : OwedUnit) (e : ℕ × OwedUnit) (es : Units) → Above e.0 es → n ≡ e.0 → e.1 ≡ unit
-    → e ∷ es ≡ (n, unit) ∷ rest_of (next_number n (e ∷ es)) (e ∷ es)
-rest_here n unit e es above here is =
-    let same : e ≡ (n, unit) = ap (λ m. (m, e.1)) (sym here) ∙ ap (λ u. (n, u)) is in
-    ap (λ x. x ∷ es) same
-    ∙ ap (λ t. (n, unit) ∷ t) (sym (skipped n e es above (omega arith) ∙ rest_next n es (subst (λ m. Above m es) (sym here) above)))
-
-from_step : (b : Bool) (n : ℕ) (unit : OwedUnit) (e : ℕ × OwedUnit) (o : Option OwedUnit) (es rest : Units) → cond b (Some e.1) o ≡ Some unit
-    → (b ≡ true → e.1 ≡ unit → e ∷ es ≡ (n, unit) ∷ rest) → (o ≡ Some unit → rest_from n es ≡ (n, unit) ∷ rest)
-    → cond b (e ∷ es) (rest_from n es) ≡ (n, unit) ∷ rest
-from_step true n unit e o es rest is here there = here refl (cc)
-from_step false n unit e o es rest is here there = there is
-
-pub rest_step_from : (n : ℕ) (unit : OwedUnit) (owed : Units) → Ascending owed → at n owed ≡ Some unit → rest_from n owed ≡ (n, unit) ∷ rest_of (next_number n owed) owed
-rest_step_from n unit [] order is = absurd (cc)
-rest_step_from n unit (e ∷ es) order is =
-    from_step (n == e.0) n unit e (at n es) es (rest_of (next_number n (e ∷ es)) (e ∷ es)) is
-    (λ here same. rest_here n unit e es order.0 (eqb-true n e.0 here) same)
-    (λ there.
-      let lt : e.0 < n = at_above e.0 n unit es order.0 there in
-      rest_step_from n unit es order.1 there ∙ ap (λ t. (n, unit) ∷ t) (sym (skipped n e es order.0 (omega arith))))
-
 -- the first of the rest goes out
 pub front_more : (n : ℕ) (owed : Units) → Ascending owed → complete_at n owed ≡ true
     → answer_texts (complete_front (rest_from n owed)) ≡ complete_text_at n owed ++ answer_texts (complete_front (rest_of (next_number n owed) owed))
@@ -238,9 +168,6 @@ front_stops n (e ∷ es) is = stop_step (n == e.0) e (at n es) es (rest_from n e
 
 pub same_state : (now : OwedState) (places : ℕ) (owed : Units) → now.places ≡ places → now.owed ≡ owed → now ≡ state_of places owed
 same_state now places owed p q = ap (λ n. state_of n now.owed) p ∙ ap (λ es. state_of places es) q
-
-at_here : (e : ℕ × OwedUnit) (es : Units) → at e.0 (e ∷ es) ≡ Some e.1
-at_here e es = ap (λ b. cond b (Some e.1) (at e.0 es)) (eq-eqb e.0 e.0 refl)
 
 head_goes : (e : ℕ × OwedUnit) (es : Units) → Above e.0 es → complete_at e.0 (e ∷ es) ≡ true → incomplete_rest (without e.0 (e ∷ es)) ≡ incomplete_rest (e ∷ es)
 head_goes e es above is =

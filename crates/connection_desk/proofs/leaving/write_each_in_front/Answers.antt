@@ -3,7 +3,8 @@ use Rattle.connection_states.specs.Steps.{complete_front}
 use Rattle.open_calls.specs.Numbered.{next_number}
 use Rattle.connection_desk.specs.Desks.{answer_texts, with_texts}
 use Rattle.connection_desk.specs.Inner.{complete_at, complete_text_at}
-use Rattle.connection_desk.proofs.OwedLists.{rest_of, rest_first, front_more, front_stops, rest_shorter, no_texts, more_texts, same_since, more_since}
+use Rattle.connection_desk.proofs.Rests.{rest_of, rest_first}
+use Rattle.connection_desk.proofs.OwedLists.{front_more, front_stops, rest_shorter, no_texts, more_texts, same_since, more_since}
 use Rattle.connection_desk.proofs.leaving.write_each_in_front.Goals as goal
 
 pub loop-next-init : goal.loop-next-init

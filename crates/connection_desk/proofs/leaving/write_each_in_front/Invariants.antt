@@ -2,7 +2,7 @@ use Rattle.std.proofs.Common.{◌≡◌, length}
 use Rattle.connection_states.specs.Steps.{complete_front}
 use Rattle.outbox.specs.Output.{OnlyPutSince}
 use Rattle.connection_desk.specs.Desks.{answer_texts, with_texts}
-use Rattle.connection_desk.proofs.OwedLists.{rest_of}
+use Rattle.connection_desk.proofs.Rests.{rest_of}
 use Rattle.connection_desk.proofs.leaving.write_each_in_front.Given as goal
 
 abbrev pub invariant-loop-next : goal.invariant-loop-next
