@@ -44,7 +44,7 @@ next_over n m (e ∷ es) above = over_step (nat_lt n e.0) m e (find (λ x. nat_l
 next_later : {X : Type 0} (n : ℕ) (e : ℕ × X) (es : List (ℕ × X)) → e.0 ≤ n → next_number n (e ∷ es) ≡ next_number n es
 next_later n e es le = ap (λ b. option_map (λ x. x.0) (cond b (Some e) (find (λ x. nat_lt n x.0) es))) (not_above n e.0 le)
 
-rest_next : {X : Type 0} (n : ℕ) (es : List (ℕ × X)) → Above n es → rest_of (next_number n es) es ≡ es
+pub rest_next : {X : Type 0} (n : ℕ) (es : List (ℕ × X)) → Above n es → rest_of (next_number n es) es ≡ es
 rest_next n [] above = refl
 rest_next n (e ∷ es) above =
     ap (λ b. rest_of (option_map (λ x. x.0) (cond b (Some e) (find (λ x. nat_lt n x.0) es))) (e ∷ es)) (lt-ltb n e.0 above.0)
@@ -76,3 +76,21 @@ rest_step_from n unit (e ∷ es) order is =
     (λ there.
       let lt : e.0 < n = at_above e.0 n unit es order.0 there in
       rest_step_from n unit es order.1 there ∙ ap (λ t. (n, unit) ∷ t) (sym (skipped n e es order.0 (omega arith))))
+
+-- something stands under this number
+abbrev pub IsThere : {X : Type 0} → List (ℕ × X) → ℕ → Type 0
+IsThere {X} es number = (x : X) × (at number es ≡ Some x)
+
+there_later : {X : Type 0} (e : ℕ × X) (es : List (ℕ × X)) (n : ℕ) → Above e.0 es → IsThere es n → IsThere (e ∷ es) n
+there_later e es n above there =
+    (there.0, ap (λ b. cond b (Some e.1) (at n es)) (apart_after n e.0 (at_above e.0 n there.0 es above there.1)) ∙ there.1)
+
+there_step : {X : Type 0} (b : Bool) (e : ℕ × X) (o : Option (ℕ × X)) (es : List (ℕ × X)) → Above e.0 es → IfSome (option_map (λ x. x.0) o) (IsThere es)
+    → IfSome (option_map (λ x. x.0) (cond b (Some e) o)) (IsThere (e ∷ es))
+there_step true e o es above there = (e.1, at_here e es)
+there_step false e None es above there = tt
+there_step false e (Some f) es above there = there_later e es f.0 above there
+
+pub next_there : {X : Type 0} (n : ℕ) (es : List (ℕ × X)) → Ascending es → IfSome (next_number n es) (IsThere es)
+next_there n [] order = tt
+next_there n (e ∷ es) order = there_step (nat_lt n e.0) e (find (λ x. nat_lt n x.0) es) es order.0 (next_there n es order.1)
