@@ -29,8 +29,8 @@ returns-clause-ok c =
         (
           not_refused n begun.state call there,
           is_closed ∙ ap (closed n) (w.self-is ∙ w.in_ok-give.ensures.ok)
-          ∙ request_answered n begun call w.in-Some-id.id.now w.write_answer.new.bytes.items c.args.answer.now there w.in-Some-id.is
-          (w.in_ok-write_answer.ensures ∙ ap (λ t. t ++ answer_text w.in-Some-id.id.now c.args.answer.now) w.new-text.ensures.items),
+          ∙ request_answered n begun call w.in-Some-id.id w.write_answer.new.bytes.items c.args.answer.now there w.in-Some-id.is
+          (w.in_ok-write_answer.ensures ∙ ap (λ t. t ++ answer_text w.in-Some-id.id c.args.answer.now) w.new-text.ensures.items),
         )
       | in_default-id w ↦
         (
