@@ -1,5 +1,5 @@
 -- What each happening makes of a desk is what the history makes of it.
-use Rattle.std.proofs.Common.{◌≡◌, ℕ, ◌+◌, Bool, true, false, not, if◌then◌else◌, List, [], ◌∷◌, ◌++◌, map, length, Option, Some, None, refl, ap, sym, ◌∙◌}
+use Rattle.std.proofs.Common.{rules, ◌≡◌, ℕ, ◌+◌, Bool, true, false, not, if◌then◌else◌, List, [], ◌∷◌, ◌++◌, map, length, Option, Some, None, refl, ap, sym, ◌∙◌}
 use Rattle.std.proofs.lemmas.List.{append_assoc, append-nil, map-append}
 use Rattle.connection_messages.specs.Texts.{call_text, calls_text, notice_text, withdrawal_text}
 use Rattle.connection_messages.specs.declared.answer.Answer.{Answer}
@@ -30,7 +30,7 @@ use Rattle.connection_states.proofs.OwedSteps.{came-owed, came-answers}
 use Rattle.connection_states.proofs.OwedGiven.{answered-owed, answered-answers}
 use Rattle.connection_desk.specs.Desks.{Desk, with_texts, answer_texts, after_unit, after_end, after_call, after_calls, after_notice, after_withdrawal, after_answer}
 use Rattle.connection.specs.Settings.{Chosen}
-use Rattle.connection.specs.Inner.{IsDeskOf}
+use Rattle.connection.specs.Connections.{IsDeskOf}
 
 -- ---- a state by its parts
 
@@ -53,9 +53,12 @@ pub state_called_all : (cancels : Bool) (order : Order) (past : History) (n : �
 state_called_all cancels order past n os lawful =
     same_state _ _ _ _ _ _ _ _ (own_called_all cancels past n os lawful) (after-called_all past n os) (silent-owed order past (called_all n os) refl (λ k. refl)) refl
 
+own_noticed : (past : History) (o : Outgoing) → own_of (noticed o ∷ past) ≡ own_of past
+own_noticed past o = search rules
+
 pub state_noticed : (order : Order) (past : History) (o : Outgoing) → state_of order (noticed o ∷ past) ≡ state_of order past
 state_noticed order past o =
-    same_state _ _ _ _ _ _ _ _ refl (after-noticed past o) (silent-owed order past (noticed o) refl (λ k. refl)) refl
+    same_state _ _ _ _ _ _ _ _ (own_noticed past o) (after-noticed past o) (silent-owed order past (noticed o) refl (λ k. refl)) refl
 
 pub state_withdrew : (cancels : Bool) (order : Order) (past : History) (k : ℕ) → IsLawful cancels (withdrew k ∷ past)
     → state_of order (withdrew k ∷ past) ≡ after_withdrew k (state_of order past)

@@ -1,5 +1,5 @@
--- A connection: what it was fed, what has happened, what its host was told, and what it has taken.
-use Rattle.std.specs.Prelude.{◌≡◌, ◌≤◌, ◌<◌, ℕ, ◌+◌, List, [], ◌∷◌, ◌++◌, Bool, true, false, map, length, take, slice_get, Option, Some, None, IsSome}
+-- A connection, and what holds of it after a history: what came, what the host was told, and what is written.
+use Rattle.std.specs.Prelude.{◌≡◌, ◌≤◌, ◌<◌, ◌⊎◌, ℕ, ◌+◌, List, [], ◌∷◌, ◌++◌, Bool, true, false, map, length, take, slice_get, Option, Some, None}
 use Rattle.lsp_frames.specs.declared.frame.Frame.{Frame}
 use Rattle.connection_messages.specs.Reading.{unit_of}
 use Rattle.connection_messages.specs.declared.unit.Unit.{Unit}
@@ -9,45 +9,42 @@ use Rattle.connection_history.specs.declared.event.Event.{Event}
 use Rattle.connection_history.specs.declared.refused.Refused.{Refused}
 use Rattle.connection_history.specs.declared.refused.Refused.TheVariants.{Memory}
 use Rattle.connection_history.specs.Stream.{entries_in, calls_in}
-use Rattle.connection_history.specs.History.{Happening, came, ended, History, units_of, is_open, is_over}
+use Rattle.connection_history.specs.History.{came, ended, History, units_of, is_over}
 use Rattle.connection_history.specs.Refusals.{IsLawful}
 use Rattle.connection_history.specs.Events.{events_of, call_count}
 use Rattle.connection_history.specs.Items.{items_of, text_of}
-use Rattle.content_streams.specs.declared.ending.HowEnded.{HowEnded}
 use Rattle.content_streams.specs.declared.ending.StreamEnd.{StreamEnd}
 use Rattle.content_streams.specs.declared.ending.StreamEnd.TheVariants as stream
-use Rattle.content_streams.specs.Streams.{contents_of, end_of}
-use Rattle.outbox.specs.Output.{Output, full_count, IsAllTaken}
+use Rattle.content_streams.specs.Streams as streams
+use Rattle.content_streams.specs.Streams.{Stream}
+use Rattle.outbox.specs.Output.{full_count, IsAllTaken}
+use Rattle.connection_states.specs.States.{state_of, theirs_of}
+use Rattle.connection_desk.specs.Desks.{Desk}
 use Rattle.connection.specs.Settings.{Chosen}
 
 pub record Connection : Type 0 where
   pub settings : Chosen
-  -- the pieces that were fed until the input was over, and how the host has said that they end
-  pub pieces : List (List ℕ)
-  pub ended : Option HowEnded
-  -- the latest first
-  pub history : History
-  -- the events that the host was told, in their order
-  pub told : List Event
-  -- how many bytes the host has taken; in Contents, how many texts
-  pub taken : ℕ
+  -- the pieces that were fed until the input was over, what the host said of their end, and how many contents were taken
+  pub stream : Stream
+  -- what stands open, what the host hasn't been told yet, and what is written
+  pub desk : Desk
 
 -- ---- what comes
 
 -- the contents of the pieces, and how their stream has ended
 abbrev pub contents : Connection → List Frame
-contents c = contents_of c.settings.framing c.settings.content c.pieces c.ended
+contents c = streams.contents c.stream
 
 abbrev pub stream_end : Connection → Option StreamEnd
-stream_end c = end_of c.settings.framing c.settings.content c.pieces c.ended
+stream_end c = streams.close_of c.stream
 
 -- what a content is read as
 abbrev pub read : Bool → Frame → Unit
 read cancels frame = unit_of cancels frame.foreign frame.content
 
 -- the next content that hasn't come
-abbrev pub next_content : Connection → Option Frame
-next_content c = slice_get (contents c) (length (units_of c.history))
+abbrev pub next_content : Connection → History → Option Frame
+next_content c history = slice_get (contents c) (length (units_of history))
 
 abbrev pub calls_of : Unit → ℕ
 calls_of u = length (calls_in (entries_in u))
@@ -57,62 +54,79 @@ close_of stream.Clean = close.Clean
 close_of (stream.Fault fault) = close.Fault fault
 close_of stream.ReadFailed = close.ReadFailed
 
--- ---- what goes out
-
--- the texts that are written, as they are to be taken
-abbrev pub output : Connection → Output
-output c = record { framing = c.settings.framing; written = map text_of (items_of c.settings.order c.history); taken = c.taken }
-
 -- ---- what holds
 
--- What was told is a front of the events of the history.
-pub record IsTold (c : Connection) : Type 0 where
-  pub untold : List Event
-  pub whole : events_of c.history ≡ c.told ++ untold
+-- The desk is what the history makes of it. What was told, and then what isn't told yet, are the events of the history. All
+-- that was written are the texts of its items, in their order.
+pub record IsDeskOf (settings : Chosen) (history : History) (told : List Event) (desk : Desk) : Type 0 where
+  pub cancels : desk.cancels ≡ settings.takes_cancels
+  pub order : desk.order ≡ settings.order
+  pub state : desk.state ≡ state_of settings.order history
+  pub events : events_of history ≡ told ++ desk.untold
+  pub framing : desk.out.framing ≡ settings.framing
+  pub written : desk.out.written ≡ map text_of (items_of settings.order history)
 
--- All events of the history are told.
-abbrev pub IsAllTold : Connection → Type 0
-IsAllTold c = events_of c.history ≡ c.told
+-- The units that came are those of the first contents, as many as were taken.
+pub record IsStreamOf (settings : Chosen) (history : History) (stream : Stream) : Type 0 where
+  pub framing : stream.framing ≡ settings.framing
+  pub limit : stream.limit ≡ settings.content
+  pub taken : stream.taken ≡ length (units_of history)
+  pub came : units_of history ≡ map (read settings.takes_cancels) (take stream.taken (streams.contents stream))
 
-pub record StandsAfter (c : Connection) : Type 0 where
+-- The connection stands after this history, latest first, and its host was told these events.
+pub record StandsAfter (c : Connection) (history : History) (told : List Event) : Type 0 where
   -- nothing in the history was refused
-  pub lawful : IsLawful c.settings.takes_cancels c.history
-  -- the units that came are those of the first contents
-  pub came : units_of c.history ≡ map (read c.settings.takes_cancels) (take (length (units_of c.history)) (contents c))
-  -- they have no more calls than the settings say
-  pub calls : call_count c.history ≤ c.settings.calls
-  pub told : IsTold c
-  pub taken : c.taken ≤ full_count c.settings.framing (output c).written
+  pub lawful : IsLawful c.settings.takes_cancels history
+  -- no more calls came than the settings say
+  pub calls : call_count history ≤ c.settings.calls
+  pub stream : IsStreamOf c.settings history c.stream
+  pub desk : IsDeskOf c.settings history told c.desk
+  -- no more was taken than is written
+  pub taken : c.desk.out.taken ≤ full_count c.desk.out.framing c.desk.out.written
+
+-- Nothing was fed between.
+pub record SamePieces (before now : Stream) : Type 0 where
+  pub framing : now.framing ≡ before.framing
+  pub limit : now.limit ≡ before.limit
+  pub pieces : now.pieces ≡ before.pieces
+  pub ended : now.ended ≡ before.ended
 
 -- ---- what happens when the host asks for an event
 
-abbrev pub with_happening : Happening → Connection → Connection
-with_happening h c = record c { history = h ∷ c.history }
-
--- Once all is told and while the input isn't over, the next content comes; or it would bring too many calls; or there is
+-- Once all is told, and while the input isn't over, the next content comes; or it would bring too many calls; or there is
 -- none, and the stream has ended.
-pub data Step (c : Connection) : Connection → Type 0 where
-  comes : (frame : Frame) → IsAllTold c → is_over c.history ≡ false → next_content c ≡ Some frame
-      → call_count c.history + calls_of (read c.settings.takes_cancels frame) ≤ c.settings.calls
-      → Step c (with_happening (came (read c.settings.takes_cancels frame)) c)
-  is_full : (frame : Frame) → IsAllTold c → is_over c.history ≡ false → next_content c ≡ Some frame
-      → c.settings.calls < call_count c.history + calls_of (read c.settings.takes_cancels frame)
-      → Step c (with_happening (ended close.Full) c)
-  ends : (end : StreamEnd) → IsAllTold c → is_over c.history ≡ false → next_content c ≡ None → stream_end c ≡ Some end
-      → Step c (with_happening (ended (close_of end)) c)
+pub data Step (c : Connection) (told : List Event) (past : History) : History → Type 0 where
+  comes : (frame : Frame) → events_of past ≡ told → is_over past ≡ false → next_content c past ≡ Some frame
+      → call_count past + calls_of (read c.settings.takes_cancels frame) ≤ c.settings.calls
+      → Step c told past (came (read c.settings.takes_cancels frame) ∷ past)
+  is_full : (frame : Frame) → events_of past ≡ told → is_over past ≡ false → next_content c past ≡ Some frame
+      → c.settings.calls < call_count past + calls_of (read c.settings.takes_cancels frame)
+      → Step c told past (ended close.Full ∷ past)
+  ends : (end : StreamEnd) → events_of past ≡ told → is_over past ≡ false → next_content c past ≡ None → stream_end c ≡ Some end
+      → Step c told past (ended (close_of end) ∷ past)
 
 -- no step, or several
-pub data GoesOn (c : Connection) : Connection → Type 0 where
-  stays : GoesOn c c
-  step : (between now : Connection) → GoesOn c between → Step between now → GoesOn c now
+pub data GoesOn (c : Connection) (told : List Event) (past : History) : History → Type 0 where
+  stays : GoesOn c told past past
+  goes : (between now : History) → GoesOn c told past between → Step c told between now → GoesOn c told past now
 
--- Nothing more can happen before the host does something.
-pub data IsStill (c : Connection) : Type 0 where
-  over : is_over c.history ≡ true → IsStill c
-  waits : next_content c ≡ None → stream_end c ≡ None → IsStill c
+-- Nothing more can happen before the host does something: all is told, and the input is over or its contents have come.
+pub data IsStill (c : Connection) (history : History) (told : List Event) : Type 0 where
+  over : events_of history ≡ told → is_over history ≡ true → IsStill c history told
+  waits : events_of history ≡ told → next_content c history ≡ None → stream_end c ≡ None → IsStill c history told
 
-abbrev pub with_told : Event → Connection → Connection
-with_told e c = record c { told = c.told ++ e ∷ [] }
+-- The connection has gone on by one step, or by none or several, and nothing was told.
+pub record HasStepped (before now : Connection) (past : History) (told : List Event) : Type 0 where
+  pub history : History
+  pub step : Step before told past history
+  pub stands : StandsAfter now history told
+  pub pieces : SamePieces before.stream now.stream
+  pub settings : now.settings ≡ before.settings
+
+pub record HasGoneOn (before now : Connection) (past : History) (told : List Event) : Type 0 where
+  pub history : History
+  pub steps : GoesOn before told past history
+  pub stands : StandsAfter now history told
 
 -- ---- refusals
 
@@ -122,8 +136,9 @@ IsRefusal why refusal = (why ≡ Memory) ⊎ (refusal ≡ Some why)
 
 -- ---- done
 
-pub record IsDone (c : Connection) : Type 0 where
-  pub over : is_over c.history ≡ true
-  pub told : IsAllTold c
-  pub answered : (number : ℕ) → 0 < number → is_open number c.history ≡ false
-  pub taken : IsAllTaken (output c)
+pub record IsDone (c : Connection) (history : History) (told : List Event) : Type 0 where
+  pub over : is_over history ≡ true
+  pub all_told : events_of history ≡ told
+  -- no call is open
+  pub answered : (theirs_of history).calls ≡ []
+  pub taken : IsAllTaken c.desk.out

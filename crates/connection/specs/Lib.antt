@@ -1,3 +1,2 @@
 pub mod Connections
-pub mod Inner
 pub mod Settings

@@ -1,6 +1,12 @@
 //! What the host is told.
 
-ghost use Rattle.std.specs.Prelude.{◌≡◌, ◌≤◌, ◌+◌, Ok, Some, None, IfOk, IfSome, IfNone, OnErr, OnOk, true, false, MatchOption};
+ghost use Rattle.std.specs.Prelude.{◌≡◌, ◌++◌, ◌∷◌, [], List, Ok, Some, None, IfOk, IfSome, OnErr, true, false, length};
+ghost use mir.Val.{bool_byte};
+ghost use Rattle.connection_history.specs.Stream.{calls_in, call_in};
+ghost use Rattle.connection.specs.Connections.{calls_of, close_of as close_as};
+ghost use Rattle.connection_history.specs.declared.event.Event.{Event as Told};
+ghost use Rattle.connection_history.specs.History.{History, came, ended, is_over};
+ghost use Rattle.connection_history.specs.Events.{events_of};
 
 use crate::connection::Connection;
 use connection_history::{Close, Event};
@@ -9,19 +15,23 @@ use content_streams::StreamEnd;
 use std::alloc::AllocError;
 
 impl Connection {
-    ghost use Rattle.connection.specs.Connections.{GoesOn, IsAllTold, IsStill, Step, Connection as Seen, with_told};
+    ghost use Rattle.connection.specs.Connections.{GoesOn, IsStill, StandsAfter, Step, HasGoneOn, HasStepped};
 
     /// The next event. There is none where all is told that has come. Where it is refused for memory nothing is told, and
     /// it may be asked for again; contents without events may have come.
     pub fn next_event(&mut self) -> Result<Option<Event>, AllocError>
-        ensures told { IfOk result (λ next. IfSome next (λ event. (now : Seen) ×
-            GoesOn self.old now × (self.new ≡ with_told event now))) }
-        ensures none { IfOk result (λ next. next ≡ None →
-            GoesOn self.old self.new × IsAllTold self.new × IsStill self.new) }
-        ensures err { OnErr result (GoesOn self.old self.new) }
+        ensures told { (history : History) (told : List Told) → StandsAfter self.old history told →
+            IfOk result (λ next. IfSome next (λ event. (now : History) × GoesOn self.old told history now ×
+            StandsAfter self.new now (told ++ event ∷ []))) }
+        ensures none { (history : History) (told : List Told) → StandsAfter self.old history told →
+            IfOk result (λ next. next ≡ None → (now : History) × GoesOn self.old told history now ×
+            StandsAfter self.new now told × IsStill self.new now told) }
+        ensures err { (history : History) (told : List Told) → StandsAfter self.old history told →
+            OnErr result (HasGoneOn self.old self.new history told) }
+        ensures settings { self.new.settings ≡ self.old.settings }
     {
         loop {
-            if let Some(event) = self.next_told() {
+            if let Some(event) = self.desk.next_event() {
                 return Ok(Some(event));
             }
             if !self.go_on()? {
@@ -30,21 +40,13 @@ impl Connection {
         }
     }
 
-    /// The next event of what has happened.
-    fn next_told(&mut self) -> Option<Event>
-        ensures told { IfSome result (λ event. self.new ≡ with_told event self.old) }
-        ensures none { result ≡ None → (self.new ≡ self.old) × IsAllTold self.old }
-    {
-        let event = self.desk.next_event()?;
-        self.past = self.past.with_told(&event);
-        Some(event)
-    }
-
     /// Reads the next content, or ends the input. Says whether there was either.
     fn go_on(&mut self) -> Result<bool, AllocError>
-        requires { IsAllTold self.old }
-        ensures went { result ≡ Ok true → Step self.old self.new }
-        ensures still { result ≡ Ok false → (self.new ≡ self.old) × IsStill self.old }
+        ensures went { (history : History) (told : List Told) → StandsAfter self.old history told →
+            events_of history ≡ told → result ≡ Ok true → HasStepped self.old self.new history told }
+        ensures still { (history : History) (told : List Told) → StandsAfter self.old history told →
+            events_of history ≡ told → result ≡ Ok false →
+            (self.new ≡ self.old) × IsStill self.old history told }
         ensures err { OnErr result (self.new ≡ self.old) }
     {
         if self.desk.is_over() {
@@ -59,14 +61,12 @@ impl Connection {
 
     /// Takes in the unit of the next content, or ends the input where it has too many calls.
     fn take_in(&mut self, unit: Unit) -> Result<bool, AllocError> {
-        if call_count(&unit) > self.settings.calls() - self.desk.came() {
-            self.end_now(Close::Full);
+        if call_count(&unit) > self.settings.calls().saturating_sub(self.desk.came()) {
+            self.desk.end(Close::Full);
             return Ok(true);
         }
-        let past = self.past.with_unit(&unit);
         self.desk.take_in(unit)?;
         self.stream.pop();
-        self.past = past;
         Ok(true)
     }
 
@@ -74,21 +74,16 @@ impl Connection {
     fn end_if_closed(&mut self) -> bool {
         match self.stream.close() {
             Some(end) => {
-                self.end_now(close_of(end));
+                self.desk.end(close_of(end));
                 true
             }
             None => false,
         }
     }
-
-    fn end_now(&mut self, close: Close) {
-        self.desk.end(close);
-        self.past = self.past.with_end(close);
-    }
 }
 
 fn close_of(end: StreamEnd) -> Close
-    ensures { result ≡ close_of end }
+    ensures { result ≡ close_as end }
 {
     match end {
         StreamEnd::Clean => Close::Clean,
@@ -104,16 +99,22 @@ fn call_count(unit: &Unit) -> u64
     match unit {
         Unit::Unreadable => 0,
         Unit::Single(entry) => is_call(entry) as u64,
-        Unit::Batch(entries) => {
-            let mut count = 0;
-            for entry in entries.as_slice() {
-                count += is_call(entry) as u64;
-            }
-            count
-        }
+        Unit::Batch(entries) => count_calls(entries.as_slice()),
     }
 }
 
-fn is_call(entry: &Entry) -> bool {
+fn count_calls(entries: &[Entry]) -> u64
+    ensures { result ≡ length (calls_in entries.now) }
+{
+    let mut count = 0;
+    for entry in entries {
+        count += is_call(entry) as u64;
+    }
+    count
+}
+
+fn is_call(entry: &Entry) -> bool
+    ensures { bool_byte result ≡ length (call_in entry.now) }
+{
     matches!(entry, Entry::Call(_))
 }

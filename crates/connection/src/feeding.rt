@@ -1,21 +1,27 @@
 //! What is read goes in.
 
-ghost use Rattle.std.specs.Prelude.{◌≡◌, ◌≢◌, ◌++◌, ◌∷◌, [], Some, None, is_some, OnOk, IfErr, if◌then◌else◌};
+ghost use Rattle.std.specs.Prelude.{◌≡◌, ◌≢◌, ◌⊎◌, ◌++◌, ◌∷◌, [], List, Some, None, OnOk, IfErr, if◌then◌else◌};
+ghost use Rattle.connection_history.specs.declared.event.Event.{Event};
 ghost use Rattle.connection_history.specs.declared.refused.Refused.TheVariants.{Memory, Over};
-ghost use Rattle.connection_history.specs.History.{is_over};
+ghost use Rattle.connection_history.specs.History.{History};
 
 use crate::connection::Connection;
 use connection_history::Refused;
 use content_streams::HowEnded;
 
 impl Connection {
+    ghost use Rattle.connection.specs.Connections.{StandsAfter};
+
     /// Feeds bytes that were read. Once the input is over, they are ignored.
     pub fn feed(&mut self, piece: &[u8]) -> Result<(), Refused>
-        ensures ok { OnOk result ((self.old.ended ≡ None) × (self.new ≡
-            (if is_over self.old.history then self.old
-            else record self.old { pieces = self.old.pieces ++ piece.now ∷ [] }))) }
+        ensures ok { OnOk result ((self.old.stream.ended ≡ None) × (self.new ≡
+            (if self.old.desk.state.is_over then self.old else record self.old {
+              stream = record self.old.stream { pieces = self.old.stream.pieces ++ piece.now ∷ [] };
+            }))) }
         ensures err { IfErr result (λ why. (self.new ≡ self.old) ×
-            ((why ≡ Memory) ⊎ ((why ≡ Over) × (self.old.ended ≢ None)))) }
+            ((why ≡ Memory) ⊎ ((why ≡ Over) × (self.old.stream.ended ≢ None)))) }
+        ensures stands { (history : History) (told : List Event) →
+            StandsAfter self.old history told → StandsAfter self.new history told }
     {
         if self.stream.has_ended() {
             return Err(Refused::Over);
@@ -29,8 +35,12 @@ impl Connection {
 
     /// Says how the input ended. It is over once all contents that came have been read. Takes no memory.
     pub fn end(&mut self, how: HowEnded) -> Result<(), Refused>
-        ensures ok { OnOk result ((self.old.ended ≡ None) × (self.new ≡ record self.old { ended = Some how })) }
-        ensures err { IfErr result (λ why. (self.new ≡ self.old) × (why ≡ Over) × (self.old.ended ≢ None)) }
+        ensures ok { OnOk result ((self.old.stream.ended ≡ None) ×
+            (self.new ≡ record self.old { stream = record self.old.stream { ended = Some how } })) }
+        ensures err { IfErr result (λ why. (self.new ≡ self.old) × (why ≡ Over) ×
+            (self.old.stream.ended ≢ None)) }
+        ensures stands { (history : History) (told : List Event) →
+            StandsAfter self.old history told → StandsAfter self.new history told }
     {
         if self.stream.has_ended() {
             return Err(Refused::Over);

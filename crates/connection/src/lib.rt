@@ -5,7 +5,6 @@
 mod asking;
 mod connection;
 mod feeding;
-mod past;
 mod report;
 mod saying;
 mod settings;

@@ -1,9 +1,10 @@
 //! What the host says.
 
-ghost use Rattle.std.specs.Prelude.{◌≡◌, ◌+◌, ◌∷◌, None, IfOk, IfErr, OnOk, OnErr, is_some};
+ghost use Rattle.std.specs.Prelude.{◌≡◌, ◌+◌, ◌∷◌, List, None, IfOk, IfErr, OnOk, OnErr};
 ghost use Rattle.rpc_messages.specs.declared.standard.Standard.TheVariants.{Cancelled};
 ghost use Rattle.connection_messages.specs.declared.answer.Answer.TheVariants.{Standard};
-ghost use Rattle.connection_history.specs.History.{called, called_all, noticed, withdrew, answered, key_count};
+ghost use Rattle.connection_history.specs.declared.event.Event.{Event};
+ghost use Rattle.connection_history.specs.History.{History, called, called_all, noticed, withdrew, answered, key_count};
 ghost use Rattle.connection_history.specs.Refusals.{refusal, after, cancel_of};
 
 use crate::connection::Connection;
@@ -12,95 +13,87 @@ use connection_messages::{Answer, Outgoing};
 use std::alloc::AllocError;
 
 impl Connection {
-    ghost use Rattle.connection.specs.Connections.{IsRefusal, with_happening};
+    ghost use Rattle.connection.specs.Connections.{IsRefusal, StandsAfter};
 
     /// Calls the other side on behalf of the open call with this number, or of the host itself where it is 0, and answers
     /// the key of the call.
     pub fn call(&mut self, number: u64, outgoing: &Outgoing) -> Result<u64, Refused>
-        ensures key { IfOk result (λ key. key ≡ key_count self.old.history + 1) }
-        ensures ok { OnOk result (
-            (refusal self.old.settings.takes_cancels self.old.history (called number outgoing.now) ≡ None) ×
-            (self.new ≡ with_happening (called number outgoing.now) self.old)) }
-        ensures err { IfErr result (λ why. (self.new ≡ self.old) × IsRefusal why
-            (refusal self.old.settings.takes_cancels self.old.history (called number outgoing.now))) }
+        ensures key { (history : History) (told : List Event) →
+            StandsAfter self.old history told → IfOk result (λ key. key ≡ key_count history + 1) }
+        ensures ok { (history : History) (told : List Event) →
+            StandsAfter self.old history told → OnOk result
+            ((refusal self.old.settings.takes_cancels history (called number outgoing.now) ≡ None) ×
+            StandsAfter self.new (called number outgoing.now ∷ history) told) }
+        ensures err { IfErr result (λ why. (self.new ≡ self.old) ×
+            ((history : History) (told : List Event) → StandsAfter self.old history told →
+            IsRefusal why (refusal self.old.settings.takes_cancels history (called number outgoing.now)))) }
     {
-        let past = self.past.with_call(number, outgoing);
-        let key = self.desk.call(number, outgoing)?;
-        self.past = past;
-        Ok(key)
+        self.desk.call(number, outgoing)
     }
 
     /// Calls the other side several times, in one array, and answers the key of the first. The other keys follow it.
     pub fn call_batch(&mut self, number: u64, outgoings: &[Outgoing]) -> Result<u64, Refused>
-        ensures key { IfOk result (λ key. key ≡ key_count self.old.history + 1) }
-        ensures ok { OnOk result (
-            (refusal self.old.settings.takes_cancels self.old.history (called_all number outgoings.now) ≡ None) ×
-            (self.new ≡ with_happening (called_all number outgoings.now) self.old)) }
-        ensures err { IfErr result (λ why. (self.new ≡ self.old) × IsRefusal why
-            (refusal self.old.settings.takes_cancels self.old.history (called_all number outgoings.now))) }
+        ensures key { (history : History) (told : List Event) →
+            StandsAfter self.old history told → IfOk result (λ key. key ≡ key_count history + 1) }
+        ensures ok { (history : History) (told : List Event) →
+            StandsAfter self.old history told → OnOk result
+            ((refusal self.old.settings.takes_cancels history (called_all number outgoings.now) ≡ None) ×
+            StandsAfter self.new (called_all number outgoings.now ∷ history) told) }
+        ensures err { IfErr result (λ why. (self.new ≡ self.old) ×
+            ((history : History) (told : List Event) → StandsAfter self.old history told →
+            IsRefusal why (refusal self.old.settings.takes_cancels history (called_all number outgoings.now)))) }
     {
-        let past = self.past.with_calls(number, outgoings);
-        let first = self.desk.call_batch(number, outgoings)?;
-        self.past = past;
-        Ok(first)
+        self.desk.call_batch(number, outgoings)
     }
 
     /// Notifies the other side.
     pub fn notify(&mut self, outgoing: &Outgoing) -> Result<(), AllocError>
-        ensures ok { OnOk result (self.new ≡ with_happening (noticed outgoing.now) self.old) }
+        ensures ok { (history : History) (told : List Event) →
+            StandsAfter self.old history told → OnOk result (StandsAfter self.new (noticed outgoing.now ∷ history) told) }
         ensures err { OnErr result (self.new ≡ self.old) }
     {
-        let past = self.past.with_notice(outgoing);
-        self.desk.notify(outgoing)?;
-        self.past = past;
-        Ok(())
+        self.desk.notify(outgoing)
     }
 
     /// Withdraws our call with this key. It still waits for its reply.
     pub fn withdraw(&mut self, key: u64) -> Result<(), Refused>
-        ensures ok { OnOk result (
-            (refusal self.old.settings.takes_cancels self.old.history (withdrew key) ≡ None) ×
-            (self.new ≡ with_happening (withdrew key) self.old)) }
-        ensures err { IfErr result (λ why. (self.new ≡ self.old) × IsRefusal why
-            (refusal self.old.settings.takes_cancels self.old.history (withdrew key))) }
+        ensures ok { (history : History) (told : List Event) →
+            StandsAfter self.old history told → OnOk result
+            ((refusal self.old.settings.takes_cancels history (withdrew key) ≡ None) ×
+            StandsAfter self.new (withdrew key ∷ history) told) }
+        ensures err { IfErr result (λ why. (self.new ≡ self.old) ×
+            ((history : History) (told : List Event) → StandsAfter self.old history told →
+            IsRefusal why (refusal self.old.settings.takes_cancels history (withdrew key)))) }
     {
-        let past = self.past.with_withdrawal(key);
-        self.desk.withdraw(key)?;
-        self.past = past;
-        Ok(())
+        self.desk.withdraw(key)
     }
 
     /// Answers the open call with this number. For a notification it says that the host is done with it, and nothing is
     /// written.
     pub fn answer(&mut self, number: u64, answer: &Answer) -> Result<(), Refused>
-        ensures ok { OnOk result (
-            (refusal self.old.settings.takes_cancels self.old.history (answered number answer.now) ≡ None) ×
-            (self.new ≡ with_happening (answered number answer.now) self.old)) }
-        ensures err { IfErr result (λ why. (self.new ≡ self.old) × IsRefusal why
-            (refusal self.old.settings.takes_cancels self.old.history (answered number answer.now))) }
+        ensures ok { (history : History) (told : List Event) →
+            StandsAfter self.old history told → OnOk result
+            ((refusal self.old.settings.takes_cancels history (answered number answer.now) ≡ None) ×
+            StandsAfter self.new (answered number answer.now ∷ history) told) }
+        ensures err { IfErr result (λ why. (self.new ≡ self.old) ×
+            ((history : History) (told : List Event) → StandsAfter self.old history told →
+            IsRefusal why (refusal self.old.settings.takes_cancels history (answered number answer.now)))) }
     {
-        let past = self.past.with_answer(number, answer);
-        self.desk.answer(number, answer)?;
-        self.past = past;
-        Ok(())
+        self.desk.answer(number, answer)
     }
 
     /// Withdraws the calls of the open call with this number that wait, and answers it with the error `Request cancelled`;
     /// all or nothing.
     pub fn cancel(&mut self, number: u64) -> Result<(), Refused>
-        ensures ok { OnOk result (
-            (refusal self.old.settings.takes_cancels self.old.history (answered number (Standard Cancelled)) ≡ None) ×
-            (self.new ≡ record self.old {
-              history = after self.old.history
-                  (cancel_of self.old.settings.takes_cancels number self.old.history);
-            })) }
-        ensures err { IfErr result (λ why. (self.new ≡ self.old) × IsRefusal why
-            (refusal self.old.settings.takes_cancels self.old.history (answered number (Standard Cancelled)))) }
+        ensures ok { (history : History) (told : List Event) →
+            StandsAfter self.old history told → OnOk result
+            ((refusal self.old.settings.takes_cancels history (answered number (Standard Cancelled)) ≡ None) ×
+            StandsAfter self.new (after history (cancel_of self.old.settings.takes_cancels number history)) told) }
+        ensures err { IfErr result (λ why. (self.new ≡ self.old) ×
+            ((history : History) (told : List Event) → StandsAfter self.old history told →
+            IsRefusal why (refusal self.old.settings.takes_cancels history (answered number (Standard Cancelled))))) }
     {
-        let past = self.past.with_cancel(self.settings.takes_cancels(), number);
-        self.desk.cancel(number)?;
-        self.past = past;
-        Ok(())
+        self.desk.cancel(number)
     }
 
     /// Whether this call is a request, and so has an answer. There is none where it isn't open.

@@ -1,5 +1,5 @@
 -- A desk: what stands open, what isn't told yet, and what was written.
-use Rattle.std.specs.Prelude.{ℕ, ◌+◌, ◌≡◌, ◌==◌, ◌&&◌, ◌||◌, not, nat_lt, List, [], ◌∷◌, ◌++◌, Bool, true, false, map, length, Option, Some, None, is_some, if◌then◌else◌}
+use Rattle.std.specs.Prelude.{ℕ, ◌+◌, ◌≡◌, ◌⊎◌, ◌==◌, ◌&&◌, ◌||◌, not, nat_lt, List, [], ◌∷◌, ◌++◌, Bool, true, false, map, length, Option, Some, None, is_some, if◌then◌else◌}
 use Rattle.std.specs.Option.{option_map_or}
 use Rattle.rpc_messages.specs.declared.standard.Standard.TheVariants.{Cancelled}
 use Rattle.connection_messages.specs.Texts.{call_text, calls_text, notice_text, withdrawal_text}
@@ -16,12 +16,12 @@ use Rattle.connection_history.specs.Refusals.{first_of, most_keys}
 use Rattle.connection_history.specs.Stream.{entries_in}
 use Rattle.connection_history.specs.Items.{text_of}
 use Rattle.open_calls.specs.declared.own_call.OwnCall.{OwnCall}
-use Rattle.open_calls.specs.Numbered.{at}
+use Rattle.open_calls.specs.Numbered.{at, changed_at}
 use Rattle.open_calls.specs.Own.{is_wanted_by}
-use Rattle.open_calls.specs.Owed.{OwedUnit}
+use Rattle.open_calls.specs.Owed.{OwedUnit, given}
 use Rattle.outbox.specs.Output.{Output, IsAllTaken}
 use Rattle.connection_states.specs.States.{State}
-use Rattle.connection_states.specs.Steps.{after_came, after_called, after_withdrew, after_answered, after_ended, answers_of, leaving, owed_with, owed_given, told_of_all, told_at_end}
+use Rattle.connection_states.specs.Steps.{after_came, after_called, after_withdrew, after_answered, after_ended, answers_of, leaving, staying, owed_with, owed_given, told_of_all, told_at_end}
 use Rattle.std.specs.Prelude.{filter}
 
 pub record Desk : Type 0 where
@@ -120,6 +120,21 @@ after_answer n a d = record {
   untold = d.untold;
   out = with_texts (answer_texts (leaving d.order (owed_given (at n d.state.theirs.calls) a d.state.owed.owed))) d.out;
 }
+
+-- a slot of an answer is given its text
+abbrev pub after_given : ℕ → ℕ → List ℕ → Desk → Desk
+after_given place slot text d = record {
+  cancels = d.cancels;
+  order = d.order;
+  state = record d.state { owed = record d.state.owed { owed = staying d.order (changed_at place (given slot text) d.state.owed.owed) } };
+  untold = d.untold;
+  out = with_texts (answer_texts (leaving d.order (changed_at place (given slot text) d.state.owed.owed))) d.out;
+}
+
+-- Some texts were said since, and nothing else happened.
+pub record HasWithdrawn (before now : Desk) : Type 0 where
+  pub texts : List (List ℕ)
+  pub is : now ≡ after_saying texts before
 
 -- the keys of the calls of n that aren't withdrawn
 abbrev pub wanted_keys : ℕ → State → List ℕ

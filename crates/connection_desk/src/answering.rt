@@ -1,6 +1,6 @@
 //! Calls of the other side are answered.
 
-ghost use Rattle.std.specs.Prelude.{◌≡◌, ◌++◌, ◌∷◌, [], None, IfErr, OnOk, OnErr};
+ghost use Rattle.std.specs.Prelude.{◌≡◌, ◌++◌, ◌∷◌, [], map, None, IfErr, OnOk, OnErr};
 
 use crate::desk::Desk;
 use crate::leaving::{let_out, write_leaving};
@@ -10,7 +10,8 @@ use rpc_messages::Standard;
 use std::alloc::AllocError;
 
 impl Desk {
-    ghost use Rattle.connection_desk.specs.Desks.{IsRefusal, after_answer, after_cancel, after_saying, answer_refused, wanted_keys};
+    ghost use Rattle.connection_desk.specs.Desks.{IsRefusal, after_answer, after_cancel, after_given, after_saying, answer_refused, wanted_keys, HasWithdrawn};
+    ghost use Rattle.connection_messages.specs.Texts.{withdrawal_text};
 
     /// Answers the open call with this number. For a notification it says that the host is done with it, and nothing is
     /// written.
@@ -56,14 +57,23 @@ impl Desk {
     }
 
     /// Where it is refused, some withdrawals may be written.
-    fn withdraw_and_answer(&mut self, number: u64) -> Result<(), Refused> {
+    fn withdraw_and_answer(&mut self, number: u64) -> Result<(), Refused>
+        ensures ok { OnOk result ((answer_refused number self.old.state ≡ None) ×
+            (self.new ≡ after_cancel number self.old)) }
+        ensures err { IfErr result (λ why. HasWithdrawn self.old self.new ×
+            IsRefusal why (answer_refused number self.old.state)) }
+    {
         if self.cancels {
             self.write_withdrawals(number)?;
         }
         self.answer(number, &Answer::Standard(Standard::Cancelled))
     }
 
-    fn write_withdrawals(&mut self, number: u64) -> Result<(), AllocError> {
+    fn write_withdrawals(&mut self, number: u64) -> Result<(), AllocError>
+        ensures ok { OnOk result (self.new ≡
+            after_saying (map withdrawal_text (wanted_keys number self.old.state)) self.old) }
+        ensures err { OnErr result (HasWithdrawn self.old self.new) }
+    {
         let mut next = self.own.next_of(number, 0);
         while let Some(key) = next {
             let mut text = self.take_room();
@@ -75,7 +85,10 @@ impl Desk {
     }
 
     /// Gives a slot of an answer its text, and writes the answers that can go out then.
-    fn give(&mut self, place: u64, slot: u64, text: Vec<u8>) -> Result<(), AllocError> {
+    fn give(&mut self, place: u64, slot: u64, text: Vec<u8>) -> Result<(), AllocError>
+        ensures ok { OnOk result (self.new ≡ after_given place slot text.items self.old) }
+        ensures err { OnErr result (self.new ≡ self.old) }
+    {
         let mut room = self.take_room();
         let was = self.owed.replace(place, slot, Some(text));
         match write_leaving(self.order, &self.owed, place, &mut self.outbox, &mut room) {

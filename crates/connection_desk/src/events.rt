@@ -32,7 +32,13 @@ impl Events {
     pub fn is_empty(&self) -> bool
         ensures { IsTrue result ↔ (untold_of self.now ≡ []) }
     {
-        self.items.is_empty() && self.unanswered.len() == 0 && self.over.is_none()
+        if self.items.front().is_some() {
+            return false;
+        }
+        if self.unanswered.len() > 0 {
+            return false;
+        }
+        self.over.is_none()
     }
 
     /// Makes room for so many more events.
@@ -75,10 +81,12 @@ impl Events {
         if let Some(event) = self.items.pop_front() {
             return Some(event);
         }
-        if let Some(key) = self.unanswered.next(0) {
-            self.unanswered.remove(key);
+        if let Some(key) = self.unanswered.pop_first() {
             return Some(Event::Unanswered { key });
         }
-        self.over.take().map(Event::Over)
+        match self.over.take() {
+            Some(close) => Some(Event::Over(close)),
+            None => None,
+        }
     }
 }

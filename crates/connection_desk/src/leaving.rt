@@ -28,7 +28,10 @@ pub(crate) fn write_leaving(
     ensures err { OnErr result (outbox.new ≡ outbox.old) }
 {
     match order {
-        Order::AsAnswered => write_complete(owed, place, outbox, room),
+        Order::AsAnswered => {
+            let _first = owed.first();
+            write_complete(owed, place, outbox, room)
+        }
         Order::AsCame => write_front(owed, outbox, room),
     }
 }

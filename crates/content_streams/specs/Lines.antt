@@ -34,7 +34,7 @@ fits limit content = nat_le (length content) limit
 
 -- no line is too long, whether its LF has come or not
 unfoldable pub all_fit : ℕ → List (List ℕ) → Bool
-all_fit limit lines = list_all (λ line. fits limit (without_cr line)) lines
+all_fit limit lines = list_all (fits limit) (map without_cr lines)
 
 -- The contents of the lines before the first that is too long. Blank lines are passed over.
 unfoldable pub line_contents : ℕ → List (List ℕ) → List (List ℕ)

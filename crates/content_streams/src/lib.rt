@@ -7,6 +7,7 @@ mod cutter;
 mod ending;
 mod frames;
 mod framing;
+mod law;
 mod line_cutter;
 mod past;
 mod row;
@@ -14,6 +15,10 @@ mod row;
 pub use content_stream::ContentStream;
 pub use ending::{HowEnded, StreamEnd};
 pub use framing::Framing;
+pub use law::{
+    contents_only_grow, cuts_do_not_matter, faults_stay, frames_are_those_of_the_bytes,
+    lines_are_those_of_the_bytes,
+};
 
 #[cfg(test)]
 mod tests;

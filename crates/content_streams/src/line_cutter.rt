@@ -4,7 +4,7 @@ ghost use Rattle.std.specs.Prelude.{◌≡◌, ◌++◌, ◌∷◌, [], ℕ, Lis
 ghost use Rattle.std.specs.Option.{option_to_list};
 ghost use Rattle.content_streams.specs.Lines.{is_lf, ends_in_cr, without_cr, is_blank, fits, line_contents, ended_lines};
 ghost use Rattle.content_streams.specs.Streams.{plain};
-ghost use Rattle.content_streams.specs.Inner.Cutting.{Within, Over, IsWithin, grown, last_contents, text_standing, line_fault};
+ghost use Rattle.content_streams.specs.Inner.Cutting.{Within, Over, IsWithin, ended_contents, grown, last_contents, text_standing, line_fault};
 
 use json_values::Items;
 use lsp_frames::Frame;
@@ -70,10 +70,14 @@ impl LineCutter {
     /// The contents of the lines that this piece ends.
     pub(crate) fn feed(&mut self, piece: &[u8]) -> Result<Vec<Frame>, AllocError>
         requires { IsWithin self.old.standing }
-        ensures given { IfOk result (λ given. (line : List ℕ) → self.old.standing ≡ Within line →
-            given.items ≡ map plain (line_contents self.old.limit (ended_lines (line ++ piece.now)))) }
-        ensures left { OnOk result ((line : List ℕ) → self.old.standing ≡ Within line →
-            self.new ≡ record self.old { standing = text_standing self.old.limit (line ++ piece.now) }) }
+        ensures limit { self.new.limit ≡ self.old.limit }
+        ensures given { IfOk result (λ given. (bytes : List ℕ) →
+            self.old.standing ≡ text_standing self.old.limit bytes →
+            ended_contents self.old.limit (bytes ++ piece.now)
+            ≡ ended_contents self.old.limit bytes ++ given.items) }
+        ensures left { OnOk result ((bytes : List ℕ) →
+            self.old.standing ≡ text_standing self.old.limit bytes →
+            self.new.standing ≡ text_standing self.old.limit (bytes ++ piece.now)) }
         ensures err { OnErr result (self.new ≡ self.old) }
     {
         let mut contents = Vec::new(self.alloc);
@@ -121,7 +125,7 @@ impl LineCutter {
         ensures limit { self.new.limit ≡ self.old.limit }
         ensures fault { line_fault self.new.standing ≡ line_fault self.old.standing }
         ensures content { option_to_list result ≡
-            map plain (last_contents self.old.limit self.old.standing) }
+            last_contents self.old.limit self.old.standing }
     {
         if self.is_over {
             return None;
@@ -132,7 +136,8 @@ impl LineCutter {
 
     /// The content of the line, unless it is blank.
     fn into_content(self) -> Option<Frame>
-        ensures { option_to_list result ≡ map plain (last_contents self.limit self.standing) }
+        requires { IsWithin self.standing }
+        ensures { option_to_list result ≡ last_contents self.limit self.standing }
     {
         let LineCutter { mut line, .. } = self;
         let size = without_cr(line.as_slice()).len();
@@ -155,7 +160,7 @@ fn cut(
     bytes: &[u8],
 ) -> Result<LineCutter, AllocError>
     ensures given { OnOk result (contents.new.items ≡
-        contents.old.items ++ map plain (line_contents limit (ended_lines bytes.now))) }
+        contents.old.items ++ ended_contents limit bytes.now) }
     ensures left { IfOk result (λ left. left ≡
         record { limit = limit; standing = text_standing limit bytes.now }) }
 {

@@ -74,6 +74,7 @@ fn reads_lines(rt: HostRuntime) -> Result<(), Fail> {
         taken(alloc, &mut stream)?.as_slice(),
         b"ab|abcd|\r|cde|f|".as_slice()
     );
+    assert_eq!(rt; (stream.close(), stream.has_ended()), (None, false));
     stream.end(HowEnded::Closed);
     assert_eq!(rt; taken(alloc, &mut stream)?.as_slice(), b"abcd|".as_slice());
     assert_eq!(rt; stream.close(), Some(StreamEnd::Clean));

@@ -326,3 +326,12 @@ pub shorter : {X : Type 0} (key : ℕ) (x : X) (es : List (ℕ × X)) → at key
 shorter key x [] is = absurd (cc)
 shorter key x (e ∷ es) is =
     shorter_step (key == e.0) x e (at key es) es (without key es) is (fewer (λ e. not (key == e.0)) es) (λ there. shorter key x es there)
+
+-- ---- the first entry goes
+
+pub without_first : {X : Type 0} (n : ℕ) (x : X) (es : List (ℕ × X)) → Ascending es → slice_get es 0 ≡ Some (n, x) → es ≡ (n, x) ∷ without n es
+without_first n x [] order is = cc
+without_first n x (e ∷ es) order is =
+    let here : (n, x) ≡ e = cc in
+    subst (λ d. e ∷ es ≡ d ∷ without d.0 (e ∷ es)) (sym here)
+    (ap (λ t. e ∷ t) (sym (ap (λ b. cond (not b) (e ∷ without e.0 es) (without e.0 es)) (eq-eqb e.0 e.0 refl) ∙ without_above e.0 es order.0)))

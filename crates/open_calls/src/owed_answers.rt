@@ -1,5 +1,5 @@
 ghost use Rattle.std.specs.Prelude.{◌≡◌, ◌+◌, ◌-◌, ◌<◌, ◌^◌, ◌++◌, ◌∷◌, [], length, OnOk, OnErr, option_copied};
-ghost use Rattle.open_calls.specs.Numbered.{at, without, changed_at, first_number, next_number};
+ghost use Rattle.open_calls.specs.Numbered.{at, without, changed_at, first_number, next_number, Ascending};
 
 use crate::owed::Owed;
 use std::alloc::{AllocError, Global};
@@ -159,9 +159,10 @@ impl OwedAnswers {
         drop(self.owed.remove(&place));
     }
 
-    /// The least place whose unit is owed an answer.
+    /// The least place whose unit is owed an answer. Places ascend.
     pub fn first(&self) -> Option<u64>
-        ensures { result ≡ first_number self.now.owed }
+        ensures place { result ≡ first_number self.now.owed }
+        ensures ascending { Ascending self.now.owed }
     {
         match self.owed.first_key_value() {
             Some((place, _)) => Some(*place),

@@ -1,5 +1,6 @@
-ghost use Rattle.std.specs.Prelude.{◌≡◌, ℕ, ◌==◌, ◌&&◌, true, false, if◌then◌else◌, ◌+◌, ◌-◌, ◌<◌, ◌≤◌, ◌^◌, ◌++◌, ◌∷◌, [], length, OnOk, OnErr, IfOk, Option, Some, None};
+ghost use Rattle.std.specs.Prelude.{◌≡◌, ℕ, ◌==◌, ◌&&◌, true, false, if◌then◌else◌, ◌+◌, ◌-◌, ◌<◌, ◌≤◌, ◌^◌, ◌++◌, ◌∷◌, [], length, OnOk, OnErr, IfOk, MatchOption, Option, Some, None};
 ghost use Rattle.open_calls.specs.Inner.{has_key};
+ghost use Rattle.open_calls.specs.declared.own_call.OwnCall.{OwnCall};
 ghost use Rattle.open_calls.specs.Numbered.{at, without, up_to, changed_at, next_number};
 
 use crate::keys_by_caller::KeysByCaller;
@@ -186,6 +187,21 @@ impl OwnCalls {
             wanted: KeysByCaller::new(alloc),
         };
         mem::replace(self, none)
+    }
+
+    /// The first call that waits doesn't wait any more. Answers its key.
+    pub fn pop_first(&mut self) -> Option<u64>
+        ensures first { MatchOption result (self.old.waiting ≡ [])
+            (λ key. (call : OwnCall) × (self.old.waiting ≡ (key, call) ∷ self.new.waiting)) }
+        ensures none { result ≡ None → self.new ≡ self.old }
+        ensures made { self.new.made ≡ self.old.made }
+    {
+        let key = match self.waiting.first_key_value() {
+            Some((key, _)) => *key,
+            None => return None,
+        };
+        self.remove(key);
+        Some(key)
     }
 
     /// The least key above `after` of a call of this caller that isn't withdrawn.

@@ -43,6 +43,11 @@ fn keeps_our_calls(rt: HostRuntime) -> Result<(), Fail> {
         (None, Some(5), 2)
     );
     assert_eq!(rt; (calls.made(), calls.make(0, 0)?), (5, 6));
+    let taken = calls.take_waiting(rt.alloc());
+    assert_eq!(rt;
+        (taken.len(), taken.next(1), calls.made(), calls.len()),
+        (2, Some(5), 5, 0)
+    );
     Ok(())
 }
 
@@ -72,7 +77,9 @@ fn keeps_their_calls(rt: HostRuntime) -> Result<(), Fail> {
     assert_eq!(rt; (calls.came(), calls.len()), (2, 1));
     assert_eq!(rt; calls.reach(&Id::Unsigned(5)), None);
     assert_eq!(rt; calls.add(Some(Id::Unsigned(5)), 2, 0)?, 3);
-    assert_eq!(rt; calls.reach(&Id::Unsigned(5)), Some(3));
+    assert_eq!(rt; calls.reach_up_to(&Id::Unsigned(5), 2), None);
+    assert_eq!(rt; calls.reach_up_to(&Id::Unsigned(5), 3), Some(3));
+    assert_eq!(rt; calls.reach(&Id::Unsigned(5)), None);
     Ok(())
 }
 
@@ -99,6 +106,7 @@ fn keeps_owed_answers(rt: HostRuntime) -> Result<(), Fail> {
         (owed.len(), owed.first(), owed.next(0), owed.next(2)),
         (2, Some(0), Some(2), None)
     );
+    assert_eq!(rt; owed.places(), 3);
     assert_eq!(rt; (owed.lacks(0), owed.lacks(1), owed.lacks(2)), (1, 0, 2));
     owed.give(0, 0, b"{}".to_vec(alloc)?);
     owed.give(2, 2, b"3".to_vec(alloc)?);
@@ -107,6 +115,11 @@ fn keeps_owed_answers(rt: HostRuntime) -> Result<(), Fail> {
     owed.give(2, 0, b"2".to_vec(alloc)?);
     assert_eq!(rt; text_at(alloc, &owed, 0)?.as_slice(), b"{}".as_slice());
     assert_eq!(rt; text_at(alloc, &owed, 2)?.as_slice(), b"[2,1,3]".as_slice());
+    let was = owed.replace(2, 1, None);
+    assert_eq!(rt; (was.map(|text| text.len()), owed.lacks(2)), (Some(1), 1));
+    let was = owed.replace(2, 1, Some(b"5".to_vec(alloc)?));
+    assert_eq!(rt; was.is_none(), true);
+    assert_eq!(rt; text_at(alloc, &owed, 2)?.as_slice(), b"[2,5,3]".as_slice());
     owed.remove(0);
     assert_eq!(rt; (owed.len(), owed.first()), (1, Some(2)));
     owed.undo_unit();

@@ -4,13 +4,13 @@ use Rattle.std.specs.List.{list_all}
 use Rattle.lsp_frames.specs.Decoding.{StandsAfter}
 use Rattle.lsp_frames.specs.declared.frame.Frame.{Frame}
 use Rattle.lsp_frames.specs.declared.frame.FrameFault.{FrameFault}
-use Rattle.lsp_frames.specs.declared.frame.FrameFault.TheVariants.{TooLarge, Truncated}
+use Rattle.lsp_frames.specs.declared.frame.FrameFault.TheVariants.{Truncated}
 use Rattle.lsp_frames.specs.declared.frame.End.{End}
 use Rattle.lsp_frames.specs.declared.frame.End.TheVariants.{Clean, Fault}
 use Rattle.content_streams.specs.Framed.{frames_of}
 use Rattle.content_streams.specs.Lines.{fits}
 use Rattle.content_streams.specs.Streams.{joined, contents_of, fault_of}
-use Rattle.content_streams.specs.Inner.Cutting.{LineStanding, Within, Over, IsWithin, line_fault, text_standing}
+use Rattle.content_streams.specs.Inner.Cutting.{IsWithin, line_fault, text_standing}
 use Rattle.content_streams.specs.Inner.Rows.{row_items}
 use Rattle.content_streams.specs.declared.ending.HowEnded.{HowEnded}
 use Rattle.content_streams.specs.declared.cutter.Cutter.{Cutter}

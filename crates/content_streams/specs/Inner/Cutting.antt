@@ -1,8 +1,10 @@
 -- What a cutter knows of a stream of lines.
-use Rattle.std.specs.Prelude.{ℕ, Bool, Option, Some, None, List, [], ◌∷◌, ◌++◌, if◌then◌else◌}
+use Rattle.std.specs.Prelude.{ℕ, Bool, Option, Some, None, List, [], ◌∷◌, map, if◌then◌else◌}
+use Rattle.lsp_frames.specs.declared.frame.Frame.{Frame}
 use Rattle.lsp_frames.specs.declared.frame.FrameFault.{FrameFault}
 use Rattle.lsp_frames.specs.declared.frame.FrameFault.TheVariants.{TooLarge}
-use Rattle.content_streams.specs.Lines.{parts, without_cr, fits, all_fit, line_contents}
+use Rattle.content_streams.specs.Lines.{parts, ended_lines, without_cr, fits, all_fit, line_contents}
+use Rattle.content_streams.specs.Streams.{plain}
 
 -- behind the last LF: this much of a line, or some line is too long
 pub data LineStanding : Type 0 where
@@ -37,9 +39,13 @@ abbrev pub IsWithin : LineStanding → Type 0
 IsWithin (Within line) = Unit {0}
 IsWithin Over = ⊥
 
+-- the contents of the lines whose LF has come
+abbrev pub ended_contents : ℕ → List ℕ → List Frame
+ended_contents limit bytes = map plain (line_contents limit (ended_lines bytes))
+
 -- the content of an unfinished line, once the input is closed
-abbrev pub last_contents : ℕ → LineStanding → List (List ℕ)
-last_contents limit (Within line) = line_contents limit (line ∷ [])
+abbrev pub last_contents : ℕ → LineStanding → List Frame
+last_contents limit (Within line) = map plain (line_contents limit (line ∷ []))
 last_contents limit Over = []
 
 abbrev pub line_fault : LineStanding → Option FrameFault

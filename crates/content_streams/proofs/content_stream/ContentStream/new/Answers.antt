@@ -1,0 +1,5 @@
+use Rattle.content_streams.proofs.Keeping.{starts}
+use Rattle.content_streams.proofs.content_stream.ContentStream.new.Goals as goal
+
+pub invariant_of-result : goal.invariant_of-result
+invariant_of-result c = starts c.new.result c.new-2.result c.new-3.result.pieces c.new-3.result.taken c.new.ensures.stands c.new-2.ensures.items c.new-2.ensures.last c.new-3.ensures.0 c.new-3.ensures.1

@@ -1,0 +1,46 @@
+use Rattle.std.proofs.Common.{◌≡◌, ◌+◌, ◌-◌, ℕ, List, [], ◌∷◌, ◌++◌, length, take, drop, map, cond, ap, sym, ◌∙◌, append-nil, append_assoc}
+use Rattle.std.proofs.lemmas.List.{take_rest}
+use Rattle.lsp_frames.specs.declared.frame.Frame.{Frame}
+use Rattle.content_streams.specs.Lines.{without_cr, is_blank}
+use Rattle.content_streams.specs.Streams.{plain}
+use Rattle.content_streams.specs.Inner.Cutting.{LineCutting, ended_contents, text_standing, grown}
+use Rattle.content_streams.proofs.LineSteps.{cutting, rest_long, rest_goes, rest_ends, kept_frames}
+use Rattle.content_streams.proofs.line_cutter.cut.Goals as goal
+
+pub returns-then-not-fits_with-clause-given : goal.returns-then-not-fits_with-clause-given
+returns-then-not-fits_with-clause-given c =
+    let long = rest_long c.args.limit c.loop-end.rest.now c.in-Some.end c.in-Some.ensures c.if-not-fits_with.ensures in
+    sym (append-nil c.loop-end.contents.items) ∙ ap (λ (xs : List Frame). c.loop-end.contents.items ++ xs) (sym long.0) ∙ c.loop-end.invariant.contents
+
+pub returns-then-not-fits_with-clause-left : goal.returns-then-not-fits_with-clause-left
+returns-then-not-fits_with-clause-left c =
+    let long = rest_long c.args.limit c.loop-end.rest.now c.in-Some.end c.in-Some.ensures c.if-not-fits_with.ensures in
+    c.over.ensures ∙ ap (cutting c.args.limit) (sym long.1 ∙ c.loop-end.invariant.standing)
+
+pub loop-end-preserved : goal.loop-end-preserved
+loop-end-preserved c =
+    let rest = c.loop-end.rest.now in
+    let behind = drop (c.in-Some.end + 1) rest in
+    let goes = rest_goes c.args.limit rest c.in-Some.end c.in-Some.ensures c.if-not-fits_with.ensures in
+    let left : take (length rest - (c.in-Some.end + 1)) behind ≡ behind = take_rest rest (c.in-Some.end + 1) in
+    let pushed : c.push_content.new.contents.items ≡ c.loop-end.contents.items ++ map plain (cond (is_blank (without_cr (take c.in-Some.end rest))) [] (without_cr (take c.in-Some.end rest) ∷ [])) =
+    c.in_ok-push_content.ensures ∙ ap (λ (content : List ℕ). c.loop-end.contents.items ++ cond (is_blank content) [] (plain content ∷ [])) c.without_cr.ensures
+    ∙ ap (λ (xs : List Frame). c.loop-end.contents.items ++ xs) (sym (kept_frames (without_cr (take c.in-Some.end rest)))) in
+    record {
+      contents = ap (λ (xs : List ℕ). c.push_content.new.contents.items ++ ended_contents c.args.limit xs) left
+          ∙ ap (λ (xs : List Frame). xs ++ ended_contents c.args.limit behind) pushed
+          ∙ append_assoc c.loop-end.contents.items _ (ended_contents c.args.limit behind)
+          ∙ ap (λ (xs : List Frame). c.loop-end.contents.items ++ xs) (sym goes.0) ∙ c.loop-end.invariant.contents;
+      standing = ap (text_standing c.args.limit) left ∙ sym goes.1 ∙ c.loop-end.invariant.standing;
+    }
+
+pub returns-clause-given : goal.returns-clause-given
+returns-clause-given c =
+    let ends = rest_ends c.args.limit c.loop-end.rest.now c.in_default.ensures in
+    sym (append-nil c.loop-end.contents.items) ∙ ap (λ (xs : List Frame). c.loop-end.contents.items ++ xs) (sym ends.0) ∙ c.loop-end.invariant.contents
+
+pub returns-clause-left : goal.returns-clause-left
+returns-clause-left c =
+    let ends = rest_ends c.args.limit c.loop-end.rest.now c.in_default.ensures in
+    c.in_ok-hold.ensures.ok [] (ap (λ (cutter : LineCutting). cutter.standing) c.new-left.ensures)
+    ∙ ap (λ (cutter : LineCutting). cutting cutter.limit (grown cutter.limit c.loop-end.rest.now)) c.new-left.ensures ∙ ap (cutting c.args.limit) (sym ends.1 ∙ c.loop-end.invariant.standing)

@@ -1,0 +1,65 @@
+//! What holds of contents and ends, whatever code there is. Each law is the contract of a function that does nothing.
+
+ghost use Rattle.std.specs.Prelude.{◌≡◌, ◌≢◌, ◌+◌, ◌<◌, ◌↔◌, ◌⊎◌, ℕ, List, ◌++◌, Option, Some, None, Bool, false, length, slice_get, unwrap_or, option_map};
+ghost use Rattle.std.specs.List.{join_with_byte};
+ghost use Rattle.lsp_frames.specs.Contents as frames;
+ghost use Rattle.lsp_frames.specs.Contents.{IsContents, Standing};
+ghost use Rattle.lsp_frames.specs.declared.frame.Frame.{Frame};
+ghost use Rattle.content_streams.specs.Lines.{fits, parts, without_cr};
+ghost use Rattle.content_streams.specs.Streams.{contents_of, end_of, fault_left, joined, stream_end};
+ghost use Rattle.content_streams.specs.declared.ending.HowEnded.{HowEnded as How};
+ghost use Rattle.content_streams.specs.declared.ending.StreamEnd.{StreamEnd as End};
+ghost use Rattle.content_streams.specs.declared.framing.Framing.{Framing as Cut};
+
+use crate::ending::{HowEnded, StreamEnd};
+use crate::framing::Framing;
+
+/// In frames and lines it doesn't matter how the bytes are cut into pieces.
+pub fn cuts_do_not_matter()
+    ensures contents { (framing : Cut) (limit : ℕ) (pieces others : List (List ℕ))
+        (ended : Option How) → framing ≢ Framing.Contents → joined pieces ≡ joined others →
+        contents_of framing limit pieces ended ≡ contents_of framing limit others ended }
+    ensures end { (framing : Cut) (limit : ℕ) (pieces others : List (List ℕ))
+        (ended : Option How) → framing ≢ Framing.Contents → joined pieces ≡ joined others →
+        end_of framing limit pieces ended ≡ end_of framing limit others ended }
+{}
+
+/// More pieces, and the end, only add contents.
+pub fn contents_only_grow()
+    ensures { (framing : Cut) (limit : ℕ) (pieces more : List (List ℕ)) (ended : Option How) →
+        (later : List Frame) × (contents_of framing limit (pieces ++ more) ended
+        ≡ contents_of framing limit pieces None ++ later) }
+{}
+
+/// What has ended before the host has said so, has a fault: this end stays, and no contents are added.
+pub fn faults_stay()
+    ensures end { (framing : Cut) (limit : ℕ) (pieces more : List (List ℕ)) (ended : Option How)
+        (close : End) → end_of framing limit pieces None ≡ Some close →
+        end_of framing limit (pieces ++ more) ended ≡ Some close }
+    ensures contents { (framing : Cut) (limit : ℕ) (pieces more : List (List ℕ))
+        (ended : Option How) (close : End) → end_of framing limit pieces None ≡ Some close →
+        contents_of framing limit (pieces ++ more) ended ≡ contents_of framing limit pieces None }
+{}
+
+/// Frames are those of the joined pieces (LSP 3.17, "Base Protocol").
+pub fn frames_are_those_of_the_bytes()
+    ensures are { (limit : ℕ) (pieces : List (List ℕ)) (ended : Option How) →
+        (standing : Standing) ×
+        IsContents limit (joined pieces) (contents_of Framing.Frames limit pieces ended) standing }
+    ensures closed { (limit : ℕ) (pieces : List (List ℕ)) (contents : List Frame)
+        (standing : Standing) → IsContents limit (joined pieces) contents standing →
+        end_of Framing.Frames limit pieces (Some HowEnded.Closed)
+        ≡ Some (stream_end (frames.end_of standing)) }
+    ensures read_failed { (limit : ℕ) (pieces : List (List ℕ)) (contents : List Frame)
+        (standing : Standing) → IsContents limit (joined pieces) contents standing →
+        end_of Framing.Frames limit pieces (Some HowEnded.ReadFailed)
+        ≡ Some (unwrap_or (option_map StreamEnd.Fault (fault_left standing)) StreamEnd.ReadFailed) }
+{}
+
+/// The lines and their LFs are all bytes of a text. A line is too long where its first byte over the limit isn't a CR,
+/// or where one more follows.
+pub fn lines_are_those_of_the_bytes()
+    ensures lines { (bytes : List ℕ) → join_with_byte 10 (parts bytes) ≡ bytes }
+    ensures long { (limit : ℕ) (line : List ℕ) → (fits limit (without_cr line) ≡ false) ↔
+        (((b : ℕ) × (slice_get line limit ≡ Some b) × (b ≢ 13)) ⊎ (limit + 1 < length line)) }
+{}
