@@ -34,15 +34,21 @@ ROWS = (
     ("a sum", [call("add", "[2,3]")], [result("5")]),
     ("the sum of nothing", [call("add", "[]")], [result("0")]),
     ("the sum of many", [call("add", "[1,-2,3,-4, 5]")], [result("3")]),
-    ("the greatest and the least sum", [call("add", "[9223372036854775806,1]"), call("add", "[-9223372036854775807,-1]")], [result(str(2**63 - 1)), result(str(-(2**63)))]),
+    ("the greatest sum", [call("add", "[9223372036854775806,1]")], [result("9223372036854775807")]),
+    ("the least sum", [call("add", "[-9223372036854775807,-1]")], [result("-9223372036854775808")]),
     ("a sum that is too large", [call("add", "[9223372036854775807,1]")], [INVALID]),
     ("a number that is too large", [call("add", "[9223372036854775808]")], [INVALID]),
     ("no numbers", [call("add", it) for it in ('["2"]', "[[2]]", "[2.0]", "[1e2]", '{"a":2}', "[2,null]", "null")], [INVALID] * 7),
-    ("params come back, digit for digit", [call("echo", '[1.50, -0, 1e400, {"b":[],"a":"\\u00e9\\n","b":2}]')], [result('[1.50,-0,1e400,{"b":[],"a":"\u00e9\\n","b":2}]')]),
+    (
+        "params come back, digit for digit",
+        [call("echo", '[1.50, -0, 1e400, {"b":[],"a":"\\u00e9\\n","b":2}]')],
+        [result('[1.50,-0,1e400,{"b":[],"a":"\u00e9\\n","b":2}]')],
+    ),
     ("no params come back as null", ['{"jsonrpc":"2.0","method":"echo","id":7}'], [result("null")]),
-    ("params that nest too deep to be said", [call("echo", DEEP), call("ask", DEEP)], [error(-32603, "Internal error"), INVALID]),
+    ("params that nest too deep to be said", [call("echo", DEEP)], [error(-32603, "Internal error")]),
+    ("params that nest too deep to be asked with", [call("ask", DEEP)], [INVALID]),
     ("a method that nobody knows", [call("shutdown", "[]"), call("", "[]")], [error(-32601, "Method not found")] * 2),
-    ("notifications are closed", ['{"jsonrpc":"2.0","method":"add","params":[1,2]}', '{"jsonrpc":"2.0","method":"ask"}', '{"jsonrpc":"2.0","method":"exit"}'], []),
+    ("notifications are closed", [f'{{"jsonrpc":"2.0","method":"{it}","params":[1,2]}}' for it in ("add", "ask", "echo", "exit")], []),
     (
         "a batch is answered in one array",
         [f'[{call("echo", "[1]", 1)},5,{{"jsonrpc":"2.0","method":"add"}},{call("add", "[1,1]", 2)}]'],
@@ -113,7 +119,8 @@ def check_at_once(count: ran.Count, program: str) -> None:
     """What is answered is written while the input is open, and a fault ends the program though it is."""
     how = {"stdin": subprocess.PIPE, "stdout": subprocess.PIPE, "stderr": subprocess.PIPE}
     with subprocess.Popen([program, "host", "--lines"], **how) as host:
-        for sent, wanted in ((ASK, ASKED), (call("echo", "[1]", 8), result("[1]", 8)), ('{"jsonrpc":"2.0","id":1,"result":true}', result("true"))):
+        reply = '{"jsonrpc":"2.0","id":1,"result":true}'
+        for sent, wanted in ((ASK, ASKED), (call("echo", "[1]", 8), result("[1]", 8)), (reply, result("true"))):
             host.stdin.write(rows.lines(sent))
             host.stdin.flush()
             got = host.stdout.readline()

@@ -2,12 +2,9 @@
 //! streams, whose methods are code.
 #![tactic(auto)]
 
-mod close_name;
 mod command_line;
 mod host;
 mod program;
-mod run_failure;
-mod script;
 
 use program_edge::{read_words, tell_end};
 use std::process::ExitCode;

@@ -1,10 +1,9 @@
 //! The program over any reader and any two writers.
-use crate::close_name::name_of;
 use crate::command_line::{Task, read};
 use crate::host::serve;
-use crate::run_failure::RunFailure;
-use crate::script::run_script;
-use program_edge::{answer_words, tell_end};
+use connection::Close;
+use program_edge::{Failure, answer_words, tell_end};
+use script_playing::{ScriptFailure, name_of, run_script};
 use std::alloc::Global;
 use std::io::{Read, Write};
 
@@ -17,22 +16,31 @@ where
     E: Write,
 {
     match read(alloc, words) {
-        Ok(Task::Script) => ended(run_script(alloc, input, output), errors),
-        Ok(Task::Host { framing }) => ended(serve(alloc, framing, input, output), errors),
+        Ok(Task::Script) => script_ended(run_script(alloc, input, output), errors),
+        Ok(Task::Host { framing }) => host_ended(serve(alloc, framing, input, output), errors),
         Err(refusal) => answer_words(&refusal, output, errors),
     }
 }
 
-/// Tells why the work wasn't done to its end, where it wasn't, and gives the status.
-fn ended<E: Write>(outcome: Result<(), RunFailure>, errors: &mut E) -> u8 {
+/// Tells why a script wasn't played to its end, where it wasn't, and gives the status. Nothing is said of a line that
+/// can't be read.
+fn script_ended<E: Write>(outcome: Result<(), ScriptFailure>, errors: &mut E) -> u8 {
     match outcome {
         Ok(()) => 0,
-        Err(RunFailure::Program(failure)) => tell_end(Err(failure), errors),
-        Err(RunFailure::Ended(close)) => {
+        Err(ScriptFailure::Program(failure)) => tell_end(Err(failure), errors),
+        Err(ScriptFailure::Unreadable) => 2,
+    }
+}
+
+/// Tells how the input of the host ended, where it isn't cleanly, and gives the status.
+fn host_ended<E: Write>(outcome: Result<Close, Failure>, errors: &mut E) -> u8 {
+    match outcome {
+        Ok(Close::Clean) => 0,
+        Ok(close) => {
             let name = name_of(close);
             let _ = writeln!(errors, "input ended: {name}");
             1
         }
-        Err(RunFailure::Unreadable) => 2,
+        Err(failure) => tell_end(Err(failure), errors),
     }
 }

@@ -90,6 +90,7 @@ impl Desk {
         ensures err { OnErr result (self.new ≡ self.old) }
     {
         let mut room = self.take_room();
+        let _first = self.owed.first();
         let was = self.owed.replace(place, slot, Some(text));
         match write_leaving(self.order, &self.owed, place, &mut self.outbox, &mut room) {
             Ok(()) => {

@@ -126,6 +126,7 @@ fn remove_leaving(order: Order, owed: &mut OwedAnswers, place: u64)
 {
     match order {
         Order::AsAnswered => {
+            let _first = owed.first();
             if is_complete(owed, place) {
                 owed.remove(place);
             }

@@ -1,7 +1,7 @@
 ghost use Rattle.std.specs.Prelude.{◌≡◌, ℕ, ◌==◌, ◌&&◌, true, false, if◌then◌else◌, ◌+◌, ◌-◌, ◌<◌, ◌≤◌, ◌^◌, ◌++◌, ◌∷◌, [], length, OnOk, OnErr, IfOk, MatchOption, Option, Some, None};
 ghost use Rattle.open_calls.specs.Inner.{has_key};
 ghost use Rattle.open_calls.specs.declared.own_call.OwnCall.{OwnCall};
-ghost use Rattle.open_calls.specs.Numbered.{at, without, up_to, changed_at, next_number};
+ghost use Rattle.open_calls.specs.Numbered.{at, without, up_to, changed_at, next_number, Above, Ascending};
 
 use crate::keys_by_caller::KeysByCaller;
 use crate::own_call::OwnCall;
@@ -204,9 +204,11 @@ impl OwnCalls {
         Some(key)
     }
 
-    /// The least key above `after` of a call of this caller that isn't withdrawn.
+    /// The least key above `after` of a call of this caller that isn't withdrawn. Keys ascend, and are above 0.
     pub fn next_of(&self, caller: u64, after: u64) -> Option<u64>
-        ensures { result ≡ next_wanted caller after self.now.waiting }
+        ensures key { result ≡ next_wanted caller after self.now.waiting }
+        ensures positive { Above 0 self.now.waiting }
+        ensures ascending { Ascending self.now.waiting }
     {
         self.wanted.next(caller, after)
     }

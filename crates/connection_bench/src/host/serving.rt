@@ -1,6 +1,5 @@
 //! The host over a reader and a writer.
 use super::hosting::Host;
-use crate::run_failure::RunFailure;
 use connection::{Close, Framing, HowEnded};
 use program_edge::Failure;
 use std::alloc::{AllocError, Global};
@@ -12,24 +11,20 @@ const PIECE: usize = 65_536;
 /// So many bytes are written at once, at most.
 const MOST_WRITTEN: usize = 1_048_576;
 
-/// Answers what comes until the input is over and all is answered. The answers to what one read gave go out before the next.
-///
-/// # Errors
-/// `Ended` where the input didn't end cleanly.
+/// Answers what comes until the input is over and all is answered, and gives how the input ended. The answers to what one
+/// read gave go out before the next.
 pub fn serve<I: Read + Drop, W: Write>(
     alloc: Global,
     framing: Framing,
     mut input: I,
     output: &mut W,
-) -> Result<(), RunFailure> {
+) -> Result<Close, Failure> {
     let mut host = Host::new(alloc, framing)?;
     let mut writing = Writing {
         room: Vec::new(alloc),
     };
-    match serve_pieces(&mut host, &mut writing, &mut input, output)? {
-        Some(Close::Clean) | None => Ok(()),
-        Some(close) => Err(RunFailure::Ended(close)),
-    }
+    let close = serve_pieces(&mut host, &mut writing, &mut input, output)?;
+    Ok(close.unwrap_or(Close::Clean))
 }
 
 /// Serves until the host has nothing more to do, and gives how the input ended.

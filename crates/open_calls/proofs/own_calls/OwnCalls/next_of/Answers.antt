@@ -1,9 +1,16 @@
-use Rattle.std.proofs.Common.{ap, ◌∙◌}
-use Rattle.open_calls.specs.Own.{next_wanted}
+use Rattle.std.proofs.Common.{ap, subst, ◌∙◌}
+use Rattle.open_calls.specs.Numbered.{Above, Ascending}
+use Rattle.open_calls.specs.Own.{OwnState, next_wanted}
 use Rattle.open_calls.proofs.Own.{wanted_next}
 use Rattle.open_calls.proofs.own_calls.OwnCalls.next_of.Goals as goal
 
-pub returns : goal.returns
-returns c =
+pub returns-clause-key : goal.returns-clause-key
+returns-clause-key c =
     wanted_next c.self.inside.wanted c.self.inside.waiting.entries c.args.caller c.args.after c.next.result c.self.invariant.ascending c.self.invariant.wanted c.next.ensures
     ∙ ap (λ s. next_wanted c.args.caller c.args.after s.waiting) c.self.view_is
+
+pub returns-clause-positive : goal.returns-clause-positive
+returns-clause-positive c = subst (λ (s : OwnState). Above 0 s.waiting) c.self.view_is c.self.invariant.positive
+
+pub returns-clause-ascending : goal.returns-clause-ascending
+returns-clause-ascending c = subst (λ (s : OwnState). Ascending s.waiting) c.self.view_is c.self.invariant.ascending

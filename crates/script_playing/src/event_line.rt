@@ -1,6 +1,6 @@
 //! The line of an event, and that of a report.
-use super::line::Line;
 use crate::close_name::name_of;
+use crate::line::Line;
 use connection::{Call, Event, Reply, Report};
 use json::Value;
 use json_texts::JsonText;

@@ -1,10 +1,10 @@
 //! What the host says, out of the bytes of a script.
-use super::action::Spoken;
-use super::refusal::Refusal;
+use crate::refusal::Refusal;
 use connection::{Answer, AnswerError, Outgoing, Params};
 use json_texts::{JsonText, TextReader};
 use json_values::Text;
 use rpc_messages::Standard;
+use script_actions::Spoken;
 use std::alloc::Global;
 use std::str::from_utf8;
 

@@ -1,7 +1,7 @@
 //! From a line to its action.
-use super::action::{Action, Spoken, Wanted};
-use super::unread::Unread;
-use super::words::Words;
+use crate::action::{Action, Spoken, Wanted};
+use crate::unread::Unread;
+use crate::words::Words;
 use connection::{Framing, HowEnded, Order};
 use std::alloc::Global;
 

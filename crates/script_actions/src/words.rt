@@ -1,5 +1,5 @@
 //! The words of a line, taken one after another.
-use super::unread::Unread;
+use crate::unread::Unread;
 use itoa::{Buffer, Integer};
 use std::alloc::Global;
 

@@ -1,11 +1,11 @@
 //! The host that a script drives.
-use super::action::{Action, Spoken, Wanted};
-use super::event_line::{put_event, put_report};
-use super::line::Line;
-use super::refusal::Refusal;
-use super::saying::{answer_of, error_of, outgoing_of, outgoings_of};
+use crate::event_line::{put_event, put_report};
+use crate::line::Line;
+use crate::refusal::Refusal;
+use crate::saying::{answer_of, error_of, outgoing_of, outgoings_of};
 use connection::{Connection, Event, Refused, Settings};
 use json_texts::TextReader;
+use script_actions::{Action, Spoken, Wanted};
 use std::alloc::Global;
 
 /// A connection, and what its host needs to do an action.
@@ -75,9 +75,10 @@ impl Player {
     }
 
     fn call(&mut self, number: u64, spoken: &Spoken, line: &mut Line) -> Result<(), Refusal> {
-        self.must_speak(number)?;
-        let outgoing = outgoing_of(self.alloc, &mut self.texts, spoken)?;
-        key_of(self.connection.call(number, &outgoing), line)
+        match outgoing_of(self.alloc, &mut self.texts, spoken) {
+            Ok(outgoing) => key_of(self.connection.call(number, &outgoing), line),
+            Err(why) => Err(self.first_of_call(number, why)),
+        }
     }
 
     fn call_batch(
@@ -86,12 +87,13 @@ impl Player {
         spoken: &[Spoken],
         line: &mut Line,
     ) -> Result<(), Refusal> {
-        self.must_speak(number)?;
-        let outgoings = outgoings_of(self.alloc, &mut self.texts, spoken)?;
-        key_of(
-            self.connection.call_batch(number, outgoings.as_slice()),
-            line,
-        )
+        match outgoings_of(self.alloc, &mut self.texts, spoken) {
+            Ok(outgoings) => key_of(
+                self.connection.call_batch(number, outgoings.as_slice()),
+                line,
+            ),
+            Err(why) => Err(self.first_of_call(number, why)),
+        }
     }
 
     fn notify(&mut self, spoken: &Spoken, line: &mut Line) -> Result<(), Refusal> {
@@ -106,9 +108,11 @@ impl Player {
         given: &Option<Vec<u8>>,
         line: &mut Line,
     ) -> Result<(), Refusal> {
-        let is_request = self.must_be_open(number)?;
-        let answer = answer_of(&mut self.texts, is_request, given)?;
-        done(self.connection.answer(number, &answer), line)
+        let is_request = self.connection.is_request(number) == Some(true);
+        match answer_of(&mut self.texts, is_request, given) {
+            Ok(answer) => done(self.connection.answer(number, &answer), line),
+            Err(why) => Err(self.first_of_answer(number, why)),
+        }
     }
 
     fn fail(
@@ -119,9 +123,10 @@ impl Player {
         data: &Option<Vec<u8>>,
         line: &mut Line,
     ) -> Result<(), Refusal> {
-        self.must_be_open(number)?;
-        let answer = error_of(self.alloc, &mut self.texts, code, message, data)?;
-        done(self.connection.answer(number, &answer), line)
+        match error_of(self.alloc, &mut self.texts, code, message, data) {
+            Ok(answer) => done(self.connection.answer(number, &answer), line),
+            Err(why) => Err(self.first_of_answer(number, why)),
+        }
     }
 
     /// Takes as many bytes as there is room for, or fewer where fewer are there. The line has its room before.
@@ -147,18 +152,22 @@ impl Player {
         Ok(line.put(if is_done { "true" } else { "false" })?)
     }
 
-    /// The call with this number is open. Says whether it is a request.
-    fn must_be_open(&self, number: u64) -> Result<bool, Refusal> {
-        let is_request = self.connection.is_request(number);
-        is_request.ok_or(Refusal::Connection(Refused::NotOpen))
+    /// Why an answer to the call with this number is refused, whose text is refused so. That the call isn't open comes first;
+    /// where the text is fine, the connection says that itself.
+    fn first_of_answer(&self, number: u64, why: Refusal) -> Refusal {
+        match self.connection.is_request(number) {
+            Some(_) => why,
+            None => Refusal::Connection(Refused::NotOpen),
+        }
     }
 
-    /// The call with this number is open, or it is 0, on whose behalf the host may always call.
-    fn must_speak(&self, number: u64) -> Result<(), Refusal> {
-        if number != 0 {
-            self.must_be_open(number)?;
+    /// The same of a call on behalf of this number; that of the host itself is 0.
+    fn first_of_call(&self, number: u64, why: Refusal) -> Refusal {
+        if number == 0 {
+            why
+        } else {
+            self.first_of_answer(number, why)
         }
-        Ok(())
     }
 }
 

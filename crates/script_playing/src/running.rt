@@ -1,13 +1,11 @@
 //! A script, read and played line by line.
-use super::action::{Action, Wanted};
-use super::line::Line;
-use super::player::Player;
-use super::reading::action_of;
-use super::refusal::Refusal;
-use super::unread::Unread;
-use crate::run_failure::RunFailure;
+use crate::line::Line;
+use crate::player::Player;
+use crate::refusal::Refusal;
+use crate::script_failure::ScriptFailure;
 use connection::Refused;
 use program_edge::Failure;
+use script_actions::{Action, Unread, Wanted, action_of};
 use std::alloc::{AllocError, Global};
 use std::io::{BufRead, BufReader, ErrorKind, Read, Write};
 
@@ -30,7 +28,7 @@ pub fn run_script<I: Read + Drop, W: Write>(
     alloc: Global,
     input: I,
     output: &mut W,
-) -> Result<(), RunFailure> {
+) -> Result<(), ScriptFailure> {
     let mut input = BufReader::new(alloc, input).map_err(failure_of)?;
     let mut script = Script::new(alloc)?;
     for _ in 0..u64::MAX {
@@ -65,7 +63,7 @@ impl Script {
     }
 
     /// Reads the next line. Says whether there is one.
-    fn read<B: BufRead>(&mut self, input: &mut B) -> Result<bool, RunFailure> {
+    fn read<B: BufRead>(&mut self, input: &mut B) -> Result<bool, ScriptFailure> {
         self.read.clear();
         let count = input.read_until(b'\n', &mut self.read).map_err(failure_of)?;
         if count == 0 {
@@ -73,18 +71,18 @@ impl Script {
         }
         match self.read.pop() {
             Some(b'\n') => Ok(true),
-            _ => Err(RunFailure::Unreadable),
+            _ => Err(ScriptFailure::Unreadable),
         }
     }
 
     /// Does what the line says, and makes the line of what that gives.
-    fn play(&mut self) -> Result<(), RunFailure> {
+    fn play(&mut self) -> Result<(), ScriptFailure> {
         self.line.clear();
         let outcome = match action_of(self.alloc, self.read.as_slice()) {
             Ok(Action::Settings(wanted)) => self.begin(&wanted),
             Ok(action) => self.act(&action)?,
             Err(Unread::Memory) => Err(Refusal::Connection(Refused::Memory)),
-            Err(Unread::Broken) => return Err(RunFailure::Unreadable),
+            Err(Unread::Broken) => return Err(ScriptFailure::Unreadable),
         };
         if let Err(why) = outcome {
             self.line.clear();
@@ -105,9 +103,9 @@ impl Script {
         Ok(self.line.put("ok")?)
     }
 
-    fn act(&mut self, action: &Action) -> Result<Result<(), Refusal>, RunFailure> {
+    fn act(&mut self, action: &Action) -> Result<Result<(), Refusal>, ScriptFailure> {
         match &mut self.stage {
-            Stage::Fresh => Err(RunFailure::Unreadable),
+            Stage::Fresh => Err(ScriptFailure::Unreadable),
             Stage::Refused => Ok(Err(Refusal::Settings)),
             Stage::Playing(player) => Ok(player.play(action, &mut self.line)),
         }
@@ -122,8 +120,8 @@ impl Script {
     }
 }
 
-fn failure_of(error: std::io::Error) -> RunFailure {
-    RunFailure::Program(match error.kind() {
+fn failure_of(error: std::io::Error) -> ScriptFailure {
+    ScriptFailure::Program(match error.kind() {
         ErrorKind::OutOfMemory => Failure::Memory,
         _ => Failure::Read,
     })

@@ -1,0 +1,71 @@
+-- A call is answered and closed.
+use Rattle.std.proofs.Common.{◌≡◌, ℕ, not, List, [], ◌∷◌, Option, Some, None, refl, sym, ap, ◌∙◌}
+use Rattle.std.specs.Option.{is_some}
+use Rattle.rpc_messages.specs.declared.id.Id.{Id}
+use Rattle.connection_messages.specs.Texts.{answer_text}
+use Rattle.connection_messages.specs.declared.answer.Answer.{Answer}
+use Rattle.connection_history.specs.declared.refused.Refused.TheVariants.{NotOpen}
+use Rattle.connection_history.specs.Refusals.{first_of}
+use Rattle.connection_states.specs.States.{State}
+use Rattle.connection_states.specs.Steps.{leaving, staying, given_to, owed_given}
+use Rattle.open_calls.specs.declared.their_call.TheirCall.{TheirCall}
+use Rattle.open_calls.specs.Numbered.{at, without, changed_at}
+use Rattle.open_calls.specs.Own.{OwnState, without_caller}
+use Rattle.open_calls.specs.Theirs.{TheirState}
+use Rattle.open_calls.specs.Owed.{OwedState, given}
+use Rattle.outbox.specs.Output.{Output}
+use Rattle.connection_desk.specs.Desks.{Desk, after_answer, after_given, answer_refused, answer_texts, with_texts}
+use Rattle.connection_desk.proofs.GivenSlots.{all_stays}
+use Rattle.connection_desk.proofs.OwedLists.{Units, no_texts}
+
+-- the call is closed, and its own calls don't wait any more
+abbrev pub closed : ℕ → Desk → Desk
+closed n d = record {
+  cancels = d.cancels;
+  order = d.order;
+  state = record {
+    own = record { made = d.state.own.made; waiting = without_caller n d.state.own.waiting };
+    theirs = record { came = d.state.theirs.came; calls = without n d.state.theirs.calls };
+    owed = d.state.owed;
+    is_over = d.state.is_over;
+  };
+  untold = d.untold;
+  out = d.out;
+}
+
+-- the same, where this is owed then
+abbrev pub closed_with : ℕ → Units → Output → Desk → Desk
+closed_with n owed out d = record {
+  cancels = d.cancels;
+  order = d.order;
+  state = record {
+    own = record { made = d.state.own.made; waiting = without_caller n d.state.own.waiting };
+    theirs = record { came = d.state.theirs.came; calls = without n d.state.theirs.calls };
+    owed = record { places = d.state.owed.places; owed = owed };
+    is_over = d.state.is_over;
+  };
+  untold = d.untold;
+  out = out;
+}
+
+abbrev pub answered_with : ℕ → Desk → Units → Desk
+answered_with n d owed = closed_with n (staying d.order owed) (with_texts (answer_texts (leaving d.order owed)) d.out) d
+
+pub not_refused : (n : ℕ) (s : State) (call : TheirCall) → at n s.theirs.calls ≡ Some call → answer_refused n s ≡ None
+not_refused n s call is = ap (λ o. first_of ((not (is_some o), NotOpen) ∷ [])) is
+
+pub request_answered : (n : ℕ) (d : Desk) (call : TheirCall) (id : Id) (text : List ℕ) (a : Answer) → at n d.state.theirs.calls ≡ Some call → call.id ≡ Some id
+    → text ≡ answer_text id a → closed n (after_given call.place call.slot text d) ≡ after_answer n a d
+request_answered n d call id text a there has is =
+    ap (λ t. closed n (after_given call.place call.slot t d)) is
+    ∙ ap (answered_with n d)
+    (sym (ap (λ o. owed_given o a d.state.owed.owed) there ∙ ap (λ i. given_to i call a d.state.owed.owed) has))
+
+pub notice_answered : (n : ℕ) (d : Desk) (call : TheirCall) (a : Answer) → at n d.state.theirs.calls ≡ Some call → call.id ≡ None
+    → leaving d.order d.state.owed.owed ≡ [] → closed n d ≡ after_answer n a d
+notice_answered n d call a there has none =
+    let owed = d.state.owed.owed in
+    ap (λ es. closed_with n es d.out d) (sym (all_stays d.order owed none))
+    ∙ ap (λ o. closed_with n (staying d.order owed) o d) (sym (ap (λ es. with_texts (answer_texts es) d.out) none ∙ no_texts d.out))
+    ∙ ap (answered_with n d)
+    (sym (ap (λ o. owed_given o a owed) there ∙ ap (λ i. given_to i call a owed) has))

@@ -1,0 +1,125 @@
+-- A slot of an owed answer is given its text, or has it taken back.
+use Rattle.std.proofs.Common.{◌≡◌, ℕ, ◌<◌, ◌==◌, not, Bool, true, false, cond, List, [], ◌∷◌, Option, Some, None, refl, sym, ap, subst, ◌∙◌, arith, length, set, get_or}
+use Rattle.std.proofs.lemmas.Bool.{eqb-true, ne_eqb}
+use Rattle.std.proofs.lemmas.List.{length-set, set-set, set-get_or}
+use Rattle.std.proofs.lemmas.Option.{unwrap_or-slice_get}
+use Rattle.connection_history.specs.declared.order.Order.{Order}
+use Rattle.connection_history.specs.declared.order.Order.TheVariants.{AsAnswered, AsCame}
+use Rattle.connection_states.specs.Steps.{is_complete, complete_front, incomplete_rest, leaving, staying}
+use Rattle.open_calls.specs.Numbered.{at, without, changed_at, Above, Ascending}
+use Rattle.open_calls.specs.Owed.{OwedUnit, slot_in, slot_at, replaced}
+use Rattle.open_calls.proofs.OwedLemmas.{unit_of}
+use Rattle.connection_desk.specs.declared.events.Events.{Events}
+use Rattle.connection_desk.specs.Inner.{HaveSlots, OnlyAt, IsDesk, IsOpenEnded}
+use Rattle.connection_desk.proofs.OwedLists.{Units, all_stay}
+
+-- ---- what a desk keeps
+
+filter_none : (b : Bool) (e : ℕ × OwedUnit) (es : Units) → b ≡ is_complete e.1 → leaving AsAnswered es ≡ [] → leaving AsAnswered (cond (not b) (e ∷ es) es) ≡ []
+filter_none true e es is none = none
+filter_none false e es is none = ap (λ d. cond d (e ∷ leaving AsAnswered es) (leaving AsAnswered es)) (sym is) ∙ none
+
+front_none : (b : Bool) (e : ℕ × OwedUnit) (es rest : Units) → b ≡ is_complete e.1 → complete_front rest ≡ [] → complete_front (cond b rest (e ∷ es)) ≡ []
+front_none true e es rest is none = none
+front_none false e es rest is none = ap (λ d. cond d (e ∷ complete_front es) []) (sym is)
+
+none_leaves : (order : Order) (owed : Units) → leaving order (staying order owed) ≡ []
+none_leaves AsAnswered [] = refl
+none_leaves AsAnswered (e ∷ es) = filter_none (is_complete e.1) e (staying AsAnswered es) refl (none_leaves AsAnswered es)
+none_leaves AsCame [] = refl
+none_leaves AsCame (e ∷ es) = front_none (is_complete e.1) e es (incomplete_rest es) refl (none_leaves AsCame es)
+
+slots_step : (b : Bool) (e : ℕ × OwedUnit) (es : Units) → 0 < length e.1.slots → HaveSlots es → HaveSlots (cond b (e ∷ es) es)
+slots_step true e es some slots = (some, slots)
+slots_step false e es some slots = slots
+
+front_step : (b : Bool) (es rest : Units) → HaveSlots es → HaveSlots rest → HaveSlots (cond b rest es)
+front_step true es rest slots more = more
+front_step false es rest slots more = slots
+
+slots_stay : (order : Order) (owed : Units) → HaveSlots owed → HaveSlots (staying order owed)
+slots_stay AsAnswered [] slots = tt
+slots_stay AsAnswered (e ∷ es) slots = slots_step (not (is_complete e.1)) e (staying AsAnswered es) slots.0 (slots_stay AsAnswered es slots.1)
+slots_stay AsCame [] slots = tt
+slots_stay AsCame (e ∷ es) slots = front_step (is_complete e.1) (e ∷ es) (incomplete_rest es) slots (slots_stay AsCame es slots.1)
+
+pub desk_stays : (order : Order) (owed now : Units) (is_over : Bool) (events : Events) → HaveSlots owed → (is_over ≡ false → IsOpenEnded events) → now ≡ staying order owed
+    → IsDesk order now is_over events
+desk_stays order owed now is_over events slots open_ended is = record {
+  settled = ap (leaving order) is ∙ none_leaves order owed;
+  have_slots = subst HaveSlots (sym is) (slots_stay order owed slots);
+  open_ended = open_ended;
+}
+
+front_stays : (b : Bool) (e : ℕ × OwedUnit) (es front rest : Units) → cond b (e ∷ front) [] ≡ [] → cond b rest (e ∷ es) ≡ e ∷ es
+front_stays true e es front rest is = absurd (cc)
+front_stays false e es front rest is = refl
+
+-- where nothing can go out, all stay
+pub all_stays : (order : Order) (owed : Units) → leaving order owed ≡ [] → staying order owed ≡ owed
+all_stays AsAnswered owed none = all_stay owed none
+all_stays AsCame [] none = refl
+all_stays AsCame (e ∷ es) none = front_stays (is_complete e.1) e es (complete_front es) (incomplete_rest es) none
+
+-- ---- a slot is changed
+
+some_step : (b : Bool) (f : OwedUnit → OwedUnit) (unit : OwedUnit) → length (f unit).slots ≡ length unit.slots → 0 < length unit.slots → 0 < length (cond b (f unit) unit).slots
+some_step true f unit same some = subst (λ n. 0 < n) (sym same) some
+some_step false f unit same some = some
+
+slots_changed : (place : ℕ) (f : OwedUnit → OwedUnit) (owed : Units) → ((unit : OwedUnit) → length (f unit).slots ≡ length unit.slots) → HaveSlots owed → HaveSlots (changed_at place f owed)
+slots_changed place f [] same slots = tt
+slots_changed place f (e ∷ es) same slots = (some_step (place == e.0) f e.1 (same e.1) slots.0, slots_changed place f es same slots.1)
+
+pub slots_replaced : (place slot : ℕ) (text : Option (List ℕ)) (owed : Units) → HaveSlots owed → HaveSlots (changed_at place (replaced slot text) owed)
+slots_replaced place slot text owed slots = slots_changed place (replaced slot text) owed (λ unit. length-set unit.slots slot text) slots
+
+none_first : (b : Bool) (e : ℕ × OwedUnit) (fs : Units) → cond b (e ∷ fs) fs ≡ [] → (b ≡ false) × (fs ≡ [])
+none_first true e fs is = absurd (cc)
+none_first false e fs is = (refl, is)
+
+only_step : (b : Bool) (f : OwedUnit → OwedUnit) (e : ℕ × OwedUnit) (rest : Units) → is_complete e.1 ≡ false → leaving AsAnswered rest ≡ []
+    → leaving AsAnswered (cond (not b) ((e.0, cond b (f e.1) e.1) ∷ rest) rest) ≡ []
+only_step true f e rest is none = none
+only_step false f e rest is none = ap (λ d. cond d ((e.0, e.1) ∷ leaving AsAnswered rest) (leaving AsAnswered rest)) is ∙ none
+
+pub only_changed : (order : Order) (place : ℕ) (f : OwedUnit → OwedUnit) (owed : Units) → leaving order owed ≡ [] → OnlyAt order place (changed_at place f owed)
+only_changed AsCame place f owed none = tt
+only_changed AsAnswered place f [] none = refl
+only_changed AsAnswered place f (e ∷ es) none =
+    let first = none_first (is_complete e.1) e (leaving AsAnswered es) none in
+    only_step (place == e.0) f e (without place (changed_at place f es)) first.0 (only_changed AsAnswered place f es first.1)
+
+-- ---- a slot is changed back
+
+apart : (n m : ℕ) → n < m → (n == m) ≡ false
+apart n m lt = ne_eqb n m (λ same. omega arith)
+
+changed_above : (n : ℕ) (f : OwedUnit → OwedUnit) (es : Units) → Above n es → changed_at n f es ≡ es
+changed_above n f [] above = refl
+changed_above n f (e ∷ es) above =
+    ap (λ b. let d : ℕ × OwedUnit = (e.0, cond b (f e.1) e.1) in d ∷ changed_at n f es) (apart n e.0 above.0) ∙ ap (λ t. e ∷ t) (changed_above n f es above.1)
+
+unit_back : (slot : ℕ) (text was : Option (List ℕ)) (unit : OwedUnit) → was ≡ slot_in slot unit.slots → replaced slot was (replaced slot text unit) ≡ unit
+unit_back slot text was unit is =
+    ap (unit_of unit.is_batch)
+    (set-set unit.slots slot text was
+    ∙ ap (set unit.slots slot) (is ∙ unwrap_or-slice_get unit.slots slot None)
+    ∙ set-get_or unit.slots slot None)
+
+back_step : (b : Bool) (slot : ℕ) (text was : Option (List ℕ)) (e : ℕ × OwedUnit) (o : Option OwedUnit) (rest es : Units) → was ≡ slot_at slot (cond b (Some e.1) o)
+    → (b ≡ true → rest ≡ es) → (was ≡ slot_at slot o → rest ≡ es)
+    → (e.0, cond b (replaced slot was (cond b (replaced slot text e.1) e.1)) (cond b (replaced slot text e.1) e.1)) ∷ rest ≡ e ∷ es
+back_step true slot text was e o rest es is here there =
+    ap (λ u. (e.0, u) ∷ rest) (unit_back slot text was e.1 is) ∙ ap (λ t. e ∷ t) (here refl)
+back_step false slot text was e o rest es is here there = ap (λ t. e ∷ t) (there is)
+
+pub changed_back : (place slot : ℕ) (text was : Option (List ℕ)) (owed : Units) → Ascending owed → was ≡ slot_at slot (at place owed)
+    → changed_at place (replaced slot was) (changed_at place (replaced slot text) owed) ≡ owed
+changed_back place slot text was [] order is = refl
+changed_back place slot text was (e ∷ es) order is =
+    back_step (place == e.0) slot text was e (at place es) (changed_at place (replaced slot was) (changed_at place (replaced slot text) es)) es is
+    (λ here.
+      let above : Above place es = subst (λ m. Above m es) (sym (eqb-true place e.0 here)) order.0 in
+      ap (changed_at place (replaced slot was)) (changed_above place (replaced slot text) es above) ∙ changed_above place (replaced slot was) es above)
+    (λ there. changed_back place slot text was es order.1 there)

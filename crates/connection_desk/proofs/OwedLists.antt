@@ -1,0 +1,203 @@
+-- Lists of owed units, and which of them are complete.
+use Rattle.std.proofs.Common.{◌≡◌, ℕ, ◌<◌, ◌≤◌, ◌==◌, not, Result, Ok, Err, OnOk, Bool, true, false, cond, if◌then◌else◌, List, [], ◌∷◌, ◌++◌, Option, Some, None, refl, sym, ap, subst, ◌∙◌, arith, nat_lt, length, take, drop, filter, eq-eqb, append_assoc}
+use Rattle.std.proofs.lemmas.Bool.{eqb-true, lt-ltb, ne_eqb, false_from_ne_true, ltb-true}
+use Rattle.std.proofs.lemmas.List.{append-nil, take_at, take-append-drop}
+use Rattle.std.specs.Option.{option_map, IfSome}
+use Rattle.std.specs.List.{find, slice_get}
+use Rattle.connection_history.specs.declared.order.Order.{Order}
+use Rattle.connection_history.specs.declared.order.Order.TheVariants.{AsAnswered, AsCame}
+use Rattle.connection_states.specs.Steps.{is_complete, complete_front, incomplete_rest, leaving, staying}
+use Rattle.open_calls.specs.Numbered.{at, without, changed_at, first_number, next_number, Above, Ascending}
+use Rattle.open_calls.specs.Owed.{OwedUnit, OwedState, IsComplete, IsCompleteUnit, text_or_none, unit_text}
+use Rattle.open_calls.proofs.Numbered.{without_above, at_above, shorter}
+use Rattle.open_calls.proofs.OwedLemmas.{state_of}
+use Rattle.connection_desk.proofs.Rests.{at_here, rest_from, rest_of, rest_step_from}
+use Rattle.outbox.specs.Output.{Output, OnlyPutSince}
+use Rattle.connection_desk.specs.Desks.{answer_texts, with_texts}
+use Rattle.connection_desk.specs.Inner.{HaveSlots, OnlyAt, complete_in, complete_at, complete_text_in, complete_text_at}
+
+abbrev pub Units : Type 0
+Units = List (ℕ × OwedUnit)
+
+-- ---- the unit at a place
+
+complete_unit : (unit : OwedUnit) → 0 < length unit.slots → is_complete unit ≡ true → IsComplete unit
+complete_unit unit some is = record { some = some; all = eqb-true _ 0 is }
+
+complete_step : (b : Bool) (unit : OwedUnit) (o : Option OwedUnit) → 0 < length unit.slots → (complete_in o ≡ true → IsCompleteUnit o)
+    → complete_in (cond b (Some unit) o) ≡ true → IsCompleteUnit (cond b (Some unit) o)
+complete_step true unit o some there is = complete_unit unit some is
+complete_step false unit o some there is = there is
+
+pub complete_here : (place : ℕ) (owed : Units) → HaveSlots owed → complete_at place owed ≡ true → IsCompleteUnit (at place owed)
+complete_here place [] slots is = absurd (cc)
+complete_here place (e ∷ es) slots is = complete_step (place == e.0) e.1 (at place es) slots.0 (complete_here place es slots.1) is
+
+pub some_complete : (o : Option OwedUnit) → complete_in o ≡ true → (unit : OwedUnit) × (o ≡ Some unit) × (is_complete unit ≡ true)
+some_complete None is = absurd (cc)
+some_complete (Some unit) is = (unit, refl, is)
+
+-- ---- texts behind those that were written
+
+pub no_texts : (o : Output) → with_texts [] o ≡ o
+no_texts o = ap (λ ts. let r : Output = record { framing = o.framing; written = ts; taken = o.taken } in r) (append-nil o.written)
+
+pub more_texts : (ts us : List (List ℕ)) (o : Output) → with_texts us (with_texts ts o) ≡ with_texts (ts ++ us) o
+more_texts ts us o = ap (λ vs. let r : Output = record { framing = o.framing; written = vs; taken = o.taken } in r) (append_assoc o.written ts us)
+
+pub put_since : (ts : List (List ℕ)) (before now : Output) → now ≡ with_texts ts before → OnlyPutSince before now
+put_since ts before now is = record {
+  framing = ap (λ (o : Output). o.framing) is;
+  written = ap (λ (o : Output). take (length before.written) o.written) is ∙ take_at before.written ts (length before.written) refl;
+  taken = ap (λ (o : Output). o.taken) is;
+}
+
+pub same_since : (o : Output) → OnlyPutSince o o
+same_since o = put_since [] o o (sym (no_texts o))
+
+pub more_since : (ts : List (List ℕ)) (before middle now : Output) → OnlyPutSince before middle → now ≡ with_texts ts middle → OnlyPutSince before now
+more_since ts before middle now since is =
+    let more = drop (length before.written) middle.written in
+    let whole : middle.written ≡ before.written ++ more =
+    sym (take-append-drop (length before.written) middle.written) ∙ ap (λ us. us ++ more) since.written in
+    record {
+      framing = ap (λ (o : Output). o.framing) is ∙ since.framing;
+      written = ap (λ (o : Output). take (length before.written) o.written) is
+          ∙ ap (λ us. take (length before.written) (us ++ ts)) whole
+          ∙ ap (take (length before.written)) (append_assoc before.written more ts)
+          ∙ take_at before.written (more ++ ts) (length before.written) refl;
+      taken = ap (λ (o : Output). o.taken) is ∙ since.taken;
+    }
+
+pub complete_text : (o : Option OwedUnit) → complete_in o ≡ true → complete_text_in o ≡ text_or_none o ∷ []
+complete_text None is = absurd (cc)
+complete_text (Some unit) is = ap (λ b. cond b (unit_text unit ∷ []) []) is
+
+pub incomplete_text : (o : Option OwedUnit) → complete_in o ≡ false → complete_text_in o ≡ []
+incomplete_text None is = refl
+incomplete_text (Some unit) is = ap (λ b. cond b (unit_text unit ∷ []) []) is
+
+-- ---- as answered: none but the one at this place can go out
+
+none_first : (b : Bool) (e : ℕ × OwedUnit) (fs : Units) → cond b (e ∷ fs) fs ≡ [] → (b ≡ false) × (fs ≡ [])
+none_first true e fs is = absurd (cc)
+none_first false e fs is = (refl, is)
+
+first_text : (b : Bool) (e : ℕ × OwedUnit) (fs : Units) → fs ≡ [] → cond b (unit_text e.1 ∷ []) [] ≡ answer_texts (cond b (e ∷ fs) fs)
+first_text true e fs none = ap (λ gs. unit_text e.1 ∷ answer_texts gs) (sym none)
+first_text false e fs none = ap answer_texts (sym none)
+
+text_step : (b : Bool) (e : ℕ × OwedUnit) (o : Option OwedUnit) (rest es : Units) → (b ≡ true → rest ≡ es)
+    → (leaving AsAnswered rest ≡ [] → complete_text_in o ≡ answer_texts (leaving AsAnswered es))
+    → leaving AsAnswered (cond (not b) (e ∷ rest) rest) ≡ []
+    → complete_text_in (cond b (Some e.1) o) ≡ answer_texts (leaving AsAnswered (e ∷ es))
+text_step true e o rest es here there only =
+    let none : leaving AsAnswered es ≡ [] = ap (leaving AsAnswered) (sym (here refl)) ∙ only in
+    first_text (is_complete e.1) e (leaving AsAnswered es) none
+text_step false e o rest es here there only =
+    let none = none_first (is_complete e.1) e (leaving AsAnswered rest) only in
+    there none.1 ∙ sym (ap (λ b. answer_texts (cond b (e ∷ leaving AsAnswered es) (leaving AsAnswered es))) none.0)
+
+rest_is : (place : ℕ) (e : ℕ × OwedUnit) (es : Units) → Above e.0 es → (place == e.0) ≡ true → without place es ≡ es
+rest_is place e es above here = without_above place es (subst (λ m. Above m es) (sym (eqb-true place e.0 here)) above)
+
+pub only_text : (place : ℕ) (owed : Units) → Ascending owed → OnlyAt AsAnswered place owed → complete_text_at place owed ≡ answer_texts (leaving AsAnswered owed)
+only_text place [] order only = refl
+only_text place (e ∷ es) order only =
+    text_step (place == e.0) e (at place es) (without place es) es (rest_is place e es order.0) (λ none. only_text place es order.1 none) only
+
+pub all_stay : (owed : Units) → leaving AsAnswered owed ≡ [] → staying AsAnswered owed ≡ owed
+all_stay [] is = refl
+all_stay (e ∷ es) is =
+    let none = none_first (is_complete e.1) e (leaving AsAnswered es) is in
+    ap (λ b. cond (not b) (e ∷ staying AsAnswered es) (staying AsAnswered es)) none.0 ∙ ap (λ t. e ∷ t) (all_stay es none.1)
+
+first_rest : (b : Bool) (e : ℕ × OwedUnit) (rest es kept : Units) → rest ≡ es → kept ≡ es → cond b rest (e ∷ es) ≡ cond (not b) (e ∷ kept) kept
+first_rest true e rest es kept is all = is ∙ sym all
+first_rest false e rest es kept is all = ap (λ t. e ∷ t) (sym all)
+
+cond_cons : (b : Bool) (e : ℕ × OwedUnit) (rest es : Units) → cond b (e ∷ rest) (e ∷ es) ≡ e ∷ cond b rest es
+cond_cons true e rest es = refl
+cond_cons false e rest es = refl
+
+rest_step : (b : Bool) (e : ℕ × OwedUnit) (o : Option OwedUnit) (rest es : Units) → (b ≡ true → rest ≡ es)
+    → (leaving AsAnswered rest ≡ [] → cond (complete_in o) rest es ≡ staying AsAnswered es)
+    → leaving AsAnswered (cond (not b) (e ∷ rest) rest) ≡ []
+    → cond (complete_in (cond b (Some e.1) o)) (cond (not b) (e ∷ rest) rest) (e ∷ es) ≡ staying AsAnswered (e ∷ es)
+rest_step true e o rest es here there only =
+    let none : leaving AsAnswered es ≡ [] = ap (leaving AsAnswered) (sym (here refl)) ∙ only in
+    first_rest (is_complete e.1) e rest es (staying AsAnswered es) (here refl) (all_stay es none)
+rest_step false e o rest es here there only =
+    let none = none_first (is_complete e.1) e (leaving AsAnswered rest) only in
+    cond_cons (complete_in o) e rest es ∙ ap (λ t. e ∷ t) (there none.1)
+    ∙ sym (ap (λ b. cond (not b) (e ∷ staying AsAnswered es) (staying AsAnswered es)) none.0)
+
+pub only_rest : (place : ℕ) (owed : Units) → Ascending owed → OnlyAt AsAnswered place owed → cond (complete_at place owed) (without place owed) owed ≡ staying AsAnswered owed
+only_rest place [] order only = refl
+only_rest place (e ∷ es) order only =
+    rest_step (place == e.0) e (at place es) (without place es) es (rest_is place e es order.0) (λ none. only_rest place es order.1 none) only
+
+-- ---- as came: those in front, one by one
+
+-- the first of the rest goes out
+pub front_more : (n : ℕ) (owed : Units) → Ascending owed → complete_at n owed ≡ true
+    → answer_texts (complete_front (rest_from n owed)) ≡ complete_text_at n owed ++ answer_texts (complete_front (rest_of (next_number n owed) owed))
+front_more n owed order is =
+    let found = some_complete (at n owed) is in
+    let rest = rest_of (next_number n owed) owed in
+    ap (λ es. answer_texts (complete_front es)) (rest_step_from n found.0 owed order found.1)
+    ∙ ap (λ b. answer_texts (cond b ((n, found.0) ∷ complete_front rest) [])) found.2
+    ∙ sym (ap (λ ts. ts ++ answer_texts (complete_front rest)) (ap complete_text_in found.1 ∙ ap (λ b. cond b (unit_text found.0 ∷ []) []) found.2))
+
+pub rest_shorter : (n : ℕ) (owed : Units) → Ascending owed → complete_at n owed ≡ true → length (rest_of (next_number n owed) owed) < length (rest_from n owed)
+rest_shorter n owed order is =
+    let found = some_complete (at n owed) is in
+    omega (arith, ap length (rest_step_from n found.0 owed order found.1))
+
+stop_step : (b : Bool) (e : ℕ × OwedUnit) (o : Option OwedUnit) (es fs : Units) → (complete_in o ≡ false → complete_front fs ≡ [])
+    → complete_in (cond b (Some e.1) o) ≡ false → complete_front (cond b (e ∷ es) fs) ≡ []
+stop_step true e o es fs there is = ap (λ b. cond b (e ∷ complete_front es) []) is
+stop_step false e o es fs there is = there is
+
+-- the first of the rest isn't complete
+pub front_stops : (n : ℕ) (owed : Units) → complete_at n owed ≡ false → complete_front (rest_from n owed) ≡ []
+front_stops n [] is = refl
+front_stops n (e ∷ es) is = stop_step (n == e.0) e (at n es) es (rest_from n es) (front_stops n es) is
+
+-- ---- as came: the first goes, where it is complete
+
+pub same_state : (now : OwedState) (places : ℕ) (owed : Units) → now.places ≡ places → now.owed ≡ owed → now ≡ state_of places owed
+same_state now places owed p q = ap (λ n. state_of n now.owed) p ∙ ap (λ es. state_of places es) q
+
+head_goes : (e : ℕ × OwedUnit) (es : Units) → Above e.0 es → complete_at e.0 (e ∷ es) ≡ true → incomplete_rest (without e.0 (e ∷ es)) ≡ incomplete_rest (e ∷ es)
+head_goes e es above is =
+    let gone : without e.0 (e ∷ es) ≡ es = ap (λ b. cond (not b) (e ∷ without e.0 es) (without e.0 es)) (eq-eqb e.0 e.0 refl) ∙ without_above e.0 es above in
+    let done : is_complete e.1 ≡ true = sym (ap complete_in (at_here e es)) ∙ is in
+    ap incomplete_rest gone ∙ sym (ap (λ b. cond b (incomplete_rest es) (e ∷ es)) done)
+
+pub first_goes : (place : ℕ) (owed : Units) → Ascending owed → first_number owed ≡ Some place → complete_at place owed ≡ true
+    → incomplete_rest (without place owed) ≡ incomplete_rest owed
+first_goes place [] order first is = absurd (cc)
+first_goes place (e ∷ es) order first is =
+    let here : place ≡ e.0 = cc in
+    ap (λ n. incomplete_rest (without n (e ∷ es))) here ∙ head_goes e es order.0 (ap (λ n. complete_at n (e ∷ es)) (sym here) ∙ is)
+
+pub first_shorter : (place : ℕ) (owed : Units) → complete_at place owed ≡ true → length (without place owed) < length owed
+first_shorter place owed is = let found = some_complete (at place owed) is in shorter place found.0 owed found.1
+
+pub first_stays : (place : ℕ) (owed : Units) → first_number owed ≡ Some place → complete_at place owed ≡ false → incomplete_rest owed ≡ owed
+first_stays place [] first is = refl
+first_stays place (e ∷ es) first is =
+    let here : place ≡ e.0 = cc in
+    let open_yet : is_complete e.1 ≡ false = sym (ap complete_in (at_here e es)) ∙ ap (λ n. complete_at n (e ∷ es)) (sym here) ∙ is in
+    ap (λ b. cond b (incomplete_rest es) (e ∷ es)) open_yet
+
+pub none_stays : (owed : Units) → first_number owed ≡ None → incomplete_rest owed ≡ owed
+none_stays [] none = refl
+none_stays (e ∷ es) none = absurd (cc)
+
+-- ---- results
+
+pub ok_to : {T E X : Type 0} (r : Result T E) (a b d : X) → b ≡ d → OnOk r (a ≡ b) → OnOk r (a ≡ d)
+ok_to (Ok x) a b d is h = h ∙ is
+ok_to (Err e) a b d is h = tt

@@ -1,0 +1,96 @@
+-- What is left of a list whose numbers ascend, from a number on.
+use Rattle.std.proofs.Common.{◌≡◌, ℕ, ◌<◌, ◌≤◌, ◌==◌, Bool, true, false, cond, if◌then◌else◌, List, [], ◌∷◌, Option, Some, None, refl, sym, ap, subst, ◌∙◌, arith, nat_lt, eq-eqb}
+use Rattle.std.proofs.lemmas.Bool.{eqb-true, lt-ltb, ne_eqb, false_from_ne_true, ltb-true}
+use Rattle.std.specs.Option.{option_map, IfSome}
+use Rattle.std.specs.List.{find}
+use Rattle.open_calls.specs.Numbered.{at, first_number, next_number, Above, Ascending}
+use Rattle.open_calls.proofs.Numbered.{at_above}
+
+pub at_here : {X : Type 0} (e : ℕ × X) (es : List (ℕ × X)) → at e.0 (e ∷ es) ≡ Some e.1
+at_here e es = ap (λ b. cond b (Some e.1) (at e.0 es)) (eq-eqb e.0 e.0 refl)
+
+apart_after : (n m : ℕ) → m < n → (n == m) ≡ false
+apart_after n m lt = ne_eqb n m (λ same. omega arith)
+
+not_above : (n m : ℕ) → m ≤ n → nat_lt n m ≡ false
+not_above n m le = false_from_ne_true (nat_lt n m) (λ over. let lt : n < m = ltb-true n m over in omega arith)
+
+-- the entries from this number on
+abbrev pub rest_from : {X : Type 0} → ℕ → List (ℕ × X) → List (ℕ × X)
+rest_from number [] = []
+rest_from number (e ∷ es) = if number == e.0 then e ∷ es else rest_from number es
+
+abbrev pub rest_of : {X : Type 0} → Option ℕ → List (ℕ × X) → List (ℕ × X)
+rest_of None all = []
+rest_of (Some number) all = rest_from number all
+
+pub rest_first : {X : Type 0} (all : List (ℕ × X)) → rest_of (first_number all) all ≡ all
+rest_first [] = refl
+rest_first (e ∷ es) = ap (λ b. cond b (e ∷ es) (rest_from e.0 es)) (eq-eqb e.0 e.0 refl)
+
+rest_skip : {X : Type 0} (o : Option ℕ) (e : ℕ × X) (es : List (ℕ × X)) → IfSome o (λ m. e.0 < m) → rest_of o (e ∷ es) ≡ rest_of o es
+rest_skip None e es lt = refl
+rest_skip (Some m) e es lt = ap (λ b. cond b (e ∷ es) (rest_from m es)) (apart_after m e.0 lt)
+
+over_step : {X : Type 0} (b : Bool) (m : ℕ) (e : ℕ × X) (o : Option (ℕ × X)) → m < e.0 → IfSome (option_map (λ x. x.0) o) (λ k. m < k)
+    → IfSome (option_map (λ x. x.0) (cond b (Some e) o)) (λ k. m < k)
+over_step true m e o lt there = lt
+over_step false m e o lt there = there
+
+next_over : {X : Type 0} (n m : ℕ) (es : List (ℕ × X)) → Above m es → IfSome (next_number n es) (λ k. m < k)
+next_over n m [] above = tt
+next_over n m (e ∷ es) above = over_step (nat_lt n e.0) m e (find (λ x. nat_lt n x.0) es) above.0 (next_over n m es above.1)
+
+next_later : {X : Type 0} (n : ℕ) (e : ℕ × X) (es : List (ℕ × X)) → e.0 ≤ n → next_number n (e ∷ es) ≡ next_number n es
+next_later n e es le = ap (λ b. option_map (λ x. x.0) (cond b (Some e) (find (λ x. nat_lt n x.0) es))) (not_above n e.0 le)
+
+pub rest_next : {X : Type 0} (n : ℕ) (es : List (ℕ × X)) → Above n es → rest_of (next_number n es) es ≡ es
+rest_next n [] above = refl
+rest_next n (e ∷ es) above =
+    ap (λ b. rest_of (option_map (λ x. x.0) (cond b (Some e) (find (λ x. nat_lt n x.0) es))) (e ∷ es)) (lt-ltb n e.0 above.0)
+    ∙ ap (λ b. cond b (e ∷ es) (rest_from e.0 es)) (eq-eqb e.0 e.0 refl)
+
+-- the entries from the next number on, where the first is skipped
+skipped : {X : Type 0} (n : ℕ) (e : ℕ × X) (es : List (ℕ × X)) → Above e.0 es → e.0 ≤ n → rest_of (next_number n (e ∷ es)) (e ∷ es) ≡ rest_of (next_number n es) es
+skipped n e es above le =
+    ap (λ o. rest_of o (e ∷ es)) (next_later n e es le) ∙ rest_skip (next_number n es) e es (next_over n e.0 es above)
+
+rest_here : {X : Type 0} (n : ℕ) (unit : X) (e : ℕ × X) (es : List (ℕ × X)) → Above e.0 es → n ≡ e.0 → e.1 ≡ unit
+    → e ∷ es ≡ (n, unit) ∷ rest_of (next_number n (e ∷ es)) (e ∷ es)
+rest_here n unit e es above here is =
+    let same : e ≡ (n, unit) = ap (λ m. (m, e.1)) (sym here) ∙ ap (λ u. (n, u)) is in
+    ap (λ x. x ∷ es) same
+    ∙ ap (λ t. (n, unit) ∷ t) (sym (skipped n e es above (omega arith) ∙ rest_next n es (subst (λ m. Above m es) (sym here) above)))
+
+from_step : {X : Type 0} (b : Bool) (n : ℕ) (unit : X) (e : ℕ × X) (o : Option X) (es rest : List (ℕ × X)) → cond b (Some e.1) o ≡ Some unit
+    → (b ≡ true → e.1 ≡ unit → e ∷ es ≡ (n, unit) ∷ rest) → (o ≡ Some unit → rest_from n es ≡ (n, unit) ∷ rest)
+    → cond b (e ∷ es) (rest_from n es) ≡ (n, unit) ∷ rest
+from_step true n unit e o es rest is here there = here refl (cc)
+from_step false n unit e o es rest is here there = there is
+
+pub rest_step_from : {X : Type 0} (n : ℕ) (unit : X) (all : List (ℕ × X)) → Ascending all → at n all ≡ Some unit → rest_from n all ≡ (n, unit) ∷ rest_of (next_number n all) all
+rest_step_from n unit [] order is = absurd (cc)
+rest_step_from n unit (e ∷ es) order is =
+    from_step (n == e.0) n unit e (at n es) es (rest_of (next_number n (e ∷ es)) (e ∷ es)) is
+    (λ here same. rest_here n unit e es order.0 (eqb-true n e.0 here) same)
+    (λ there.
+      let lt : e.0 < n = at_above e.0 n unit es order.0 there in
+      rest_step_from n unit es order.1 there ∙ ap (λ t. (n, unit) ∷ t) (sym (skipped n e es order.0 (omega arith))))
+
+-- something stands under this number
+abbrev pub IsThere : {X : Type 0} → List (ℕ × X) → ℕ → Type 0
+IsThere {X} es number = (x : X) × (at number es ≡ Some x)
+
+there_later : {X : Type 0} (e : ℕ × X) (es : List (ℕ × X)) (n : ℕ) → Above e.0 es → IsThere es n → IsThere (e ∷ es) n
+there_later e es n above there =
+    (there.0, ap (λ b. cond b (Some e.1) (at n es)) (apart_after n e.0 (at_above e.0 n there.0 es above there.1)) ∙ there.1)
+
+there_step : {X : Type 0} (b : Bool) (e : ℕ × X) (o : Option (ℕ × X)) (es : List (ℕ × X)) → Above e.0 es → IfSome (option_map (λ x. x.0) o) (IsThere es)
+    → IfSome (option_map (λ x. x.0) (cond b (Some e) o)) (IsThere (e ∷ es))
+there_step true e o es above there = (e.1, at_here e es)
+there_step false e None es above there = tt
+there_step false e (Some f) es above there = there_later e es f.0 above there
+
+pub next_there : {X : Type 0} (n : ℕ) (es : List (ℕ × X)) → Ascending es → IfSome (next_number n es) (IsThere es)
+next_there n [] order = tt
+next_there n (e ∷ es) order = there_step (nat_lt n e.0) e (find (λ x. nat_lt n x.0) es) es order.0 (next_there n es order.1)

@@ -1,0 +1,107 @@
+-- The withdrawals of a call's own calls, one by one.
+use Rattle.std.proofs.Common.{◌≡◌, ℕ, ◌<◌, ◌&&◌, Bool, true, false, cond, List, [], ◌∷◌, ◌++◌, Option, Some, refl, sym, ap, subst, ◌∙◌, arith, nat_lt, length, map, filter}
+use Rattle.std.specs.Option.{option_map, IfSome}
+use Rattle.std.specs.List.{find}
+use Rattle.connection_messages.specs.Texts.{withdrawal_text}
+use Rattle.open_calls.specs.declared.own_call.OwnCall.{OwnCall}
+use Rattle.open_calls.specs.Numbered.{at, next_number, Above, Ascending}
+use Rattle.open_calls.specs.Own.{is_wanted_by, next_wanted}
+use Rattle.open_calls.proofs.Numbered.{find_among, above_filter}
+use Rattle.outbox.specs.Output.{Output}
+use Rattle.connection_desk.specs.Desks.{Desk, HasWithdrawn, after_saying, with_texts}
+use Rattle.connection_desk.proofs.OwedLists.{no_texts, more_texts}
+use Rattle.connection_desk.proofs.Rests.{IsThere, rest_of, rest_from, rest_next, rest_step_from, next_there}
+
+abbrev pub Calls : Type 0
+Calls = List (ℕ × OwnCall)
+
+-- the calls of this one that aren't withdrawn
+abbrev pub wanted : ℕ → Calls → Calls
+wanted n waiting = filter (λ e. is_wanted_by n e.1) waiting
+
+abbrev pub withdrawals : Calls → List (List ℕ)
+withdrawals calls = map withdrawal_text (map (λ e. e.0) calls)
+
+keeps_order : {X : Type 0} (b : Bool) (e : ℕ × X) (es : List (ℕ × X)) → Above e.0 es → Ascending es → Ascending (cond b (e ∷ es) es)
+keeps_order true e es above order = (above, order)
+keeps_order false e es above order = order
+
+ascending_filter : {X : Type 0} (p : ℕ × X → Bool) (es : List (ℕ × X)) → Ascending es → Ascending (filter p es)
+ascending_filter p [] order = tt
+ascending_filter p (e ∷ es) order = keeps_order (p e) e (filter p es) (above_filter e.0 p es order.0) (ascending_filter p es order.1)
+
+pub wanted_ascend : (n : ℕ) (waiting : Calls) → Ascending waiting → Ascending (wanted n waiting)
+wanted_ascend n waiting order = ascending_filter (λ e. is_wanted_by n e.1) waiting order
+
+and_swap : (a b : Bool) → (a && b) ≡ (b && a)
+and_swap true true = refl
+and_swap true false = refl
+and_swap false true = refl
+and_swap false false = refl
+
+find_swap : {X : Type 0} (p q : X → Bool) (es : List X) → find (λ e. p e && q e) es ≡ find (λ e. q e && p e) es
+find_swap p q [] = refl
+find_swap p q (e ∷ es) =
+    ap (λ b. cond b (Some e) (find (λ x. p x && q x) es)) (and_swap (p e) (q e)) ∙ ap (λ o. cond (q e && p e) (Some e) o) (find_swap p q es)
+
+next_among : (n after : ℕ) (waiting : Calls) → next_wanted n after waiting ≡ next_number after (wanted n waiting)
+next_among n after waiting =
+    ap (λ o. option_map (λ e. e.0) o)
+    (find_swap (λ (e : ℕ × OwnCall). nat_lt after e.0) (λ e. is_wanted_by n e.1) waiting
+    ∙ sym (find_among (λ (e : ℕ × OwnCall). nat_lt after e.0) (λ e. is_wanted_by n e.1) waiting))
+
+-- ---- the next one
+
+pub first_rest : (n : ℕ) (waiting : Calls) (next : Option ℕ) → Above 0 waiting → next ≡ next_wanted n 0 waiting → rest_of next (wanted n waiting) ≡ wanted n waiting
+first_rest n waiting next positive is =
+    ap (λ o. rest_of o (wanted n waiting)) (is ∙ next_among n 0 waiting)
+    ∙ rest_next 0 (wanted n waiting) (above_filter 0 (λ e. is_wanted_by n e.1) waiting positive)
+
+pub next_is_there : (n after : ℕ) (waiting : Calls) (next : Option ℕ) → Ascending waiting → next ≡ next_wanted n after waiting → IfSome next (IsThere (wanted n waiting))
+next_is_there n after waiting next order is =
+    subst (λ o. IfSome o (IsThere (wanted n waiting))) (sym (is ∙ next_among n after waiting)) (next_there after (wanted n waiting) (wanted_ascend n waiting order))
+
+pub rest_more : (n key : ℕ) (waiting : Calls) (next : Option ℕ) → Ascending waiting → IsThere (wanted n waiting) key → next ≡ next_wanted n key waiting
+    → (x : OwnCall) × (rest_of (Some key) (wanted n waiting) ≡ (key, x) ∷ rest_of next (wanted n waiting))
+rest_more n key waiting next order there is = (
+  there.0,
+  rest_step_from key there.0 (wanted n waiting) (wanted_ascend n waiting order) there.1
+  ∙ ap (λ o. (key, there.0) ∷ rest_of o (wanted n waiting)) (sym (is ∙ next_among n key waiting)),
+)
+
+-- ---- what was said
+
+abbrev pub desk_with : Desk → Output → Desk
+desk_with d out = record { cancels = d.cancels; order = d.order; state = d.state; untold = d.untold; out = out }
+
+pub say_nothing : (d : Desk) → after_saying [] d ≡ d
+say_nothing d = ap (λ o. desk_with d o) (no_texts d.out)
+
+pub say_more : (ts us : List (List ℕ)) (d : Desk) → after_saying us (after_saying ts d) ≡ after_saying (ts ++ us) d
+say_more ts us d = ap (λ o. desk_with d o) (more_texts ts us d.out)
+
+pub nothing_withdrawn : (d : Desk) → HasWithdrawn d d
+nothing_withdrawn d = record { texts = []; is = sym (say_nothing d) }
+
+pub more_withdrawn : (ts : List (List ℕ)) (before middle now : Desk) → HasWithdrawn before middle → now ≡ after_saying ts middle → HasWithdrawn before now
+more_withdrawn ts before middle now since is = record {
+  texts = since.texts ++ ts;
+  is = is ∙ ap (after_saying ts) since.is ∙ say_more since.texts ts before;
+}
+
+-- ---- the withdrawals that are left
+
+pub said_one : (n key : ℕ) (waiting : Calls) (next : Option ℕ) (middle now : Desk) → Ascending waiting → IsThere (wanted n waiting) key → next ≡ next_wanted n key waiting
+    → now ≡ after_saying (withdrawal_text key ∷ []) middle
+    → after_saying (withdrawals (rest_of next (wanted n waiting))) now ≡ after_saying (withdrawals (rest_of (Some key) (wanted n waiting))) middle
+said_one n key waiting next middle now order there is said =
+    let more = rest_more n key waiting next order there is in
+    let rest = withdrawals (rest_of next (wanted n waiting)) in
+    ap (after_saying rest) said ∙ say_more (withdrawal_text key ∷ []) rest middle
+    ∙ ap (λ es. after_saying (withdrawals es) middle) (sym more.1)
+
+pub fewer_left : (n key : ℕ) (waiting : Calls) (next : Option ℕ) → Ascending waiting → IsThere (wanted n waiting) key → next ≡ next_wanted n key waiting
+    → length (rest_of next (wanted n waiting)) < length (rest_of (Some key) (wanted n waiting))
+fewer_left n key waiting next order there is =
+    let more = rest_more n key waiting next order there is in
+    omega (arith, ap length more.1)

@@ -1,0 +1,12 @@
+use Rattle.std.proofs.Common.{◌≡◌, length}
+use Rattle.connection_states.specs.Steps.{incomplete_rest}
+use Rattle.connection_desk.proofs.leaving.remove_front.Given as goal
+
+abbrev pub invariant-loop-place : goal.invariant-loop-place
+invariant-loop-place l = record {
+  places : l.owed.places ≡ l.initial.owed.places;
+  rest : incomplete_rest l.owed.owed ≡ incomplete_rest l.initial.owed.owed;
+}
+
+abbrev pub decreases-loop-place : goal.decreases-loop-place
+decreases-loop-place l = length l.owed.owed
