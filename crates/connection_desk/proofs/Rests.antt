@@ -74,8 +74,8 @@ rest_step_from n unit (e ∷ es) order is =
     from_step (n == e.0) n unit e (at n es) es (rest_of (next_number n (e ∷ es)) (e ∷ es)) is
     (λ here same. rest_here n unit e es order.0 (eqb-true n e.0 here) same)
     (λ there.
-      let lt : e.0 < n = at_above e.0 n unit es order.0 there in
-      rest_step_from n unit es order.1 there ∙ ap (λ t. (n, unit) ∷ t) (sym (skipped n e es order.0 (omega arith))))
+    let lt : e.0 < n = at_above e.0 n unit es order.0 there in
+    rest_step_from n unit es order.1 there ∙ ap (λ t. (n, unit) ∷ t) (sym (skipped n e es order.0 (omega arith))))
 
 -- something stands under this number
 abbrev pub IsThere : {X : Type 0} → List (ℕ × X) → ℕ → Type 0
