@@ -13,8 +13,8 @@ use open_calls::OwedAnswers;
 use outbox::Outbox;
 use std::alloc::AllocError;
 
-/// Writes the answers that can go out, where the one at this place may have become complete. Each call of `first` here says
-/// that the places ascend: no two units have the same.
+/// Writes the answers that can go out, where the one at this place may have become complete. Each call of `first` here
+/// says that the places ascend: no two units have the same.
 pub(crate) fn write_leaving(
     order: Order,
     owed: &OwedAnswers,
