@@ -21,7 +21,7 @@ use Rattle.connection_states.specs.States.{State}
 use Rattle.connection_states.specs.Steps.{leaving, owed_with}
 use Rattle.connection_desk.specs.Desks.{Desk, after_unit, after_end, answer_texts}
 use Rattle.connection.specs.Settings.{Chosen}
-use Rattle.connection.specs.Connections.{Connection, IsStreamOf, StandsAfter, SamePieces, Step, comes, is_full, ends, GoesOn, stays, goes, IsStill, over, waits, HasStepped, HasGoneOn, read, calls_of, close_of}
+use Rattle.connection.specs.Connections.{Connection, IsStreamOf, StandsAfter, SamePieces, Step, comes, is_full, ends, GoesOn, stays, goes, IsStill, HasStepped, HasGoneOn, read, calls_of, close_of}
 use Rattle.connection.specs.Inner.{IsNext, HasMoved, HasStayed, HasGone}
 use Rattle.connection.proofs.Moves.{desk_came, desk_ended}
 use Rattle.connection.proofs.Fed.{over_is, all_told}
@@ -153,19 +153,8 @@ close_moves c end going none is = end_moves c (close_of end) going (λ past told
 pub moves_as : (c before now next : Connection) → c ≡ before → now ≡ next → HasMoved c now → HasMoved before next
 moves_as c before now next same to moved = subst (λ b. HasMoved b next) same (subst (λ n. HasMoved c n) to moved)
 
-pub stays_as : (c before now : Connection) → c ≡ before → now ≡ before → HasStayed c c → HasStayed before now
-stays_as c before now same to stayed = subst (λ n. HasStayed before n) (sym to) (subst (λ b. HasStayed b b) same stayed)
-
 pub next_as : (c before : Connection) (u : Unit) → before ≡ c → IsNext before u → IsNext c u
 next_as c before u same next = subst (λ b. IsNext b u) same next
-
--- ---- it stays
-
-pub over_stays : (c : Connection) → c.desk.state.is_over ≡ true → HasStayed c c
-over_stays c is = record { same = refl; still = λ past told stands all. over all (sym (over_is c past told stands) ∙ is) }
-
-pub waits_stays : (c : Connection) → next_content c.stream ≡ None → end_of_stream c.stream ≡ None → HasStayed c c
-waits_stays c none going = record { same = refl; still = λ past told stands all. waits all (next_is c past told stands ∙ none) going }
 
 -- ---- several steps
 
