@@ -158,6 +158,7 @@ fn reach_next(theirs: &mut TheirCalls, most: u64, id: &Id) -> Option<u64>
         option_to_list result ++ reached_to most id.now theirs.new.calls }
     ensures calls { cancelled_to most id.now theirs.new.calls ≡
         cancelled_to most id.now theirs.old.calls }
+    ensures rest { result ≡ None → reached_to most id.now theirs.old.calls ≡ [] }
     ensures none { result ≡ None → cancelled_to most id.now theirs.new.calls ≡ theirs.new.calls }
 {
     let _came = theirs.came();
