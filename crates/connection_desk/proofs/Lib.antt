@@ -1,1 +1,4 @@
+pub mod Admitted
+pub mod Owing
 pub mod Reached
+pub mod Room

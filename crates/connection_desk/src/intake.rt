@@ -7,7 +7,7 @@ ghost use Rattle.connection_messages.specs.Texts.{answer_text};
 ghost use Rattle.connection_history.specs.Stream.{call_in, calls_in, entries_in};
 ghost use Rattle.open_calls.specs.Owed.{seen_slots};
 ghost use Rattle.open_calls.specs.Theirs.{new_call};
-ghost use Rattle.connection_states.specs.States.{owed_slots};
+ghost use Rattle.connection_states.specs.States.{owed_slots, is_batch as is_batch_unit};
 ghost use Rattle.connection_states.specs.Steps.{leaving, staying, new_call_slots, new_slots, new_unit_slots};
 ghost use Rattle.connection_desk.specs.Desks.{answer_texts, with_texts};
 ghost use Rattle.connection_desk.specs.Inner.{HaveSlots, IsLonger, IsOpenEnded, added_call, added_calls, has_cancel as has_cancel_in, most_events as most_events_in, room_of, untold_of};
@@ -39,7 +39,7 @@ impl Desk {
         ensures err { OnErr result (self.new ≡ self.old) }
     {
         let mut room = self.take_room();
-        let is_batch = matches!(unit, Unit::Batch(_));
+        let is_batch = is_batch(&unit);
         let came = self.theirs.came();
         let place = self.owed.places();
         let slots = admit(self.alloc, &mut self.theirs, &mut self.events, place, &unit)?;
@@ -65,6 +65,15 @@ impl Desk {
         );
         self.keep_room(room);
         Ok(())
+    }
+}
+
+fn is_batch(unit: &Unit) -> bool
+    ensures { result ≡ is_batch_unit unit.now }
+{
+    match unit {
+        Unit::Batch(_) => true,
+        Unit::Unreadable | Unit::Single(_) => false,
     }
 }
 
