@@ -116,15 +116,15 @@ pub theirs_along : (place slot n : ℕ) (front : List (ℕ × TheirCall)) (es : 
 theirs_along place slot n front [] under = ap (λ m. state_of m (front ++ [])) (add-zero n) ∙ ap (λ fs. state_of n fs) (append-nil front)
 theirs_along place slot n front (e ∷ es) under =
     let m = n + length (call_in e) in
-    let then = slot + slot_count e in
+    let slot2 = slot + slot_count e in
     let calls = (theirs_after place slot e (state_of n front)).calls in
-    let added = added_calls place then m es in
+    let added = added_calls place slot2 m es in
     let total : n + length (calls_in (e ∷ es)) ≡ m + length (calls_in es) = omega (arith, length-append (call_in e) (calls_in es)) in
     ap (λ k. state_of k (calls_along m es (calls_at n e (front ++ (added_call place slot n e ++ added))))) total
     ∙ ap (λ fs. state_of (m + length (calls_in es)) (calls_along m es fs))
-    (calls_entry place slot n front added e under (above_less n m added (omega arith) (added_above place then m es)))
-    ∙ theirs_along place then m calls es (below_entry place slot n front e under)
-    ∙ ap (λ s. theirs_after_all place then es s) (sym (came_entry place slot n front e))
+    (calls_entry place slot n front added e under (above_less n m added (omega arith) (added_above place slot2 m es)))
+    ∙ theirs_along place slot2 m calls es (below_entry place slot n front e under)
+    ∙ ap (λ s. theirs_after_all place slot2 es s) (sym (came_entry place slot n front e))
 
 -- ---- what is told
 
@@ -189,15 +189,15 @@ told_alike : (place slot n : ℕ) (own : OwnState) (front : List (ℕ × TheirCa
 told_alike place slot n own front [] s under came alike = refl
 told_alike place slot n own front (e ∷ es) s under came alike =
     let m = n + length (call_in e) in
-    let then = slot + slot_count e in
+    let slot2 = slot + slot_count e in
     let calls = (theirs_after place slot e (state_of n front)).calls in
-    let added = added_calls place then m es in
-    let over = above_less n m added (omega arith) (added_above place then m es) in
+    let added = added_calls place slot2 m es in
+    let over = above_less n m added (omega arith) (added_above place slot2 m es) in
     let all = front ++ (added_call place slot n e ++ added) in
     ap (λ told. told ++ told_along m (own_after e own) (calls_at n e all) es) (told_entry place slot n own front added e s under over came alike)
     ∙ ap (λ fs. told_of own s e ++ told_along m (own_after e own) fs es) (calls_entry place slot n front added e under over)
     ∙ ap (λ told. told_of own s e ++ told)
-    (told_alike place then m (own_after e own) calls es (theirs_after 0 0 e s) (below_entry place slot n front e under) (count_entry n e s came) (alike_entry place slot n front e s came alike))
+    (told_alike place slot2 m (own_after e own) calls es (theirs_after 0 0 e s) (below_entry place slot n front e under) (count_entry n e s came) (alike_entry place slot n front e s came alike))
 
 pub told_same : (place n : ℕ) (own : OwnState) (front : List (ℕ × TheirCall)) (es : List Entry) → Below (suc n) front
     → told_along n own (front ++ added_calls place 0 n es) es ≡ told_of_all own (state_of n front) es

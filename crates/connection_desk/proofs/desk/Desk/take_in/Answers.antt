@@ -28,8 +28,8 @@ invariant_of-self-2 c =
     let was = c.self.inside.owed in
     let new = owed_slots was.places c.is_batch-is_batch.result (seen_slots c.in_ok-slots.slots.items) in
     record {
-      settled = subst (λ (s : OwedState). leaving order s.owed ≡ []) (sym c.in_default-owe.ensures.owed) (none-leaving order (was.owed ++ new));
-      have_slots = subst (λ (s : OwedState). HaveSlots s.owed) (sym c.in_default-owe.ensures.owed)
+      settled = subst (λ (s : OwedState). leaving order s.owed ≡ []) (sym c.in_default.ensures.owed) (none-leaving order (was.owed ++ new));
+      have_slots = subst (λ (s : OwedState). HaveSlots s.owed) (sym c.in_default.ensures.owed)
           (have-staying order (was.owed ++ new)
           (have-append was.owed new c.self.invariant.have_slots (have-owed was.places c.is_batch-is_batch.result (seen_slots c.in_ok-slots.slots.items))));
       open_ended = λ _. c.settle.ensures.open;
@@ -83,7 +83,7 @@ returns-clause-ok c =
     c.owe.new.outbox (with_texts (answer_texts (leaving d.order (d.owed.owed ++ owed_slots d.owed.places (is_batch unit) (new_unit_slots unit)))) d.outbox)
     c.settle.ensures.own
     theirs
-    (c.in_default-owe.ensures.owed ∙ ap (λ owed. owed_state (d.owed.places + 1) (staying d.order owed)) owing)
+    (c.in_default.ensures.owed ∙ ap (λ owed. owed_state (d.owed.places + 1) (staying d.order owed)) owing)
     (c.settle.ensures.untold ∙ ap (λ xs. xs ++ told_along c.came-came.result d.own c.admit.new.theirs.calls es) c.admit.ensures.untold ∙ ap (λ xs. untold_of d.events ++ xs) told)
-    (c.in_default-owe.ensures.outbox ∙ ap (λ owed. with_texts (answer_texts (leaving d.order owed)) d.outbox) owing)
+    (c.in_default.ensures.outbox ∙ ap (λ owed. with_texts (answer_texts (leaving d.order owed)) d.outbox) owing)
     ∙ ap (λ x. after_unit unit x) (c.self.view_is ∙ c.take_room-room.ensures.state)
