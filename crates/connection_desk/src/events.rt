@@ -32,7 +32,10 @@ impl Events {
     pub fn is_empty(&self) -> bool
         ensures { IsTrue result ↔ (untold_of self.now ≡ []) }
     {
-        if !self.items.is_empty() || self.unanswered.len() > 0 {
+        if !self.items.is_empty() {
+            return false;
+        }
+        if self.unanswered.len() > 0 {
             return false;
         }
         self.over.is_none()

@@ -92,11 +92,11 @@ fn owe(
     ensures owed { OnOk result (owed.new ≡ record {
       places = owed.old.places + 1;
       owed = staying order
-        (owed.old.owed ++ owed_slots owed.old.places is_batch (seen_slots slots.items));
+          (owed.old.owed ++ owed_slots owed.old.places is_batch (seen_slots slots.items));
     }) }
     ensures outbox { OnOk result (outbox.new ≡ with_texts
         (answer_texts (leaving order
-          (owed.old.owed ++ owed_slots owed.old.places is_batch (seen_slots slots.items))))
+        (owed.old.owed ++ owed_slots owed.old.places is_batch (seen_slots slots.items))))
         outbox.old) }
     ensures owed_err { OnErr result (owed.new ≡ owed.old) }
     ensures outbox_err { OnErr result (outbox.new ≡ outbox.old) }
@@ -277,7 +277,7 @@ fn admit_entry(
     ensures theirs { OnOk result (theirs.new ≡ record {
       came = theirs.old.came + length (call_in entry.now);
       calls = theirs.old.calls ++
-        added_call place (length slots.old.items) theirs.old.came entry.now;
+          added_call place (length slots.old.items) theirs.old.came entry.now;
     }) }
     ensures longer { IsLonger theirs.old theirs.new }
 {
@@ -303,7 +303,7 @@ fn admit_call(
     ensures theirs { OnOk result (theirs.new ≡ record {
       came = theirs.old.came + 1;
       calls = theirs.old.calls ++
-        (theirs.old.came + 1, new_call id.now place (length slots.old.items)) ∷ [];
+          (theirs.old.came + 1, new_call id.now place (length slots.old.items)) ∷ [];
     }) }
     ensures longer { IsLonger theirs.old theirs.new }
 {

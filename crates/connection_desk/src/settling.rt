@@ -123,13 +123,7 @@ fn tell_call(events: &mut Events, tally: &mut Tally, number: u64, call: Call)
 }
 
 /// Tells the requests with this id, up to this number, that they are cancelled.
-fn tell_cancels(
-    theirs: &mut TheirCalls,
-    events: &mut Events,
-    tally: &mut Tally,
-    most: u64,
-    id: &Id,
-)
+fn tell_cancels(theirs: &mut TheirCalls, events: &mut Events, tally: &mut Tally, most: u64, id: &Id)
     requires open { IsOpenEnded events.old }
     requires room { length (reached_to most id.now theirs.old.calls) ≤ room_of events.old }
     ensures theirs { theirs.new ≡ record theirs.old {
