@@ -1,5 +1,5 @@
-//! What the entries of a unit do, once it was admitted: they are told, and they cancel or end what they reach. There is room
-//! for all that they tell.
+//! What the entries of a unit do, once it was admitted: they are told, and they cancel or end what they reach. There is
+//! room for all that they tell.
 
 ghost use Rattle.std.specs.Prelude.{◌≡◌, ◌≤◌, ◌<◌, ◌+◌, ◌^◌, ◌++◌, ◌∷◌, [], length, map, None, is_some, option_to_list, if◌then◌else◌};
 ghost use Rattle.connection_history.specs.Stream.{call_in, calls_in, entries_in};
