@@ -1,5 +1,5 @@
 -- What the entries of a unit do once all of its calls are open is what they do one after another.
-use Rattle.std.proofs.Common.{◌≡◌, ℕ, suc, ◌+◌, ◌<◌, ◌≤◌, ◌&&◌, nat_le, Bool, true, false, cond, if◌then◌else◌, List, [], ◌∷◌, ◌++◌, length, map, Option, refl, sym, ap, subst, ◌∙◌, arith, add-zero, append_assoc, append-nil, length-append, add_assoc}
+use Rattle.std.proofs.Common.{◌≡◌, ℕ, suc, ◌+◌, ◌<◌, ◌≤◌, ◌&&◌, nat_le, Bool, true, false, cond, if◌then◌else◌, List, [], ◌∷◌, ◌++◌, length, map, refl, sym, ap, subst, ◌∙◌, arith, add-zero, append_assoc, append-nil, length-append}
 use Rattle.std.proofs.lemmas.List.{map-append}
 use Rattle.std.proofs.lemmas.List.Elements.{filter-append}
 use Rattle.std.proofs.lemmas.Bool.{le-leb, leb-true, false_from_ne_true}
@@ -7,18 +7,17 @@ use Rattle.std.specs.List.{filter}
 use Rattle.rpc_messages.specs.declared.id.Id.{Id}
 use Rattle.connection_messages.specs.declared.entry.Entry.{Entry}
 use Rattle.connection_messages.specs.declared.entry.Entry.TheVariants.{Call, Cancel, Reply, Stray, Invalid}
-use Rattle.connection_history.specs.declared.event.Event.{Event}
 use Rattle.connection_history.specs.declared.event.Event.TheVariants as event
 use Rattle.connection_history.specs.Stream.{call_in, calls_in}
 use Rattle.open_calls.specs.declared.their_call.TheirCall.{TheirCall}
-use Rattle.open_calls.specs.Numbered.{at, up_to, Above, Below}
+use Rattle.open_calls.specs.Numbered.{up_to, Above, Below}
 use Rattle.open_calls.specs.Own.{OwnState}
 use Rattle.open_calls.specs.Theirs.{TheirState, new_call, is_reached, cancelled}
 use Rattle.open_calls.proofs.Numbered.{below_more, below_push, up_to_all, up_to_above}
 use Rattle.open_calls.proofs.Theirs.{state_of}
 use Rattle.connection_states.specs.States.{slot_count}
 use Rattle.connection_states.specs.Steps.{cancelled_if, cancelled_all, reached_numbers, theirs_after, theirs_after_all, own_after, told_of, told_of_all}
-use Rattle.connection_desk.specs.Inner.{added_call, added_calls, cancelled_to, reached_to, told_at, told_along, calls_at, calls_along}
+use Rattle.connection_desk.specs.Inner.{added_call, added_calls, cancelled_to, told_at, told_along, calls_at, calls_along}
 
 -- ---- numbers
 

@@ -1,9 +1,9 @@
 -- What goes out and what stays of the answers that are owed.
-use Rattle.std.proofs.Common.{◌≡◌, ℕ, ◌<◌, ◌==◌, not, Bool, true, false, cond, List, [], ◌∷◌, ◌++◌, length, Option, refl, sym, ap, ◌∙◌, arith, append-nil}
+use Rattle.std.proofs.Common.{◌≡◌, ℕ, ◌<◌, not, Bool, true, false, cond, List, [], ◌∷◌, ◌++◌, length, Option, refl, ap, ◌∙◌, arith, append-nil}
 use Rattle.std.specs.List.{filter}
 use Rattle.connection_history.specs.declared.order.Order.{Order}
 use Rattle.connection_history.specs.declared.order.Order.TheVariants.{AsAnswered, AsCame}
-use Rattle.open_calls.specs.Owed.{OwedUnit, OwedState, seen_slots}
+use Rattle.open_calls.specs.Owed.{OwedUnit, OwedState}
 use Rattle.connection_states.specs.States.{owed_slots}
 use Rattle.connection_states.specs.Steps.{is_complete, complete_front, incomplete_rest, leaving, staying}
 use Rattle.connection_desk.specs.Inner.{HaveSlots}

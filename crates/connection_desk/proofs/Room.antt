@@ -1,5 +1,5 @@
 -- How many events the entries of a unit tell at most.
-use Rattle.std.proofs.Common.{◌≡◌, ℕ, suc, ◌+◌, ◌<◌, ◌≤◌, ◌&&◌, ◌||◌, not, nat_le, Bool, true, false, cond, if◌then◌else◌, List, [], ◌∷◌, ◌++◌, length, map, refl, sym, ap, subst, ◌∙◌, arith, length-append}
+use Rattle.std.proofs.Common.{◌≡◌, ℕ, suc, ◌+◌, ◌<◌, ◌≤◌, ◌&&◌, not, nat_le, Bool, true, false, cond, if◌then◌else◌, List, [], ◌∷◌, ◌++◌, length, map, refl, ap, ◌∙◌, arith, length-append}
 use Rattle.std.proofs.lemmas.List.{length-map}
 use Rattle.rpc_messages.specs.declared.id.Id.{Id}
 use Rattle.rpc_messages.specs.Ids.{has_id}
@@ -9,11 +9,10 @@ use Rattle.connection_history.specs.declared.event.Event.{Event}
 use Rattle.connection_history.specs.declared.event.Event.TheVariants as event
 use Rattle.connection_history.specs.Stream.{call_in}
 use Rattle.open_calls.specs.declared.their_call.TheirCall.{TheirCall}
-use Rattle.open_calls.specs.Numbered.{at}
 use Rattle.open_calls.specs.Own.{OwnState}
 use Rattle.open_calls.specs.Theirs.{is_reached, cancelled}
 use Rattle.connection_states.specs.Steps.{own_after}
-use Rattle.connection_desk.specs.Inner.{reached_to, cancelled_to, told_at, told_along, calls_at, has_cancel, is_cancel, most_events}
+use Rattle.connection_desk.specs.Inner.{reached_to, cancelled_to, told_along, has_cancel, most_events}
 use Rattle.connection_desk.proofs.Reached.{numbers_cons}
 
 -- how many calls no cancel has reached

@@ -1,4 +1,5 @@
-//! Units that come. What needs memory is done first, for the whole unit; what its entries do is settled then, in their order.
+//! Units that come. What needs memory is done first, for the whole unit; what its entries do is settled then, in their
+//! order.
 
 ghost use Rattle.std.specs.Prelude.{◌≡◌, ◌≤◌, ◌<◌, ◌+◌, ◌-◌, ◌^◌, ◌++◌, ◌∷◌, [], length, flat_map, false, IfOk, OnOk, OnErr};
 ghost use Rattle.rpc_messages.specs.declared.id.Id.TheVariants.{Null};

@@ -1,5 +1,5 @@
-//! What the entries of a unit do, once it was admitted: they are told, and they cancel or end what they reach. There is room
-//! for all that they tell.
+//! What the entries of a unit do, once it was admitted: they are told, and they cancel or end what they reach. There is
+//! room for all that they tell.
 
 ghost use Rattle.std.specs.Prelude.{◌≡◌, ◌≤◌, ◌<◌, ◌+◌, ◌^◌, ◌++◌, ◌∷◌, [], length, map, None, is_some, option_to_list, if◌then◌else◌};
 ghost use Rattle.connection_history.specs.Stream.{call_in, calls_in, entries_in};
@@ -155,6 +155,7 @@ fn reach_next(theirs: &mut TheirCalls, most: u64, id: &Id) -> Option<u64>
     ensures rest { result ≡ None → reached_to most id.now theirs.old.calls ≡ [] }
     ensures none { result ≡ None → cancelled_to most id.now theirs.new.calls ≡ theirs.new.calls }
 {
+    // It ensures that the numbers ascend, so that no other call is changed.
     let _came = theirs.came();
     theirs.reach_up_to(id, most)
 }
