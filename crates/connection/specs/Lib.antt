@@ -1,2 +1,3 @@
 pub mod Connections
+pub mod Inner
 pub mod Settings

@@ -1,12 +1,11 @@
 //! What the host is told.
 
-ghost use Rattle.std.specs.Prelude.{◌≡◌, ◌++◌, ◌∷◌, [], List, Ok, Some, None, IfOk, IfSome, OnErr, true, false, length};
+ghost use Rattle.std.specs.Prelude.{◌≡◌, ◌++◌, ◌∷◌, [], List, Ok, None, IfOk, IfSome, OnOk, OnErr, true, false, length};
 ghost use mir.Val.{bool_byte};
 ghost use Rattle.connection_history.specs.Stream.{calls_in, call_in};
 ghost use Rattle.connection.specs.Connections.{calls_of, close_of as close_as};
 ghost use Rattle.connection_history.specs.declared.event.Event.{Event as Told};
-ghost use Rattle.connection_history.specs.History.{History, came, ended, is_over};
-ghost use Rattle.connection_history.specs.Events.{events_of};
+ghost use Rattle.connection_history.specs.History.{History};
 
 use crate::connection::Connection;
 use connection_history::{Close, Event};
@@ -15,7 +14,9 @@ use content_streams::StreamEnd;
 use std::alloc::AllocError;
 
 impl Connection {
-    ghost use Rattle.connection.specs.Connections.{GoesOn, IsStill, StandsAfter, Step, HasGoneOn, HasStepped};
+    ghost use Rattle.connection.specs.Connections.{GoesOn, IsStill, StandsAfter, HasGoneOn};
+    ghost use Rattle.connection.specs.Inner.{IsNext, HasMoved, HasStayed};
+    ghost use Rattle.content_streams.specs.Streams.{next_content};
 
     /// The next event. There is none where all is told that has come. Where it is refused for memory nothing is told, and
     /// it may be asked for again; contents without events may have come.
@@ -31,7 +32,7 @@ impl Connection {
         ensures settings { self.new.settings ≡ self.old.settings }
     {
         loop {
-            if let Some(event) = self.desk.next_event() {
+            if let Some(event) = self.next_untold() {
                 return Ok(Some(event));
             }
             if !self.go_on()? {
@@ -40,13 +41,20 @@ impl Connection {
         }
     }
 
+    /// The next event of what has come.
+    fn next_untold(&mut self) -> Option<Event>
+        ensures told { (history : History) (told : List Told) → StandsAfter self.old history told →
+            IfSome result (λ event. StandsAfter self.new history (told ++ event ∷ [])) }
+        ensures none { result ≡ None → (self.new ≡ self.old) × (self.old.desk.untold ≡ []) }
+        ensures settings { self.new.settings ≡ self.old.settings }
+    {
+        self.desk.next_event()
+    }
+
     /// Reads the next content, or ends the input. Says whether there was either.
     fn go_on(&mut self) -> Result<bool, AllocError>
-        ensures went { (history : History) (told : List Told) → StandsAfter self.old history told →
-            events_of history ≡ told → result ≡ Ok true → HasStepped self.old self.new history told }
-        ensures still { (history : History) (told : List Told) → StandsAfter self.old history told →
-            events_of history ≡ told → result ≡ Ok false →
-            (self.new ≡ self.old) × IsStill self.old history told }
+        ensures moved { result ≡ Ok true → HasMoved self.old self.new }
+        ensures stayed { result ≡ Ok false → HasStayed self.old self.new }
         ensures err { OnErr result (self.new ≡ self.old) }
     {
         if self.desk.is_over() {
@@ -56,22 +64,33 @@ impl Connection {
             return Ok(self.end_if_closed());
         };
         let unit = self.reader.read(frame)?;
-        self.take_in(unit)
-    }
-
-    /// Takes in the unit of the next content, or ends the input where it has too many calls.
-    fn take_in(&mut self, unit: Unit) -> Result<bool, AllocError> {
-        if call_count(&unit) > self.settings.calls().saturating_sub(self.desk.came()) {
-            self.desk.end(Close::Full);
-            return Ok(true);
-        }
-        self.desk.take_in(unit)?;
-        self.stream.pop();
+        self.take_in(unit)?;
         Ok(true)
     }
 
+    /// Takes in the unit of the next content, or ends the input where it has too many calls.
+    fn take_in(&mut self, unit: Unit) -> Result<(), AllocError>
+        requires over { self.old.desk.state.is_over ≡ false }
+        requires next { IsNext self.old unit }
+        ensures moved { OnOk result (HasMoved self.old self.new) }
+        ensures err { OnErr result (self.new ≡ self.old) }
+    {
+        if call_count(&unit) > self.settings.calls().saturating_sub(self.desk.came()) {
+            self.desk.end(Close::Full);
+            return Ok(());
+        }
+        self.desk.take_in(unit)?;
+        self.stream.pop();
+        Ok(())
+    }
+
     /// Ends the input where its stream has ended.
-    fn end_if_closed(&mut self) -> bool {
+    fn end_if_closed(&mut self) -> bool
+        requires over { self.old.desk.state.is_over ≡ false }
+        requires next { next_content self.old.stream ≡ None }
+        ensures moved { result ≡ true → HasMoved self.old self.new }
+        ensures stayed { result ≡ false → HasStayed self.old self.new }
+    {
         match self.stream.close() {
             Some(end) => {
                 self.desk.end(close_of(end));

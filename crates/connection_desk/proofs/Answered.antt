@@ -1,5 +1,5 @@
 -- A call is answered and closed.
-use Rattle.std.proofs.Common.{◌≡◌, ℕ, not, List, [], ◌∷◌, Option, Some, None, refl, sym, ap, ◌∙◌}
+use Rattle.std.proofs.Common.{◌≡◌, ℕ, not, List, [], ◌∷◌, Some, None, sym, ap, ◌∙◌}
 use Rattle.std.specs.Option.{is_some}
 use Rattle.rpc_messages.specs.declared.id.Id.{Id}
 use Rattle.connection_messages.specs.Texts.{answer_text}
@@ -9,10 +9,8 @@ use Rattle.connection_history.specs.Refusals.{first_of}
 use Rattle.connection_states.specs.States.{State}
 use Rattle.connection_states.specs.Steps.{leaving, staying, given_to, owed_given}
 use Rattle.open_calls.specs.declared.their_call.TheirCall.{TheirCall}
-use Rattle.open_calls.specs.Numbered.{at, without, changed_at}
-use Rattle.open_calls.specs.Own.{OwnState, without_caller}
-use Rattle.open_calls.specs.Theirs.{TheirState}
-use Rattle.open_calls.specs.Owed.{OwedState, given}
+use Rattle.open_calls.specs.Numbered.{at, without}
+use Rattle.open_calls.specs.Own.{without_caller}
 use Rattle.outbox.specs.Output.{Output}
 use Rattle.connection_desk.specs.Desks.{Desk, after_answer, after_given, answer_refused, answer_texts, with_texts}
 use Rattle.connection_desk.proofs.GivenSlots.{all_stays}

@@ -1,5 +1,5 @@
 -- A slot of an owed answer is given its text, or has it taken back.
-use Rattle.std.proofs.Common.{◌≡◌, ℕ, ◌<◌, ◌==◌, not, Bool, true, false, cond, List, [], ◌∷◌, Option, Some, None, refl, sym, ap, subst, ◌∙◌, arith, length, set, get_or}
+use Rattle.std.proofs.Common.{◌≡◌, ℕ, ◌<◌, ◌==◌, not, Bool, true, false, cond, List, [], ◌∷◌, Option, Some, None, refl, sym, ap, subst, ◌∙◌, arith, length, set}
 use Rattle.std.proofs.lemmas.Bool.{eqb-true, ne_eqb}
 use Rattle.std.proofs.lemmas.List.{length-set, set-set, set-get_or}
 use Rattle.std.proofs.lemmas.Option.{unwrap_or-slice_get}
@@ -11,7 +11,7 @@ use Rattle.open_calls.specs.Owed.{OwedUnit, slot_in, slot_at, replaced}
 use Rattle.open_calls.proofs.OwedLemmas.{unit_of}
 use Rattle.connection_desk.specs.declared.events.Events.{Events}
 use Rattle.connection_desk.specs.Inner.{HaveSlots, OnlyAt, IsDesk, IsOpenEnded}
-use Rattle.connection_desk.proofs.OwedLists.{Units, all_stay}
+use Rattle.connection_desk.proofs.OwedLists.{Units, all_stay, none_first}
 
 -- ---- what a desk keeps
 
@@ -74,10 +74,6 @@ slots_changed place f (e ∷ es) same slots = (some_step (place == e.0) f e.1 (s
 pub slots_replaced : (place slot : ℕ) (text : Option (List ℕ)) (owed : Units) → HaveSlots owed → HaveSlots (changed_at place (replaced slot text) owed)
 slots_replaced place slot text owed slots = slots_changed place (replaced slot text) owed (λ unit. length-set unit.slots slot text) slots
 
-none_first : (b : Bool) (e : ℕ × OwedUnit) (fs : Units) → cond b (e ∷ fs) fs ≡ [] → (b ≡ false) × (fs ≡ [])
-none_first true e fs is = absurd (cc)
-none_first false e fs is = (refl, is)
-
 only_step : (b : Bool) (f : OwedUnit → OwedUnit) (e : ℕ × OwedUnit) (rest : Units) → is_complete e.1 ≡ false → leaving AsAnswered rest ≡ []
     → leaving AsAnswered (cond (not b) ((e.0, cond b (f e.1) e.1) ∷ rest) rest) ≡ []
 only_step true f e rest is none = none
@@ -120,6 +116,6 @@ changed_back place slot text was [] order is = refl
 changed_back place slot text was (e ∷ es) order is =
     back_step (place == e.0) slot text was e (at place es) (changed_at place (replaced slot was) (changed_at place (replaced slot text) es)) es is
     (λ here.
-      let above : Above place es = subst (λ m. Above m es) (sym (eqb-true place e.0 here)) order.0 in
-      ap (changed_at place (replaced slot was)) (changed_above place (replaced slot text) es above) ∙ changed_above place (replaced slot was) es above)
+    let above : Above place es = subst (λ m. Above m es) (sym (eqb-true place e.0 here)) order.0 in
+    ap (changed_at place (replaced slot was)) (changed_above place (replaced slot text) es above) ∙ changed_above place (replaced slot was) es above)
     (λ there. changed_back place slot text was es order.1 there)

@@ -1,6 +1,10 @@
+pub mod Admitted
 pub mod Answered
 pub mod GivenSlots
 pub mod OwedLists
+pub mod Owing
+pub mod Reached
 pub mod Rests
+pub mod Room
 pub mod Seen
 pub mod Withdrawn

@@ -1,15 +1,12 @@
 -- Lists of owed units, and which of them are complete.
-use Rattle.std.proofs.Common.{◌≡◌, ℕ, ◌<◌, ◌≤◌, ◌==◌, not, Result, Ok, Err, OnOk, Bool, true, false, cond, if◌then◌else◌, List, [], ◌∷◌, ◌++◌, Option, Some, None, refl, sym, ap, subst, ◌∙◌, arith, nat_lt, length, take, drop, filter, eq-eqb, append_assoc}
-use Rattle.std.proofs.lemmas.Bool.{eqb-true, lt-ltb, ne_eqb, false_from_ne_true, ltb-true}
+use Rattle.std.proofs.Common.{◌≡◌, ℕ, ◌<◌, ◌==◌, not, Result, Ok, Err, OnOk, Bool, true, false, cond, List, [], ◌∷◌, ◌++◌, Option, Some, None, refl, sym, ap, subst, ◌∙◌, arith, length, take, drop, eq-eqb, append_assoc}
+use Rattle.std.proofs.lemmas.Bool.{eqb-true}
 use Rattle.std.proofs.lemmas.List.{append-nil, take_at, take-append-drop}
-use Rattle.std.specs.Option.{option_map, IfSome}
-use Rattle.std.specs.List.{find, slice_get}
-use Rattle.connection_history.specs.declared.order.Order.{Order}
-use Rattle.connection_history.specs.declared.order.Order.TheVariants.{AsAnswered, AsCame}
+use Rattle.connection_history.specs.declared.order.Order.TheVariants.{AsAnswered}
 use Rattle.connection_states.specs.Steps.{is_complete, complete_front, incomplete_rest, leaving, staying}
-use Rattle.open_calls.specs.Numbered.{at, without, changed_at, first_number, next_number, Above, Ascending}
+use Rattle.open_calls.specs.Numbered.{at, without, first_number, next_number, Above, Ascending}
 use Rattle.open_calls.specs.Owed.{OwedUnit, OwedState, IsComplete, IsCompleteUnit, text_or_none, unit_text}
-use Rattle.open_calls.proofs.Numbered.{without_above, at_above, shorter}
+use Rattle.open_calls.proofs.Numbered.{without_above, shorter}
 use Rattle.open_calls.proofs.OwedLemmas.{state_of}
 use Rattle.connection_desk.proofs.Rests.{at_here, rest_from, rest_of, rest_step_from}
 use Rattle.outbox.specs.Output.{Output, OnlyPutSince}
@@ -79,7 +76,7 @@ incomplete_text (Some unit) is = ap (λ b. cond b (unit_text unit ∷ []) []) is
 
 -- ---- as answered: none but the one at this place can go out
 
-none_first : (b : Bool) (e : ℕ × OwedUnit) (fs : Units) → cond b (e ∷ fs) fs ≡ [] → (b ≡ false) × (fs ≡ [])
+pub none_first : (b : Bool) (e : ℕ × OwedUnit) (fs : Units) → cond b (e ∷ fs) fs ≡ [] → (b ≡ false) × (fs ≡ [])
 none_first true e fs is = absurd (cc)
 none_first false e fs is = (refl, is)
 

@@ -55,27 +55,27 @@ skipped : {X : Type 0} (n : ℕ) (e : ℕ × X) (es : List (ℕ × X)) → Above
 skipped n e es above le =
     ap (λ o. rest_of o (e ∷ es)) (next_later n e es le) ∙ rest_skip (next_number n es) e es (next_over n e.0 es above)
 
-rest_here : {X : Type 0} (n : ℕ) (unit : X) (e : ℕ × X) (es : List (ℕ × X)) → Above e.0 es → n ≡ e.0 → e.1 ≡ unit
-    → e ∷ es ≡ (n, unit) ∷ rest_of (next_number n (e ∷ es)) (e ∷ es)
-rest_here n unit e es above here is =
-    let same : e ≡ (n, unit) = ap (λ m. (m, e.1)) (sym here) ∙ ap (λ u. (n, u)) is in
+rest_here : {X : Type 0} (n : ℕ) (x : X) (e : ℕ × X) (es : List (ℕ × X)) → Above e.0 es → n ≡ e.0 → e.1 ≡ x
+    → e ∷ es ≡ (n, x) ∷ rest_of (next_number n (e ∷ es)) (e ∷ es)
+rest_here n x e es above here is =
+    let same : e ≡ (n, x) = ap (λ m. (m, e.1)) (sym here) ∙ ap (λ u. (n, u)) is in
     ap (λ x. x ∷ es) same
-    ∙ ap (λ t. (n, unit) ∷ t) (sym (skipped n e es above (omega arith) ∙ rest_next n es (subst (λ m. Above m es) (sym here) above)))
+    ∙ ap (λ t. (n, x) ∷ t) (sym (skipped n e es above (omega arith) ∙ rest_next n es (subst (λ m. Above m es) (sym here) above)))
 
-from_step : {X : Type 0} (b : Bool) (n : ℕ) (unit : X) (e : ℕ × X) (o : Option X) (es rest : List (ℕ × X)) → cond b (Some e.1) o ≡ Some unit
-    → (b ≡ true → e.1 ≡ unit → e ∷ es ≡ (n, unit) ∷ rest) → (o ≡ Some unit → rest_from n es ≡ (n, unit) ∷ rest)
-    → cond b (e ∷ es) (rest_from n es) ≡ (n, unit) ∷ rest
-from_step true n unit e o es rest is here there = here refl (cc)
-from_step false n unit e o es rest is here there = there is
+from_step : {X : Type 0} (b : Bool) (n : ℕ) (x : X) (e : ℕ × X) (o : Option X) (es rest : List (ℕ × X)) → cond b (Some e.1) o ≡ Some x
+    → (b ≡ true → e.1 ≡ x → e ∷ es ≡ (n, x) ∷ rest) → (o ≡ Some x → rest_from n es ≡ (n, x) ∷ rest)
+    → cond b (e ∷ es) (rest_from n es) ≡ (n, x) ∷ rest
+from_step true n x e o es rest is here there = here refl (cc)
+from_step false n x e o es rest is here there = there is
 
-pub rest_step_from : {X : Type 0} (n : ℕ) (unit : X) (all : List (ℕ × X)) → Ascending all → at n all ≡ Some unit → rest_from n all ≡ (n, unit) ∷ rest_of (next_number n all) all
-rest_step_from n unit [] order is = absurd (cc)
-rest_step_from n unit (e ∷ es) order is =
-    from_step (n == e.0) n unit e (at n es) es (rest_of (next_number n (e ∷ es)) (e ∷ es)) is
-    (λ here same. rest_here n unit e es order.0 (eqb-true n e.0 here) same)
+pub rest_step_from : {X : Type 0} (n : ℕ) (x : X) (all : List (ℕ × X)) → Ascending all → at n all ≡ Some x → rest_from n all ≡ (n, x) ∷ rest_of (next_number n all) all
+rest_step_from n x [] order is = absurd (cc)
+rest_step_from n x (e ∷ es) order is =
+    from_step (n == e.0) n x e (at n es) es (rest_of (next_number n (e ∷ es)) (e ∷ es)) is
+    (λ here same. rest_here n x e es order.0 (eqb-true n e.0 here) same)
     (λ there.
-      let lt : e.0 < n = at_above e.0 n unit es order.0 there in
-      rest_step_from n unit es order.1 there ∙ ap (λ t. (n, unit) ∷ t) (sym (skipped n e es order.0 (omega arith))))
+    let lt : e.0 < n = at_above e.0 n x es order.0 there in
+    rest_step_from n x es order.1 there ∙ ap (λ t. (n, x) ∷ t) (sym (skipped n e es order.0 (omega arith))))
 
 -- something stands under this number
 abbrev pub IsThere : {X : Type 0} → List (ℕ × X) → ℕ → Type 0

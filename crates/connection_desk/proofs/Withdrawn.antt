@@ -4,13 +4,13 @@ use Rattle.std.specs.Option.{option_map, IfSome}
 use Rattle.std.specs.List.{find}
 use Rattle.connection_messages.specs.Texts.{withdrawal_text}
 use Rattle.open_calls.specs.declared.own_call.OwnCall.{OwnCall}
-use Rattle.open_calls.specs.Numbered.{at, next_number, Above, Ascending}
+use Rattle.open_calls.specs.Numbered.{next_number, Above, Ascending}
 use Rattle.open_calls.specs.Own.{is_wanted_by, next_wanted}
 use Rattle.open_calls.proofs.Numbered.{find_among, above_filter}
 use Rattle.outbox.specs.Output.{Output}
-use Rattle.connection_desk.specs.Desks.{Desk, HasWithdrawn, after_saying, with_texts}
+use Rattle.connection_desk.specs.Desks.{Desk, HasWithdrawn, after_saying}
 use Rattle.connection_desk.proofs.OwedLists.{no_texts, more_texts}
-use Rattle.connection_desk.proofs.Rests.{IsThere, rest_of, rest_from, rest_next, rest_step_from, next_there}
+use Rattle.connection_desk.proofs.Rests.{IsThere, rest_of, rest_next, rest_step_from, next_there}
 
 abbrev pub Calls : Type 0
 Calls = List (ℕ × OwnCall)
@@ -66,7 +66,7 @@ pub rest_more : (n key : ℕ) (waiting : Calls) (next : Option ℕ) → Ascendin
 rest_more n key waiting next order there is = (
   there.0,
   rest_step_from key there.0 (wanted n waiting) (wanted_ascend n waiting order) there.1
-  ∙ ap (λ o. (key, there.0) ∷ rest_of o (wanted n waiting)) (sym (is ∙ next_among n key waiting)),
+      ∙ ap (λ o. (key, there.0) ∷ rest_of o (wanted n waiting)) (sym (is ∙ next_among n key waiting)),
 )
 
 -- ---- what was said

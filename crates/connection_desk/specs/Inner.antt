@@ -1,15 +1,23 @@
 -- What a desk keeps.
-use Rattle.std.specs.Prelude.{◌≡◌, ℕ, ◌<◌, ◌-◌, List, [], ◌∷◌, ◌++◌, Bool, false, map, length, Option, Some, None, if◌then◌else◌}
+use Rattle.std.specs.Prelude.{◌≡◌, ℕ, ◌<◌, ◌≤◌, ◌+◌, ◌-◌, ◌&&◌, nat_le, List, [], ◌∷◌, ◌++◌, Bool, true, false, map, length, Option, Some, None, is_some, if◌then◌else◌}
+use Rattle.std.specs.List.{list_any}
 use Rattle.std.specs.VecDeque.{deque_capacity, deque_len}
+use Rattle.rpc_messages.specs.declared.id.Id.{Id}
+use Rattle.connection_messages.specs.declared.entry.Entry.{Entry}
+use Rattle.connection_messages.specs.declared.entry.Entry.TheVariants.{Call, Cancel, Reply, Stray, Invalid}
+use Rattle.connection_history.specs.Stream.{call_in}
 use Rattle.connection_history.specs.declared.close.Close.{Close}
 use Rattle.connection_history.specs.declared.event.Event.{Event}
 use Rattle.connection_history.specs.declared.event.Event.TheVariants as event
 use Rattle.connection_history.specs.declared.order.Order.{Order}
+use Rattle.open_calls.specs.declared.their_call.TheirCall.{TheirCall}
 use Rattle.open_calls.specs.Own.{OwnState}
-use Rattle.open_calls.specs.Numbered.{at, without}
+use Rattle.open_calls.specs.Theirs.{TheirState, new_call, is_reached, cancelled}
+use Rattle.open_calls.specs.Numbered.{at, up_to, without}
 use Rattle.open_calls.specs.Owed.{OwedUnit, unit_text}
 use Rattle.connection_history.specs.declared.order.Order.TheVariants.{AsAnswered, AsCame}
-use Rattle.connection_states.specs.Steps.{leaving, is_complete}
+use Rattle.connection_states.specs.States.{slot_count}
+use Rattle.connection_states.specs.Steps.{leaving, is_complete, reached_numbers, own_after}
 use Rattle.connection_desk.specs.declared.events.Events.{Events}
 
 -- the last event, where the input is over
@@ -64,3 +72,69 @@ pub record IsDesk (order : Order) (owed : List (ℕ × OwedUnit)) (is_over : Boo
   pub settled : leaving order owed ≡ []
   pub have_slots : HaveSlots owed
   pub open_ended : is_over ≡ false → IsOpenEnded events
+
+-- ---- a unit's calls are open before its entries do anything
+
+-- the calls of an entry, where so many came before and its slot is this one
+abbrev pub added_call : ℕ → ℕ → ℕ → Entry → List (ℕ × TheirCall)
+added_call place slot came (Call c) = (came + 1, new_call c.id place slot) ∷ []
+added_call place slot came (Cancel id) = []
+added_call place slot came (Reply k r) = []
+added_call place slot came Stray = []
+added_call place slot came Invalid = []
+
+abbrev pub added_calls : ℕ → ℕ → ℕ → List Entry → List (ℕ × TheirCall)
+added_calls place slot came [] = []
+added_calls place slot came (e ∷ es) =
+    added_call place slot came e ++ added_calls place (slot + slot_count e) (came + length (call_in e)) es
+
+-- Calls were added behind the others, and nothing else happened to them.
+pub record IsLonger (was now : TheirState) : Type 0 where
+  pub more : was.came ≤ now.came
+  pub kept : (n : ℕ) → n ≤ was.came → up_to n now.calls ≡ up_to n was.calls
+
+abbrev pub is_cancel : Entry → Bool
+is_cancel (Call c) = false
+is_cancel (Cancel id) = true
+is_cancel (Reply k r) = false
+is_cancel Stray = false
+is_cancel Invalid = false
+
+abbrev pub has_cancel : List Entry → Bool
+has_cancel es = list_any is_cancel es
+
+-- at most so many events come with these entries, where so many calls are open then
+abbrev pub most_events : ℕ → List Entry → ℕ
+most_events count es = length es + (if has_cancel es then count else 0)
+
+-- ---- what entries do then: a cancel reaches the calls that came before it alone
+
+abbrev pub cancelled_to : ℕ → Id → List (ℕ × TheirCall) → List (ℕ × TheirCall)
+cancelled_to n id calls = map (λ e. (e.0, (if nat_le e.0 n && is_reached id e.1 then cancelled e.1 else e.1))) calls
+
+abbrev pub reached_to : ℕ → Id → List (ℕ × TheirCall) → List ℕ
+reached_to n id calls = reached_numbers id (up_to n calls)
+
+-- of an entry that the call with this number stands before
+abbrev pub told_at : ℕ → OwnState → List (ℕ × TheirCall) → Entry → List Event
+told_at n own calls (Call c) = event.Call (n + 1) c ∷ []
+told_at n own calls (Cancel id) = map event.Cancelled (reached_to n id calls)
+told_at n own calls (Reply k r) = if is_some (at k own.waiting) then event.Replied k r ∷ [] else []
+told_at n own calls Stray = []
+told_at n own calls Invalid = []
+
+abbrev pub calls_at : ℕ → Entry → List (ℕ × TheirCall) → List (ℕ × TheirCall)
+calls_at n (Call c) calls = calls
+calls_at n (Cancel id) calls = cancelled_to n id calls
+calls_at n (Reply k r) calls = calls
+calls_at n Stray calls = calls
+calls_at n Invalid calls = calls
+
+abbrev pub told_along : ℕ → OwnState → List (ℕ × TheirCall) → List Entry → List Event
+told_along n own calls [] = []
+told_along n own calls (e ∷ es) =
+    told_at n own calls e ++ told_along (n + length (call_in e)) (own_after e own) (calls_at n e calls) es
+
+abbrev pub calls_along : ℕ → List Entry → List (ℕ × TheirCall) → List (ℕ × TheirCall)
+calls_along n [] calls = calls
+calls_along n (e ∷ es) calls = calls_along (n + length (call_in e)) es (calls_at n e calls)

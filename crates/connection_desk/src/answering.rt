@@ -84,7 +84,8 @@ impl Desk {
         Ok(())
     }
 
-    /// Gives a slot of an answer its text, and writes the answers that can go out then.
+    /// Gives a slot of an answer its text, and writes the answers that can go out then. `first` says that the places
+    /// ascend, so what stood in the slot can be put back.
     fn give(&mut self, place: u64, slot: u64, text: Vec<u8>) -> Result<(), AllocError>
         ensures ok { OnOk result (self.new ≡ after_given place slot text.items self.old) }
         ensures err { OnErr result (self.new ≡ self.old) }

@@ -1,13 +1,27 @@
-//! Units that come. What needs memory is done first, for the whole unit; what its entries do is settled then, in their order.
+//! Units that come. What needs memory is done first, for the whole unit; what its entries do is settled then, in their
+//! order.
 
-ghost use Rattle.std.specs.Prelude.{◌≡◌, ◌≤◌, ◌<◌, ◌+◌, ◌-◌, ◌^◌, ◌++◌, ◌∷◌, [], length, false, OnOk, OnErr};
-ghost use Rattle.connection_history.specs.Stream.{calls_in, entries_in};
+ghost use Rattle.std.specs.Prelude.{◌≡◌, ◌≤◌, ◌<◌, ◌+◌, ◌-◌, ◌^◌, ◌++◌, ◌∷◌, [], length, flat_map, false, IfOk, OnOk, OnErr};
+ghost use Rattle.rpc_messages.specs.declared.id.Id.TheVariants.{Null};
+ghost use Rattle.connection_messages.specs.declared.answer.Answer.TheVariants.{Standard as standard_answer};
+ghost use Rattle.connection_messages.specs.Texts.{answer_text};
+ghost use Rattle.connection_history.specs.Stream.{call_in, calls_in, entries_in};
+ghost use Rattle.open_calls.specs.Owed.{seen_slots};
+ghost use Rattle.open_calls.specs.Theirs.{new_call};
+ghost use Rattle.connection_states.specs.States.{owed_slots, is_batch as is_batch_unit};
+ghost use Rattle.connection_states.specs.Steps.{leaving, staying, new_call_slots, new_slots, new_unit_slots};
+ghost use Rattle.connection_desk.specs.Desks.{answer_texts, with_texts};
+ghost use Rattle.connection_desk.specs.Inner.{HaveSlots, IsLonger, IsOpenEnded, added_call, added_calls, has_cancel as has_cancel_in, most_events as most_events_in, room_of, untold_of};
 
 use crate::desk::Desk;
+use crate::events::Events;
 use crate::leaving::{let_out, write_leaving};
 use crate::settling::settle;
+use crate::tally::Tally;
+use connection_history::Order;
 use connection_messages::{Answer, Entry, Unit, write_answer};
-use open_calls::TheirCalls;
+use open_calls::{OwedAnswers, TheirCalls};
+use outbox::Outbox;
 use rpc_messages::{Id, Standard};
 use std::alloc::{AllocError, Global};
 use std::slice;
@@ -25,75 +39,175 @@ impl Desk {
         ensures ok { OnOk result (self.new ≡ after_unit unit self.old) }
         ensures err { OnErr result (self.new ≡ self.old) }
     {
-        let came = self.theirs.came();
-        match self.admit(&unit) {
-            Ok(()) => {
-                settle(
-                    &mut self.own,
-                    &mut self.theirs,
-                    &mut self.events,
-                    &mut self.tally,
-                    came,
-                    unit,
-                );
-                Ok(())
-            }
-            Err(refused) => {
-                self.theirs.take_back(came);
-                Err(refused)
-            }
-        }
-    }
-
-    /// All that needs memory: the unit's calls are open, it is owed its answers, and there is room for its events.
-    fn admit(&mut self, unit: &Unit) -> Result<(), AllocError> {
-        let place = self.owed.places();
-        if place == u64::MAX - 1 {
-            return Err(AllocError);
-        }
-        let slots = admit_unit(self.alloc, &mut self.theirs, place, unit)?;
-        self.events.reserve(most_events(unit, self.theirs.len()))?;
-        self.owe(matches!(unit, Unit::Batch(_)), slots)
-    }
-
-    /// A unit is owed these answers, and those that can go out do.
-    fn owe(&mut self, is_batch: bool, slots: Slots) -> Result<(), AllocError> {
-        if slots.is_empty() {
-            self.owed.skip();
-            return Ok(());
-        }
-        let place = self.owed.places();
-        self.owed.open_unit(is_batch, slots)?;
         let mut room = self.take_room();
-        match write_leaving(self.order, &self.owed, place, &mut self.outbox, &mut room) {
-            Ok(()) => {
-                let_out(self.order, &mut self.owed, place, &mut self.tally);
-                self.keep_room(room);
-                Ok(())
-            }
-            Err(refused) => {
-                self.owed.undo_unit();
-                Err(refused)
-            }
+        let is_batch = is_batch(&unit);
+        let came = self.theirs.came();
+        let place = self.owed.places();
+        let slots = admit(self.alloc, &mut self.theirs, &mut self.events, place, &unit)?;
+        if let Err(refused) = owe(
+            self.order,
+            &mut self.owed,
+            &mut self.outbox,
+            &mut room,
+            &mut self.tally,
+            is_batch,
+            slots,
+        ) {
+            self.theirs.take_back(came);
+            return Err(refused);
+        }
+        settle(
+            &mut self.own,
+            &mut self.theirs,
+            &mut self.events,
+            &mut self.tally,
+            came,
+            unit,
+        );
+        self.keep_room(room);
+        Ok(())
+    }
+}
+
+fn is_batch(unit: &Unit) -> bool
+    ensures { result ≡ is_batch_unit unit.now }
+{
+    match unit {
+        Unit::Batch(_) => true,
+        Unit::Unreadable | Unit::Single(_) => false,
+    }
+}
+
+/// A unit is owed these answers, and those that can go out do.
+fn owe(
+    order: Order,
+    owed: &mut OwedAnswers,
+    outbox: &mut Outbox,
+    room: &mut Vec<u8>,
+    tally: &mut Tally,
+    is_batch: bool,
+    slots: Slots,
+) -> Result<(), AllocError>
+    requires settled { leaving order owed.old.owed ≡ [] }
+    requires slots { HaveSlots owed.old.owed }
+    ensures owed { OnOk result (owed.new ≡ record {
+      places = owed.old.places + 1;
+      owed = staying order
+          (owed.old.owed ++ owed_slots owed.old.places is_batch (seen_slots slots.items));
+    }) }
+    ensures outbox { OnOk result (outbox.new ≡ with_texts
+        (answer_texts (leaving order
+        (owed.old.owed ++ owed_slots owed.old.places is_batch (seen_slots slots.items))))
+        outbox.old) }
+    ensures owed_err { OnErr result (owed.new ≡ owed.old) }
+    ensures outbox_err { OnErr result (outbox.new ≡ outbox.old) }
+{
+    let place = owed.places();
+    if place == u64::MAX {
+        return Err(AllocError);
+    }
+    if slots.is_empty() {
+        owed.skip();
+        return Ok(());
+    }
+    owed.open_unit(is_batch, slots)?;
+    match write_leaving(order, owed, place, outbox, room) {
+        Ok(()) => {
+            let_out(order, owed, place, tally);
+            Ok(())
+        }
+        Err(refused) => {
+            owed.undo_unit();
+            Err(refused)
         }
     }
+}
+
+/// All else of a unit that needs memory: its calls are open, and there is room for its events. Answers the slots of its
+/// answer.
+fn admit(
+    alloc: Global,
+    theirs: &mut TheirCalls,
+    events: &mut Events,
+    place: u64,
+    unit: &Unit,
+) -> Result<Slots, AllocError>
+    requires { theirs.old.came + length (calls_in (entries_in unit.now)) < 2 ^ 64 }
+    ensures slots { IfOk result (λ slots. seen_slots slots.items ≡ new_unit_slots unit.now) }
+    ensures theirs { OnOk result (theirs.new ≡ record {
+      came = theirs.old.came + length (calls_in (entries_in unit.now));
+      calls = theirs.old.calls ++ added_calls place 0 theirs.old.came (entries_in unit.now);
+    }) }
+    ensures room { OnOk result
+        (most_events_in (length theirs.new.calls) (entries_in unit.now) ≤ room_of events.new) }
+    ensures longer { IsLonger theirs.old theirs.new }
+    ensures err { OnErr result (theirs.new ≡ theirs.old) }
+    ensures untold { untold_of events.new ≡ untold_of events.old }
+    ensures open { IsOpenEnded events.old → IsOpenEnded events.new }
+{
+    let came = theirs.came();
+    match admit_all(alloc, theirs, events, place, unit) {
+        Ok(slots) => Ok(slots),
+        Err(refused) => {
+            theirs.take_back(came);
+            Err(refused)
+        }
+    }
+}
+
+/// Where it is refused, some calls may be open.
+fn admit_all(
+    alloc: Global,
+    theirs: &mut TheirCalls,
+    events: &mut Events,
+    place: u64,
+    unit: &Unit,
+) -> Result<Slots, AllocError>
+    requires { theirs.old.came + length (calls_in (entries_in unit.now)) < 2 ^ 64 }
+    ensures slots { IfOk result (λ slots. seen_slots slots.items ≡ new_unit_slots unit.now) }
+    ensures theirs { OnOk result (theirs.new ≡ record {
+      came = theirs.old.came + length (calls_in (entries_in unit.now));
+      calls = theirs.old.calls ++ added_calls place 0 theirs.old.came (entries_in unit.now);
+    }) }
+    ensures room { OnOk result
+        (most_events_in (length theirs.new.calls) (entries_in unit.now) ≤ room_of events.new) }
+    ensures longer { IsLonger theirs.old theirs.new }
+    ensures untold { untold_of events.new ≡ untold_of events.old }
+    ensures open { IsOpenEnded events.old → IsOpenEnded events.new }
+{
+    let slots = admit_unit(alloc, theirs, place, unit)?;
+    let count = most_events(unit, theirs.len())?;
+    events.reserve(count)?;
+    Ok(slots)
 }
 
 /// At most so many events come with a unit, where so many calls are open then.
-fn most_events(unit: &Unit, open: u64) -> usize {
-    let entries = match unit {
-        Unit::Unreadable => 0,
-        Unit::Single(_) => 1,
-        Unit::Batch(entries) => entries.len(),
-    };
-    if has_cancel(unit) {
-        entries.saturating_add(open as usize)
-    } else {
-        entries
+fn most_events(unit: &Unit, count: u64) -> Result<usize, AllocError>
+    ensures { IfOk result (λ most. most ≡ most_events_in count (entries_in unit.now)) }
+{
+    let entries = entry_count(unit);
+    if !has_cancel(unit) {
+        return Ok(entries);
+    }
+    match entries.checked_add(count as usize) {
+        Some(most) => Ok(most),
+        None => Err(AllocError),
     }
 }
 
-fn has_cancel(unit: &Unit) -> bool {
+fn entry_count(unit: &Unit) -> usize
+    ensures { result ≡ length (entries_in unit.now) }
+{
+    match unit {
+        Unit::Unreadable => 0,
+        Unit::Single(_) => 1,
+        Unit::Batch(entries) => entries.len(),
+    }
+}
+
+fn has_cancel(unit: &Unit) -> bool
+    ensures { result ≡ has_cancel_in (entries_in unit.now) }
+{
     match unit {
         Unit::Unreadable => false,
         Unit::Single(entry) => matches!(entry, Entry::Cancel(_)),
@@ -110,7 +224,15 @@ fn admit_unit(
     theirs: &mut TheirCalls,
     place: u64,
     unit: &Unit,
-) -> Result<Slots, AllocError> {
+) -> Result<Slots, AllocError>
+    requires { theirs.old.came + length (calls_in (entries_in unit.now)) < 2 ^ 64 }
+    ensures slots { IfOk result (λ slots. seen_slots slots.items ≡ new_unit_slots unit.now) }
+    ensures theirs { OnOk result (theirs.new ≡ record {
+      came = theirs.old.came + length (calls_in (entries_in unit.now));
+      calls = theirs.old.calls ++ added_calls place 0 theirs.old.came (entries_in unit.now);
+    }) }
+    ensures longer { IsLonger theirs.old theirs.new }
+{
     match unit {
         Unit::Unreadable => {
             let mut slots = Vec::new(alloc);
@@ -127,7 +249,15 @@ fn admit_entries(
     theirs: &mut TheirCalls,
     place: u64,
     entries: &[Entry],
-) -> Result<Slots, AllocError> {
+) -> Result<Slots, AllocError>
+    requires { theirs.old.came + length (calls_in entries.now) < 2 ^ 64 }
+    ensures slots { IfOk result (λ slots. seen_slots slots.items ≡ flat_map new_slots entries.now) }
+    ensures theirs { OnOk result (theirs.new ≡ record {
+      came = theirs.old.came + length (calls_in entries.now);
+      calls = theirs.old.calls ++ added_calls place 0 theirs.old.came entries.now;
+    }) }
+    ensures longer { IsLonger theirs.old theirs.new }
+{
     let mut slots = Vec::new(alloc);
     for entry in entries {
         admit_entry(alloc, theirs, place, entry, &mut slots)?;
@@ -141,7 +271,17 @@ fn admit_entry(
     place: u64,
     entry: &Entry,
     slots: &mut Slots,
-) -> Result<(), AllocError> {
+) -> Result<(), AllocError>
+    requires { theirs.old.came + length (call_in entry.now) < 2 ^ 64 }
+    ensures slots { OnOk result (seen_slots slots.new.items ≡
+        seen_slots slots.old.items ++ new_slots entry.now) }
+    ensures theirs { OnOk result (theirs.new ≡ record {
+      came = theirs.old.came + length (call_in entry.now);
+      calls = theirs.old.calls ++
+          added_call place (length slots.old.items) theirs.old.came entry.now;
+    }) }
+    ensures longer { IsLonger theirs.old theirs.new }
+{
     match entry {
         Entry::Call(call) => admit_call(theirs, place, &call.id, slots),
         Entry::Invalid => {
@@ -157,7 +297,17 @@ fn admit_call(
     place: u64,
     id: &Option<Id>,
     slots: &mut Slots,
-) -> Result<(), AllocError> {
+) -> Result<(), AllocError>
+    requires { theirs.old.came + 1 < 2 ^ 64 }
+    ensures slots { OnOk result (seen_slots slots.new.items ≡
+        seen_slots slots.old.items ++ new_call_slots id.now) }
+    ensures theirs { OnOk result (theirs.new ≡ record {
+      came = theirs.old.came + 1;
+      calls = theirs.old.calls ++
+          (theirs.old.came + 1, new_call id.now place (length slots.old.items)) ∷ [];
+    }) }
+    ensures longer { IsLonger theirs.old theirs.new }
+{
     let slot = slots.len() as u64;
     theirs.add(id.clone()?, place, slot)?;
     if id.is_some() {
@@ -167,7 +317,9 @@ fn admit_call(
 }
 
 /// The text of the response with this error and the id null.
-fn error_text(alloc: Global, standard: Standard) -> Result<Vec<u8>, AllocError> {
+fn error_text(alloc: Global, standard: Standard) -> Result<Vec<u8>, AllocError>
+    ensures { IfOk result (λ text. text.items ≡ answer_text Null (standard_answer standard)) }
+{
     let mut text = Vec::new(alloc);
     write_answer(alloc, &mut text, &Id::Null, &Answer::Standard(standard))?;
     Ok(text)

@@ -13,7 +13,8 @@ use open_calls::OwedAnswers;
 use outbox::Outbox;
 use std::alloc::AllocError;
 
-/// Writes the answers that can go out, where the one at this place may have become complete.
+/// Writes the answers that can go out, where the one at this place may have become complete. Each call of `first` here
+/// says that the places ascend: no two units have the same.
 pub(crate) fn write_leaving(
     order: Order,
     owed: &OwedAnswers,
@@ -120,6 +121,7 @@ pub(crate) fn let_out(order: Order, owed: &mut OwedAnswers, place: u64, tally: &
     tally.answers = tally.answers.saturating_add(count);
 }
 
+/// As in `write_leaving`, `first` says that the places ascend.
 fn remove_leaving(order: Order, owed: &mut OwedAnswers, place: u64)
     requires { OnlyAt order place owed.old.owed }
     ensures { owed.new ≡ record owed.old { owed = staying order owed.old.owed } }

@@ -89,7 +89,7 @@ impl Desk {
         if count == 0 {
             return Err(Refused::Empty);
         }
-        if count > MOST_KEYS - self.own.made() {
+        if count > MOST_KEYS.saturating_sub(self.own.made()) {
             return Err(Refused::Full);
         }
         Ok(())

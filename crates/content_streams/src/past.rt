@@ -17,6 +17,11 @@ impl Model for Past {
     ghost also_owns = { λ _. ftrue };
 }
 
+// It owns nothing.
+unsafe impl Send for Past {}
+
+unsafe impl Sync for Past {}
+
 impl Past {
     pub(crate) fn new() -> Past
         ensures { (result.pieces ≡ []) × (result.taken ≡ 0) }

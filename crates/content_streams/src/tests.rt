@@ -110,10 +110,14 @@ fn finds_long_lines(rt: HostRuntime) -> Result<(), Fail> {
     Ok(())
 }
 
+/// A stream may go to another thread.
+fn may_move<T: Send + Sync>(_: &T) {}
+
 #[test]
 fn reads_contents(rt: HostRuntime) -> Result<(), Fail> {
     let alloc = rt.alloc();
     let mut stream = ContentStream::new(alloc, Framing::Contents, 4);
+    may_move(&stream);
     stream.feed(b"abcd")?;
     stream.feed(b"")?;
     stream.feed(b"abcde")?;

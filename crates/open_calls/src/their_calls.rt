@@ -1,7 +1,7 @@
 ghost use Rattle.std.specs.Prelude.{◌≡◌, ℕ, ◌+◌, ◌-◌, ◌<◌, ◌≤◌, ◌^◌, ◌++◌, ◌∷◌, [], length, OnOk, OnErr, IfOk, Option, Some, None, MatchOption, option_copied};
 ghost use Rattle.open_calls.specs.Inner.{is_listed, IsWithNumber, IsWithoutNumber};
 ghost use Rattle.rpc_messages.specs.declared.id.Id.{Id};
-ghost use Rattle.open_calls.specs.Numbered.{at, without, up_to, changed_at};
+ghost use Rattle.open_calls.specs.Numbered.{at, without, up_to, changed_at, Ascending};
 
 use crate::numbers_by_id::NumbersById;
 use crate::their_call::TheirCall;
@@ -51,10 +51,11 @@ impl TheirCalls {
         self.calls.len() as u64
     }
 
-    /// How many came. No call that is open has a greater number.
+    /// How many came. No call that is open has a greater number. Numbers ascend.
     pub fn came(&self) -> u64
         ensures came { result ≡ self.now.came }
         ensures numbers { up_to self.now.came self.now.calls ≡ self.now.calls }
+        ensures ascending { Ascending self.now.calls }
     {
         self.came
     }

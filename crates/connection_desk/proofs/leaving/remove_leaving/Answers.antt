@@ -1,9 +1,9 @@
-use Rattle.std.proofs.Common.{◌≡◌, sym, ap, subst, ◌∙◌, cond}
+use Rattle.std.proofs.Common.{sym, ap, subst, ◌∙◌, cond}
 use Rattle.connection_history.specs.declared.order.Order.TheVariants.{AsAnswered}
 use Rattle.connection_states.specs.Steps.{staying}
 use Rattle.open_calls.specs.Numbered.{without}
 use Rattle.open_calls.proofs.OwedLemmas.{state_of}
-use Rattle.connection_desk.specs.Inner.{OnlyAt, complete_at}
+use Rattle.connection_desk.specs.Inner.{OnlyAt}
 use Rattle.connection_desk.proofs.OwedLists.{only_rest}
 use Rattle.connection_desk.proofs.leaving.remove_leaving.Goals as goal
 

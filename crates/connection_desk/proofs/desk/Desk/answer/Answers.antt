@@ -25,16 +25,14 @@ returns-clause-ok c =
     let none : leaving begun.order begun.state.owed.owed ≡ [] =
     sym (ap (λ (d : Desk). leaving d.order d.state.owed.owed) c.self.view_is) ∙ c.self.invariant.settled in
     elim c.match-call.branch [
-        in-Some-id+in_ok-write_answer+in_ok-give w ↦
-        (
-          not_refused n begun.state call there,
-          is_closed ∙ ap (closed n) (w.self-is ∙ w.in_ok-give.ensures.ok)
-          ∙ request_answered n begun call w.in-Some-id.id w.write_answer.new.bytes.items c.args.answer.now there w.in-Some-id.is
-          (w.in_ok-write_answer.ensures ∙ ap (λ t. t ++ answer_text w.in-Some-id.id c.args.answer.now) w.new-text.ensures.items),
-        )
-      | in_default-id w ↦
-        (
-          not_refused n begun.state call there,
-          is_closed ∙ ap (closed n) w.self-is ∙ notice_answered n begun call c.args.answer.now there w.in_default-id.is none,
-        )
+      | in-Some-id+in_ok-write_answer+in_ok-give w ↦ (
+        not_refused n begun.state call there,
+        is_closed ∙ ap (closed n) (w.self-is ∙ w.in_ok-give.ensures.ok)
+            ∙ request_answered n begun call w.in-Some-id.id w.write_answer.new.bytes.items c.args.answer.now there w.in-Some-id.is
+            (w.in_ok-write_answer.ensures ∙ ap (λ t. t ++ answer_text w.in-Some-id.id c.args.answer.now) w.new-text.ensures.items),
+      )
+      | in_default-id w ↦ (
+        not_refused n begun.state call there,
+        is_closed ∙ ap (closed n) w.self-is ∙ notice_answered n begun call c.args.answer.now there w.in_default-id.is none,
+      )
     ]

@@ -1,6 +1,6 @@
 use Rattle.std.proofs.Common.{◌≡◌, Some, sym, ap, subst, ◌∙◌}
 use Rattle.connection_states.specs.Steps.{staying}
-use Rattle.open_calls.specs.Numbered.{at, changed_at}
+use Rattle.open_calls.specs.Numbered.{changed_at}
 use Rattle.open_calls.specs.Owed.{OwedState, seen_slot, replaced}
 use Rattle.open_calls.proofs.OwedLemmas.{state_of}
 use Rattle.connection_desk.specs.Inner.{HaveSlots, OnlyAt, IsDesk}

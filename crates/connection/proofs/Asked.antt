@@ -1,0 +1,226 @@
+-- A connection that goes on.
+use Rattle.std.proofs.Common.{◌≡◌, ◌≤◌, ◌<◌, ℕ, ◌+◌, ◌-◌, Bool, true, false, cond, List, [], ◌∷◌, ◌++◌, map, take, length, Some, None, refl, ap, sym, ◌∙◌, subst, append-nil, length-append, arith}
+use Rattle.std.proofs.lemmas.List.{map-append, take_more}
+use Rattle.std.specs.List.{slice_get}
+use Rattle.std.proofs.lemmas.Option.{slice_get_within, get_or_from_slice_get}
+use Rattle.lsp_frames.specs.declared.frame.Frame.{Frame}
+use Rattle.connection_messages.specs.declared.unit.Unit.{Unit}
+use Rattle.connection_history.specs.declared.close.Close.{Close}
+use Rattle.connection_history.specs.declared.close.Close.TheVariants as close
+use Rattle.connection_history.specs.declared.event.Event.{Event}
+use Rattle.connection_history.specs.declared.refused.Refused.TheVariants.{Over}
+use Rattle.connection_history.specs.Stream.{entries_in, entries_along, calls_in}
+use Rattle.connection_history.specs.History.{came, ended, History, units_of, stream, is_over}
+use Rattle.connection_history.specs.Events.{events_of, call_count}
+use Rattle.connection_history.proofs.Histories.{stream-came}
+use Rattle.connection_history.proofs.Streams.{length-calls_in-append}
+use Rattle.content_streams.specs.declared.ending.StreamEnd.{StreamEnd}
+use Rattle.content_streams.specs.Streams.{Stream, contents, next_content, close_of as end_of_stream}
+use Rattle.outbox.proofs.Left.{full_more}
+use Rattle.connection_states.specs.States.{State}
+use Rattle.connection_states.specs.Steps.{leaving, owed_with}
+use Rattle.connection_desk.specs.Desks.{Desk, after_unit, after_end, answer_texts}
+use Rattle.connection.specs.Settings.{Chosen}
+use Rattle.connection.specs.Connections.{Connection, IsStreamOf, StandsAfter, SamePieces, Step, comes, is_full, ends, GoesOn, stays, goes, IsStill, HasStepped, HasGoneOn, read, calls_of, close_of}
+use Rattle.connection.specs.Inner.{IsNext, HasMoved, HasStayed, HasGone}
+use Rattle.connection.proofs.Moves.{desk_came, desk_ended}
+use Rattle.connection.proofs.Fed.{over_is, all_told}
+
+-- ---- the next content
+
+take_next : {X : Type 0} (xs : List X) (n : ℕ) (x : X) → slice_get xs n ≡ Some x → take (n + 1) xs ≡ take n xs ++ x ∷ []
+take_next xs n x is = take_more xs n x (slice_get_within xs n x is) ∙ ap (λ y. take n xs ++ y ∷ []) (get_or_from_slice_get xs n x x is)
+
+came_is : (c : Connection) (history : History) (told : List Event) → StandsAfter c history told → c.desk.state.theirs.came ≡ call_count history
+came_is c history told stands = ap (λ (s : State). s.theirs.came) stands.desk.state
+
+counts : (past : History) (u : Unit) → call_count (came u ∷ past) ≡ call_count past + calls_of u
+counts past u = ap (λ es. length (calls_in es)) (stream-came past u) ∙ length-calls_in-append (stream past) (entries_in u)
+
+may_come : (past : History) (b : Bool) → b ≡ false → cond b (Some Over) None ≡ None
+may_come past b going = ap (λ t. cond t (Some Over) None) going
+
+taken_stream : (settings : Chosen) (past : History) (s : Stream) (frame : Frame) → IsStreamOf settings past s → next_content s ≡ Some frame
+    → IsStreamOf settings (came (read settings.takes_cancels frame) ∷ past) (record s { taken = s.taken + 1 })
+taken_stream settings past s frame is next =
+    let u = read settings.takes_cancels frame in record {
+      framing = is.framing;
+      limit = is.limit;
+      taken = ap (λ n. n + 1) is.taken ∙ sym (length-append (units_of past) (u ∷ []));
+      came = ap (λ us. us ++ u ∷ []) is.came ∙ sym (map-append (read settings.takes_cancels) (take s.taken (contents s)) (frame ∷ []))
+          ∙ ap (map (read settings.takes_cancels)) (sym (take_next (contents s) s.taken frame next));
+    }
+
+next_is : (c : Connection) (history : History) (told : List Event) → StandsAfter c history told → slice_get (contents c.stream) (length (units_of history)) ≡ next_content c.stream
+next_is c history told stands = ap (slice_get (contents c.stream)) (sym stands.stream.taken)
+
+same_pieces : (s : Stream) (n : ℕ) → SamePieces s (record s { taken = n })
+same_pieces s n = record { framing = refl; limit = refl; pieces = refl; ended = refl }
+
+-- ---- it comes
+
+abbrev with_unit : Connection → Unit → Connection
+with_unit c u = record { settings = c.settings; stream = record c.stream { taken = c.stream.taken + 1 }; desk = after_unit u c.desk }
+
+frame_moves : (c : Connection) (frame : Frame) → c.desk.state.is_over ≡ false → next_content c.stream ≡ Some frame
+    → calls_of (read c.settings.takes_cancels frame) ≤ c.settings.calls - c.desk.state.theirs.came
+    → HasMoved c (with_unit c (read c.settings.takes_cancels frame))
+frame_moves c frame going next few =
+    let u = read c.settings.takes_cancels frame in
+    let within : c.stream.taken < length (contents c.stream) = slice_get_within (contents c.stream) c.stream.taken frame next in record {
+      stepped = λ past told stands all.
+          (let here : is_over past ≡ false = sym (over_is c past told stands) ∙ going in
+          let number : c.desk.state.theirs.came ≡ call_count past = came_is c past told stands in
+          let most : call_count past ≤ c.settings.calls = stands.calls in
+          let fits : call_count past + calls_of u ≤ c.settings.calls = omega arith in
+          let d = c.desk in record {
+            history = came u ∷ past;
+            step = comes frame all here (next_is c past told stands ∙ next) fits;
+            stands = record {
+              lawful = (may_come past (is_over past) here, stands.lawful);
+              calls = subst (λ n. n ≤ c.settings.calls) (sym (counts past u)) fits;
+              stream = taken_stream c.settings past c.stream frame stands.stream next;
+              desk = desk_came c.settings.takes_cancels c.settings past told u d stands.desk stands.lawful;
+              taken = full_more d.out.framing d.out.written (answer_texts (leaving d.order (owed_with u d.state.owed))) d.out.taken stands.taken;
+            };
+            pieces = same_pieces c.stream (c.stream.taken + 1);
+            settings = refl;
+          });
+      fewer = omega arith;
+      pieces = same_pieces c.stream (c.stream.taken + 1);
+      settings = refl;
+    }
+
+pub unit_moves : (c : Connection) (u : Unit) → c.desk.state.is_over ≡ false → IsNext c u
+    → calls_of u ≤ c.settings.calls - c.desk.state.theirs.came → HasMoved c (with_unit c u)
+unit_moves c u going next few =
+    let P : Unit → Type 0 = λ v. calls_of v ≤ c.settings.calls - c.desk.state.theirs.came → HasMoved c (with_unit c v) in
+    subst P (sym next.read) (frame_moves c next.frame going next.next) few
+
+-- ---- the input is over
+
+abbrev with_end : Connection → Close → Connection
+with_end c close = record { settings = c.settings; stream = c.stream; desk = after_end close c.desk }
+
+ended_stream : (settings : Chosen) (past : History) (s : Stream) (close : Close) → IsStreamOf settings past s → IsStreamOf settings (ended close ∷ past) s
+ended_stream settings past s close is = record {
+  framing = is.framing;
+  limit = is.limit;
+  taken = is.taken ∙ ap length (sym (append-nil (units_of past)));
+  came = append-nil (units_of past) ∙ is.came;
+}
+
+ended_stands : (c : Connection) (past : History) (told : List Event) (close : Close) → c.desk.state.is_over ≡ false → StandsAfter c past told → StandsAfter (with_end c close) (ended close ∷ past) told
+ended_stands c past told close going stands = record {
+  lawful = (may_come past (is_over past) (sym (over_is c past told stands) ∙ going), stands.lawful);
+  calls = subst (λ us. length (calls_in (entries_along us)) ≤ c.settings.calls) (sym (append-nil (units_of past))) stands.calls;
+  stream = ended_stream c.settings past c.stream close stands.stream;
+  desk = desk_ended c.settings past told close c.desk stands.desk;
+  taken = stands.taken;
+}
+
+end_moves : (c : Connection) (close : Close) → c.desk.state.is_over ≡ false
+    → ((past : History) (told : List Event) → StandsAfter c past told → events_of past ≡ told → is_over past ≡ false → Step c told past (ended close ∷ past))
+    → HasMoved c (with_end c close)
+end_moves c close going step = record {
+  stepped = λ past told stands all. record {
+    history = ended close ∷ past;
+    step = step past told stands all (sym (over_is c past told stands) ∙ going);
+    stands = ended_stands c past told close going stands;
+    pieces = same_pieces c.stream c.stream.taken;
+    settings = refl;
+  };
+  fewer = subst (λ b. (length (contents c.stream) - c.stream.taken) + 0 < (length (contents c.stream) - c.stream.taken) + cond b 0 1) (sym going) (omega arith);
+  pieces = same_pieces c.stream c.stream.taken;
+  settings = refl;
+}
+
+pub full_moves : (c : Connection) (u : Unit) → c.desk.state.is_over ≡ false → IsNext c u
+    → c.settings.calls - c.desk.state.theirs.came < calls_of u → HasMoved c (with_end c close.Full)
+full_moves c u going next many = end_moves c close.Full going (λ past told stands all here.
+    (let number : c.desk.state.theirs.came ≡ call_count past = came_is c past told stands in
+    let most : call_count past ≤ c.settings.calls = stands.calls in
+    let here_many : c.settings.calls - c.desk.state.theirs.came < calls_of (read c.settings.takes_cancels next.frame) = subst (λ v. c.settings.calls - c.desk.state.theirs.came < calls_of v) next.read many in
+    is_full next.frame all here (next_is c past told stands ∙ next.next) (omega arith)))
+
+pub close_moves : (c : Connection) (end : StreamEnd) → c.desk.state.is_over ≡ false → next_content c.stream ≡ None → end_of_stream c.stream ≡ Some end
+    → HasMoved c (with_end c (close_of end))
+close_moves c end going none is = end_moves c (close_of end) going (λ past told stands all here.
+    ends end all here (next_is c past told stands ∙ none) is)
+
+-- ---- the same at equal values
+
+pub moves_as : (c before now next : Connection) → c ≡ before → now ≡ next → HasMoved c now → HasMoved before next
+moves_as c before now next same to moved = subst (λ b. HasMoved b next) same (subst (λ n. HasMoved c n) to moved)
+
+pub next_as : (c before : Connection) (u : Unit) → before ≡ c → IsNext before u → IsNext c u
+next_as c before u same next = subst (λ b. IsNext b u) same next
+
+-- ---- several steps
+
+pub gone_none : (c : Connection) → HasGone c c
+gone_none c = record {
+  gone = λ history told stands. record { history = history; steps = stays; stands = stands };
+  pieces = same_pieces c.stream c.stream.taken;
+  settings = refl;
+}
+
+same_step : (c : Connection) (taken : ℕ) (desk : Desk) (told : List Event) (past now : History)
+    → Step (record { settings = c.settings; stream = record c.stream { taken = taken }; desk = desk }) told past now → Step c told past now
+same_step c taken desk told past _ (comes frame all here next fits) = comes frame all here next fits
+same_step c taken desk told past _ (is_full frame all here next many) = is_full frame all here next many
+same_step c taken desk told past _ (ends end all here next is) = ends end all here next is
+
+abbrev moved_to : Connection → ℕ → Desk → Connection
+moved_to c taken desk = record { settings = c.settings; stream = record c.stream { taken = taken }; desk = desk }
+
+is_moved_to : (before now : Connection) → SamePieces before.stream now.stream → now.settings ≡ before.settings → now ≡ moved_to before now.stream.taken now.desk
+is_moved_to before now pieces settings = λ i. record {
+  settings = settings i;
+  stream = record {
+    framing = pieces.framing i;
+    limit = pieces.limit i;
+    pieces = pieces.pieces i;
+    ended = pieces.ended i;
+    taken = now.stream.taken;
+  };
+  desk = now.desk;
+}
+
+step_from : (before now : Connection) (told : List Event) (past next : History) → SamePieces before.stream now.stream → now.settings ≡ before.settings
+    → Step now told past next → Step before told past next
+step_from before now told past next pieces settings step =
+    same_step before now.stream.taken now.desk told past next (subst (λ c. Step c told past next) (is_moved_to before now pieces settings) step)
+
+pub gone_more : (before now next : Connection) → HasGone before now → now.desk.untold ≡ [] → HasMoved now next → HasGone before next
+gone_more before now next gone none moved = record {
+  gone = λ past told stands.
+      (let g : HasGoneOn before now past told = gone.gone past told stands in
+      let m : HasStepped now next g.history told = moved.stepped g.history told g.stands (all_told now g.history told g.stands none) in
+      record {
+        history = m.history;
+        steps = goes g.history m.history g.steps (step_from before now told g.history m.history gone.pieces gone.settings m.step);
+        stands = m.stands;
+      });
+  pieces = record {
+    framing = moved.pieces.framing ∙ gone.pieces.framing;
+    limit = moved.pieces.limit ∙ gone.pieces.limit;
+    pieces = moved.pieces.pieces ∙ gone.pieces.pieces;
+    ended = moved.pieces.ended ∙ gone.pieces.ended;
+  };
+  settings = moved.settings ∙ gone.settings;
+}
+
+-- the same where nothing was left to tell
+pub gone_on : (before current next now : Connection) → HasGone before current → next ≡ current → current.desk.untold ≡ [] → HasMoved next now → HasGone before now
+gone_on before current next now gone same none moved =
+    gone_more before next now (subst (λ c. HasGone before c) (sym same) gone) (ap (λ (c : Connection). c.desk.untold) same ∙ none) moved
+
+pub stays_still : (before current next now : Connection) (history : History) (told : List Event) → HasGone before current → next ≡ current → current.desk.untold ≡ [] → HasStayed next now
+    → StandsAfter before history told → (x : History) × GoesOn before told history x × StandsAfter now x told × IsStill now x told
+stays_still before current next now history told gone same none stayed stands =
+    let g : HasGoneOn before current history told = gone.gone history told stands in
+    let here : StandsAfter next g.history told = subst (λ c. StandsAfter c g.history told) (sym same) g.stands in
+    let all : events_of g.history ≡ told = all_told current g.history told g.stands none in
+    let still : IsStill next g.history told = stayed.still g.history told here all in
+    (g.history, g.steps, subst (λ c. StandsAfter c g.history told) (sym stayed.same) here, subst (λ c. IsStill c g.history told) (sym stayed.same) still)

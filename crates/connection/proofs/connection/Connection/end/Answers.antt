@@ -1,0 +1,10 @@
+use Rattle.std.proofs.Common.{rules, sym}
+use Rattle.connection.specs.Connections.{Connection}
+use Rattle.connection.proofs.Fed.{not_ended, ended_stands, stands_as}
+use Rattle.connection.proofs.connection.Connection.end.Goals as goal
+
+pub returns-clause-stands : goal.returns-clause-stands
+returns-clause-stands c = λ history told stands.
+    let before : Connection = record { settings = c.self.inside.settings; stream = c.self.inside.stream; desk = c.self.inside.desk } in
+    ended_stands before history told c.args.how c.end.new.self (not_ended c.self.inside.stream.ended (search rules)) c.end.ensures
+    (stands_as before c.args.self.now history told (sym c.self.view_is) stands)

@@ -1,0 +1,37 @@
+-- What going on does to a connection, whatever its history.
+use Rattle.std.specs.Prelude.{◌≡◌, ◌<◌, ℕ, ◌+◌, ◌-◌, List, length, Some, if◌then◌else◌}
+use Rattle.lsp_frames.specs.declared.frame.Frame.{Frame}
+use Rattle.connection_messages.specs.declared.unit.Unit.{Unit}
+use Rattle.connection_history.specs.declared.event.Event.{Event}
+use Rattle.connection_history.specs.History.{History}
+use Rattle.connection_history.specs.Events.{events_of}
+use Rattle.content_streams.specs.Streams as streams
+use Rattle.connection.specs.Connections.{Connection, contents, read, StandsAfter, IsStill, HasStepped, HasGoneOn, SamePieces}
+
+-- how often the connection can go on before more is fed: each content that wasn't taken, and the end
+abbrev pub left : Connection → ℕ
+left c = (length (contents c) - c.stream.taken) + (if c.desk.state.is_over then 0 else 1)
+
+-- The unit is what the next content is read as.
+pub record IsNext (c : Connection) (u : Unit) : Type 0 where
+  pub frame : Frame
+  pub next : streams.next_content c.stream ≡ Some frame
+  pub read : u ≡ read c.settings.takes_cancels frame
+
+-- the connection has gone on by a step, where all was told
+pub record HasMoved (before now : Connection) : Type 0 where
+  pub stepped : (history : History) (told : List Event) → StandsAfter before history told → events_of history ≡ told → HasStepped before now history told
+  pub fewer : left now < left before
+  pub pieces : SamePieces before.stream now.stream
+  pub settings : now.settings ≡ before.settings
+
+-- it can't go on
+pub record HasStayed (before now : Connection) : Type 0 where
+  pub same : now ≡ before
+  pub still : (history : History) (told : List Event) → StandsAfter before history told → events_of history ≡ told → IsStill before history told
+
+-- it has gone on since, by no step or several, and nothing was told
+pub record HasGone (before now : Connection) : Type 0 where
+  pub gone : (history : History) (told : List Event) → StandsAfter before history told → HasGoneOn before now history told
+  pub pieces : SamePieces before.stream now.stream
+  pub settings : now.settings ≡ before.settings

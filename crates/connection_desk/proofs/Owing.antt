@@ -1,0 +1,95 @@
+-- What goes out and what stays of the answers that are owed.
+use Rattle.std.proofs.Common.{◌≡◌, ℕ, ◌<◌, not, Bool, true, false, cond, List, [], ◌∷◌, ◌++◌, length, Option, refl, ap, ◌∙◌, arith, append-nil}
+use Rattle.std.specs.List.{filter}
+use Rattle.connection_history.specs.declared.order.Order.{Order}
+use Rattle.connection_history.specs.declared.order.Order.TheVariants.{AsAnswered, AsCame}
+use Rattle.open_calls.specs.Owed.{OwedUnit, OwedState}
+use Rattle.connection_states.specs.States.{owed_slots}
+use Rattle.connection_states.specs.Steps.{is_complete, complete_front, incomplete_rest, leaving, staying}
+use Rattle.connection_desk.specs.Inner.{HaveSlots}
+
+abbrev pub state_of : ℕ → List (ℕ × OwedUnit) → OwedState
+state_of places owed = record { places = places; owed = owed }
+
+-- ---- each has slots
+
+pub have-append : (es fs : List (ℕ × OwedUnit)) → HaveSlots es → HaveSlots fs → HaveSlots (es ++ fs)
+have-append [] fs here there = there
+have-append (e ∷ es) fs here there = (here.0, have-append es fs here.1 there)
+
+have_step : (b : Bool) (e : ℕ × OwedUnit) (fs : List (ℕ × OwedUnit)) → 0 < length e.1.slots → HaveSlots fs → HaveSlots (cond b (e ∷ fs) fs)
+have_step true e fs some there = (some, there)
+have_step false e fs some there = there
+
+have_filter : (p : ℕ × OwedUnit → Bool) (es : List (ℕ × OwedUnit)) → HaveSlots es → HaveSlots (filter p es)
+have_filter p [] have = tt
+have_filter p (e ∷ es) have = have_step (p e) e (filter p es) have.0 (have_filter p es have.1)
+
+rest_step : (b : Bool) (e : ℕ × OwedUnit) (es fs : List (ℕ × OwedUnit)) → HaveSlots (e ∷ es) → HaveSlots fs → HaveSlots (cond b fs (e ∷ es))
+rest_step true e es fs all rest = rest
+rest_step false e es fs all rest = all
+
+have_rest : (es : List (ℕ × OwedUnit)) → HaveSlots es → HaveSlots (incomplete_rest es)
+have_rest [] have = tt
+have_rest (e ∷ es) have = rest_step (is_complete e.1) e es (incomplete_rest es) have (have_rest es have.1)
+
+pub have-staying : (order : Order) (es : List (ℕ × OwedUnit)) → HaveSlots es → HaveSlots (staying order es)
+have-staying AsAnswered es have = have_filter (λ e. not (is_complete e.1)) es have
+have-staying AsCame es have = have_rest es have
+
+pub have-owed : (place : ℕ) (batch : Bool) (slots : List (Option (List ℕ))) → HaveSlots (owed_slots place batch slots)
+have-owed place batch [] = tt
+have-owed place batch (s ∷ ss) = (omega arith, tt)
+
+-- ---- where nothing goes out, all stays
+
+all_step : {X : Type 0} (b : Bool) (e : X) (es fs gs : List X) → cond b (e ∷ fs) fs ≡ [] → (fs ≡ [] → gs ≡ es) → cond (not b) (e ∷ gs) gs ≡ e ∷ es
+all_step true e es fs gs is there = absurd (cc)
+all_step false e es fs gs is there = ap (λ t. e ∷ t) (there is)
+
+all_filter : {X : Type 0} (p : X → Bool) (es : List X) → filter p es ≡ [] → filter (λ e. not (p e)) es ≡ es
+all_filter p [] none = refl
+all_filter p (e ∷ es) none = all_step (p e) e es (filter p es) (filter (λ x. not (p x)) es) none (all_filter p es)
+
+all_rest_step : {X : Type 0} (b : Bool) (e : X) (es fs gs : List X) → cond b (e ∷ fs) [] ≡ [] → cond b gs (e ∷ es) ≡ e ∷ es
+all_rest_step true e es fs gs is = absurd (cc)
+all_rest_step false e es fs gs is = refl
+
+all_rest : (es : List (ℕ × OwedUnit)) → complete_front es ≡ [] → incomplete_rest es ≡ es
+all_rest [] none = refl
+all_rest (e ∷ es) none = all_rest_step (is_complete e.1) e es (complete_front es) (incomplete_rest es) none
+
+pub all-staying : (order : Order) (es : List (ℕ × OwedUnit)) → leaving order es ≡ [] → staying order es ≡ es
+all-staying AsAnswered es none = all_filter (λ e. is_complete e.1) es none
+all-staying AsCame es none = all_rest es none
+
+-- ---- of what stays nothing goes out
+
+none_step : {X : Type 0} (b : Bool) (p : X → Bool) (e : X) (fs : List X) → p e ≡ b → filter p fs ≡ [] → filter p (cond (not b) (e ∷ fs) fs) ≡ []
+none_step true p e fs is none = none
+none_step false p e fs is none = ap (λ b. cond b (e ∷ filter p fs) (filter p fs)) is ∙ none
+
+none_filter : {X : Type 0} (p : X → Bool) (es : List X) → filter p (filter (λ e. not (p e)) es) ≡ []
+none_filter p [] = refl
+none_filter p (e ∷ es) = none_step (p e) p e (filter (λ x. not (p x)) es) refl (none_filter p es)
+
+none_rest_step : (b : Bool) (e : ℕ × OwedUnit) (es fs : List (ℕ × OwedUnit)) → is_complete e.1 ≡ b → complete_front fs ≡ [] → complete_front (cond b fs (e ∷ es)) ≡ []
+none_rest_step true e es fs is none = none
+none_rest_step false e es fs is none = ap (λ b. cond b (e ∷ complete_front es) []) is
+
+none_rest : (es : List (ℕ × OwedUnit)) → complete_front (incomplete_rest es) ≡ []
+none_rest [] = refl
+none_rest (e ∷ es) = none_rest_step (is_complete e.1) e es (incomplete_rest es) refl (none_rest es)
+
+pub none-leaving : (order : Order) (es : List (ℕ × OwedUnit)) → leaving order (staying order es) ≡ []
+none-leaving AsAnswered es = none_filter (λ e. is_complete e.1) es
+none-leaving AsCame es = none_rest es
+
+-- ---- a unit with nothing to answer
+
+pub empty_of : {X : Type 0} (xs : List X) → length xs ≡ 0 → xs ≡ []
+empty_of [] is = refl
+empty_of (x ∷ xs) is = absurd (omega arith)
+
+pub owed-none : (order : Order) (place : ℕ) (batch : Bool) (es : List (ℕ × OwedUnit)) → leaving order es ≡ [] → staying order (es ++ owed_slots place batch []) ≡ es
+owed-none order place batch es none = ap (λ fs. staying order fs) (append-nil es) ∙ all-staying order es none

@@ -1,0 +1,89 @@
+use Rattle.std.proofs.Common.{◌≡◌, ◌+◌, ◌++◌, [], suc, length, List, Bool, ap, sym, subst, ◌∙◌, le_trans}
+use Rattle.connection_history.specs.declared.event.Event.{Event}
+use Rattle.connection_history.specs.declared.order.Order.{Order}
+use Rattle.connection_history.specs.Stream.{entries_in, calls_in}
+use Rattle.open_calls.specs.Numbered.{Below}
+use Rattle.open_calls.specs.Own.{OwnState}
+use Rattle.open_calls.specs.Owed.{OwedState, seen_slots}
+use Rattle.open_calls.specs.Theirs.{TheirState}
+use Rattle.open_calls.proofs.Theirs.{state_of}
+use Rattle.outbox.specs.Output.{Output}
+use Rattle.connection_states.specs.States.{is_batch, owed_slots}
+use Rattle.connection_states.specs.Steps.{leaving, staying, theirs_after_all, told_of_all, new_unit_slots, own_after_all}
+use Rattle.connection_desk.specs.Desks.{Desk, after_unit, with_texts, answer_texts}
+use Rattle.connection_desk.specs.Inner.{HaveSlots, added_calls, calls_along, told_along, untold_of}
+use Rattle.connection_desk.proofs.Admitted.{below_of, theirs_along, told_same}
+use Rattle.connection_desk.proofs.Owing.{have-append, have-owed, have-staying, none-leaving}
+use Rattle.connection_desk.proofs.Owing.{state_of as owed_state}
+use Rattle.connection_desk.proofs.Room.{told_most}
+use Rattle.connection_desk.proofs.desk.Desk.take_in.Goals as goal
+
+pub settle-requires-clause-room : goal.settle-requires-clause-room
+settle-requires-clause-room c =
+    le_trans (told_most c.came-came.result c.self.inside.own c.admit.new.theirs.calls (entries_in c.args.unit)) c.in_ok-slots.ensures.room
+
+pub invariant_of-self-2 : goal.invariant_of-self-2
+invariant_of-self-2 c =
+    let order = c.self.inside.order in
+    let was = c.self.inside.owed in
+    let new = owed_slots was.places c.is_batch-is_batch.result (seen_slots c.in_ok-slots.slots.items) in
+    record {
+      settled = subst (λ (s : OwedState). leaving order s.owed ≡ []) (sym c.in_default.ensures.owed) (none-leaving order (was.owed ++ new));
+      have_slots = subst (λ (s : OwedState). HaveSlots s.owed) (sym c.in_default.ensures.owed)
+          (have-staying order (was.owed ++ new)
+          (have-append was.owed new c.self.invariant.have_slots (have-owed was.places c.is_batch-is_batch.result (seen_slots c.in_ok-slots.slots.items))));
+      open_ended = λ _. c.settle.ensures.open;
+    }
+
+abbrev desk_of : Bool → Order → Bool → OwnState → TheirState → OwedState → List Event → Output → Desk
+desk_of cancels order is_over own theirs owed untold out = record {
+  cancels = cancels;
+  order = order;
+  state = record { own = own; theirs = theirs; owed = owed; is_over = is_over };
+  untold = untold;
+  out = out;
+}
+
+same-desk : (cancels : Bool) (order : Order) (is_over : Bool) (own1 own2 : OwnState) (theirs1 theirs2 : TheirState) (owed1 owed2 : OwedState) (untold1 untold2 : List Event) (out1 out2 : Output)
+    → own1 ≡ own2 → theirs1 ≡ theirs2 → owed1 ≡ owed2 → untold1 ≡ untold2 → out1 ≡ out2
+    → desk_of cancels order is_over own1 theirs1 owed1 untold1 out1 ≡ desk_of cancels order is_over own2 theirs2 owed2 untold2 out2
+same-desk cancels order is_over own1 own2 theirs1 theirs2 owed1 owed2 untold1 untold2 out1 out2 a b d e f =
+    ap (λ x. desk_of cancels order is_over x theirs1 owed1 untold1 out1) a
+    ∙ ap (λ x. desk_of cancels order is_over own2 x owed1 untold1 out1) b
+    ∙ ap (λ x. desk_of cancels order is_over own2 theirs2 x untold1 out1) d
+    ∙ ap (λ x. desk_of cancels order is_over own2 theirs2 owed2 x out1) e
+    ∙ ap (λ x. desk_of cancels order is_over own2 theirs2 owed2 untold2 x) f
+
+pub returns-clause-ok : goal.returns-clause-ok
+returns-clause-ok c =
+    let d = c.self.inside in
+    let unit = c.args.unit in
+    let es = entries_in unit in
+    let n = d.theirs.came in
+    let under : Below (suc n) d.theirs.calls = below_of n d.theirs.calls c.came-came.ensures.numbers in
+    let admitted : c.admit.new.theirs ≡ state_of (n + length (calls_in es)) (d.theirs.calls ++ added_calls d.owed.places 0 n es) =
+    c.in_ok-slots.ensures.theirs
+    ∙ ap (λ p. state_of (n + length (calls_in es)) (d.theirs.calls ++ added_calls p 0 n es)) c.places-place.ensures.places in
+    let theirs : c.settle.new.theirs ≡ theirs_after_all d.owed.places 0 es d.theirs =
+    c.settle.ensures.theirs
+    ∙ ap (λ (s : TheirState). state_of s.came (calls_along c.came-came.result es s.calls)) admitted
+    ∙ ap (λ m. state_of (n + length (calls_in es)) (calls_along m es (d.theirs.calls ++ added_calls d.owed.places 0 n es))) c.came-came.ensures.came
+    ∙ theirs_along d.owed.places 0 n d.theirs.calls es under in
+    let told : told_along c.came-came.result d.own c.admit.new.theirs.calls es ≡ told_of_all d.own d.theirs es =
+    ap (λ (s : TheirState). told_along c.came-came.result d.own s.calls es) admitted
+    ∙ ap (λ m. told_along m d.own (d.theirs.calls ++ added_calls d.owed.places 0 n es) es) c.came-came.ensures.came
+    ∙ told_same d.owed.places n d.own d.theirs.calls es under in
+    let owing : d.owed.owed ++ owed_slots d.owed.places c.is_batch-is_batch.result (seen_slots c.in_ok-slots.slots.items) ≡ d.owed.owed ++ owed_slots d.owed.places (is_batch unit) (new_unit_slots unit) =
+    ap (λ b. d.owed.owed ++ owed_slots d.owed.places b (seen_slots c.in_ok-slots.slots.items)) c.is_batch-is_batch.ensures
+    ∙ ap (λ ss. d.owed.owed ++ owed_slots d.owed.places (is_batch unit) ss) c.in_ok-slots.ensures.slots in
+    c.keep_room.ensures
+    ∙ same-desk d.cancels d.order d.is_over c.settle.new.own (own_after_all es d.own) c.settle.new.theirs (theirs_after_all d.owed.places 0 es d.theirs)
+    c.owe.new.owed (owed_state (d.owed.places + 1) (staying d.order (d.owed.owed ++ owed_slots d.owed.places (is_batch unit) (new_unit_slots unit))))
+    (untold_of c.settle.new.events) (untold_of d.events ++ told_of_all d.own d.theirs es)
+    c.owe.new.outbox (with_texts (answer_texts (leaving d.order (d.owed.owed ++ owed_slots d.owed.places (is_batch unit) (new_unit_slots unit)))) d.outbox)
+    c.settle.ensures.own
+    theirs
+    (c.in_default.ensures.owed ∙ ap (λ owed. owed_state (d.owed.places + 1) (staying d.order owed)) owing)
+    (c.settle.ensures.untold ∙ ap (λ xs. xs ++ told_along c.came-came.result d.own c.admit.new.theirs.calls es) c.admit.ensures.untold ∙ ap (λ xs. untold_of d.events ++ xs) told)
+    (c.in_default.ensures.outbox ∙ ap (λ owed. with_texts (answer_texts (leaving d.order owed)) d.outbox) owing)
+    ∙ ap (λ x. after_unit unit x) (c.self.view_is ∙ c.take_room-room.ensures.state)
