@@ -30,10 +30,11 @@ returns-clause-err c =
     IfErr-weaker c.cancel.result
     (λ why. (c.cancel.new.self ≡ c.self.inside.desk) × IsRefusal why (answer_refused n c.self.inside.desk.state))
     _
-    (λ why refused.
-    (ap (λ d. let s : Connection = record { settings = c.self.inside.settings; stream = c.self.inside.stream; desk = d } in s) refused.0 ∙ c.self.view_is,
-    λ history told.
-    subst (λ (s : Connection). StandsAfter s history told → IsRefusal why (refusal s.settings.takes_cancels history (answered n (Standard Cancelled))))
-    c.self.view_is
-    (λ stands. subst (IsRefusal why) (answer_refused_alike seen.settings history told n (Standard Cancelled) seen.desk stands.desk) refused.1)))
+    (λ why refused. (
+      ap (λ d. let s : Connection = record { settings = c.self.inside.settings; stream = c.self.inside.stream; desk = d } in s) refused.0 ∙ c.self.view_is,
+      λ history told.
+          subst (λ (s : Connection). StandsAfter s history told → IsRefusal why (refusal s.settings.takes_cancels history (answered n (Standard Cancelled))))
+          c.self.view_is
+          (λ stands. subst (IsRefusal why) (answer_refused_alike seen.settings history told n (Standard Cancelled) seen.desk stands.desk) refused.1),
+    ))
     c.cancel.ensures.err
