@@ -172,8 +172,8 @@ int32_t bm_end(bm_connection *connection, uint32_t how);
 
 /* Tells the next event: it is moved to *event and the room. Call it until the kind is BM_NONE: an answer to broken
  * input goes out only as it is gone past.
- * BM_SMALL: the event doesn't fit the room. *event is written, so its lengths say how much room it needs; it isn't told,
- * and comes again. BM_NO_MEMORY. */
+ * BM_SMALL: the event doesn't fit the room. *event is written, so its lengths say how much room it needs. The event
+ * isn't told, and comes again. BM_NO_MEMORY. */
 int32_t bm_next(bm_connection *connection, bm_event *event, uint8_t *room, size_t length);
 
 /* Tells as many of the next events as fit the room: each a bm_event and, right behind it, its texts; each at the next
