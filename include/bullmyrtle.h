@@ -17,7 +17,8 @@
  * Answers. A call that gives an int32_t gives one of the codes below. If it isn't BM_OK, the call has told you nothing,
  *   has said nothing for you, and has written nothing to what you passed, unless it is said otherwise. A call may give
  *   BM_NO_MEMORY whatever else is wrong with it, and may then be made again. If several other codes apply, the first of
- *   these is given: BM_SETTINGS, BM_NOT_OPEN, BM_NOT_WAITING, BM_OVER, BM_EMPTY, BM_FULL, BM_NOT_TEXT, BM_NOT_JSON.
+ *   these is given: BM_SETTINGS, BM_NOT_OPEN, BM_NOT_WAITING, BM_NOT_TEXT, BM_NOT_JSON, BM_OVER, BM_EMPTY, BM_FULL.
+ *   In a batch a method that isn't text comes before params that aren't JSON, whichever call has them.
  *
  * JSON is one JSON value in UTF-8, at most 120 levels deep. It is told and written compactly: without blanks, with the
  * members in their order, and with numbers digit for digit.
@@ -178,23 +179,24 @@ int32_t bm_next(bm_connection *connection, bm_event *event, uint8_t *room, size_
 
 /* Tells as many of the next events as fit the room: each a bm_event and, right behind it, its texts; each at the next
  * multiple of 8 from the room's start, which has to lie at a multiple of 8 itself. Writes to *count how many there are
- * (0 where there is no event), and to *used how many bytes of the room they take. What doesn't fit comes first the next
- * time, be it by this call or by bm_next.
+ * (0 where there is no event), and to *used how many bytes of the room they take. It asks for one event more than it
+ * tells, so contents may have come of which nothing is told yet. What doesn't fit comes first the next time, be it by
+ * this call or by bm_next.
  * BM_SMALL: not even the first event fits. *count is 0, and *used is how much room it needs. BM_NO_MEMORY: not even the
  * first event could be had. */
 int32_t bm_next_all(bm_connection *connection, uint8_t *room, size_t length, size_t *used, uint32_t *count);
 
 /* Calls the other side, on behalf of the open call `number`, or of nobody where it is 0. Writes to *key the key under
  * which the reply is told. A length of 0 for params is none. Replies to calls of an answered number are ignored.
- * BM_NOT_OPEN, BM_OVER, BM_FULL, BM_NOT_TEXT, BM_NOT_JSON, BM_NO_MEMORY. */
+ * BM_NOT_OPEN, BM_NOT_TEXT, BM_NOT_JSON, BM_OVER, BM_FULL, BM_NO_MEMORY. */
 int32_t bm_call(bm_connection *connection, uint64_t number, const uint8_t *method, size_t method_length,
                 const uint8_t *params, size_t params_length, uint64_t *key);
 
 /* Calls the other side several times in one batch, all or nothing. The bytes hold each call's method and params, one
  * behind the other; `lengths` has two numbers a call, the method's length and that of the params (0: none), and
  * `lengths_count` is twice the number of calls. Writes the first key to *first; the others follow it.
- * BM_SETTINGS: the count is odd, or the lengths don't add up to that of the bytes. BM_NOT_OPEN, BM_OVER, BM_EMPTY,
- * BM_FULL, BM_NOT_TEXT, BM_NOT_JSON, BM_NO_MEMORY. */
+ * BM_SETTINGS: the count is odd, or the lengths don't add up to that of the bytes. BM_NOT_OPEN, BM_NOT_TEXT,
+ * BM_NOT_JSON, BM_OVER, BM_EMPTY, BM_FULL, BM_NO_MEMORY. */
 int32_t bm_call_batch(bm_connection *connection, uint64_t number, const uint8_t *bytes, size_t length,
                       const size_t *lengths, size_t lengths_count, uint64_t *first);
 

@@ -1,10 +1,11 @@
 //! What the host says.
 
-ghost use Rattle.std.specs.Prelude.{◌≡◌, ◌+◌, ◌∷◌, List, None, IfOk, IfErr, OnOk, OnErr};
+ghost use Rattle.std.specs.Prelude.{◌≡◌, ◌+◌, ◌∷◌, List, None, is_some, option_map, IfOk, IfErr, OnOk, OnErr};
 ghost use Rattle.rpc_messages.specs.declared.standard.Standard.TheVariants.{Cancelled};
 ghost use Rattle.connection_messages.specs.declared.answer.Answer.TheVariants.{Standard};
 ghost use Rattle.connection_history.specs.declared.event.Event.{Event};
 ghost use Rattle.connection_history.specs.History.{History, called, called_all, noticed, withdrew, answered, key_count};
+ghost use Rattle.open_calls.specs.Numbered.{at};
 ghost use Rattle.connection_history.specs.Refusals.{refusal, after, cancel_of};
 
 use crate::connection::Connection;
@@ -97,7 +98,9 @@ impl Connection {
     }
 
     /// Whether this call is a request, and so has an answer. There is none where it isn't open.
-    pub fn is_request(&self, number: u64) -> Option<bool> {
+    pub fn is_request(&self, number: u64) -> Option<bool>
+        ensures { result ≡ option_map (λ call. is_some call.id) (at number self.now.desk.state.theirs.calls) }
+    {
         self.desk.is_request(number)
     }
 }

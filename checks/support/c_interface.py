@@ -1,0 +1,98 @@
+"""What C sees of the library, read three times: from the header, from the sources of the exports, and from the map of the calls."""
+import ctypes
+import os
+import re
+
+from support import ran
+
+HEADER = os.path.join(ran.TOP, "include", "bullmyrtle.h")
+MAP = os.path.join(ran.TOP, "include", "bullmyrtle.map")
+CRATE = os.path.join(ran.TOP, "crates", "bullmyrtle", "src")
+
+# What stands in C for a type of an export's parameter, or of its result.
+IN_C = {
+    "Global": [],
+    "Handle": ["bm_connection"],
+    "&mut Handle": ["bm_connection *"],
+    "*mut Handle": ["void **"],
+    "&Settings": ["const bm_settings *"],
+    "&mut EventHead": ["bm_event *"],
+    "&mut Report": ["bm_report *"],
+    "&[u8]": ["const uint8_t *", "size_t"],
+    "&mut [u8]": ["uint8_t *", "size_t"],
+    "&[usize]": ["const size_t *", "size_t"],
+    "&mut u32": ["uint32_t *"],
+    "&mut u64": ["uint64_t *"],
+    "&mut usize": ["size_t *"],
+    "u32": ["uint32_t"],
+    "u64": ["uint64_t"],
+    "i32": ["int32_t"],
+    "i64": ["int64_t"],
+    "usize": ["size_t"],
+    "bool": ["bool"],
+}
+# The structs: by their names in C, the file and the name of the struct that the exports have for each.
+STRUCTS = {"bm_settings": ("settings.rt", "Settings"), "bm_event": ("head.rt", "EventHead"), "bm_report": ("report.rt", "Report")}
+WIDTHS = {"uint32_t": ctypes.c_uint32, "uint64_t": ctypes.c_uint64, "int64_t": ctypes.c_int64, "size_t": ctypes.c_size_t}
+
+
+def text_of(file: str) -> str:
+    with open(file, encoding="utf-8") as it:
+        return it.read()
+
+
+def without_comments(text: str) -> str:
+    return re.sub(r"/\*.*?\*/", "", text, flags=re.S)
+
+
+def type_in_c(words: str) -> str:
+    """The type of a parameter, without its name."""
+    kind, star, _ = re.fullmatch(r"\s*((?:const )?\w+)\s*(\**)(\w*)\s*", words).groups()
+    return f"{kind} {star}" if star else kind
+
+
+def in_header() -> dict[str, tuple[str, list[str]]]:
+    """By the calls' names, what each gives and takes."""
+    found = re.findall(r"^(\w+) (bm_\w+)\(([^)]*)\);", without_comments(text_of(HEADER)), re.M)
+    return {name: (gives, [] if takes == "void" else [type_in_c(it) for it in takes.split(",")]) for gives, name, takes in found}
+
+
+def in_map() -> list[str]:
+    return sorted(re.findall(r"^ +(bm_\w+);$", text_of(MAP), re.M))
+
+
+def in_exports() -> dict[str, tuple[str, list[str]]]:
+    found = re.findall(r'pub (?:unsafe )?extern "C" fn (bm_\w+)\(([^)]*)\)(?: -> (\w+))?', text_of(os.path.join(CRATE, "lib.rt")))
+    made = {}
+    for name, takes, gives in found:
+        kinds = [it.split(":", 1)[1].strip() for it in takes.split(",") if it.strip()]
+        made[name] = (IN_C[gives][0] if gives else "void", [part for kind in kinds for part in IN_C[kind]])
+    return made
+
+
+def fields_in_header(name: str) -> list[tuple[str, str]]:
+    """The fields of a struct: their types and names."""
+    body = re.search(r"typedef struct \{([^}]*)\} " + name + ";", without_comments(text_of(HEADER))).group(1)
+    return re.findall(r"(\w+) (\w+);", body)
+
+
+def fields_in_exports(name: str) -> list[tuple[str, str]]:
+    file, kind = STRUCTS[name]
+    before, body = re.search(r"(#\[repr\(C\)\]\n(?:#.*\n)*)pub struct " + kind + r" \{([^}]*)\}", text_of(os.path.join(CRATE, file))).groups()
+    assert before
+    return [(IN_C[kind][0], field) for field, kind in re.findall(r"pub (\w+): (\w+),", body)]
+
+
+def laid_out(name: str) -> list[int]:
+    """The size of a struct and the places of its fields, by ctypes."""
+    struct = type(name, (ctypes.Structure,), {"_fields_": [(field, WIDTHS[kind]) for kind, field in fields_in_header(name)]})
+    return [ctypes.sizeof(struct), *(getattr(struct, field).offset for _, field in fields_in_header(name))]
+
+
+def program_of_layouts() -> str:
+    """A program in C that writes the same for each struct, a line each."""
+    lines = []
+    for name in STRUCTS:
+        numbers = [f"sizeof({name})", *(f"offsetof({name}, {field})" for _, field in fields_in_header(name))]
+        lines += [f'    printf("{name}");', *(f'    printf(" %zu", {it});' for it in numbers), '    printf("\\n");']
+    return '#include "bullmyrtle.h"\n#include <stdio.h>\n\nint main(void)\n{\n' + "\n".join(lines) + "\n    return 0;\n}\n"

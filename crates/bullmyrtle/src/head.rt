@@ -1,0 +1,13 @@
+/// An event's head, as C has it.
+#[repr(C)]
+#[derive(Clone, Copy)]
+pub struct EventHead {
+    pub kind: u32,
+    pub flags: u32,
+    pub number: u64,
+    pub key: u64,
+    pub code: i64,
+    pub name_len: usize,
+    pub text_len: usize,
+    pub id_len: usize,
+}

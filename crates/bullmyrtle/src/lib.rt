@@ -1,0 +1,245 @@
+//! The calls for C, each over a handle: a pointer that owns what it points to. `include/bullmyrtle.h` tells their users
+//! about them.
+#![tactic(auto)]
+
+ghost use Rattle.std.specs.Prelude.{◌≡◌, ◌++◌, None, length, drop, IsTrue};
+ghost use Rattle.std.specs.Borrow.{sem};
+ghost use Rattle.std.specs.Ptr.{room_at};
+ghost use base.Fml.{fex};
+ghost use Rattle.outbox.specs.Output.{given_of, next_of, after_take};
+ghost use Rattle.bullmyrtle.specs.Places.{held_at};
+ghost use Rattle.bullmyrtle.specs.contracts.handle.Handle.{the_row as handle_row};
+ghost use Rattle.bullmyrtle.specs.Made.{IsMade, Given, IsGivenBy};
+ghost use Rattle.bullmyrtle.specs.Codes.{Said, code_of_said, code_of_got, value_of};
+ghost use Rattle.bullmyrtle.specs.Feeding.{HasFed, taken};
+ghost use Rattle.bullmyrtle.specs.Saying.{HasEnded, HasCalled, HasCalledAll, HasNotified, HasWithdrawn, HasAnswered, HasFailed, HasCancelled};
+ghost use Rattle.bullmyrtle.specs.Outlets.{Asked, AskedAll};
+ghost use Rattle.bullmyrtle.specs.declared.outlet.Got.{Got};
+
+mod code;
+mod event;
+mod feeding;
+mod handle;
+mod head;
+mod loose;
+mod outlet;
+mod place;
+mod put;
+mod report;
+mod room;
+mod saying;
+mod settings;
+mod texts;
+
+use code::{code_of, code_of_got};
+use handle::Handle;
+use head::EventHead;
+use outlet::Outlet;
+use place::Place;
+use report::Report;
+use settings::Settings;
+use std::alloc::Global;
+
+/// As in the header.
+const INTERFACE: u32 = 1;
+
+/// The version of these calls.
+#[unsafe(no_mangle)]
+pub extern "C" fn bm_interface() -> u32
+    ensures { result ≡ INTERFACE }
+{
+    INTERFACE
+}
+
+/// Makes a new one. Its handle lies at `at` then, or where the answer isn't `BM_OK`, room for one as before.
+#[unsafe(no_mangle)]
+pub unsafe extern "C" fn bm_new(alloc: Global, settings: &Settings, at: *mut Handle) -> i32
+    requires* { sem 𝓛 (room_at handle_row at) }
+    ensures* handed { sem 𝓛 (fex (Given settings.now result) (λ given. held_at at given.0)) }
+    ensures code { IsMade settings.now result }
+{
+    let (code, place) = made(alloc, settings, Place { at });
+    let Place { at: _ } = place;
+    code
+}
+
+/// Makes a new one and puts its handle into this place, where there are such settings and memory.
+fn made(alloc: Global, settings: &Settings, place: Place) -> (i32, Place)
+    requires { place.held ≡ None }
+    ensures code { IsMade settings.now result.0 }
+    ensures place { result.1.at ≡ place.at }
+    ensures held { IsGivenBy settings.now result.0 result.1.held }
+{
+    let Some(chosen) = settings.chosen() else {
+        return (8, place);
+    };
+    match Box::new(alloc, Outlet::new(alloc, chosen)) {
+        Ok(outlet) => (0, place.put(Handle::of(outlet))),
+        Err(_) => (1, place),
+    }
+}
+
+/// Frees it.
+#[unsafe(no_mangle)]
+pub extern "C" fn bm_free(handle: Handle) {
+    drop(handle.into_box());
+}
+
+/// Feeds bytes of the input.
+#[unsafe(no_mangle)]
+pub extern "C" fn bm_feed(handle: &mut Handle, bytes: &[u8]) -> i32
+    ensures { (said : Said) × (result ≡ code_of_said said) ×
+        HasFed (value_of handle.old) (value_of handle.new) bytes.now said }
+{
+    code_of(handle.as_mut().feed(bytes))
+}
+
+/// Says how the input ended.
+#[unsafe(no_mangle)]
+pub extern "C" fn bm_end(handle: &mut Handle, how: u32) -> i32
+    ensures { (said : Said) × (result ≡ code_of_said said) ×
+        HasEnded (value_of handle.old) (value_of handle.new) how said }
+{
+    code_of(handle.as_mut().end(how))
+}
+
+/// Tells the next event.
+#[unsafe(no_mangle)]
+pub extern "C" fn bm_next(handle: &mut Handle, head: &mut EventHead, room: &mut [u8]) -> i32
+    ensures { (got : Got) × (result ≡ code_of_got got) ×
+        Asked (value_of handle.old) (value_of handle.new) head.old head.new room.old room.new got }
+{
+    code_of_got(&handle.as_mut().tell(head, room))
+}
+
+/// Tells as many of the next events as fit the room.
+#[unsafe(no_mangle)]
+pub extern "C" fn bm_next_all(
+    handle: &mut Handle,
+    room: &mut [u8],
+    used: &mut usize,
+    count: &mut u32,
+) -> i32
+    ensures { (got : Got) × (result ≡ code_of_got got) ×
+        AskedAll (value_of handle.old) (value_of handle.new) room.old room.new used.old used.new count.old count.new got }
+{
+    code_of_got(&handle.as_mut().tell_all(room, used, count))
+}
+
+/// Calls the other side.
+#[unsafe(no_mangle)]
+pub extern "C" fn bm_call(
+    handle: &mut Handle,
+    number: u64,
+    method: &[u8],
+    params: &[u8],
+    key: &mut u64,
+) -> i32
+    ensures { (said : Said) × (result ≡ code_of_said said) ×
+        HasCalled (value_of handle.old) (value_of handle.new) number method.now params.now key.old key.new said }
+{
+    code_of(handle.as_mut().call(number, method, params, key))
+}
+
+/// Calls the other side several times.
+#[unsafe(no_mangle)]
+pub extern "C" fn bm_call_batch(
+    handle: &mut Handle,
+    number: u64,
+    bytes: &[u8],
+    lengths: &[usize],
+    first: &mut u64,
+) -> i32
+    ensures { (said : Said) × (result ≡ code_of_said said) ×
+        HasCalledAll (value_of handle.old) (value_of handle.new) number first.old first.new said }
+{
+    code_of(handle.as_mut().call_batch(number, bytes, lengths, first))
+}
+
+/// Notifies the other side.
+#[unsafe(no_mangle)]
+pub extern "C" fn bm_notify(handle: &mut Handle, method: &[u8], params: &[u8]) -> i32
+    ensures { (said : Said) × (result ≡ code_of_said said) ×
+        HasNotified (value_of handle.old) (value_of handle.new) method.now params.now said }
+{
+    code_of(handle.as_mut().notify(method, params))
+}
+
+/// Withdraws a call.
+#[unsafe(no_mangle)]
+pub extern "C" fn bm_withdraw(handle: &mut Handle, key: u64) -> i32
+    ensures { (said : Said) × (result ≡ code_of_said said) ×
+        HasWithdrawn (value_of handle.old) (value_of handle.new) key said }
+{
+    code_of(handle.as_mut().withdraw(key))
+}
+
+/// Answers a request with a result, or closes a notification.
+#[unsafe(no_mangle)]
+pub extern "C" fn bm_answer(handle: &mut Handle, number: u64, bytes: &[u8]) -> i32
+    ensures { (said : Said) × (result ≡ code_of_said said) ×
+        HasAnswered (value_of handle.old) (value_of handle.new) number bytes.now said }
+{
+    code_of(handle.as_mut().answer(number, bytes))
+}
+
+/// Answers a request with an error, or closes a notification.
+#[unsafe(no_mangle)]
+pub extern "C" fn bm_fail(
+    handle: &mut Handle,
+    number: u64,
+    code: i64,
+    message: &[u8],
+    extra: &[u8],
+) -> i32
+    ensures { (said : Said) × (result ≡ code_of_said said) ×
+        HasFailed (value_of handle.old) (value_of handle.new) number code message.now extra.now said }
+{
+    code_of(handle.as_mut().fail(number, code, message, extra))
+}
+
+/// Answers a request as cancelled.
+#[unsafe(no_mangle)]
+pub extern "C" fn bm_cancel(handle: &mut Handle, number: u64) -> i32
+    ensures { (said : Said) × (result ≡ code_of_said said) ×
+        HasCancelled (value_of handle.old) (value_of handle.new) number said }
+{
+    code_of(handle.as_mut().cancel(number))
+}
+
+/// How many bytes are to be written.
+#[unsafe(no_mangle)]
+pub extern "C" fn bm_pending(handle: &mut Handle) -> usize
+    ensures count { result ≡ length (next_of (value_of handle.old).connection.desk.out) }
+    ensures same { value_of handle.new ≡ value_of handle.old }
+{
+    handle.as_mut().connection.pending()
+}
+
+/// Moves the first of the bytes that are to be written.
+#[unsafe(no_mangle)]
+pub extern "C" fn bm_take(handle: &mut Handle, room: &mut [u8]) -> usize
+    ensures count { result ≡ length (given_of (value_of handle.old).connection.desk.out (length room.old)) }
+    ensures moved { room.new ≡
+        given_of (value_of handle.old).connection.desk.out (length room.old) ++ drop result room.old }
+    ensures left { value_of handle.new ≡ taken (value_of handle.old) (length room.old) }
+{
+    handle.as_mut().take(room)
+}
+
+/// Whether all is done.
+#[unsafe(no_mangle)]
+pub extern "C" fn bm_is_done(handle: &mut Handle) -> bool
+    ensures told { IsTrue result → (value_of handle.old).next ≡ None }
+    ensures same { value_of handle.new ≡ value_of handle.old }
+{
+    handle.as_mut().is_done()
+}
+
+/// Writes what has happened so far.
+#[unsafe(no_mangle)]
+pub extern "C" fn bm_counts(handle: &mut Handle, report: &mut Report)
+    ensures { value_of handle.new ≡ value_of handle.old }
+{
+    *report = Report::of(&handle.as_mut().connection);
+}

@@ -1,0 +1,71 @@
+/* The smallest host: it serves standard input, a content a line, and answers each request with its params. */
+#include "bullmyrtle.h"
+
+#include <stdio.h>
+#include <stdlib.h>
+#include <unistd.h>
+
+static bm_connection connection;
+
+/* What can't go on ends the program: there is no memory, or the output is gone. */
+static void check(int32_t code)
+{
+    if (code != BM_OK) {
+        fprintf(stderr, "host: the library gave the code %d\n", code);
+        exit(1);
+    }
+}
+
+static void handle(const bm_event *event, const uint8_t *room)
+{
+    static const char message[] = "Method not found";
+    const uint8_t *params = room + event->name_len + 1;
+    if (!(event->flags & BM_REQUEST))
+        check(bm_answer(&connection, event->number, params, 0)); /* done with the notification */
+    else if (event->text_len)
+        check(bm_answer(&connection, event->number, params, event->text_len));
+    else
+        check(bm_fail(&connection, event->number, -32601, (const uint8_t *)message, sizeof message - 1, params, 0));
+}
+
+static void hear(void)
+{
+    static uint8_t room[1 << 20]; /* a content has at most as many bytes, so each event fits */
+    bm_event event;
+    for (;;) {
+        check(bm_next(&connection, &event, room, sizeof room));
+        if (event.kind == BM_NONE)
+            return;
+        if (event.kind == BM_CALL)
+            handle(&event, room);
+    }
+}
+
+static void put(void)
+{
+    uint8_t bytes[4096];
+    size_t count;
+    while ((count = bm_take(&connection, bytes, sizeof bytes)))
+        if (fwrite(bytes, 1, count, stdout) != count)
+            exit(1);
+    if (fflush(stdout))
+        exit(1);
+}
+
+int main(void)
+{
+    bm_settings settings = {.framing = BM_LINES, .content = 100000};
+    uint8_t bytes[4096];
+    check(bm_new(&settings, &connection.at));
+    while (!bm_is_done(&connection)) {
+        ssize_t count = read(STDIN_FILENO, bytes, sizeof bytes);
+        if (count > 0)
+            check(bm_feed(&connection, bytes, (size_t)count));
+        else
+            check(bm_end(&connection, count ? BM_READ_FAILED : BM_CLOSED));
+        hear();
+        put();
+    }
+    bm_free(connection);
+    return 0;
+}
