@@ -1,6 +1,5 @@
 -- What a connection told is at hand.
-use Rattle.std.proofs.Common.{◌≡◌, List, [], ◌∷◌, ◌++◌, Option, Some, None, Result, Ok, IfOk, IfSome, true, refl}
-use Rattle.std.specs.Option.{is_none}
+use Rattle.std.proofs.Common.{◌≡◌, List, [], ◌∷◌, ◌++◌, Option, Some, None, Result, Ok, IfOk, IfSome, is_some, false, refl}
 use Rattle.std.specs.declared.alloc.AllocError.{AllocError}
 use Rattle.connection_history.specs.declared.event.Event.{Event}
 use Rattle.connection_history.specs.History.{History}
@@ -24,9 +23,9 @@ of_ok : (c d : Connection) (next : Option Event) → SaysTold c d (Ok next) → 
 of_ok c d None f g = λ history told stands. g history told stands refl
 of_ok c d (Some e) f g = f
 
-pub fetched : (a b : Outlet) → is_none a.next ≡ true → SaysTold a.connection b.connection (Ok b.next) → SaysNone a.connection b.connection (Ok b.next) → Fetched a b
+pub fetched : (a b : Outlet) → is_some a.next ≡ false → SaysTold a.connection b.connection (Ok b.next) → SaysNone a.connection b.connection (Ok b.next) → Fetched a b
 fetched a b e f g = at a.next e
   where
-    at : (next : Option Event) → is_none next ≡ true → At next a b
+    at : (next : Option Event) → is_some next ≡ false → At next a b
     at None e = of_ok a.connection b.connection b.next f g
     at (Some x) e = cc
