@@ -1,5 +1,5 @@
 -- What the clauses of the calls say of a code.
-use Rattle.std.specs.Prelude.{◌≡◌, ℤ, pos, Result, Ok, Err}
+use Rattle.std.specs.Prelude.{ℤ, pos, Result, Ok, Err}
 use Rattle.connection_history.specs.declared.refused.Refused.TheVariants.{Memory, NotOpen, NotWaiting, Over, Empty, Full}
 use Rattle.bullmyrtle.specs.declared.code.Why.{Why}
 use Rattle.bullmyrtle.specs.declared.code.Why.TheVariants.{Refused, NotText, NotJson, Settings}

@@ -1,14 +1,14 @@
 -- What the host says, and how it is answered.
-use Rattle.std.specs.Prelude.{◌≡◌, ◌≢◌, ◌⊎◌, ℕ, ℤ, ◌+◌, ◌==◌, List, [], ◌∷◌, Bool, true, false, Option, Some, None, Ok, Err, is_some, option_map, if◌then◌else◌}
+use Rattle.std.specs.Prelude.{◌≡◌, ◌≢◌, ◌⊎◌, ℕ, ℤ, ◌+◌, ◌==◌, List, [], ◌∷◌, Bool, false, Option, Some, None, Ok, Err, is_some, option_map, if◌then◌else◌}
 use Rattle.content_streams.specs.declared.ending.HowEnded.{HowEnded}
 use Rattle.content_streams.specs.declared.ending.HowEnded.TheVariants.{Closed, ReadFailed}
-use Rattle.rpc_messages.specs.declared.standard.Standard.TheVariants.{InternalError, Cancelled}
+use Rattle.rpc_messages.specs.declared.standard.Standard.TheVariants.{Cancelled}
 use Rattle.connection_messages.specs.declared.answer.Answer.{Answer}
 use Rattle.connection_messages.specs.declared.answer.Answer.TheVariants.{Result, Error, Standard}
 use Rattle.connection_messages.specs.declared.outgoing.Outgoing.{Outgoing}
 use Rattle.connection_history.specs.declared.event.Event.{Event}
 use Rattle.connection_history.specs.declared.refused.Refused.{Refused}
-use Rattle.connection_history.specs.declared.refused.Refused.TheVariants.{NotOpen, Over, Memory}
+use Rattle.connection_history.specs.declared.refused.Refused.TheVariants.{NotOpen, Over}
 use Rattle.connection_history.specs.History.{Happening, History, called, called_all, noticed, withdrew, answered, key_count}
 use Rattle.connection_history.specs.Refusals.{refusal, after, cancel_of}
 use Rattle.open_calls.specs.Numbered.{at}

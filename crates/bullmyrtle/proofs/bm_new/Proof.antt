@@ -1,5 +1,5 @@
 -- `bm_new` lends the host's room to `made`, and hands back what lies there.
-use Rattle.std.proofs.Common.{◌≡◌, ℤ, List, [], ◌∷◌, refl, ap, Option, None}
+use Rattle.std.proofs.Common.{◌≡◌, ℤ, List, [], ◌∷◌, refl, ap, None}
 use Rattle.std.proofs.raw_atomic.Walks.{proved}
 use base.Logic.{id⊢, emp}
 use base.Fml.{flft, ftrue}
@@ -34,7 +34,6 @@ use Rattle.std_alloc.proofs.ResultValues.{and_tt}
 use denote.Struct.Tuple.{Tuple}
 use mir.Syntax.{ty_ptr, w32, named}
 use denote.Signed.{sint_Lawful}
-use Rattle.bullmyrtle.specs.Held.{Held}
 use Rattle.bullmyrtle.specs.declared.place.Place.{Place}
 use Rattle.bullmyrtle.specs.contracts.place.Place.{the_row as P, the_type}
 use Rattle.bullmyrtle.proofs.place.Place.TheLaws as place

@@ -1,8 +1,8 @@
 -- A head and the texts.
-use Rattle.std.proofs.Common.{◌≡◌, ◌+◌, ℕ, List, [], ◌++◌, length, min, sym, ap, ◌∙◌, arith}
+use Rattle.std.proofs.Common.{◌≡◌, ◌+◌, ℕ, List, ◌++◌, length, min, sym, ap, ◌∙◌, arith}
 use Rattle.bullmyrtle.specs.declared.head.EventHead.{EventHead}
 use Rattle.bullmyrtle.specs.Rooms.{head_bytes, texts}
-use Rattle.bullmyrtle.specs.Outlets.{head_of, name_of, text_of, id_of, needed}
+use Rattle.bullmyrtle.specs.Outlets.{head_of, name_of, text_of, id_of}
 use Rattle.bullmyrtle.proofs.Written.{length-head, length-both}
 use Rattle.bullmyrtle.proofs.outlet.needed.Goals as goal
 

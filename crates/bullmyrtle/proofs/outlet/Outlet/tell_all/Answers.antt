@@ -1,10 +1,9 @@
 -- Where none was packed, the outlet is as it was, but for what it has fetched.
-use Rattle.std.proofs.Common.{◌≡◌, ◌+◌, ◌<◌, ℕ, List, length, MatchOption, Option, Some, subst, inl, inr, refl, arith}
-use Rattle.connection_history.specs.declared.event.Event.{Event}
+use Rattle.std.proofs.Common.{◌≡◌, ◌+◌, ◌<◌, ℕ, List, length, subst, inl, inr, refl, arith}
 use Rattle.bullmyrtle.specs.declared.outlet.Outlet.{Outlet}
 use Rattle.bullmyrtle.specs.declared.outlet.Packed.{Packed}
 use Rattle.bullmyrtle.specs.declared.outlet.Packed.TheVariants as packed
-use Rattle.bullmyrtle.specs.Outlets.{Packs, HasPackedAll, IsStop, bytes_of, needed}
+use Rattle.bullmyrtle.specs.Outlets.{Packs, HasPackedAll, IsStop, bytes_of}
 use Rattle.bullmyrtle.specs.Rooms.{aligned}
 use Rattle.bullmyrtle.proofs.Packed.{packed-zero}
 use Rattle.bullmyrtle.proofs.outlet.Outlet.tell_all.Goals as goal
