@@ -1,4 +1,4 @@
-"""Proves the crates that the program stands on, side by side where they don't stand on each other, and builds the program.
+"""Proves the crates that the program or the C library stands on, side by side where they don't stand on each other, and builds it.
 
 All is proved from nothing, in a copy of exactly the files that the stamp covers. The later a crate can come, the further its proof stands
 back behind others; those that can't wait share the processors."""
@@ -78,17 +78,17 @@ def cost(files):
     return FIXED_LINES + lines(".rt") + lines(".antt") // PROOF_LINES
 
 
-def lay_out(room):
-    """Copies what the program is built from, and gives a run for each crate, lowest first."""
-    listed = listing()
+def lay_out(room, of):
+    """Copies what the program or the library is built from, and gives a run for each crate, lowest first."""
+    listed, names = listing(), sources.crates(of=of)
     with open(f"{room}/crates.txt", "w", encoding="utf-8") as it:
-        it.writelines(f"{listed.lines[name]}\n" for name in sources.crates())
-    shutil.copyfile(f"{TOP}/HANDLES", f"{room}/HANDLES")
-    for file in (it for name in sources.crates() for it in sources.files_of(f"{TOP}/crates/{name}")):
+        it.writelines(f"{listed.lines[name]}\n" for name in names)
+    beside = [f"{TOP}/{it}" for it in ("HANDLES", *sources.BESIDE[of])]
+    for file in (*beside, *(it for name in names for it in sources.files_of(f"{TOP}/crates/{name}"))):
         to = f"{room}/{os.path.relpath(file, TOP)}"
         os.makedirs(os.path.dirname(to), exist_ok=True)
         shutil.copyfile(file, to)
-    return [Run(name, sources.files_of(f"{room}/crates/{name}"), f"{room}/{name}.log") for name in sources.crates()]
+    return [Run(name, sources.files_of(f"{room}/crates/{name}"), f"{room}/{name}.log") for name in names]
 
 
 def measure_ways(runs, listed):
@@ -107,10 +107,10 @@ def measure_ways(runs, listed):
 class Building:
     """The proofs under way, each of which starts once the libraries below its crate are built."""
 
-    def __init__(self, room, say):
+    def __init__(self, room, say, of):
         self.say, self.begun, self.said = say, time.monotonic(), 0.0
         self.listed, self.memory = listing(), free_memory()
-        self.runs, self.prover = lay_out(room), Prover(room, self.listed)
+        self.runs, self.prover = lay_out(room, of), Prover(room, self.listed, of)
         self.done = set()
         measure_ways(self.runs, self.listed)
 
@@ -149,30 +149,32 @@ class Building:
         minutes = (time.monotonic() - self.begun) / 60
         return f"{proved} of some {functions} functions proved, {minutes:.1f} minutes so far"
 
-    def link(self):
-        """Links the program, and gives where it lies."""
-        linked = subprocess.run(self.prover.link(), stdin=subprocess.DEVNULL, capture_output=True, text=True, check=False)
-        if linked.returncode:
-            raise Fault(f"the program can't be linked:\n{linked.stdout}{linked.stderr}")
-        return self.prover.made
-
     def told(self):
         return "".join(f"== {it.name}\n{it.told()}" for it in self.runs)
 
 
-def build(log, say, keep):
-    """Proves and builds the program, and hands it to `keep` with its stamp. What the prover said goes to the file `log`."""
+def link_program(prover):
+    """Links the program, and gives where it lies."""
+    linked = subprocess.run(prover.link(), stdin=subprocess.DEVNULL, capture_output=True, text=True, check=False)
+    if linked.returncode:
+        raise Fault(f"the program can't be linked:\n{linked.stdout}{linked.stderr}")
+    return prover.made
+
+
+def build(log, say, keep, of=sources.PROGRAM, link=link_program):
+    """Proves and builds the program or the library, and hands what `link` makes of it to `keep` with its stamp. What the prover said goes to
+    the file `log`."""
     if shutil.which("rt") is None:
-        raise Fault("the Rattle kit's command rt isn't on the PATH, and no program that lies here is of these sources")
-    say("proving and building the program, which takes some minutes (what the prover says is then in out/build.log)")
-    stamp = sources.stamp()
-    with tempfile.TemporaryDirectory(prefix=f"{sources.PROGRAM}-build-") as room:
-        building = Building(room, say)
-        if sources.sum_of(room) != stamp[0]:
+        raise Fault("the Rattle kit's command rt isn't on the PATH, and nothing that lies here is of these sources")
+    say(f"proving and building, which takes some minutes (what the prover says is then in {os.path.relpath(log, TOP)})")
+    stamp = sources.stamp(of=of)
+    with tempfile.TemporaryDirectory(prefix=f"{of}-build-") as room:
+        building = Building(room, say, of)
+        if sources.sum_of(room, of) != stamp[0]:
             raise Fault("the sources changed while they were copied: try again")
         try:
             building.prove()
-            keep(building.link(), stamp)
+            keep(link(building.prover), stamp)
         finally:
             os.makedirs(os.path.dirname(log), exist_ok=True)
             with open(log, "w", encoding="utf-8") as it:

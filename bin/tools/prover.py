@@ -5,13 +5,16 @@ import os
 
 from tools import kit, sources
 
+# What the C library is compiled for: it runs on every x86-64, and unlike a program it doesn't check for more as it starts.
+PROCESSOR = "x86-64"
+
 
 class Prover:
     """Crates in a folder of their own, and beside them the libraries that are built of them."""
 
-    def __init__(self, room, listed):
-        self.room, self.listed, self.kit = room, listed, kit.folder()
-        self.made = f"{room}/{sources.PROGRAM}"
+    def __init__(self, room, listed, of=sources.PROGRAM):
+        self.room, self.listed, self.of, self.kit = room, listed, of, kit.folder()
+        self.made = f"{room}/{of}"
         os.makedirs(f"{room}/libraries")
 
     def folder(self, name):
@@ -21,7 +24,8 @@ class Prover:
         return f"{self.room}/libraries/{name}.rlib"
 
     def build(self, name, jobs):
-        """A check of a crate from nothing by so many processors, which builds its library, of statements alone, or the program."""
+        """A check of a crate from nothing by so many processors, which builds its library, of statements alone, or the program, or what the C
+        library holds of Rattle."""
         is_program = name == sources.PROGRAM
         used = ["std", *self.listed.libraries[name]]
         at = {it: self.library(it) if it in self.listed.lines else f"{self.kit}/rlibs/{it}.rlib" for it in used}
@@ -30,9 +34,12 @@ class Prover:
         words += ["-L", f"dependency={self.kit}/rlibs", "-L", f"dependency={self.room}/libraries"]
         words += ["--antt-project", f"{self.kit}/rattle/logic/antt-project.json", "--logic-built", f"{self.kit}/logic_built"]
         words += ["--links", f"{name}=", "--jobs", str(jobs)]
+        if name != self.of:
+            return [*words, "--statements", "-o", self.library(name)]
+        words += ["--toolchain", f"{self.kit}/toolchain", "--backend", "llvm"]
         if is_program:
-            return [*words, "--toolchain", f"{self.kit}/toolchain", "--backend", "llvm", "-o", f"{self.made}.o"]
-        return [*words, "--statements", "-o", self.library(name)]
+            return [*words, "-o", f"{self.made}.o"]
+        return [*words, "--crate-type", "staticlib", "--cpu", PROCESSOR, "-o", f"{self.made}.a"]
 
     def link(self):
         """Makes the program of what was built of it."""

@@ -1,5 +1,5 @@
-"""What the program is built from, and its stamp: the files of the crates that it stands on without those of their tests, these crates'
-lines of crates.txt, and HANDLES."""
+"""What the program and the C library are built from, and their stamps: the files of the crates that each stands on without those of their
+tests, these crates' lines of crates.txt, HANDLES, and of the library what lies in include/."""
 import hashlib
 import os
 import re
@@ -7,7 +7,9 @@ import re
 from tools import kit
 from tools.repository import TOP, Fault, listing, read_bytes, read_text
 
-PROGRAM = "rpc_tool"
+PROGRAM, LIBRARY = "rpc_tool", "bullmyrtle"
+# What is built from files beside those of crates.
+BESIDE = {PROGRAM: [], LIBRARY: ["include/bullmyrtle.h", "include/bullmyrtle.map"]}
 # A line `mod NAME;` with the attributes and comments right above it.
 MODULE = re.compile(r"^((?:[ \t]*(?:#\[|//)[^\n]*\n)*)[ \t]*(?:pub(?:\([^)\n]*\))? )?mod (\w+);", re.M)
 
@@ -62,26 +64,32 @@ def files_of(crate):
     return [it for it in found if it not in tests and not it.startswith(proofs)]
 
 
-def crates(top=TOP):
-    """The crates that the program stands on, and its own, lowest first."""
-    return listing(top).below(PROGRAM)
+def crates(top=TOP, of=PROGRAM):
+    """The crates that the program or the library stands on, and its own, lowest first."""
+    return listing(top).below(of)
 
 
-def sum_of(top=TOP):
-    """One number for all that the program is built from."""
+def sum_of(top=TOP, of=PROGRAM):
+    """One number for all that the program or the library is built from."""
     lines = listing(top).lines
     told = hashlib.sha256(read_bytes(f"{top}/HANDLES"))
-    for name in crates(top):
+    for name in crates(top, of):
         told.update(f"\n{lines[name]}\n".encode())
         for file in files_of(f"{top}/crates/{name}"):
-            told.update(f"{os.path.relpath(file, top)} {hashlib.sha256(read_bytes(file)).hexdigest()}\n".encode())
+            told.update(line_of(file, top))
+    for file in BESIDE[of]:
+        told.update(line_of(f"{top}/{file}", top))
     return told.hexdigest()
 
 
-def stamp(top=TOP):
+def line_of(file, top):
+    return f"{os.path.relpath(file, top)} {hashlib.sha256(read_bytes(file)).hexdigest()}\n".encode()
+
+
+def stamp(top=TOP, of=PROGRAM):
     """The lines of the stamp: the sum of the sources and, where the command rt is there, the kit's version."""
     version = kit.version()
-    return [sum_of(top), *([version] if version else [])]
+    return [sum_of(top, of), *([version] if version else [])]
 
 
 def is_stamped(file, wanted):
