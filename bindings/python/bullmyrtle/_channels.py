@@ -7,7 +7,7 @@ import os
 import select
 import socket
 import stat
-from typing import TYPE_CHECKING, Any, Optional
+from typing import TYPE_CHECKING, Any, List, Optional, Tuple
 
 if TYPE_CHECKING:
     from ._session import Session
@@ -293,32 +293,42 @@ class Memory(Channel):
     def __init__(self) -> None:
         self._session: Optional[Session] = None
         self._other: Optional[Memory] = None
+        self._early: List[Optional[bytes]] = []  # (what came before this half was started; None is the end)
         self._is_stopped = self._is_finished = False
 
     @staticmethod
-    def pair() -> "tuple[Memory, Memory]":
+    def pair() -> Tuple[Memory, Memory]:
         one, other = Memory(), Memory()
         one._other, other._other = other, one
         return one, other
 
     def start(self, session: Session) -> None:
         self._session = session
+        early, self._early = self._early, []
+        for it in early:
+            session.loop.call_soon(self._receive, it)
 
     def write(self) -> None:
-        assert self._session is not None and self._other is not None
+        assert self._session is not None
         data = self._session.take(_TAKEN)
         while data:
-            self._session.loop.call_soon(self._other._receive, data)
+            self._send(data)
             data = self._session.take(_TAKEN)
         self._session.was_written()
 
-    def _receive(self, data: bytes) -> None:
-        if not self._is_stopped and self._session is not None:
-            self._session.received(data)
+    def _send(self, data: Optional[bytes]) -> None:
+        if self._session is not None and self._other is not None:
+            self._session.loop.call_soon(self._other._receive, data)
 
-    def _end(self) -> None:
-        if not self._is_stopped and self._session is not None:
+    def _receive(self, data: Optional[bytes]) -> None:
+        if self._is_stopped:
+            return
+        if self._session is None:
+            self._early.append(data)
+        elif data is None:
             self._session.ended(False)
+        else:
+            self._session.received(data)
 
     def stop(self) -> None:
         self._is_stopped = True
@@ -326,8 +336,7 @@ class Memory(Channel):
     def finish(self) -> None:
         if not self._is_finished:
             self._is_finished = True
-            assert self._session is not None and self._other is not None
-            self._session.loop.call_soon(self._other._end)
+            self._send(None)
 
     async def close(self, seconds: float) -> None:
         self.stop()

@@ -166,7 +166,7 @@ class Session:
         self._replies: Dict[int, Reply] = {}
         self._lock = threading.Lock()
         self._blocked: Set["concurrent.futures.Future[Any]"] = set()
-        self._has_flush = self._is_closed = self._is_stopped = self._is_broken = False
+        self._has_begun = self._has_flush = self._is_closed = self._is_stopped = self._is_broken = False
         self._over: "asyncio.Future[str]" = self.loop.create_future()
         self._change: Optional["asyncio.Future[None]"] = None
         self._status: Optional[int] = None
@@ -627,8 +627,10 @@ class Session:
         return True
 
     def begin(self) -> None:
-        """Begins to read."""
-        self._channel.start(self)
+        """Begins to read, where it hasn't."""
+        if not self._has_begun:
+            self._has_begun = True
+            self._channel.start(self)
 
     async def serve(self) -> int:
         """Runs until the input is over and its calls are answered; gives 0 at a clean end, else 1."""

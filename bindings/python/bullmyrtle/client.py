@@ -67,6 +67,7 @@ class Client(Peer):
         if self._serving is not None:
             raise RuntimeError("the client has a server already")
         session = self._session_over(channel)
+        session.begin()
         self._serving = asyncio.ensure_future(self._serve(session))
 
     @property
