@@ -366,7 +366,7 @@ class Session:
 
     def _answer(self, number: int, name: str, result: Any, request: Optional[Request]) -> None:
         if request is not None and number not in self._open:
-            if result is not None and not request.is_cancelled:
+            if result is not None and not request.is_cancelled and not self._is_closed:
                 log.error("%s: it had answered its request already, and then returned a result too", name)
             return
         try:
@@ -388,7 +388,7 @@ class Session:
     def _raised(self, number: int, name: str, error: BaseException, request: Optional[Request]) -> None:
         """A method raised something: it is answered, and what nobody meant is logged, once."""
         if request is not None and number not in self._open:
-            if not request.is_cancelled:
+            if not request.is_cancelled and not self._is_closed:
                 log.error("%s: it had answered its request already, and then raised", name, exc_info=error)
             return
         if isinstance(error, (Closed, Unanswered)):

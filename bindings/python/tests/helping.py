@@ -43,7 +43,8 @@ def command(script, *words):
 
 def environment(**more):
     paths = [PACKAGE, *filter(None, [os.environ.get("PYTHONPATH")])]
-    return {**os.environ, "PYTHONPATH": os.pathsep.join(paths), "PYTHONUNBUFFERED": "1", **more}
+    kept = {name: it for name, it in os.environ.items() if name != "PYTHONUNBUFFERED"}
+    return {**kept, "PYTHONPATH": os.pathsep.join(paths), **more}
 
 
 def frame(value):
@@ -66,7 +67,10 @@ def messages(data):
     found = []
     while data:
         head, _, rest = data.partition(b"\r\n\r\n")
-        length = int(head.split(b":")[1])
+        name, _, length = head.partition(b": ")
+        if name != b"Content-Length":
+            raise ValueError(head)
+        length = int(length)
         found.append(json.loads(rest[:length]))
         data = rest[length:]
     return found
