@@ -123,4 +123,4 @@ class Case(unittest.TestCase):
             await asyncio.sleep(0.001)
 
 
-__all__ = ["Case", "MANY", "OVER", "TOP", "command", "environment", "frame", "joined", "logged", "messages", "notice", "request"]
+__all__ = ["Case", "HERE", "MANY", "OVER", "PACKAGE", "TOP", "command", "environment", "frame", "joined", "logged", "messages", "notice", "request"]
