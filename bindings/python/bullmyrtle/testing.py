@@ -27,6 +27,7 @@ async def joined(server: Server, client: Optional[Client] = None) -> AsyncIterat
     ours, theirs = Memory.pair()
     serving = asyncio.ensure_future(server.serve_over(theirs))
     client.attach(ours)
+    await asyncio.sleep(0)  # (the server's session begins)
     try:
         yield client
     finally:
