@@ -9,6 +9,7 @@ from __future__ import annotations
 import dataclasses
 import enum
 import json
+import json.encoder
 import os
 import sys
 from typing import Any, Callable, Optional, Tuple
@@ -36,18 +37,36 @@ def _default(value: Any) -> Any:
     raise TypeError(f"{type(value).__name__} isn't JSON")
 
 
-_encode = json.JSONEncoder(ensure_ascii=False, allow_nan=False, separators=(",", ":"), default=_default).encode
+_read = json.JSONDecoder().raw_decode
+
+
+def _writer() -> Callable[[Any], str]:
+    """What writes a value. A JSONEncoder makes its inner encoder anew for each value, which takes longest."""
+    made = json.JSONEncoder(ensure_ascii=False, allow_nan=False, separators=(",", ":"), default=_default)
+    try:
+        # (as JSONEncoder does; without a record of what is being written, a ring goes on until it nests too deep)
+        inner = json.encoder.c_make_encoder(  # type: ignore[attr-defined]
+            None, _default, json.encoder.encode_basestring, None, ":", ",", False, False, False
+        )
+        if "".join(inner(["\u00e9", {"a": 1.5}], 0)) == '["\u00e9",{"a":1.5}]':
+            return lambda value: "".join(inner(value, 0))
+    except (AttributeError, TypeError):
+        pass
+    return made.encode
+
+
+_write = _writer()
 
 
 def plain_loads(text: bytes) -> Any:
-    """The value of a JSON text, by the standard module."""
-    return json.loads(text)
+    """The value of a compact JSON text, by the standard module."""
+    return _read(text.decode())[0]
 
 
 def plain_dumps(value: Any) -> bytes:
     """The compact text of a value, by the standard module. Raises TypeError or ValueError where it has none."""
     try:
-        return _encode(value).encode()
+        return _write(value).encode()
     except RecursionError:
         raise ValueError("it nests too deep") from None
 
@@ -58,11 +77,11 @@ def _with_orjson(orjson: Any) -> Tuple[Loads, Dumps]:
 
     def loads(text: bytes) -> Any:
         if _LONG in text.translate(_DIGITS):
-            return json.loads(text)
+            return plain_loads(text)
         try:
             return read(text)
         except ValueError:
-            return json.loads(text)
+            return plain_loads(text)
 
     def dumps(value: Any) -> bytes:
         if value is None:
@@ -86,7 +105,7 @@ def _with_ujson(ujson: Any) -> Tuple[Loads, Dumps]:
         try:
             return read(text)
         except ValueError:
-            return json.loads(text)
+            return plain_loads(text)
 
     return loads, plain_dumps
 

@@ -1,7 +1,6 @@
 """Whether params fit a method's annotation, and what a method of the user's is."""
 from __future__ import annotations
 
-import asyncio
 import collections.abc
 import dataclasses
 import inspect
@@ -164,9 +163,7 @@ class Method:
             raise TypeError(f"a method's name is a string: {name!r}")
         self.name = name
         self.function = function
-        is_async = asyncio.iscoroutinefunction(function) or asyncio.iscoroutinefunction(
-            getattr(function, "__call__", None)
-        )
+        is_async = any(map(inspect.iscoroutinefunction, (function, getattr(function, "__call__", None))))
         if thread and is_async:
             raise TypeError(f"{name}: an async function runs on the loop, and not in a thread")
         self.kind = THREAD if thread else ASYNC if is_async else PLAIN

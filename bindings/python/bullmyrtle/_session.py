@@ -39,6 +39,10 @@ log = logging.getLogger("bullmyrtle")
 Said = Tuple[str, Any]
 
 
+# (asking whether something can be awaited takes longer than all the rest of a call)
+_VALUES = frozenset((dict, list, str, int, float, bool, type(None)))
+
+
 class _Later:
     def __repr__(self) -> str:
         return "LATER"
@@ -105,6 +109,11 @@ class Request:
         return None if self.id_text is None else _json.loads(self.id_text)
 
     @property
+    def id_key(self) -> Tuple[type, Any]:
+        """(in Python, 1 is True)"""
+        return type(self.id), self.id
+
+    @property
     def is_notification(self) -> bool:
         return self.id_text is None
 
@@ -163,6 +172,8 @@ class Session:
         self._events: Deque[Event] = deque()
         self._is_going = False
         self._open: Dict[int, Request] = {}  # calls that came and that something works on
+        self._by_id: Dict[Tuple[type, Any], List[Request]] = {}  # of these, where a cancel names an id
+        self._tasks: Set["asyncio.Task[None]"] = set()
         self._replies: Dict[int, Reply] = {}
         self._lock = threading.Lock()
         self._blocked: Set["concurrent.futures.Future[Any]"] = set()
@@ -283,19 +294,23 @@ class Session:
             return False
         if method.kind is PLAIN:
             return self._call_plain(method, given, event)
-        request = Request(self, event, method.kind)
-        self._open[number] = request
+        request = self._opened(event, method.kind)
         if method.kind is THREAD:
             self._pool.submit(lambda: self._run_in_thread(method, given, request))
             return False
         self._run_as_task(_called(method, given, request), request)
         return True
 
+    def _opened(self, event: events.Call, kind: str) -> Request:
+        request = self._open[event.number] = Request(self, event, kind)
+        if self._takes_tool_cancels and event.id is not None:
+            self._by_id.setdefault(request.id_key, []).append(request)
+        return request
+
     def _call_plain(self, method: Method, given: Any, event: events.Call) -> bool:
         request = None
         if method.takes == 2:
-            request = Request(self, event, PLAIN)
-            self._open[event.number] = request
+            request = self._opened(event, PLAIN)
         try:
             result = _called(method, given, request)
         except Exception as error:
@@ -307,10 +322,9 @@ class Session:
                 return False
             result = None
             log.error("%s: LATER is for a method that takes the request", event.method)
-        if inspect.isawaitable(result):
+        if type(result) not in _VALUES and inspect.isawaitable(result):
             if request is None:
-                request = Request(self, event, PLAIN)
-            self._open[event.number] = request
+                request = self._opened(event, PLAIN)
             request.kind = "async"
             self._run_as_task(result, request)
             return True
@@ -322,24 +336,33 @@ class Session:
 
     def _run_as_task(self, awaitable: Any, request: Request) -> None:
         request.task = self.loop.create_task(self._run(awaitable, request))
+        self._tasks.add(request.task)
+        request.task.add_done_callback(self._task_ended)
+
+    def _task_ended(self, task: "asyncio.Task[None]") -> None:
+        self._tasks.discard(task)
+        if not self._tasks:
+            self._changed()
 
     async def _run(self, awaitable: Any, request: Request) -> None:
-        number = request.number
         try:
             result = await awaitable
         except asyncio.CancelledError:
-            if number in self._open:
+            if request.number in self._open:
                 self._cancel(request)
             raise
         except Exception as error:
-            self._raised(number, request.method, error, request)
+            self._raised(request.number, request.method, error, request)
         else:
-            if result is LATER and number in self._open:
-                request.is_later = True
-            elif request.is_notification:
-                self._close_notification(number, request)
-            else:
-                self._answer(number, request.method, result, request)
+            self._returned(request, result)
+
+    def _returned(self, request: Request, result: Any) -> None:
+        if result is LATER:
+            request.is_later = True
+        elif request.is_notification:
+            self._close_notification(request.number, request)
+        else:
+            self._answer(request.number, request.method, result, request)
 
     def _run_in_thread(self, method: Method, given: Any, request: Request) -> None:
         if request.number not in self._open:
@@ -354,12 +377,8 @@ class Session:
     def _ran_in_thread(self, request: Request, result: Any, error: Optional[BaseException]) -> None:
         if error is not None:
             self._raised(request.number, request.method, error, request)
-        elif result is LATER:
-            request.is_later = True
-        elif request.is_notification:
-            self._close_notification(request.number, request)
         else:
-            self._answer(request.number, request.method, result, request)
+            self._returned(request, result)
         self._flush_soon()
 
     # Answers
@@ -439,6 +458,11 @@ class Session:
         """A call that came is answered: whoever waits on its behalf is told, and what waits for the end may go on."""
         if self._open.pop(request.number, None) is None:
             return
+        if self._takes_tool_cancels and request.id_text is not None:
+            others = self._by_id[request.id_key]
+            others.remove(request)
+            if not others:
+                del self._by_id[request.id_key]
         for key in request.keys:
             reply = self._replies.pop(key, None)
             if reply is not None:
@@ -471,10 +495,9 @@ class Session:
             return
         params = _json.loads(event.params)
         wanted = params.get("requestId") if isinstance(params, dict) else None
-        if type(wanted) not in (str, int):
-            return
-        for request in [it for it in self._open.values() if it.id_text is not None]:
-            if type(request.id) is type(wanted) and request.id == wanted:
+        # (a list can't be looked up, and 7, 7.0 and "7" aren't the same)
+        if type(wanted) in (str, int):
+            for request in list(self._by_id.get((type(wanted), wanted), ())):
                 self._cancel(request)
 
     def _say_tool_cancel(self, key: int) -> None:
@@ -638,9 +661,9 @@ class Session:
         try:
             how = await asyncio.shield(self._over)
             end = self.loop.time() + self._grace
-            has_all = await self._until(lambda: not self._open, end)
-            if not has_all:
-                await self._cancel_all()
+            await self._until(lambda: not self._open and not self._tasks, end)
+            has_all = not self._open
+            await self._cancel_all()
             self._flush()
             is_out = await self._until(self._is_written, max(end, self.loop.time() + 1))
             self._pool.close()
@@ -654,14 +677,14 @@ class Session:
         return self._is_broken or (self._channel.is_idle and not self.pending)
 
     async def _cancel_all(self) -> None:
-        tasks = []
+        """Ends what didn't end in time; a task that doesn't let itself be cancelled is left."""
         for request in list(self._open.values()):
             log.error("%s: it didn't end in time, and is cancelled", request.method)
-            if request.task is not None:
-                tasks.append(request.task)
             self._cancel(request)
-        if tasks:
-            await asyncio.wait(tasks, timeout=1)
+        if self._tasks:
+            for task in self._tasks:
+                task.cancel()
+            await asyncio.wait(set(self._tasks), timeout=1)
 
     async def _until_threads_end(self, end: float) -> None:
         nap = 0.0005
@@ -677,10 +700,9 @@ class Session:
             self._is_closed = True
         self._events.clear()
         closed = Closed("the session is over")
-        requests, self._open = list(self._open.values()), {}
-        for request in requests:
-            task = request.task
-            if task is not None and not task.cancel() and not task.cancelled():
+        self._open.clear()
+        for task in self._tasks:
+            if not task.cancel() and not task.cancelled():
                 task.exception()  # (one that ended by KeyboardInterrupt; so that nobody is told of it twice)
         replies, self._replies = list(self._replies.values()), {}
         for reply in replies:

@@ -1,15 +1,19 @@
 """A log of what a connection says and hears, as LSP inspectors read it."""
 from __future__ import annotations
 
+import contextlib
 import json
+import logging
 import os
 import threading
 import time
-from typing import Any, Callable, Dict, Iterable, List, Optional, Set, TextIO, Tuple, Union
+from typing import Any, Callable, Dict, Iterable, List, Optional, TextIO, Tuple, Union
 
 from . import events
 from .connection import Connection, Json
 from .events import Event
+
+log = logging.getLogger("bullmyrtle")
 
 # A file's name, a file that takes text, or a function that takes one line at a time.
 Trace = Union[str, "os.PathLike[str]", TextIO, Callable[[str], Any]]
@@ -20,6 +24,7 @@ class Log:
 
     def __init__(self, trace: Trace) -> None:
         self._lock = threading.Lock()
+        self._is_broken = False
         self._file: Optional[TextIO] = None
         if isinstance(trace, (str, os.PathLike)):
             self._file = open(trace, "a", encoding="utf-8")
@@ -35,12 +40,20 @@ class Log:
         self._file.flush()
 
     def say(self, line: str) -> None:
+        """Writes a line. A log that can't be written doesn't end the session, and is given up."""
         with self._lock:
-            self._say(line)
+            if self._is_broken:
+                return
+            try:
+                self._say(line)
+            except Exception as error:
+                self._is_broken = True
+                log.error("the trace ends here: %s: %s", type(error).__name__, error)
 
     def close(self) -> None:
         if self._file is not None:
-            self._file.close()
+            with contextlib.suppress(OSError):
+                self._file.close()
 
 
 def _string(text: Json) -> str:
@@ -78,9 +91,10 @@ class Traced:
         self._connection = connection
         self._log = Log(trace)
         self._cancels = cancels
+        self._lock = threading.RLock()  # (so that the lines stand in the order of the messages)
         self._ids: Dict[int, Optional[str]] = {}  # of the calls that are open
-        self._waiting: Dict[int, int] = {}  # our calls that wait, and on whose behalf they are
-        self._withdrawn: Set[int] = set()
+        self._keys: Dict[int, Dict[int, bool]] = {}  # our calls on behalf of each: whether they are withdrawn
+        self._numbers: Dict[int, int] = {}  # on whose behalf each call is that waits
         self._is_over = False
         self.feed, self.end, self.take = connection.feed, connection.end, connection.take
         self.counts = connection.counts
@@ -99,18 +113,20 @@ class Traced:
         self._log.say(f'{{"isLSPMessage":{mark},"type":"{kind}","message":{message},"timestamp":{stamp}}}')
 
     def close(self) -> None:
-        counts = self._connection.counts()._asdict()
-        self._connection.close()
-        self._line("counts", json.dumps(counts, separators=(",", ":")), is_message=False)
-        self._log.close()
+        with self._lock:
+            counts = self._connection.counts()._asdict()
+            self._connection.close()
+            self._line("counts", json.dumps(counts, separators=(",", ":")), is_message=False)
+            self._log.close()
 
     # What is told
 
     def events(self) -> List[Event]:
-        told = self._connection.events()
-        for event in told:
-            self._tell(event)
-        return told
+        with self._lock:
+            told = self._connection.events()
+            for event in told:
+                self._tell(event)
+            return told
 
     def _tell(self, event: Event) -> None:
         if isinstance(event, events.Call):
@@ -128,66 +144,76 @@ class Traced:
             self._replied(event.key, _error(str(event.key), event.code, event.message, event.data))
         elif isinstance(event, events.Over):
             self._is_over = True
-            self._waiting.clear()
 
     def _replied(self, key: int, message: str) -> None:
-        self._waiting.pop(key, None)
-        self._withdrawn.discard(key)
+        number = self._numbers.pop(key, None)
+        if number is not None:
+            self._keys.get(number, {}).pop(key, None)
         self._line("receive-response", message)
 
     # What is said
 
     def call(self, number: int, method: Json, params: Optional[Json] = None) -> int:
-        key = self._connection.call(number, method, params)
-        self._called(number, key, method, params)
-        return key
+        with self._lock:
+            key = self._connection.call(number, method, params)
+            self._called(number, key, method, params)
+            return key
 
     def _called(self, number: int, key: int, method: Json, params: Optional[Json]) -> None:
-        self._waiting[key] = number
+        self._keys.setdefault(number, {})[key] = False
+        self._numbers[key] = number
         self._line("send-request", _call(str(key), method, params))
 
     def call_batch(self, number: int, calls: Iterable[Tuple[Json, Optional[Json]]]) -> int:
         calls = list(calls)
-        first = self._connection.call_batch(number, calls)
-        for key, (method, params) in enumerate(calls, first):
-            self._called(number, key, method, params)
-        return first
+        with self._lock:
+            first = self._connection.call_batch(number, calls)
+            for key, (method, params) in enumerate(calls, first):
+                self._called(number, key, method, params)
+            return first
 
     def notify(self, method: Json, params: Optional[Json] = None) -> None:
-        self._connection.notify(method, params)
-        self._line("send-notification", _call(None, method, params))
+        with self._lock:
+            self._connection.notify(method, params)
+            self._line("send-notification", _call(None, method, params))
 
     def withdraw(self, key: int) -> None:
-        self._connection.withdraw(key)
-        self._withdrew(key)
+        with self._lock:
+            self._connection.withdraw(key)
+            self._keys[self._numbers[key]][key] = True
+            self._withdrew(key)
 
     def _withdrew(self, key: int) -> None:
-        self._withdrawn.add(key)
         self._line("send-notification", _call(None, "$/cancelRequest", f'{{"id":{key}}}'))
 
     def answer(self, number: int, result: Optional[Json] = None) -> None:
-        self._connection.answer(number, result)
-        id_ = self._closed(number)
-        if id_ is not None and result is not None:
-            self._line("send-response", _result(id_, result))
+        with self._lock:
+            self._connection.answer(number, result)
+            id_, _ = self._closed(number)
+            if id_ is not None and result is not None:
+                self._line("send-response", _result(id_, result))
 
     def fail(self, number: int, code: int, message: Json = "", data: Optional[Json] = None) -> None:
-        self._connection.fail(number, code, message, data)
-        id_ = self._closed(number)
-        if id_ is not None:
-            self._line("send-response", _error(id_, code, message, data))
+        with self._lock:
+            self._connection.fail(number, code, message, data)
+            id_, _ = self._closed(number)
+            if id_ is not None:
+                self._line("send-response", _error(id_, code, message, data))
 
     def cancel(self, number: int) -> None:
-        self._connection.cancel(number)
-        if self._cancels and not self._is_over:
-            for key in sorted(key for key, of in self._waiting.items() if of == number and key not in self._withdrawn):
-                self._withdrew(key)
-        id_ = self._closed(number)
-        if id_ is not None:
-            self._line("send-response", _error(id_, -32800, "Request cancelled", None))
+        with self._lock:
+            self._connection.cancel(number)
+            id_, keys = self._closed(number)
+            if self._cancels and not self._is_over:
+                for key, is_withdrawn in keys.items():
+                    if not is_withdrawn:
+                        self._withdrew(key)
+            if id_ is not None:
+                self._line("send-response", _error(id_, -32800, "Request cancelled", None))
 
-    def _closed(self, number: int) -> Optional[str]:
-        for key in [key for key, of in self._waiting.items() if of == number]:
-            del self._waiting[key]
-            self._withdrawn.discard(key)
-        return self._ids.pop(number, None)
+    def _closed(self, number: int) -> Tuple[Optional[str], Dict[int, bool]]:
+        """Forgets a call that came, and gives its id and the calls on its behalf that waited, in their order."""
+        keys = self._keys.pop(number, {})
+        for key in keys:
+            del self._numbers[key]
+        return self._ids.pop(number, None), keys

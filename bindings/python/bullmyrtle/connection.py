@@ -34,7 +34,7 @@ class Counts(NamedTuple):
 
 def _text(text: Json) -> bytes:
     """(the library itself refuses what isn't UTF-8)"""
-    return text.encode("utf-8", "surrogatepass") if isinstance(text, str) else bytes(text)
+    return text.encode("utf-8", "surrogatepass") if isinstance(text, str) else bytes(memoryview(text))
 
 
 def _json(text: Optional[Json]) -> bytes:
@@ -234,7 +234,7 @@ class Connection:
 
     def answer(self, number: int, result: Optional[Json] = None) -> None:
         """Answer a request with a result, or close a notification, without one. Refused: `NotOpen`, `NotJson`."""
-        given = _json(result)
+        given = result if type(result) is bytes and result else _json(result)
         if not 0 <= number < _MOST:
             raise NotOpen()
         with self._lock:

@@ -133,6 +133,43 @@ class Lines(Case):
         self.wait(main(kept))
         self.assertEqual(len(told(kept.getvalue().splitlines())), 3)
 
+    def test_a_log_that_cant_be_written(self):
+        said = []
+
+        def write(line):
+            said.append(line)
+            raise OSError("full")
+
+        async def main():
+            server = Server(trace=write)
+            server.method("x")(lambda params: params)
+            async with joined(server, Client()) as client:
+                self.assertEqual([await client.call("x", [it]) for it in range(3)], [[0], [1], [2]])
+
+        with logged() as log:
+            self.wait(main())
+        self.assertEqual((len(said), log.texts), (1, ["the trace ends here: OSError: full"]))
+
+    def test_from_threads(self):
+        lines = []
+
+        async def main():
+            server = Server(trace=lines.append)
+
+            @server.method("x", thread=True)
+            def x(params, request):
+                request.notify("note", params)
+                return [request.call("twice", params)]
+
+            client = Client()
+            client.method("twice")(lambda params: 2 * params[0])
+            async with joined(server, client):
+                found = await asyncio.gather(*(client.call("x", [it]) for it in range(40)))
+                self.assertEqual(found, [[2 * it] for it in range(40)])
+
+        self.wait(main())
+        self.assertEqual(len(told(lines)), 40 * 5 + 1)
+
     def test_it_costs_nothing_when_off(self):
         async def main():
             server = Server()
