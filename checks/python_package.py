@@ -32,7 +32,7 @@ def check(python, over, file, names):
     if file is not None:
         env[VARIABLE] = file
     # (by their names, or all that lie there)
-    words = [python, "-W", "error::RuntimeWarning", "-m", "unittest", *(names or ["discover", "-s", TESTS, "-t", TESTS])]
+    words = [python, "-W", "error::RuntimeWarning", "-m", "unittest", "-v", *(names or ["discover", "-s", TESTS, "-t", TESTS])]
     try:
         ended = subprocess.run(words, cwd=TESTS, env=env, capture_output=True, timeout=SECONDS, check=False)
     except subprocess.TimeoutExpired as late:
@@ -40,7 +40,8 @@ def check(python, over, file, names):
         return
     said = ended.stderr.decode(errors="replace")
     tests = re.search(r"^Ran (\d+) tests? in", said, re.M)
-    skipped = re.search(r"skipped=(\d+)", said)
+    for _, why in re.findall(r"\.\.\. skipped (['\"])(.*)\1$", said, re.M):
+        print(f"SKIPPED: {why}", flush=True)
     many = int(tests[1]) if tests else 0
     for it in re.findall(r"^((?:FAIL|ERROR): .*?)^-{70}$\n(.*?)(?=^={70}$|^-{70}$)", said, re.M | re.S):
         count.check(f"{python}, over the {over}: {it[0].strip()}", False, it[1].strip()[-700:])
@@ -48,7 +49,7 @@ def check(python, over, file, names):
     fewest = FEWEST[over] if over == "library" or not names else 1
     count.check(f"{python}, over the {over}: {fewest} tests at least", many >= fewest, f"{many}")
     count.passed += max(0, many - said.count("\nFAIL:") - said.count("\nERROR:"))
-    print(f"{python}: {many} tests over the {over}" + (f", of which {skipped[1]} were skipped" if skipped else ""), flush=True)
+    print(f"{python}: {many} tests over the {over}", flush=True)
 
 
 count = ran.Count()
