@@ -156,7 +156,7 @@ PLAIN, ASYNC, THREAD = "plain", "async", "thread"
 class Method:
     """A method of the user's: how it is called, and what its params have to be."""
 
-    __slots__ = ("name", "function", "kind", "takes", "fit")
+    __slots__ = ("name", "function", "kind", "takes", "fit", "is_quick")
 
     def __init__(self, name: str, function: Callable[..., Any], thread: bool) -> None:
         if not isinstance(name, str) or not name:
@@ -177,6 +177,8 @@ class Method:
             raise TypeError(f"{name}: a method takes the params and, where it likes, the request")
         # (one with a default is the method's own, unless its name says what it is)
         self.takes = len([it for at, it in enumerate(taken[:2]) if not at or it.default is kinds.empty or it.name == "request"])
+        # (nothing has to be kept of a call that it answers, since it is answered at once)
+        self.is_quick = self.kind == PLAIN and self.takes < 2
         self.fit: Optional[Fit] = None
         if taken:
             fit = fit_for(_annotation(function, taken[0].name))

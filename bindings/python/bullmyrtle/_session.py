@@ -12,7 +12,7 @@ from typing import Any, Awaitable, Callable, Deque, Dict, Iterable, List, Mappin
 
 from . import _json, events
 from ._channels import Channel
-from ._params import PLAIN, THREAD, Method
+from ._params import ASYNC, PLAIN, THREAD, Method
 from ._pool import Pool
 from ._trace import Traced
 from .connection import Connection
@@ -218,16 +218,19 @@ class Session:
 
     def _go_on(self) -> None:
         """Takes the events in their order, up to a method that starts as a task: that begins before what follows it."""
-        waiting = self._events
+        waiting, methods, cancel_by = self._events, self._methods, self._cancel_by
         self._is_going = True
         has_begun = False
         try:
-            while waiting:
+            while waiting and not has_begun:
                 event = waiting.popleft()
                 if type(event) is events.Call:
-                    has_begun = self._begin(event)
-                    if has_begun:
-                        break
+                    name = event[1]
+                    method = methods.get(name)
+                    if method is not None and method.is_quick and name != cancel_by and not self._is_stopped:
+                        has_begun = self._call_quickly(method, event)
+                    else:
+                        has_begun = self._begin(event)
                 else:
                     self._happened(event)
         finally:
@@ -286,11 +289,8 @@ class Session:
             given = None if event.params is None else _json.loads(event.params)
             if method.fit is not None:
                 given = method.fit(given, "params")
-        except (InvalidParams, ValueError, TypeError, RecursionError) as fault:
-            error = fault if isinstance(fault, InvalidParams) else InvalidParams(f"Invalid params: {fault}")
-            if event.id is None:
-                log.warning("%s: %s", event.method, error.message)
-            self._fail(number, error)
+        except Exception as fault:
+            self._doesnt_fit(event, fault)
             return False
         if method.kind is PLAIN:
             return self._call_plain(method, given, event)
@@ -307,17 +307,54 @@ class Session:
             self._by_id.setdefault(request.id_key, []).append(request)
         return request
 
+    def _doesnt_fit(self, event: events.Call, fault: Exception) -> None:
+        """The params can't be read, or don't fit the method's annotation."""
+        if isinstance(fault, Error):
+            error = fault
+        elif isinstance(fault, (ValueError, TypeError, RecursionError)):
+            error = InvalidParams(_words(f"Invalid params: {fault}"))
+        else:  # (as from a dataclass's own code)
+            self._raised(event.number, event.method, fault, None)
+            return
+        if event.id is None:
+            log.warning("%s: %s", event.method, error.message)
+        self._fail(event.number, error)
+
+    def _call_quickly(self, method: Method, event: events.Call) -> bool:
+        """Does what `_begin` does, for most calls, with as little as can be."""
+        number, name, params, id_ = event
+        try:
+            given = None if params is None else _json.loads(params)
+            if method.fit is not None:
+                given = method.fit(given, "params")
+        except Exception as fault:
+            self._doesnt_fit(event, fault)
+            return False
+        try:
+            result = method.function(given) if method.takes else method.function()
+        except Exception as error:
+            self._raised(number, name, error, None)
+            return False
+        if id_ is not None and type(result) in _VALUES:
+            try:
+                self._connection.answer(number, _json.dumps(result))
+                return False
+            except (TypeError, ValueError):
+                pass  # (what is below finds it again, and says so)
+        return self._returned_plainly(method, result, event, None)
+
     def _call_plain(self, method: Method, given: Any, event: events.Call) -> bool:
-        request = None
-        if method.takes == 2:
-            request = self._opened(event, PLAIN)
+        request = self._opened(event, PLAIN)
         try:
             result = _called(method, given, request)
         except Exception as error:
             self._raised(event.number, event.method, error, request)
             return False
+        return self._returned_plainly(method, result, event, request)
+
+    def _returned_plainly(self, method: Method, result: Any, event: events.Call, request: Optional[Request]) -> bool:
         if result is LATER:
-            if method.takes == 2 and request is not None:
+            if request is not None:
                 request.is_later = True
                 return False
             result = None
@@ -325,7 +362,7 @@ class Session:
         if type(result) not in _VALUES and inspect.isawaitable(result):
             if request is None:
                 request = self._opened(event, PLAIN)
-            request.kind = "async"
+            request.kind = ASYNC
             self._run_as_task(result, request)
             return True
         if event.id is None:

@@ -71,6 +71,7 @@ class Connection:
         self._at: Any = None
         self._lock = threading.Lock()
         self._library = library = _library.library()
+        self._bm_answer = library.bm_answer
         if framing not in _library.FRAMINGS or order not in _library.ORDERS:
             raise BadSettings(f"there are no such settings: framing {framing!r}, order {order!r}")
         # (0 stands for the greatest in the library, and isn't a limit here)
@@ -238,9 +239,9 @@ class Connection:
         if not 0 <= number < _MOST:
             raise NotOpen()
         with self._lock:
-            code = self._library.bm_answer(self._open(), number, given, len(given))
-            if code:
-                raise REFUSALS[code]()
+            code = self._bm_answer(self._at or self._open(), number, given, len(given))
+        if code:
+            raise REFUSALS[code]()
 
     def fail(self, number: int, code: int, message: Json = "", data: Optional[Json] = None) -> None:
         """Answer a request with an error, or close a notification. Refused: `NotOpen`, `NotText`, `NotJson`."""
@@ -304,26 +305,26 @@ class Connection:
 
 def _read(data: bytes, count: int, told: List[Event]) -> None:
     """Appends the events that lie in some bytes, as bm_next_all packs them."""
-    unpack, size = _library.EVENT.unpack_from, _library.EVENT.size
-    call, replied, append = events.Call, events.Replied, told.append
+    unpack, size, append = _library.EVENT.unpack_from, _library.EVENT.size, told.append
+    # (a named tuple's own way to be made takes twice as long)
+    make, call, is_call = tuple.__new__, events.Call, _library.CALL
     at = 0
     for _ in range(count):
         kind, flags, number, key, code, name_length, text_length, id_length = unpack(data, at)
-        name = at + size
-        text = name + name_length + 1
+        at += size
+        text = at + name_length + 1
         id_ = text + text_length + 1
-        at = id_ + id_length + 8 & ~7  # (there is a zero byte behind the id, and what follows lies at a multiple of 8)
-        if kind == _library.CALL:
-            params = data[text : text + text_length] if text_length else None
-            append(call(number, data[name : text - 1].decode(), params, data[id_ : id_ + id_length] if flags else None))
-        elif kind == _library.REPLIED and not flags:
-            append(replied(key, data[text : text + text_length]))
+        name = data[at : text - 1].decode()
+        given = data[text : id_ - 1] if text_length else None
+        at = id_ + id_length
+        if kind == is_call:
+            append(make(call, (number, name, given, data[id_:at] if flags else None)))
         elif kind == _library.REPLIED:
-            given = data[text : text + text_length] if text_length else None
-            append(events.Failed(key, code, data[name : text - 1].decode(), given))
+            append(events.Failed(key, code, name, given) if flags else events.Replied(key, given or b""))
         elif kind == _library.CANCELLED:
             append(events.Cancelled(number))
         elif kind == _library.UNANSWERED:
             append(events.Unanswered(key))
         else:
             append(events.Over(_library.HOWS[flags]))
+        at = at + 8 & ~7  # (there is a zero byte behind the id, and what follows lies at a multiple of 8)
