@@ -32,7 +32,7 @@ def check(python, over, file, names):
     if file is not None:
         env[VARIABLE] = file
     # (by their names, or all that lie there)
-    words = [python, "-W", "error::RuntimeWarning", "-m", "unittest", "-v", *(names or ["discover", "-s", TESTS, "-t", TESTS])]
+    words = [python, "-W", "error::RuntimeWarning", "-m", "unittest", *([*names, "-v"] if names else ["discover", "-v", "-s", TESTS, "-t", TESTS])]
     try:
         ended = subprocess.run(words, cwd=TESTS, env=env, capture_output=True, timeout=SECONDS, check=False)
     except subprocess.TimeoutExpired as late:

@@ -37,11 +37,13 @@ async def edit():
     async with client:
         await client.call("initialize", {"processId": os.getpid(), "rootUri": None, "capabilities": {}})
         client.notify("initialized", {})
-        client.notify("textDocument/didOpen", {"textDocument": {"uri": URI, "languageId": "text", "version": 1, "text": TEXT}})
+        about = {"uri": URI, "languageId": "text", "version": 1, "text": TEXT}
+        client.notify("textDocument/didOpen", {"textDocument": about})
         hover = await client.call("textDocument/hover", {**document, "position": {"line": 0, "character": 7}})
         print("hover:", hover["contents"])
         place = {"line": 1, "character": 0}
-        for it in await client.call("textDocument/codeAction", {**document, "range": {"start": place, "end": place}, "context": {}}):
+        where = {"range": {"start": place, "end": place}, "context": {"diagnostics": []}}
+        for it in await client.call("textDocument/codeAction", {**document, **where}):
             print("action:", it["title"])
         print("words:", await client.call("workspace/executeCommand", {"command": "count"}))
         for it in reached.values():
@@ -73,7 +75,8 @@ async def use():
         print(f"progress: {params['progress']} of {params['total']}")
 
     async with client:
-        about = {"protocolVersion": "2025-06-18", "capabilities": {"sampling": {}}, "clientInfo": {"name": "client", "version": "1"}}
+        about = {"protocolVersion": "2025-06-18", "capabilities": {"sampling": {}}}
+        about["clientInfo"] = {"name": "client", "version": "1"}
         print("server:", (await client.call("initialize", about))["serverInfo"]["name"])
         client.notify("notifications/initialized")
         print("tools:", ", ".join(it["name"] for it in (await client.call("tools/list"))["tools"]))

@@ -1,4 +1,4 @@
-"""A language server for plain text: it finds words that stand twice in a row, tells how often a word stands, and counts."""
+"""A language server for plain text: it finds words that stand twice in a row, and counts words."""
 import asyncio
 import re
 import sys
@@ -40,8 +40,8 @@ def initialize(params: dict):
 @server.method("textDocument/didChange")
 def changed(params: dict):
     uri = params["textDocument"]["uri"]
-    texts[uri] = text = params["contentChanges"][-1]["text"] if "contentChanges" in params else params["textDocument"]["text"]
-    found = [{"range": range_, "message": f"{word!r} stands twice", "severity": 2} for word, range_, _ in repeated(text)]
+    texts[uri] = (params["contentChanges"][-1] if "contentChanges" in params else params["textDocument"])["text"]
+    found = [{"range": it, "message": f"{word!r} stands twice", "severity": 2} for word, it, _ in repeated(texts[uri])]
     server.notify("textDocument/publishDiagnostics", {"uri": uri, "diagnostics": found})
 
 
@@ -72,17 +72,20 @@ def actions(params: dict):
 async def count(params: dict, request):
     if params["command"] != "count":
         raise InvalidParams(f"unknown command: {params['command']}")
-    token = f"count {request.id}"
-    await request.call("window/workDoneProgress/create", {"token": token})
-    request.notify("$/progress", {"token": token, "value": {"kind": "begin", "title": "Counting", "cancellable": True}})
+
+    def tell(kind, **more):
+        request.notify("$/progress", {"token": f"count {request.id}", "value": {"kind": kind, **more}})
+
+    await request.call("window/workDoneProgress/create", {"token": f"count {request.id}"})
+    tell("begin", title="Counting", cancellable=True)
     total = 0
     try:
         for uri, text in list(texts.items()):
             total += len(re.findall(r"\w+", text))
-            request.notify("$/progress", {"token": token, "value": {"kind": "report", "message": uri}})
+            tell("report", message=uri)
             await asyncio.sleep(params.get("arguments", [0])[0])  # (a cancel arrives here)
     finally:
-        request.notify("$/progress", {"token": token, "value": {"kind": "end"}})
+        tell("end")
     return total
 
 

@@ -1,4 +1,4 @@
-"""A tool server, as the Model Context Protocol has it over lines: one tool counts words, the other has the host's model name a text."""
+"""A tool server, as MCP has it over lines: one tool counts words, the other asks the host's model for a title."""
 import asyncio
 import sys
 

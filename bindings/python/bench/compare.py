@@ -1,11 +1,13 @@
-"""usage: compare.py [--requests N] [--rounds N]    how fast a server of this package is, beside python3-pylsp-jsonrpc where that is installed
+"""usage: compare.py [--requests N] [--rounds N]
 
-Each server has the same methods in Python. What is measured, in turn for each server, and the best of the rounds is told:
+How fast a server of this package is, beside python3-pylsp-jsonrpc where that is installed. Both have the same methods in
+Python. They are measured in turn, and the best of the rounds is told:
 
   at once    requests a second, where all are sent at once
   ping       microseconds from a request to its answer, one after the other (the median)
   call back  the same, for a method that calls the client first
-  start      milliseconds from the start of the process to its first answer, beside `import json, asyncio` in a process of its own
+  start      milliseconds from the start of the process to its first answer, beside a process that imports
+             json and asyncio alone
 """
 import json
 import os
@@ -40,7 +42,10 @@ writer = JsonRpcStreamWriter(sys.stdout.buffer)
 endpoint = Endpoint({"hover": hover, "back": back}, writer.write)
 JsonRpcStreamReader(sys.stdin.buffer).listen(endpoint.consume)
 """
-PARAMS = {"textDocument": {"uri": "file:///home/someone/project/src/main.py"}, "position": {"line": 12, "character": 4}}
+PARAMS = {
+    "textDocument": {"uri": "file:///home/someone/project/src/main.py"},
+    "position": {"line": 12, "character": 4},
+}
 
 
 def frame(value):
@@ -59,7 +64,9 @@ def received(file):
 class Server:
     def __init__(self, code):
         self.began = time.perf_counter()
-        self.process = subprocess.Popen([sys.executable, "-c", code], stdin=subprocess.PIPE, stdout=subprocess.PIPE, bufsize=-1)
+        self.process = subprocess.Popen(
+            [sys.executable, "-c", code], stdin=subprocess.PIPE, stdout=subprocess.PIPE, bufsize=-1
+        )
         self.ask("hover", PARAMS)
         self.start = time.perf_counter() - self.began
 
@@ -135,7 +142,12 @@ def main(words):
     requests, rounds = number(words, "--requests", 20_000), number(words, "--rounds", 5)
     os.environ["PYTHONPATH"] = os.pathsep.join([PACKAGE, *filter(None, [os.environ.get("PYTHONPATH")])])
     servers = {"bullmyrtle": OURS}
-    if subprocess.run([sys.executable, "-c", "import pylsp_jsonrpc"], stderr=subprocess.DEVNULL, check=False).returncode == 0:
+    if (
+        subprocess.run(
+            [sys.executable, "-c", "import pylsp_jsonrpc"], stderr=subprocess.DEVNULL, check=False
+        ).returncode
+        == 0
+    ):
         servers["pylsp-jsonrpc"] = THEIRS
     found = {name: [] for name in servers}
     starts = []

@@ -1,7 +1,7 @@
 """Builds the package's wheel: its modules and the shared library, and nothing that isn't in the standard library.
 
-The library is the one that the variable BULLMYRTLE_LIBRARY names, that of the package's folder, or that in release/ of the
-repository. The same files give the same wheel, byte for byte.
+The library is the one that the variable BULLMYRTLE_LIBRARY names, that of the package's folder, or that in release/
+of the repository. The same files give the same wheel, byte for byte.
 """
 import base64
 import hashlib
@@ -47,7 +47,11 @@ def modules():
 
 def metadata():
     lines = ["Metadata-Version: 2.1", f"Name: {NAME}", f"Version: {version()}", f"Summary: {SUMMARY}"]
-    lines += ["Requires-Python: >=3.8", "Classifier: Operating System :: POSIX :: Linux", "Classifier: Typing :: Typed"]
+    lines += [
+        "Requires-Python: >=3.8",
+        "Classifier: Operating System :: POSIX :: Linux",
+        "Classifier: Typing :: Typed",
+    ]
     lines += ["Description-Content-Type: text/markdown", "", read("README.md").decode()]
     return "\n".join(lines).encode()
 
@@ -98,7 +102,9 @@ def build_sdist(sdist_directory, config_settings=None):
     files[f"{top}/PKG-INFO"] = metadata()
     for name in ("pyproject.toml", "README.md", "build_backend/wheels.py"):
         files[f"{top}/{name}"] = read(name)
-    with tarfile.open(os.path.join(sdist_directory, f"{top}.tar.gz"), "w:gz", format=tarfile.PAX_FORMAT) as archive:
+    with tarfile.open(
+        os.path.join(sdist_directory, f"{top}.tar.gz"), "w:gz", format=tarfile.PAX_FORMAT
+    ) as archive:
         for name, data in files.items():
             about = tarfile.TarInfo(name)
             about.size, about.mode = len(data), 0o644

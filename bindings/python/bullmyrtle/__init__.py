@@ -14,7 +14,8 @@ if not (_sys.platform.startswith("linux") and _machine == "x86_64" and _sys.maxs
     )
 
 from . import events  # noqa: E402 (where the library can't run, that is said before anything else)
-from ._session import LATER, Reply, Request, Session  # noqa: E402
+from ._request import LATER, Reply, Request  # noqa: E402
+from ._session import Session  # noqa: E402
 from .client import Client  # noqa: E402
 from .connection import Connection, Counts  # noqa: E402
 from .errors import (  # noqa: E402

@@ -77,7 +77,7 @@ class Descriptors(Channel):
     # Reading
 
     def _read_on(self) -> None:
-        if self._is_reading or self._is_stopped:
+        if self._is_reading or self._is_stopped or self._source is None:
             return
         self._is_reading = True
         try:
@@ -232,7 +232,9 @@ class Descriptors(Channel):
 class Streams(Channel):
     """A reader and a writer of asyncio's."""
 
-    def __init__(self, reader: asyncio.StreamReader, writer: asyncio.StreamWriter, pauses: bool = True) -> None:
+    def __init__(
+        self, reader: asyncio.StreamReader, writer: asyncio.StreamWriter, pauses: bool = True
+    ) -> None:
         self._reader, self._writer = reader, writer
         self._pauses = pauses
         self._task: Optional["asyncio.Task[None]"] = None

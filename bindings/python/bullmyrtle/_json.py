@@ -45,8 +45,9 @@ def _writer() -> Callable[[Any], str]:
     made = json.JSONEncoder(ensure_ascii=False, allow_nan=False, separators=(",", ":"), default=_default)
     try:
         # (as JSONEncoder does; without a record of what is being written, a ring goes on until it nests too deep)
-        inner = json.encoder.c_make_encoder(  # type: ignore[attr-defined]
-            None, _default, json.encoder.encode_basestring, None, ":", ",", False, False, False
+        parts: Any = json.encoder
+        inner = parts.c_make_encoder(
+            None, _default, parts.encode_basestring, None, ":", ",", False, False, False
         )
         if "".join(inner(["\u00e9", {"a": 1.5}], 0)) == '["\u00e9",{"a":1.5}]':
             return lambda value: "".join(inner(value, 0))
@@ -73,7 +74,9 @@ def plain_dumps(value: Any) -> bytes:
 
 def _with_orjson(orjson: Any) -> Tuple[Loads, Dumps]:
     read, write = orjson.loads, orjson.dumps
-    option = orjson.OPT_PASSTHROUGH_DATACLASS | orjson.OPT_PASSTHROUGH_DATETIME | orjson.OPT_PASSTHROUGH_SUBCLASS
+    option = (
+        orjson.OPT_PASSTHROUGH_DATACLASS | orjson.OPT_PASSTHROUGH_DATETIME | orjson.OPT_PASSTHROUGH_SUBCLASS
+    )
 
     def loads(text: bytes) -> Any:
         if _LONG in text.translate(_DIGITS):

@@ -6,7 +6,7 @@ import dataclasses
 import inspect
 import sys
 import typing
-from typing import Any, Callable, Dict, List, Optional
+from typing import Any, Callable, Dict, List, Optional, Tuple
 
 from .errors import InvalidParams
 
@@ -52,7 +52,7 @@ def _one_of(kinds: List[Any]) -> Fit:
     return fit
 
 
-def _literal(values: tuple) -> Fit:
+def _literal(values: Tuple[Any, ...]) -> Fit:
     def fit(value: Any, place: str) -> Any:
         if any(type(it) is type(value) and it == value for it in values):
             return value
@@ -84,7 +84,9 @@ def _dataclass(kind: Any) -> Fit:
     fields = [it for it in dataclasses.fields(kind) if it.init]
     fits: Dict[str, Fit] = {}  # (filled at the first use, so that a class may have itself as a part)
     needed = [
-        it.name for it in fields if it.default is dataclasses.MISSING and it.default_factory is dataclasses.MISSING
+        it.name
+        for it in fields
+        if it.default is dataclasses.MISSING and it.default_factory is dataclasses.MISSING
     ]
 
     def fit(value: Any, place: str) -> Any:
@@ -95,7 +97,9 @@ def _dataclass(kind: Any) -> Fit:
         for name in needed:
             if name not in members:
                 raise InvalidParams(f"Invalid params: {place} lacks {name}")
-        return kind(**{name: it(members[name], f"{place}.{name}") for name, it in fits.items() if name in members})
+        return kind(
+            **{name: it(members[name], f"{place}.{name}") for name, it in fits.items() if name in members}
+        )
 
     return fit
 
@@ -176,7 +180,13 @@ class Method:
         if sum(it.default is kinds.empty for it in taken) > 2:
             raise TypeError(f"{name}: a method takes the params and, where it likes, the request")
         # (one with a default is the method's own, unless its name says what it is)
-        self.takes = len([it for at, it in enumerate(taken[:2]) if not at or it.default is kinds.empty or it.name == "request"])
+        self.takes = len(
+            [
+                it
+                for at, it in enumerate(taken[:2])
+                if not at or it.default is kinds.empty or it.name == "request"
+            ]
+        )
         # (nothing has to be kept of a call that it answers, since it is answered at once)
         self.is_quick = self.kind == PLAIN and self.takes < 2
         self.fit: Optional[Fit] = None

@@ -5,7 +5,8 @@ from typing import Any, Callable, Dict, Iterable, Optional, TypeVar, Union
 
 from ._channels import Channel
 from ._params import Method
-from ._session import LSP_CANCEL, TOOL_CANCEL, Said, Session
+from ._request import Said
+from ._session import LSP_CANCEL, TOOL_CANCEL, Session
 from ._trace import Trace, Traced
 from .connection import Connection, Framing, Order
 from .errors import Closed
@@ -44,7 +45,12 @@ class Peer:
         trace -- where a log of the messages goes: a file's name, a file, or a function that takes lines
         """
         by_framing = LSP_CANCEL if framing == "frames" else TOOL_CANCEL if framing == "lines" else None
-        self._settings: Dict[str, Any] = {"framing": framing, "order": order, "content": content, "calls": calls}
+        self._settings: Dict[str, Any] = {
+            "framing": framing,
+            "order": order,
+            "content": content,
+            "calls": calls,
+        }
         self._cancel_by = by_framing if cancel_by == BY_FRAMING else cancel_by
         self._grace = grace
         self._workers = workers
@@ -72,9 +78,10 @@ class Peer:
 
     def _session_over(self, channel: Channel) -> Session:
         cancels = self._cancel_by == LSP_CANCEL
-        connection: Union[Connection, Traced] = Connection(cancels=cancels, **self._settings)
+        plain = Connection(cancels=cancels, **self._settings)
+        connection: Union[Connection, Traced] = plain
         if self._trace is not None:
-            connection = Traced(connection, self._trace, cancels)
+            connection = Traced(plain, self._trace, cancels)
         session = Session(self._methods, channel, connection, self._cancel_by, self._grace, self._workers)
         self._sessions[session] = None
         return session

@@ -53,5 +53,3 @@ class Pool:
         end = time.monotonic() + seconds
         for it in self._threads:
             it.join(max(0.0, end - time.monotonic()))
-
-

@@ -4,16 +4,18 @@ from __future__ import annotations
 import asyncio
 import concurrent.futures
 import contextlib
+import functools
 import inspect
 import logging
 import threading
 from collections import deque
-from typing import Any, Awaitable, Callable, Deque, Dict, Iterable, List, Mapping, Optional, Sequence, Set, Tuple, Union
+from typing import Any, Callable, Deque, Dict, List, Mapping, Optional, Sequence, Set, Tuple, Union
 
 from . import _json, events
 from ._channels import Channel
 from ._params import ASYNC, PLAIN, THREAD, Method
 from ._pool import Pool
+from ._request import LATER, Reply, Request, Said, optional_text, text_of, words_of
 from ._trace import Traced
 from .connection import Connection
 from .errors import (
@@ -24,7 +26,6 @@ from .errors import (
     InputOver,
     InvalidParams,
     NoMemory,
-    NotJson,
     NotOpen,
     NotWaiting,
     Unanswered,
@@ -35,117 +36,9 @@ LSP_CANCEL, TOOL_CANCEL = "$/cancelRequest", "notifications/cancelled"
 
 log = logging.getLogger("bullmyrtle")
 
-# A call of ours: its method and its params.
-Said = Tuple[str, Any]
-
 
 # (asking whether something can be awaited takes longer than all the rest of a call)
 _VALUES = frozenset((dict, list, str, int, float, bool, type(None)))
-
-
-class _Later:
-    def __repr__(self) -> str:
-        return "LATER"
-
-
-#: What a method returns whose request is answered later, by `request.answer` or `request.fail`.
-LATER = _Later()
-
-
-def text_of(value: Any) -> bytes:
-    """The JSON text of a value. Raises NotJson."""
-    try:
-        return _json.dumps(value)
-    except (TypeError, ValueError) as error:
-        raise NotJson(str(error)) from error
-
-
-def _optional_text(value: Any) -> Optional[bytes]:
-    return None if value is None else text_of(value)
-
-
-def _words(text: str) -> str:
-    """A text that can be written as UTF-8."""
-    return text.encode("utf-8", "backslashreplace").decode()
-
-
-class Reply(asyncio.Future):
-    """The reply to a call of ours. If it is cancelled, the other side is told that it isn't wanted any more."""
-
-    def __init__(self, session: Session, key: int) -> None:
-        super().__init__(loop=session.loop)
-        self._session = session
-        self.key = key
-
-    def cancel(self, *words: Any, **named: Any) -> bool:
-        is_cancelled = super().cancel(*words, **named)
-        if is_cancelled:
-            self._session.withdraw(self.key)
-        return is_cancelled
-
-
-class Request:
-    """A call that came: a method gets it as its second parameter."""
-
-    __slots__ = ("session", "number", "method", "id_text", "is_cancelled", "is_later", "keys", "kind", "task")
-
-    def __init__(self, session: Session, event: events.Call, kind: str) -> None:
-        self.session = session
-        self.number = event.number
-        self.method = event.method
-        self.id_text = event.id
-        self.kind = kind
-        self.is_cancelled = False  #: whether the other side has cancelled it
-        self.is_later = False
-        self.keys: List[int] = []
-        self.task: Optional["asyncio.Task[None]"] = None
-
-    def __repr__(self) -> str:
-        return f"<Request {self.number} {self.method!r}>"
-
-    @property
-    def id(self) -> Union[str, int, None]:
-        """The id that the other side gave it; None for a notification."""
-        return None if self.id_text is None else _json.loads(self.id_text)
-
-    @property
-    def id_key(self) -> Tuple[type, Any]:
-        """(in Python, 1 is True)"""
-        return type(self.id), self.id
-
-    @property
-    def is_notification(self) -> bool:
-        return self.id_text is None
-
-    def call(self, method: str, params: Any = None) -> Any:
-        """Call the other side on behalf of this request.
-
-        In an `async def` it gives what is to be awaited; in a method with `thread=True` it blocks, and gives the
-        result. A plain function can't wait, so there it raises RuntimeError. The result is the reply's. An error of the
-        reply is raised as `Error`; `Closed` is raised once the request is answered or cancelled, and `Unanswered` at
-        the end of the input.
-        """
-        return self.session.call([(method, params)], False, self)
-
-    def call_batch(self, calls: Iterable[Said], return_exceptions: bool = False) -> Any:
-        """Call the other side several times, in one message. The results come as a list, as with asyncio.gather."""
-        return self.session.call(list(calls), True, self, return_exceptions)
-
-    def notify(self, method: str, params: Any = None) -> None:
-        """Send the other side a notification. Any thread may do that."""
-        self.session.notify(method, params)
-
-    def answer(self, result: Any = None) -> None:
-        """Answer the request now, or later where its method returned LATER. Any thread may do that.
-
-        Raises `NotOpen` where it is answered already, `Closed` where the session is over, and `NotJson` where the
-        result has no JSON text. Where the other side has cancelled it, nothing happens.
-        """
-        self.session.answer_by_hand(self, result)
-
-    def fail(self, error: Error) -> None:
-        """Answer the request with an error, as `answer` does with a result."""
-        self.session.answer_by_hand(self, error)
 
 
 class Session:
@@ -296,7 +189,7 @@ class Session:
             return self._call_plain(method, given, event)
         request = self._opened(event, method.kind)
         if method.kind is THREAD:
-            self._pool.submit(lambda: self._run_in_thread(method, given, request))
+            self._pool.submit(functools.partial(self._run_in_thread, method, given, request))
             return False
         self._run_as_task(_called(method, given, request), request)
         return True
@@ -312,7 +205,7 @@ class Session:
         if isinstance(fault, Error):
             error = fault
         elif isinstance(fault, (ValueError, TypeError, RecursionError)):
-            error = InvalidParams(_words(f"Invalid params: {fault}"))
+            error = InvalidParams(words_of(f"Invalid params: {fault}"))
         else:  # (as from a dataclass's own code)
             self._raised(event.number, event.method, fault, None)
             return
@@ -352,7 +245,9 @@ class Session:
             return False
         return self._returned_plainly(method, result, event, request)
 
-    def _returned_plainly(self, method: Method, result: Any, event: events.Call, request: Optional[Request]) -> bool:
+    def _returned_plainly(
+        self, method: Method, result: Any, event: events.Call, request: Optional[Request]
+    ) -> bool:
         if result is LATER:
             if request is not None:
                 request.is_later = True
@@ -378,6 +273,8 @@ class Session:
 
     def _task_ended(self, task: "asyncio.Task[None]") -> None:
         self._tasks.discard(task)
+        if not task.cancelled():
+            task.exception()  # (KeyboardInterrupt or SystemExit, which the loop has raised; so that it isn't told twice)
         if not self._tasks:
             self._changed()
 
@@ -431,7 +328,9 @@ class Session:
             pass
         except (TypeError, ValueError) as error:  # (NotJson is a ValueError)
             log.error("%s: its result isn't JSON: %s", name, error)
-            self._connection.fail(number, INTERNAL_ERROR, _words(f"Internal error: the result isn't JSON: {error}"))
+            self._connection.fail(
+                number, INTERNAL_ERROR, words_of(f"Internal error: the result isn't JSON: {error}")
+            )
         if request is not None:
             self._closed(request)
 
@@ -453,26 +352,30 @@ class Session:
             log.error("%s raised %s", name, type(error).__name__, exc_info=error)
         if not isinstance(error, Error):
             about = str(error)
-            error = Error(INTERNAL_ERROR, f"Internal error: {type(error).__name__}" + (f": {about}" if about else ""))
+            error = Error(
+                INTERNAL_ERROR, f"Internal error: {type(error).__name__}" + (f": {about}" if about else "")
+            )
         self._fail(number, error)
         if request is not None:
             self._closed(request)
 
     def _fail(self, number: int, error: Error) -> None:
         try:
-            self._connection.fail(number, error.code, _words(str(error.message)), _optional_text(error.data))
+            self._connection.fail(number, error.code, words_of(str(error.message)), optional_text(error.data))
         except NotOpen:
             pass
         except (TypeError, ValueError) as fault:
             log.error("an error isn't JSON: %r: %s", error, fault)
-            self._connection.fail(number, INTERNAL_ERROR, _words(f"Internal error: the error isn't JSON: {fault}"))
+            self._connection.fail(
+                number, INTERNAL_ERROR, words_of(f"Internal error: the error isn't JSON: {fault}")
+            )
 
     def answer_by_hand(self, request: Request, said: Any) -> None:
         """What `request.answer` and `request.fail` do, in any thread."""
         try:
             if isinstance(said, Error):
-                data = _optional_text(said.data)
-                self._connection.fail(request.number, said.code, _words(str(said.message)), data)
+                data = optional_text(said.data)
+                self._connection.fail(request.number, said.code, words_of(str(said.message)), data)
             elif request.is_notification:
                 self._connection.answer(request.number)
             else:
@@ -556,10 +459,14 @@ class Session:
     # Calls of ours
 
     def call(
-        self, calls: Sequence[Said], is_batch: bool, request: Optional[Request] = None, return_exceptions: bool = False
+        self,
+        calls: Sequence[Said],
+        is_batch: bool,
+        request: Optional[Request] = None,
+        return_exceptions: bool = False,
     ) -> Any:
         """Calls the other side: gives what is to be awaited, on the loop's thread, or waits for it, on another one."""
-        texts = [(method, _optional_text(params)) for method, params in calls]
+        texts = [(method, optional_text(params)) for method, params in calls]
         if threading.get_ident() != self._thread:
             return self._call_and_wait(texts, is_batch, request, return_exceptions)
         if request is not None and request.kind is PLAIN and not request.is_later:
@@ -570,7 +477,11 @@ class Session:
         return self._call_now(texts, is_batch, request, return_exceptions)
 
     def _call_now(
-        self, texts: List[Tuple[str, Optional[bytes]]], is_batch: bool, request: Optional[Request], is_gathered: bool
+        self,
+        texts: List[Tuple[str, Optional[bytes]]],
+        is_batch: bool,
+        request: Optional[Request],
+        is_gathered: bool,
     ) -> "asyncio.Future[Any]":
         number = 0 if request is None else request.number
         try:
@@ -593,7 +504,11 @@ class Session:
         return asyncio.gather(*replies, return_exceptions=is_gathered) if is_batch else replies[0]
 
     def _call_and_wait(
-        self, texts: List[Tuple[str, Optional[bytes]]], is_batch: bool, request: Optional[Request], is_gathered: bool
+        self,
+        texts: List[Tuple[str, Optional[bytes]]],
+        is_batch: bool,
+        request: Optional[Request],
+        is_gathered: bool,
     ) -> Any:
         ticket: "concurrent.futures.Future[Any]" = concurrent.futures.Future()
         with self._lock:
@@ -617,7 +532,7 @@ class Session:
 
     def notify(self, method: str, params: Any = None) -> None:
         """Sends a notification, from any thread."""
-        self._connection.notify(method, _optional_text(params))
+        self._connection.notify(method, optional_text(params))
         if threading.get_ident() == self._thread:
             self._flush_soon()
         else:
@@ -739,8 +654,7 @@ class Session:
         closed = Closed("the session is over")
         self._open.clear()
         for task in self._tasks:
-            if not task.cancel() and not task.cancelled():
-                task.exception()  # (one that ended by KeyboardInterrupt; so that nobody is told of it twice)
+            task.cancel()
         replies, self._replies = list(self._replies.values()), {}
         for reply in replies:
             self._refuse(reply, closed)
@@ -765,7 +679,9 @@ def _called(method: Method, given: Any, request: Optional[Request]) -> Any:
     return method.function(given, request) if method.takes else method.function()
 
 
-def _settle(ticket: "concurrent.futures.Future[Any]", result: Any = None, error: Optional[BaseException] = None) -> None:
+def _settle(
+    ticket: "concurrent.futures.Future[Any]", result: Any = None, error: Optional[BaseException] = None
+) -> None:
     with contextlib.suppress(concurrent.futures.InvalidStateError):
         if error is not None:
             ticket.set_exception(error)

@@ -2,12 +2,13 @@
 from __future__ import annotations
 
 import contextlib
+import functools
 import json
 import logging
 import os
 import threading
 import time
-from typing import Any, Callable, Dict, Iterable, List, Optional, TextIO, Tuple, Union
+from typing import Any, Callable, Dict, Iterable, List, Optional, TextIO, Tuple, Union, cast
 
 from . import events
 from .connection import Connection, Json
@@ -17,6 +18,11 @@ log = logging.getLogger("bullmyrtle")
 
 # A file's name, a file that takes text, or a function that takes one line at a time.
 Trace = Union[str, "os.PathLike[str]", TextIO, Callable[[str], Any]]
+
+
+def _write_to(file: TextIO, line: str) -> None:
+    file.write(line + "\n")
+    file.flush()
 
 
 class Log:
@@ -29,15 +35,14 @@ class Log:
         if isinstance(trace, (str, os.PathLike)):
             self._file = open(trace, "a", encoding="utf-8")
             self._say: Callable[[str], Any] = self._write
-        elif callable(trace):
-            self._say = trace
+        elif hasattr(trace, "write"):
+            self._say = functools.partial(_write_to, cast(TextIO, trace))
         else:
-            self._say = lambda line: (trace.write(line + "\n"), trace.flush())
+            self._say = trace
 
     def _write(self, line: str) -> None:
         assert self._file is not None
-        self._file.write(line + "\n")
-        self._file.flush()
+        _write_to(self._file, line)
 
     def say(self, line: str) -> None:
         """Writes a line. A log that can't be written doesn't end the session, and is given up."""

@@ -49,14 +49,16 @@ class Client(Peer):
             raise ValueError("there is no command that starts a server")
         asyncio.get_running_loop()
         pipe = subprocess.PIPE
-        process = subprocess.Popen(self._command, stdin=pipe, stdout=pipe, env=self._env, cwd=self._cwd, bufsize=0)
+        process = subprocess.Popen(
+            self._command, stdin=pipe, stdout=pipe, env=self._env, cwd=self._cwd, bufsize=0
+        )
         assert process.stdin is not None and process.stdout is not None
         # (the channel closes them, at different times)
-        kept = [os.dup(it.fileno()) for it in (process.stdout, process.stdin)]
+        source, sink = os.dup(process.stdout.fileno()), os.dup(process.stdin.fileno())
         process.stdin.close()
         process.stdout.close()
         self._process = process
-        self.attach(Descriptors(*kept, pauses=False))
+        self.attach(Descriptors(source, sink, pauses=False))
 
     def connect(self, reader: asyncio.StreamReader, writer: asyncio.StreamWriter) -> None:
         """Use a reader and a writer that lead to a server."""

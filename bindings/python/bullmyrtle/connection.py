@@ -7,7 +7,7 @@ from ctypes import byref, c_size_t, c_uint32, c_uint64, c_void_p, string_at
 from typing import Any, Iterable, List, Literal, NamedTuple, Optional, Tuple, Union
 
 from . import _library, events
-from .errors import OVER, REFUSALS, SMALL, BadSettings, Closed, NotOpen, NotWaiting
+from .errors import REFUSALS, SMALL, BadSettings, Closed, NotOpen, NotWaiting
 from .events import Event
 
 Framing = Literal["frames", "lines", "contents"]
@@ -79,7 +79,11 @@ class Connection:
         if any(it is not None and not 1 <= it < most for it, most in limits):
             raise BadSettings(f"there are no such limits: content {content!r}, calls {calls!r}")
         settings = _library.Settings(
-            _library.FRAMINGS.index(framing), _library.ORDERS.index(order), bool(cancels), content or 0, calls or 0
+            _library.FRAMINGS.index(framing),
+            _library.ORDERS.index(order),
+            bool(cancels),
+            content or 0,
+            calls or 0,
         )
         at = c_void_p()
         self._check(library.bm_new(byref(settings), byref(at)))
@@ -175,7 +179,9 @@ class Connection:
                 code = self._library.bm_next(at, byref(event), room, len(room))
                 if code != SMALL:
                     break
-                self._room = ctypes.create_string_buffer(event.name_len + event.text_len + event.id_len + _ROOM)
+                self._room = ctypes.create_string_buffer(
+                    event.name_len + event.text_len + event.id_len + _ROOM
+                )
             self._check(code)
             if not event.kind:
                 return None
@@ -195,7 +201,9 @@ class Connection:
         if not 0 <= number < _MOST:
             raise NotOpen()
         with self._lock:
-            code = self._library.bm_call(self._open(), number, name, len(name), given, len(given), self._key_at)
+            code = self._library.bm_call(
+                self._open(), number, name, len(name), given, len(given), self._key_at
+            )
             if code:
                 raise REFUSALS[code]()
             return self._key.value
@@ -227,7 +235,7 @@ class Connection:
                 raise REFUSALS[code]()
 
     def withdraw(self, key: int) -> None:
-        """Tell the other side that this call isn't wanted any more. It still waits for its reply. Refused: `NotWaiting`."""
+        """Tell the other side that this call isn't wanted any more. It still waits. Refused: `NotWaiting`."""
         if not 0 <= key < _MOST:
             raise NotWaiting()
         with self._lock:
@@ -251,9 +259,7 @@ class Connection:
         if not -(1 << 63) <= code < 1 << 63:
             raise ValueError(f"an error's code has 64 bits: {code}")
         with self._lock:
-            self._check(
-                self._library.bm_fail(self._open(), number, code, text, len(text), given, len(given))
-            )
+            self._check(self._library.bm_fail(self._open(), number, code, text, len(text), given, len(given)))
 
     def cancel(self, number: int) -> None:
         """Answer a request as cancelled (-32800), and withdraw the calls on its behalf first. Refused: `NotOpen`."""
@@ -268,7 +274,7 @@ class Connection:
     def pending(self) -> int:
         """How many bytes are to be written; in "contents" the length of the next text."""
         with self._lock:
-            return self._library.bm_pending(self._open())
+            return int(self._library.bm_pending(self._open()))
 
     def take(self, most: Optional[int] = None) -> bytes:
         """Take the first bytes that are to be written, at most so many.

@@ -56,8 +56,9 @@ class Server(Peer):
             loop.close()
 
     async def _serve_descriptors(self, source: Optional[int], sink: Optional[int]) -> int:
-        kept = [None if it is None else os.dup(it) for it in (source, sink)]
-        return await self.serve_over(Descriptors(*kept))
+        # (the channel closes its own)
+        own_source, own_sink = (None if it is None else os.dup(it) for it in (source, sink))
+        return await self.serve_over(Descriptors(own_source, own_sink))
 
     def _end(self, loop: asyncio.AbstractEventLoop) -> None:
         """Ends what an interrupt left behind."""

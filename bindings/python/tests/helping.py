@@ -123,4 +123,19 @@ class Case(unittest.TestCase):
             await asyncio.sleep(0.001)
 
 
-__all__ = ["Case", "HERE", "MANY", "OVER", "PACKAGE", "TOP", "command", "environment", "frame", "joined", "logged", "messages", "notice", "request"]
+__all__ = [
+    "HERE",
+    "MANY",
+    "OVER",
+    "PACKAGE",
+    "TOP",
+    "Case",
+    "command",
+    "environment",
+    "frame",
+    "joined",
+    "logged",
+    "messages",
+    "notice",
+    "request",
+]

@@ -1,4 +1,7 @@
-"""The calls of the C library, made of the plain model of a connection: for tests where the library isn't there, and to compare it with."""
+"""The calls of the C library, made of the plain model of a connection.
+
+It is for tests where the library isn't there, and to compare the library with.
+"""
 import os
 import sys
 
@@ -48,7 +51,13 @@ def packed(event):
     """The numbers of an event, and its texts."""
     kind, flags, number, key, code, name, text, id_ = 0, 0, 0, 0, 0, "", "", ""
     if isinstance(event, model.Call):
-        kind, number, name, text, id_ = _library.CALL, event.number, event.method, event.params or "", event.id or ""
+        kind, number, name, text, id_ = (
+            _library.CALL,
+            event.number,
+            event.method,
+            event.params or "",
+            event.id or "",
+        )
         flags = int(event.id is not None)
     elif isinstance(event, model.Cancelled):
         kind, number = _library.CANCELLED, event.number
@@ -148,7 +157,9 @@ class StandIn:
 
     def bm_call(self, at, number, method, method_length, params, params_length, key):
         def call():
-            key._obj.value = self._model(at).call(number, method[:method_length], params[:params_length] or None)
+            key._obj.value = self._model(at).call(
+                number, method[:method_length], params[:params_length] or None
+            )
 
         return said(call)
 

@@ -289,7 +289,10 @@ class Cancels(Case):
     async def cancel(self, client, call):
         """Cancels a call of the client's as the protocol does, and waits for its answer."""
         # (a Reply that is cancelled would not tell of the answer)
-        name, member = {"frames": ("$/cancelRequest", "id"), "lines": ("notifications/cancelled", "requestId")}[self.framing]
+        name, member = {
+            "frames": ("$/cancelRequest", "id"),
+            "lines": ("notifications/cancelled", "requestId"),
+        }[self.framing]
         client.notify(name, {member: call.key})
         with self.assertRaises(Error) as caught:
             await call
@@ -517,7 +520,10 @@ class Cancels(Case):
             server = Server(framing=self.framing)
             self.alive(server)
             client = Client(framing=self.framing)
-            name, member = {"frames": ("$/cancelRequest", "id"), "lines": ("notifications/cancelled", "requestId")}[self.framing]
+            name, member = {
+                "frames": ("$/cancelRequest", "id"),
+                "lines": ("notifications/cancelled", "requestId"),
+            }[self.framing]
             async with joined(server, client):
                 for id_ in (1, "1", None, 1.0, True, [1], 99):
                     self.assertTrue(await client.call("alive"))
@@ -540,7 +546,10 @@ class Cancels(Case):
                 await asyncio.sleep(20)
 
             client = Client(framing=self.framing)
-            name, member = {"frames": ("$/cancelRequest", "id"), "lines": ("notifications/cancelled", "requestId")}[self.framing]
+            name, member = {
+                "frames": ("$/cancelRequest", "id"),
+                "lines": ("notifications/cancelled", "requestId"),
+            }[self.framing]
             async with joined(server, client):
                 call = client.call("x")
                 for other in ("1", 1.0, True, [1], None, 2):

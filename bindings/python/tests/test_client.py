@@ -55,7 +55,9 @@ class Processes(Case):
                 self.assertEqual(await client.call("echo", [1]), [1])
                 self.assertEqual(await client.call("ask"), "client")
                 large = "x" * 1_000_000
-                self.assertEqual(await asyncio.gather(*(client.call("echo", [large]) for _ in range(3))), [[large]] * 3)
+                self.assertEqual(
+                    await asyncio.gather(*(client.call("echo", [large]) for _ in range(3))), [[large]] * 3
+                )
                 self.assertEqual(await client.close(), 0)
                 with self.assertRaises(Closed):
                     client.call("echo")
@@ -86,7 +88,9 @@ class Processes(Case):
         async def main(tail, status):
             client = self.client(tail, grace=0.3)
             async with client:
-                self.assertEqual(await client.call("deaf" if "deaf" in tail else "echo", []), 1 if "deaf" in tail else [])
+                self.assertEqual(
+                    await client.call("deaf" if "deaf" in tail else "echo", []), 1 if "deaf" in tail else []
+                )
             self.assertEqual(await client.close(), status)
 
         with logged():

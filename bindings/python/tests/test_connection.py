@@ -23,7 +23,9 @@ class Events(Case):
             self.assertEqual(connection.events(), [events.Call(1, "sum", b"[1,2.5]", b"7")])
             self.assertTrue(events.Call(1, "sum", None, b"7").is_request)
             connection.answer(1, b" 3 ")
-            self.assertEqual(connection.take(), b'Content-Length: 35\r\n\r\n{"id":7,"jsonrpc":"2.0","result":3}')
+            self.assertEqual(
+                connection.take(), b'Content-Length: 35\r\n\r\n{"id":7,"jsonrpc":"2.0","result":3}'
+            )
             self.assertEqual(connection.pending, 0)
 
     def test_a_notification_is_closed(self):
@@ -44,7 +46,11 @@ class Events(Case):
                 told += connection.events()
         self.assertEqual(
             told,
-            [events.Call(1, "x", b'{"n":null}', b'"a"'), events.Call(2, "y", None, None), events.Call(3, "z", None, b"null")],
+            [
+                events.Call(1, "x", b'{"n":null}', b'"a"'),
+                events.Call(2, "y", None, None),
+                events.Call(3, "z", None, b"null"),
+            ],
         )
 
     def test_replies(self):
@@ -52,11 +58,19 @@ class Events(Case):
             keys = [connection.call(0, "ask", b"[]"), connection.call(0, "ask"), connection.call(0, "ask")]
             self.assertEqual(keys, [1, 2, 3])
             connection.take()
-            connection.feed(b'{"jsonrpc":"2.0","id":2,"error":{"code":-5,"message":"n\xc3\xb6","data":[1]}}\n')
-            connection.feed(b'{"jsonrpc":"2.0","id":1,"result":1e400}\n{"jsonrpc":"2.0","id":3,"error":{"code":1,"message":""}}\n')
+            connection.feed(
+                b'{"jsonrpc":"2.0","id":2,"error":{"code":-5,"message":"n\xc3\xb6","data":[1]}}\n'
+            )
+            connection.feed(
+                b'{"jsonrpc":"2.0","id":1,"result":1e400}\n{"jsonrpc":"2.0","id":3,"error":{"code":1,"message":""}}\n'
+            )
             self.assertEqual(
                 connection.events(),
-                [events.Failed(2, -5, "n\u00f6", b"[1]"), events.Replied(1, b"1e400"), events.Failed(3, 1, "", None)],
+                [
+                    events.Failed(2, -5, "n\u00f6", b"[1]"),
+                    events.Replied(1, b"1e400"),
+                    events.Failed(3, 1, "", None),
+                ],
             )
 
     def test_a_batch_goes_out_as_one(self):
@@ -124,7 +138,9 @@ class Events(Case):
     def test_large_and_many(self):
         large = "x" * 300_000
         with Connection() as connection:
-            connection.feed(frame(request(1, large, [large])) + frame(request(2, "small")) + frame(request(3, large)))
+            connection.feed(
+                frame(request(1, large, [large])) + frame(request(2, "small")) + frame(request(3, large))
+            )
             first = connection.next_event()
             self.assertEqual((first.method, len(first.params)), (large, 300_004))
             self.assertEqual([it.number for it in connection.events()], [2, 3])
@@ -133,13 +149,17 @@ class Events(Case):
             self.assertEqual([it.params for it in told], [b"[%d]" % it for it in range(2000)])
             connection.answer(1, f'"{large}"')
             self.assertEqual(len(connection.take(10)), 10)
-            self.assertEqual(len(connection.take()) + 10, 300_000 + len('{"id":1,"jsonrpc":"2.0","result":""}') + 26)
+            self.assertEqual(
+                len(connection.take()) + 10, 300_000 + len('{"id":1,"jsonrpc":"2.0","result":""}') + 26
+            )
 
     def test_texts_of_each_length_lie_where_they_should(self):
         with lines() as connection:
             for length in range(20):
                 name, value, id_ = "n" * length, '"%s"' % ("v" * (19 - length)), '"%s"' % ("i" * (length % 8))
-                connection.feed(f'{{"jsonrpc":"2.0","method":"{name}","params":[{value}],"id":{id_}}}\n'.encode())
+                connection.feed(
+                    f'{{"jsonrpc":"2.0","method":"{name}","params":[{value}],"id":{id_}}}\n'.encode()
+                )
             for length, event in enumerate(connection.events()):
                 name, value, id_ = "n" * length, '"%s"' % ("v" * (19 - length)), '"%s"' % ("i" * (length % 8))
                 self.assertEqual(event, events.Call(length + 1, name, b"[%s]" % value.encode(), id_.encode()))
@@ -356,7 +376,9 @@ class Threads(Case):
             for name in {it.method for it in calls}:
                 numbers = [it.params for it in calls if it.method == name and it.is_request]
                 self.assertEqual(numbers, [b"[%d]" % it for it in range(each)])
-            self.assertEqual(sorted(it.key for it in told if isinstance(it, events.Replied)), list(range(1, 8 * each + 1)))
+            self.assertEqual(
+                sorted(it.key for it in told if isinstance(it, events.Replied)), list(range(1, 8 * each + 1))
+            )
 
 
 WIDTHS = {"uint32_t": 4, "int32_t": 4, "uint64_t": 8, "int64_t": 8, "size_t": 8, "bool": 1}
@@ -400,7 +422,9 @@ class Header(Case):
             "bm_event": _library.Event,
             "bm_report": _library.Counts,
         }
-        found = dict((name, body) for body, name in re.findall(r"typedef struct \{(.*?)\} (\w+);", self.text, re.S))
+        found = dict(
+            (name, body) for body, name in re.findall(r"typedef struct \{(.*?)\} (\w+);", self.text, re.S)
+        )
         self.assertEqual(set(found), set(structs))
         for name, body in found.items():
             fields = []
@@ -418,12 +442,25 @@ class Header(Case):
         self.assertEqual([it[3:] for it in codes[1:]], codes_of_errors())
         self.assertEqual(len(next(it for it in lists if it[0] == "BM_OVER_CLEAN")), len(_library.HOWS))
         kinds = next(it for it in lists if it[0] == "BM_NONE")
-        self.assertEqual(kinds[1:], ["BM_CALL", "BM_CANCELLED", "BM_REPLIED", "BM_UNANSWERED", "BM_INPUT_OVER"])
+        self.assertEqual(
+            kinds[1:], ["BM_CALL", "BM_CANCELLED", "BM_REPLIED", "BM_UNANSWERED", "BM_INPUT_OVER"]
+        )
         self.assertIn(f"#define BM_INTERFACE {_library.INTERFACE}", self.text)
 
 
 def codes_of_errors():
-    names = ["NO_MEMORY", "NOT_OPEN", "NOT_WAITING", "OVER", "NOT_JSON", "NOT_TEXT", "SMALL", "SETTINGS", "EMPTY", "FULL"]
+    names = [
+        "NO_MEMORY",
+        "NOT_OPEN",
+        "NOT_WAITING",
+        "OVER",
+        "NOT_JSON",
+        "NOT_TEXT",
+        "SMALL",
+        "SETTINGS",
+        "EMPTY",
+        "FULL",
+    ]
     return sorted(names, key=lambda it: getattr(errors, it))
 
 

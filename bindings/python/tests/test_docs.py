@@ -68,7 +68,9 @@ class Page(Case):
         self.write("first.py", text)
         with open(os.path.join(self.room, "given"), "wb") as it:
             it.write(frame(request(1, "add", [1, 2])))
-        self.assertEqual(self.run_block("python3 first.py < given")[-35:], '{"id":1,"jsonrpc":"2.0","result":3}')
+        self.assertEqual(
+            self.run_block("python3 first.py < given")[-35:], '{"id":1,"jsonrpc":"2.0","result":3}'
+        )
 
     def test_lines_are_short(self):
         for file in (PAGE, os.path.join(PACKAGE, "README.md")):

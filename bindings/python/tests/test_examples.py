@@ -22,9 +22,14 @@ class Examples(Case):
 
     def test_faults(self):
         async def main():
-            async with Client(command(os.path.join(EXAMPLES, "language_server.py")), env=environment()) as client:
+            async with Client(
+                command(os.path.join(EXAMPLES, "language_server.py")), env=environment()
+            ) as client:
                 with self.assertRaises(Error) as caught:
-                    await client.call("textDocument/hover", {"textDocument": {"uri": "x"}, "position": {"line": 0, "character": 0}})
+                    await client.call(
+                        "textDocument/hover",
+                        {"textDocument": {"uri": "x"}, "position": {"line": 0, "character": 0}},
+                    )
                 self.assertEqual(caught.exception.code, -32602)
                 with self.assertRaises(Error) as caught:
                     await client.call("workspace/executeCommand", {"command": "x"})
@@ -32,7 +37,9 @@ class Examples(Case):
                 # (an exit without a shutdown)
                 client.notify("exit")
             self.assertEqual(await client.close(), 1)
-            tools = Client(command(os.path.join(EXAMPLES, "tool_server.py")), env=environment(), framing="lines")
+            tools = Client(
+                command(os.path.join(EXAMPLES, "tool_server.py")), env=environment(), framing="lines"
+            )
             async with tools:
                 self.assertEqual(await tools.call("ping"), {})
                 for params in ({}, {"name": "count"}, {"name": "count", "arguments": {"text": 1}}):

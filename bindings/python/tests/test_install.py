@@ -26,7 +26,11 @@ class Wheels(Case):
         room = tempfile.TemporaryDirectory()
         self.addCleanup(room.cleanup)
         self.room = room.name
-        self.env = {name: it for name, it in os.environ.items() if not name.startswith(("PYTHON", "BULLMYRTLE", "PIP"))}
+        self.env = {
+            name: it
+            for name, it in os.environ.items()
+            if not name.startswith(("PYTHON", "BULLMYRTLE", "PIP"))
+        }
         if OVER == "library":
             self.library = _library.find()
         else:
@@ -54,7 +58,11 @@ class Wheels(Case):
             got = self.run_quietly(python, "-c", SERVER, input=frame(request(1, "where")))
             where = messages(got.stdout)[0]["result"]
         else:
-            got = self.run_quietly(python, "-c", "import bullmyrtle; print(bullmyrtle.__file__); print(bullmyrtle._library.find())")
+            got = self.run_quietly(
+                python,
+                "-c",
+                "import bullmyrtle; print(bullmyrtle.__file__); print(bullmyrtle._library.find())",
+            )
             where = got.stdout.decode().split()
         self.assertEqual(got.returncode, 0, got.stderr)
         for it in where:
@@ -84,12 +92,20 @@ class Wheels(Case):
         one, other = self.build("build_wheel", "one"), self.build("build_wheel", "other")
         with open(one, "rb") as first, open(other, "rb") as second:
             self.assertEqual(first.read(), second.read())
-        self.assertTrue(one.endswith(f"bullmyrtle-{bullmyrtle.__version__}-py3-none-manylinux2014_x86_64.whl"))
+        self.assertTrue(
+            one.endswith(f"bullmyrtle-{bullmyrtle.__version__}-py3-none-manylinux2014_x86_64.whl")
+        )
         with zipfile.ZipFile(one) as wheel:
             names = wheel.namelist()
             about = wheel.read(next(it for it in names if it.endswith("METADATA"))).decode()
-        modules = {f"bullmyrtle/{it}" for it in os.listdir(os.path.join(PACKAGE, "bullmyrtle")) if not it.startswith("__pycache__")}
-        self.assertEqual({it for it in names if "dist-info" not in it}, modules | {f"bullmyrtle/{_library.FILE}"})
+        modules = {
+            f"bullmyrtle/{it}"
+            for it in os.listdir(os.path.join(PACKAGE, "bullmyrtle"))
+            if not it.startswith("__pycache__")
+        }
+        self.assertEqual(
+            {it for it in names if "dist-info" not in it}, modules | {f"bullmyrtle/{_library.FILE}"}
+        )
         self.assertIn("bullmyrtle/py.typed", names)
         self.assertNotIn("License", about)
         self.assertIn("Requires-Python: >=3.8", about)
@@ -99,7 +115,8 @@ class Wheels(Case):
     def test_without_the_library(self):
         self.env["BULLMYRTLE_LIBRARY"] = os.path.join(self.room, "nowhere")
         self.env["PYTHONPATH"] = PACKAGE
-        code = "import bullmyrtle\ntry:\n    bullmyrtle.Connection()\nexcept ImportError as error:\n    print(type(error).__name__, error)"
+        code = "import bullmyrtle\ntry:\n    bullmyrtle.Connection()\n"
+        code += "except ImportError as error:\n    print(type(error).__name__, error)"
         got = self.run_quietly(sys.executable, "-c", code)
         self.assertIn("LibraryError " + self.env["BULLMYRTLE_LIBRARY"], got.stdout.decode(), got.stderr)
         self.env["BULLMYRTLE_LIBRARY"] = "libc.so.6"
@@ -126,7 +143,8 @@ class Wheels(Case):
             ("os.uname = lambda: type('U', (), {'machine': 'aarch64'})", "this is linux on aarch64"),
             ("sys.maxsize = 2**31 - 1", "with 32 bits"),
         ):
-            code = f"import os, sys\n{change}\ntry:\n    import bullmyrtle\nexcept ImportError as error:\n    print(error)"
+            code = f"import os, sys\n{change}\ntry:\n    import bullmyrtle\n"
+            code += "except ImportError as error:\n    print(error)"
             got = self.run_quietly(sys.executable, "-c", code).stdout.decode()
             self.assertIn("bullmyrtle is for Linux on x86-64", got)
             self.assertIn(words, got)

@@ -29,7 +29,23 @@ class Text(str):
     pass
 
 
-FLOATS = [1e16, 1e15, 123456789012345680.0, 1e22, 1e23, 1e-4, 1e-5, 1.234e-5, 1e-7, 5e-324, 1.7976931348623157e308, -0.0, 0.1, 1.5, 2.0]
+FLOATS = [
+    1e16,
+    1e15,
+    123456789012345680.0,
+    1e22,
+    1e23,
+    1e-4,
+    1e-5,
+    1.234e-5,
+    1e-7,
+    5e-324,
+    1.7976931348623157e308,
+    -0.0,
+    0.1,
+    1.5,
+    2.0,
+]
 VALUES = [
     None,
     True,
@@ -45,7 +61,7 @@ VALUES = [
     "",
     "null",
     "a/b",
-    "\u00e9\U0001f600\u2028\0\x1f\x7f\"\\",
+    '\u00e9\U0001f600\u2028\0\x1f\x7f"\\',
     [None],
     {"a": [1, {"b": None}], "": {}},
     {"e": [1.5e300]},
@@ -67,7 +83,18 @@ REFUSED = [
     {(1,): 2},
     type,
 ]
-TEXTS = ["1e400", "-0", "-0.0", "1E5", "1e-400", "18446744073709551616", "-9223372036854775809", "1" * 400, '{"a":1,"a":2}', '"a/b"']
+TEXTS = [
+    "1e400",
+    "-0",
+    "-0.0",
+    "1E5",
+    "1e-400",
+    "18446744073709551616",
+    "-9223372036854775809",
+    "1" * 400,
+    '{"a":1,"a":2}',
+    '"a/b"',
+]
 
 
 def same(one, other):
@@ -104,9 +131,15 @@ class Same(Case):
 
     def test_values(self):
         for name, loads, _ in MODULES:
-            for text in [*TEXTS, *map(repr, FLOATS), *(json.dumps(it, ensure_ascii=False) for it in VALUES[:30] if it is None or it is True)]:
+            for text in [
+                *TEXTS,
+                *map(repr, FLOATS),
+                *(json.dumps(it, ensure_ascii=False) for it in VALUES[:30] if it is None or it is True),
+            ]:
                 with self.subTest(module=name, text=text[:40]):
-                    self.assertTrue(same(loads(text.encode()), json.loads(text)), (loads(text.encode()), json.loads(text)))
+                    self.assertTrue(
+                        same(loads(text.encode()), json.loads(text)), (loads(text.encode()), json.loads(text))
+                    )
 
     def test_long_numbers(self):
         for name, loads, _ in MODULES:
@@ -134,10 +167,17 @@ class Same(Case):
             if kind == 1:
                 return chance.randrange(-(1 << 66), 1 << 66) >> chance.randrange(66)
             if kind in (2, 3):
-                it = struct.unpack("d", chance.randbytes(8) if hasattr(chance, "randbytes") else struct.pack("Q", chance.getrandbits(64)))[0]
+                it = struct.unpack(
+                    "d",
+                    chance.randbytes(8)
+                    if hasattr(chance, "randbytes")
+                    else struct.pack("Q", chance.getrandbits(64)),
+                )[0]
                 return it if math.isfinite(it) else chance.choice([1.0, 1e16]) * chance.random()
             if kind in (4, 5):
-                return "".join(chance.choice('ab/e0"\\\n\u00e9\u20ac\U0001f600') for _ in range(chance.randrange(8)))
+                return "".join(
+                    chance.choice('ab/e0"\\\n\u00e9\u20ac\U0001f600') for _ in range(chance.randrange(8))
+                )
             if kind == 6:
                 return [value(depth + 1) for _ in range(chance.randrange(4))]
             return {str(it): value(depth + 1) for it in range(chance.randrange(4))}

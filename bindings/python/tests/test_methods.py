@@ -106,7 +106,13 @@ class Results(Case):
 
     def test_results(self):
         self.wait(self.check("sum", [1, 2], 3))
-        self.wait(self.check("echo", {"a": [1, 2.5, None, True, "\u00e9/\U0001f600\0"]}, {"a": [1, 2.5, None, True, "\u00e9/\U0001f600\0"]}))
+        self.wait(
+            self.check(
+                "echo",
+                {"a": [1, 2.5, None, True, "\u00e9/\U0001f600\0"]},
+                {"a": [1, 2.5, None, True, "\u00e9/\U0001f600\0"]},
+            )
+        )
         self.wait(self.check("echo", None, None))
         self.wait(self.check("echo", (1, Position(2)), [1, {"line": 2, "character": 0}]))
         self.wait(self.check("echo", [10**30], [10**30]))
@@ -116,10 +122,29 @@ class Results(Case):
         self.wait(self.check("who", [], [1, "who", False, 1]))
 
     def test_annotations(self):
-        place = {"uri": "x", "position": {"line": 1, "character": 0}, "tags": ["a"], "near": None, "kind": "read", "more": {}}
+        place = {
+            "uri": "x",
+            "position": {"line": 1, "character": 0},
+            "tags": ["a"],
+            "near": None,
+            "kind": "read",
+            "more": {},
+        }
         self.wait(self.check("place", place, place))
-        given = {"uri": "x", "position": {"line": 1}, "unknown": 1, "near": {"uri": "y", "position": {"line": 2}}}
-        near = {"uri": "y", "position": {"line": 2, "character": 0}, "tags": [], "near": None, "kind": "read", "more": {}}
+        given = {
+            "uri": "x",
+            "position": {"line": 1},
+            "unknown": 1,
+            "near": {"uri": "y", "position": {"line": 2}},
+        }
+        near = {
+            "uri": "y",
+            "position": {"line": 2, "character": 0},
+            "tags": [],
+            "near": None,
+            "kind": "read",
+            "more": {},
+        }
         self.wait(self.check("place", given, {**place, "tags": [], "near": near}))
         self.wait(self.check("object", {"a": 1}, 1))
         self.wait(self.check("nothing", None, "none"))
@@ -141,9 +166,17 @@ class Results(Case):
             ("place", {"uri": "x"}, "params lacks position"),
             ("place", {"uri": 1, "position": position}, "params.uri has to be a string"),
             ("place", {"uri": "x", "position": {}}, "params.position lacks line"),
-            ("place", {"uri": "x", "position": position, "tags": ["a", 1]}, "params.tags[1] has to be a string"),
+            (
+                "place",
+                {"uri": "x", "position": position, "tags": ["a", 1]},
+                "params.tags[1] has to be a string",
+            ),
             ("place", {"uri": "x", "position": position, "kind": "run"}, "params.kind has to be one of"),
-            ("place", {"uri": "x", "position": position, "more": {"n": None}}, "params.more.n has to be a whole number"),
+            (
+                "place",
+                {"uri": "x", "position": position, "more": {"n": None}},
+                "params.more.n has to be a whole number",
+            ),
             ("place", {"uri": "x", "position": position, "near": {"uri": "y"}}, "params.near lacks position"),
         ):
             with self.subTest(method=method, params=params):
@@ -199,11 +232,16 @@ class Errors(Case):
         self.assertEqual(self.errors(InvalidParams("no file", "x")), ((-32602, "no file", "x"), 0))
         self.assertEqual(self.errors(KeyError("a")), ((-32603, "Internal error: KeyError: 'a'", None), 2))
         self.assertEqual(self.errors(ValueError()), ((-32603, "Internal error: ValueError", None), 2))
-        self.assertEqual(self.errors(ValueError("\ud800")), ((-32603, "Internal error: ValueError: \\ud800", None), 2))
+        self.assertEqual(
+            self.errors(ValueError("\ud800")), ((-32603, "Internal error: ValueError: \\ud800", None), 2)
+        )
 
     def test_raised_in_a_thread(self):
         self.assertEqual(self.errors(Error(7, "seven"), thread=True), ((7, "seven", None), 0))
-        self.assertEqual(self.errors(ZeroDivisionError("x"), thread=True), ((-32603, "Internal error: ZeroDivisionError: x", None), 2))
+        self.assertEqual(
+            self.errors(ZeroDivisionError("x"), thread=True),
+            ((-32603, "Internal error: ZeroDivisionError: x", None), 2),
+        )
 
     def test_errors_that_are_no_json(self):
         for error in (Error("x", "y"), Error(1 << 63, "y"), Error(1, "y", object()), Error(1, "y", math.nan)):
@@ -217,7 +255,19 @@ class Errors(Case):
         deep = []
         for _ in range(130):
             deep = [deep]
-        bad = [object(), {1, 2}, math.nan, [math.inf], "\ud800", {"\udfff": 1}, ring, deep, b"x", {(1, 2): 3}, Position]
+        bad = [
+            object(),
+            {1, 2},
+            math.nan,
+            [math.inf],
+            "\ud800",
+            {"\udfff": 1},
+            ring,
+            deep,
+            b"x",
+            {(1, 2): 3},
+            Position,
+        ]
 
         async def main():
             server = Server()
@@ -235,7 +285,10 @@ class Errors(Case):
                             await client.call(name, [at])
                         self.assertEqual(caught.exception.code, -32603)
                         self.assertIn("the result isn't JSON", caught.exception.message)
-                self.assertEqual((await client.call_batch([("x", [0]), ("x", [1])], return_exceptions=True))[1].code, -32603)
+                self.assertEqual(
+                    (await client.call_batch([("x", [0]), ("x", [1])], return_exceptions=True))[1].code,
+                    -32603,
+                )
 
         with logged() as log:
             self.wait(main())
@@ -367,7 +420,9 @@ class Ordering(Case):
                 pass
 
             async with joined(server) as client:
-                calls = [client.call(["plain", "async", "async", "thread"][it * it % 4], [it]) for it in range(200)]
+                calls = [
+                    client.call(["plain", "async", "async", "thread"][it * it % 4], [it]) for it in range(200)
+                ]
                 await asyncio.gather(*calls)
             kinds = ["plain", "async", "async", "thread"]
             self.assertEqual(seen, [it for it in range(200) if kinds[it * it % 4] != "thread"])

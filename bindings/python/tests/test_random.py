@@ -12,15 +12,29 @@ sys.path.insert(0, os.path.join(TOP, "checks"))
 from support import connection_model as model  # noqa: E402
 
 SESSIONS, STEPS = (120, 120) if OVER == "library" else (25, 100)
-NAMES = {"NotOpen": "not_open", "NotWaiting": "not_waiting", "InputOver": "over", "NotJson": "not_json", "Empty": "empty"}
-TEXTS = [b"[]", b"[1,2.50,1e400]", b'{"a":"\xc3\xa9","a":null}', b' { "x" : [ -0 ] } ', b'["' + b"x" * 5000 + b'"]']
+NAMES = {
+    "NotOpen": "not_open",
+    "NotWaiting": "not_waiting",
+    "InputOver": "over",
+    "NotJson": "not_json",
+    "Empty": "empty",
+}
+TEXTS = [
+    b"[]",
+    b"[1,2.50,1e400]",
+    b'{"a":"\xc3\xa9","a":null}',
+    b' { "x" : [ -0 ] } ',
+    b'["' + b"x" * 5000 + b'"]',
+]
 VALUES = [*TEXTS, b"null", b"0", b'"\\u0000/"', b"nope"]
 
 
 def as_model(event):
     """An event as the model has it."""
     if isinstance(event, events.Call):
-        return model.Call(event.number, event.method, *(it and it.decode() for it in (event.params, event.id)))
+        return model.Call(
+            event.number, event.method, *(it and it.decode() for it in (event.params, event.id))
+        )
     if isinstance(event, events.Failed):
         return model.Failed(event.key, event.code, event.message, event.data and event.data.decode())
     if isinstance(event, events.Replied):
@@ -35,7 +49,9 @@ class Side:
         self.case, self.chance = case, chance
         self.real = Connection(**settings)
         cancels = settings.get("cancels", True)
-        self.model = model.Model(model.Settings(settings["framing"], settings["order"], cancels, 1 << 24, (1 << 64) - 1))
+        self.model = model.Model(
+            model.Settings(settings["framing"], settings["order"], cancels, 1 << 24, (1 << 64) - 1)
+        )
         self.calls, self.keys = [0], [0]
 
     def both(self, ours, theirs):
@@ -70,11 +86,17 @@ class Side:
 
     def act(self):
         chance = self.chance
-        name, text, value = chance.choice([b"a", b"b/c", b"\xc3\xa9"]), chance.choice([*TEXTS, None]), chance.choice(VALUES)
+        name, text, value = (
+            chance.choice([b"a", b"b/c", b"\xc3\xa9"]),
+            chance.choice([*TEXTS, None]),
+            chance.choice(VALUES),
+        )
         number, key = self.number(), chance.choice(self.keys[-4:])
         what = chance.randrange(10)
         if what < 3:
-            got = self.both(lambda: self.real.call(number, name, text), lambda: self.model.call(number, name, text))
+            got = self.both(
+                lambda: self.real.call(number, name, text), lambda: self.model.call(number, name, text)
+            )
             self.keys += [got] if isinstance(got, int) else []
         elif what == 3:
             calls = [(name, text)] * chance.randrange(3)
@@ -87,7 +109,10 @@ class Side:
             self.both(lambda: self.real.cancel(number), lambda: self.model.cancel(number))
         elif what == 7:
             code = chance.choice([-32603, 0, 1 << 40])
-            self.both(lambda: self.real.fail(number, code, "n\u00f6", value), lambda: self.model.fail(number, code, "n\u00f6".encode(), value))
+            self.both(
+                lambda: self.real.fail(number, code, "n\u00f6", value),
+                lambda: self.model.fail(number, code, "n\u00f6".encode(), value),
+            )
         else:
             value = None if chance.random() < 0.3 else value
             self.both(lambda: self.real.answer(number, value), lambda: self.model.answer(number, value))

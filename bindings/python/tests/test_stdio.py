@@ -1,11 +1,10 @@
-"""`run` on the standard streams, in a process of its own: what these may be, who can't corrupt them, and how it ends."""
+"""`run` on the standard streams, in a process of its own: what they may be, who can't corrupt them, how it ends."""
 import contextlib
 import os
 import pty
 import signal
 import socket
 import subprocess
-import sys
 import tempfile
 import textwrap
 import time
@@ -48,7 +47,13 @@ class Scripts(Case):
     def ran(self, given, body="", tail=TAIL, **more):
         """Runs a server on this input, and gives its status, its messages and its errors."""
         ended = subprocess.run(
-            self.script(body, tail), input=given, capture_output=True, timeout=60, env=environment(), check=False, **more
+            self.script(body, tail),
+            input=given,
+            capture_output=True,
+            timeout=60,
+            env=environment(),
+            check=False,
+            **more,
         )
         return ended.returncode, ended.stdout, ended.stderr.decode()
 
@@ -108,17 +113,30 @@ class Streams(Scripts):
     def test_files(self):
         with open(os.path.join(self.room, "in"), "wb") as it:
             it.write(self.given)
-        with open(os.path.join(self.room, "in"), "rb") as given, open(os.path.join(self.room, "out"), "wb") as out:
+        with open(os.path.join(self.room, "in"), "rb") as given, open(
+            os.path.join(self.room, "out"), "wb"
+        ) as out:
             ended = subprocess.run(
-                self.script(), stdin=given, stdout=out, stderr=subprocess.PIPE, timeout=60, env=environment(), check=False
+                self.script(),
+                stdin=given,
+                stdout=out,
+                stderr=subprocess.PIPE,
+                timeout=60,
+                env=environment(),
+                check=False,
             )
         with open(os.path.join(self.room, "out"), "rb") as out:
             self.assertEqual((ended.returncode, messages(out.read())), (0, self.answers), ended.stderr)
 
     def test_nothing(self):
         ended = subprocess.run(
-            self.script(), stdin=subprocess.DEVNULL, stdout=subprocess.DEVNULL, stderr=subprocess.PIPE, timeout=60,
-            env=environment(), check=False,
+            self.script(),
+            stdin=subprocess.DEVNULL,
+            stdout=subprocess.DEVNULL,
+            stderr=subprocess.PIPE,
+            timeout=60,
+            env=environment(),
+            check=False,
         )
         self.assertEqual((ended.returncode, ended.stderr), (0, b"threads []\n"))
 
@@ -166,7 +184,9 @@ class Streams(Scripts):
         modes = []
         for name in (0, 1):
             with open(f"/proc/{process.pid}/fdinfo/{name}", encoding="ascii") as it:
-                modes.append(int(next(line.split()[1] for line in it if line.startswith("flags")), 8) & os.O_NONBLOCK)
+                modes.append(
+                    int(next(line.split()[1] for line in it if line.startswith("flags")), 8) & os.O_NONBLOCK
+                )
         self.assertEqual(modes, [0, 0])
         process.stdin.close()
         self.assertEqual(process.wait(30), 0)
@@ -257,8 +277,8 @@ class Uncorrupted(Scripts):
         body = """
         @server.method("all")
         def all_(params):
-            listed = subprocess.run(["ls", "-l", "/proc/self/fd"], check=True, stdout=subprocess.PIPE, close_fds=False).stdout
-            return listed.decode()
+            words, pipe = ["ls", "-l", "/proc/self/fd"], subprocess.PIPE
+            return subprocess.run(words, check=True, stdout=pipe, close_fds=False).stdout.decode()
         """
         process = self.started(body)
         process.stdin.write(frame(request(1, "all")))
@@ -328,7 +348,12 @@ class Ends(Scripts):
             with self.subTest(given=given):
                 got, out, err = self.ran(given)
                 self.assertEqual((got, err), (status, "threads []\n"))
-                self.assertEqual(len(messages(out)), given.count(b"Content-Length") - given.count(b"exit") - (given[-4:] == b"\r\n\r\n" and b"Length: 5" in given))
+                self.assertEqual(
+                    len(messages(out)),
+                    given.count(b"Content-Length")
+                    - given.count(b"exit")
+                    - (given[-4:] == b"\r\n\r\n" and b"Length: 5" in given),
+                )
 
     def test_grace(self):
         body = """
@@ -359,7 +384,9 @@ class Ends(Scripts):
                 status, out, err = self.ran(frame(request(1, method, [20])), body)
                 self.assertLess(time.monotonic() - began, 15)
                 self.assertEqual((status, messages(out)[0]["error"]["code"]), (1, -32800))
-                self.assertEqual(err, f"{method}: it didn't end in time, and is cancelled\nthreads {threads}\n")
+                self.assertEqual(
+                    err, f"{method}: it didn't end in time, and is cancelled\nthreads {threads}\n"
+                )
 
     def test_a_thread_whose_call_is_unanswered_ends(self):
         body = """
@@ -397,8 +424,12 @@ class Ends(Scripts):
         for how in ("<&-", ">&-", "<&- >&-", "<&- >&- 2>&-"):
             with self.subTest(how):
                 ended = subprocess.run(
-                    ["sh", "-c", f"{words} {how}"], stdin=subprocess.DEVNULL, capture_output=True, timeout=60,
-                    env=environment(), check=False,
+                    ["sh", "-c", f"{words} {how}"],
+                    stdin=subprocess.DEVNULL,
+                    capture_output=True,
+                    timeout=60,
+                    env=environment(),
+                    check=False,
                 )
                 self.assertEqual((ended.returncode, ended.stdout, ended.stderr), (1, b"", b""))
 

@@ -95,7 +95,10 @@ class Lines(Case):
         lines = []
         it = Traced(Connection("lines"), lines.append)
         it.call_batch(0, [("a", b"[1]"), ("b", None)])
-        it.feed(b'nonsense\n[{"jsonrpc":"2.0","id":2,"error":{"code":1,"message":"n\xc3\xb6"}},{"jsonrpc":"2.0","id":9,"result":1},5]\n')
+        it.feed(
+            b'nonsense\n[{"jsonrpc":"2.0","id":2,"error":{"code":1,"message":"n\xc3\xb6"}},'
+            b'{"jsonrpc":"2.0","id":9,"result":1},5]\n'
+        )
         it.events()
         it.withdraw(1)
         it.end()
