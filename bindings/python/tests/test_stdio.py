@@ -463,13 +463,18 @@ class Ends(Scripts):
 
     def test_sys_exit_in_a_method(self):
         body = """
-        @server.method("quit")
-        def quit_(params):
+        @server.method("plain")
+        def plain(params):
+            sys.exit(7)
+        @server.method("async")
+        async def later(params):
+            await asyncio.sleep(0)
             sys.exit(7)
         """
-        for thread in (False, True):
-            status, out, err = self.ran(frame(request(1, "echo", [1])) + frame(request(2, "quit")), body)
-            self.assertEqual((status, messages(out), err), (7, [echoed(1, [1])], ""))
+        for method in ("plain", "async"):
+            with self.subTest(method):
+                status, out, err = self.ran(frame(request(1, "echo", [1])) + frame(request(2, method)), body)
+                self.assertEqual((status, messages(out), err), (7, [echoed(1, [1])], ""))
 
 
 if __name__ == "__main__":
