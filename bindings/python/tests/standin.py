@@ -1,9 +1,12 @@
 """The calls of the C library, made of the plain model of a connection.
 
-It is for tests where the library isn't there, and to compare the library with.
+It is for tests where the library isn't there, and to compare the library with. Each call goes through ctypes with the
+package's own declarations, so that what the package passes arrives here as it would in C.
 """
+import ctypes
 import os
 import sys
+import types
 
 TOP = os.path.normpath(os.path.join(os.path.dirname(os.path.abspath(__file__)), "..", "..", ".."))
 sys.path.insert(0, os.path.join(TOP, "checks"))
@@ -84,15 +87,19 @@ def said(call):
     return 0
 
 
+def text(at, length):
+    return ctypes.string_at(at, length) if length else b""
+
+
 class StandIn:
-    """(each parameter is what the package passes to ctypes)"""
+    """The calls, with pointers as C has them: an address, or a pointer to one of the package's structs or numbers."""
 
     def __init__(self):
         self._held = {}
         self._last = 0
 
     def _at(self, at):
-        return self._held[at._obj.at]
+        return self._held[at.contents.at]
 
     def _model(self, at):
         return self._at(at).model
@@ -101,10 +108,12 @@ class StandIn:
         return _library.INTERFACE
 
     def bm_new(self, settings, at):
-        it = settings._obj
+        it = settings.contents
         made = []
 
         def make():
+            if it.framing > 2 or it.order > 1 or it.takes_cancels > 1:
+                raise model.Refused("settings")
             framing, order = _library.FRAMINGS[it.framing], _library.ORDERS[it.order]
             limits = it.content or model.MOST_CONTENT, it.calls or model.MOST_CALLS
             made.append(Held(model.Settings(framing, order, bool(it.takes_cancels), *limits)))
@@ -112,7 +121,7 @@ class StandIn:
         code = said(make)
         if not code:
             self._last += 8
-            at._obj.value = self._last
+            at[0] = self._last
             self._held[self._last] = made[0]
         return code
 
@@ -120,7 +129,7 @@ class StandIn:
         del self._held[handle.at]
 
     def bm_feed(self, at, data, length):
-        return said(lambda: self._model(at).feed(data[:length]))
+        return said(lambda: self._model(at).feed(text(data, length)))
 
     def bm_end(self, at, how):
         return said(lambda: self._model(at).end("failed" if how else "closed"))
@@ -128,17 +137,18 @@ class StandIn:
     def bm_next(self, at, event, room, length):
         held = self._at(at)
         numbers, texts = packed(held.peek())
-        for (name, _), it in zip(_library.Event._fields_, numbers):
-            setattr(event._obj, name, it)
+        ctypes.memmove(event, _library.EVENT.pack(*numbers), _library.EVENT.size)
         if len(texts) > length:
             return SMALL
-        room[: len(texts)] = texts
+        ctypes.memmove(room, texts, len(texts))
         held.event = None
         return 0
 
     def bm_next_all(self, at, room, length, used, count):
+        if room % 8:
+            raise ValueError(f"the room isn't aligned: {room}")
         held = self._at(at)
-        size, packs = 0, []
+        size, packs = 0, 0
         while held.peek() is not None:
             numbers, texts = packed(held.peek())
             pack = _library.EVENT.pack(*numbers) + texts
@@ -146,46 +156,46 @@ class StandIn:
             if start + len(pack) > length:
                 if packs:
                     break
-                used._obj.value, count._obj.value = len(pack), 0
+                used[0], count[0] = len(pack), 0
                 return SMALL
-            room[start : start + len(pack)] = pack
+            ctypes.memmove(room + start, pack, len(pack))
             size = start + len(pack)
-            packs.append(pack)
+            packs += 1
             held.event = None
-        used._obj.value, count._obj.value = size, len(packs)
+        used[0], count[0] = size, packs
         return 0
 
     def bm_call(self, at, number, method, method_length, params, params_length, key):
         def call():
-            key._obj.value = self._model(at).call(
-                number, method[:method_length], params[:params_length] or None
-            )
+            given = text(params, params_length) or None
+            key[0] = self._model(at).call(number, text(method, method_length), given)
 
         return said(call)
 
     def bm_call_batch(self, at, number, data, length, lengths, count, first):
-        parts, place = [], 0
-        for it in lengths[:count]:
-            parts.append(data[place : place + it])
-            place += it
+        parts, place, whole = [], 0, text(data, length)
+        for it in range(count):
+            parts.append(whole[place : place + lengths[it]])
+            place += lengths[it]
 
         def call():
             calls = [(parts[it], parts[it + 1] or None) for it in range(0, count, 2)]
-            first._obj.value = self._model(at).batch(number, calls)
+            first[0] = self._model(at).batch(number, calls)
 
         return said(call) if place == length and count % 2 == 0 else CODES["settings"]
 
     def bm_notify(self, at, method, method_length, params, params_length):
-        return said(lambda: self._model(at).notify(method[:method_length], params[:params_length] or None))
+        given = text(method, method_length), text(params, params_length) or None
+        return said(lambda: self._model(at).notify(*given))
 
     def bm_withdraw(self, at, key):
         return said(lambda: self._model(at).withdraw(key))
 
     def bm_answer(self, at, number, result, length):
-        return said(lambda: self._model(at).answer(number, result[:length] or None))
+        return said(lambda: self._model(at).answer(number, text(result, length) or None))
 
     def bm_fail(self, at, number, code, message, message_length, data, data_length):
-        given = message[:message_length], data[:data_length] or None
+        given = text(message, message_length), text(data, data_length) or None
         return said(lambda: self._model(at).fail(number, code, *given))
 
     def bm_cancel(self, at, number):
@@ -196,7 +206,7 @@ class StandIn:
 
     def bm_take(self, at, room, length):
         data = self._model(at).take(length)
-        room[: len(data)] = data
+        ctypes.memmove(room, data, len(data))
         return len(data)
 
     def bm_is_done(self, at):
@@ -204,10 +214,21 @@ class StandIn:
         return held.event is None and held.model.is_done()
 
     def bm_counts(self, at, report):
-        counts = self._model(at).report()
-        for name, it in counts._asdict().items():
-            setattr(report._obj, name, it)
+        for name, it in self._model(at).report()._asdict().items():
+            setattr(report.contents, name, it)
+
+
+def through_ctypes(calls):
+    """The same calls as C functions, declared as the package declares them."""
+    found = types.SimpleNamespace()
+    for name, (result, parameters) in _library.CALLS.items():
+        # (a callback gets bytes only up to a zero byte, and an address as it is)
+        kinds = [ctypes.c_void_p if it is ctypes.c_char_p else it for it in parameters]
+        inner = ctypes.PYFUNCTYPE(result, *kinds)(getattr(calls, name))
+        inner.argtypes = parameters
+        setattr(found, name, inner)
+    return found
 
 
 def install():
-    _library.use(StandIn())
+    _library.use(through_ctypes(StandIn()))
