@@ -36,7 +36,8 @@ def library():
         if os.path.isfile(place):
             with open(place, "rb") as file:
                 return file.read()
-    raise SystemExit(f"{LIBRARY} isn't there: neither {' nor '.join(places)}; {VARIABLE} may name it, "
+    raise SystemExit(
+        f"{LIBRARY} isn't there: neither {' nor '.join(places)}; {VARIABLE} may name it, "
         "as it has to for a pip before 21.3, which copies this folder elsewhere"
     )
 

@@ -52,7 +52,9 @@ def with_methods(side, chance):
 
     @side.method("batch")
     async def batch(params, request):
-        found = await request.call_batch([("plain", params), ("raises", params), ("async", params)], return_exceptions=True)
+        found = await request.call_batch(
+            [("plain", params), ("raises", params), ("async", params)], return_exceptions=True
+        )
         return [found[0], found[1].code, found[2]]
 
     @side.method("stubborn")
@@ -87,7 +89,9 @@ class Sessions(Case):
         with_methods(client, chance)
         async with joined(server, client):
             sides = [server.session, client.session]
-            ends = [asyncio.ensure_future(self.one(chance, chance.choice([server, client]))) for _ in range(CALLS)]
+            ends = [
+                asyncio.ensure_future(self.one(chance, chance.choice([server, client]))) for _ in range(CALLS)
+            ]
             kinds = await asyncio.gather(*ends)
             for side in (server, client):
                 self.assertEqual(await side.call("plain", [1]), [1])
@@ -95,7 +99,9 @@ class Sessions(Case):
             for it in sides:
                 self.assertEqual((it._replies, it._by_id, it._blocked), ({}, {}, set()))
                 counts = it._connection.counts()
-                self.assertEqual((counts.open, counts.waiting, counts.unreadable, counts.invalid), (0, 0, 0, 0))
+                self.assertEqual(
+                    (counts.open, counts.waiting, counts.unreadable, counts.invalid), (0, 0, 0, 0)
+                )
         self.assertIn("answered", kinds)
 
     async def one(self, chance, side):

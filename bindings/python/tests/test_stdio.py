@@ -16,7 +16,7 @@ from helping import Case, command, environment, frame, messages, notice, request
 HEAD = """
 import asyncio, ctypes, os, subprocess, sys, threading, time
 from bullmyrtle import LATER, Error, Server
-server = Server(grace=0.3)
+server = Server(grace=float(os.environ.get("GRACE", "20")))
 @server.method("echo")
 def echo(params):
     return params
@@ -44,17 +44,10 @@ class Scripts(Case):
             it.write(HEAD + textwrap.dedent(body) + textwrap.dedent(tail))
         return command(file)
 
-    def ran(self, given, body="", tail=TAIL, **more):
+    def ran(self, given, body="", tail=TAIL, grace=20):
         """Runs a server on this input, and gives its status, its messages and its errors."""
-        ended = subprocess.run(
-            self.script(body, tail),
-            input=given,
-            capture_output=True,
-            timeout=60,
-            env=environment(),
-            check=False,
-            **more,
-        )
+        how = {"capture_output": True, "timeout": 60, "env": environment(GRACE=str(grace)), "check": False}
+        ended = subprocess.run(self.script(body, tail), input=given, **how)
         return ended.returncode, ended.stdout, ended.stderr.decode()
 
     def started(self, body="", tail=TAIL, **more):
@@ -381,7 +374,7 @@ class Ends(Scripts):
         for method, threads in (("sleep", []), ("block", ["bullmyrtle-1"]), ("stubborn", []), ("later", [])):
             with self.subTest(method):
                 began = time.monotonic()
-                status, out, err = self.ran(frame(request(1, method, [20])), body)
+                status, out, err = self.ran(frame(request(1, method, [20])), body, grace=0.3)
                 self.assertLess(time.monotonic() - began, 15)
                 self.assertEqual((status, messages(out)[0]["error"]["code"]), (1, -32800))
                 self.assertEqual(

@@ -26,12 +26,22 @@ class Types(Case):
             self.assertTrue(ast.get_docstring(tree), file)
             names = [it for it in tree.body if isinstance(it, (ast.ClassDef, ast.FunctionDef))]
             for it in names if "bullmyrtle/" in file else ():
-                if isinstance(it, ast.ClassDef) and not it.name.startswith("_") and os.path.basename(file)[0] != "_":
+                if (
+                    isinstance(it, ast.ClassDef)
+                    and not it.name.startswith("_")
+                    and os.path.basename(file)[0] != "_"
+                ):
                     self.assertTrue(ast.get_docstring(it), f"{file}: {it.name}")
                     for part in it.body:
-                        if isinstance(part, (ast.FunctionDef, ast.AsyncFunctionDef)) and not part.name.startswith("_"):
-                            is_property = any(getattr(on, "id", "") == "property" for on in part.decorator_list)
-                            self.assertTrue(ast.get_docstring(part) or is_property, f"{file}: {it.name}.{part.name}")
+                        if isinstance(
+                            part, (ast.FunctionDef, ast.AsyncFunctionDef)
+                        ) and not part.name.startswith("_"):
+                            is_property = any(
+                                getattr(on, "id", "") == "property" for on in part.decorator_list
+                            )
+                            self.assertTrue(
+                                ast.get_docstring(part) or is_property, f"{file}: {it.name}.{part.name}"
+                            )
 
     def test_mypy(self):
         mypy = [sys.executable, "-m", "mypy"]
