@@ -1,15 +1,16 @@
 """What a server and a client have in common: methods, settings, and the sessions that use them."""
 from __future__ import annotations
 
-from typing import Any, Callable, Dict, Iterable, Optional, TypeVar, Union
+from typing import Any, Callable, Dict, Iterable, Literal, Optional, TypeVar, Union
 
 from ._channels import Channel
+from ._library import ORDERS
 from ._params import Method
 from ._request import Said
 from ._session import LSP_CANCEL, TOOL_CANCEL, Session
 from ._trace import Trace, Traced
-from .connection import Connection, Framing, Order
-from .errors import Closed
+from .connection import Connection, Order
+from .errors import BadSettings, Closed
 
 F = TypeVar("F", bound=Callable[..., Any])
 
@@ -23,7 +24,7 @@ class Peer:
     def __init__(
         self,
         *,
-        framing: Framing = "frames",
+        framing: Literal["frames", "lines"] = "frames",
         order: Order = "as-answered",
         cancel_by: Optional[str] = BY_FRAMING,
         content: Optional[int] = None,
@@ -44,6 +45,8 @@ class Peer:
         workers -- how many threads there may be for methods with `thread=True`
         trace -- where a log of the messages goes: a file's name, a file, or a function that takes lines
         """
+        if framing not in ("frames", "lines") or order not in ORDERS:
+            raise BadSettings(f"there are no such settings: framing {framing!r}, order {order!r}")
         by_framing = LSP_CANCEL if framing == "frames" else TOOL_CANCEL if framing == "lines" else None
         self._settings: Dict[str, Any] = {
             "framing": framing,
@@ -52,6 +55,8 @@ class Peer:
             "calls": calls,
         }
         self._cancel_by = by_framing if cancel_by == BY_FRAMING else cancel_by
+        if self._cancel_by not in (LSP_CANCEL, TOOL_CANCEL, None):
+            raise ValueError(f"there is no such way to cancel: {cancel_by!r}")
         self._grace = grace
         self._workers = workers
         self._trace = trace

@@ -86,8 +86,7 @@ class Session:
         except InputOver:
             return
         except NoMemory:
-            log.error("the input ends here, since memory was refused")
-            self.broke()
+            self._give_up()
             return
         self._look()
 
@@ -104,8 +103,20 @@ class Session:
         self._is_broken = True
         self.ended(True)
 
+    def _give_up(self) -> None:
+        """There was no memory for what came, or for an answer: the session ends, and not well."""
+        log.error("the session ends, since memory was refused")
+        self._is_broken = True
+        self._channel.stop()
+        if not self._over.done():
+            self._over.set_result("Read")
+
     def _look(self) -> None:
-        self._events.extend(self._connection.events())
+        try:
+            self._events.extend(self._connection.events())
+        except NoMemory:
+            self._give_up()
+            return
         if not self._is_going:
             self._go_on()
 
@@ -126,6 +137,8 @@ class Session:
                         has_begun = self._begin(event)
                 else:
                     self._happened(event)
+        except NoMemory:  # (what a method raises is answered, and doesn't come here)
+            self._give_up()
         finally:
             self._is_going = has_begun
             if has_begun:
@@ -610,6 +623,7 @@ class Session:
     async def serve(self) -> int:
         """Runs until the input is over and its calls are answered; gives 0 at a clean end, else 1."""
         self.begin()
+        seconds = 0.0
         try:
             how = await asyncio.shield(self._over)
             end = self.loop.time() + self._grace
@@ -620,10 +634,11 @@ class Session:
             is_out = await self._until(self._is_written, max(end, self.loop.time() + 1))
             self._pool.close()
             await self._until_threads_end(end)
+            seconds = max(1.0, end - self.loop.time())
             is_clean = how == "Clean" and has_all and is_out and not self._is_broken
             return (1 if not is_clean else 0) if self._status is None else self._status
         finally:
-            await self.close()
+            await self.close(seconds)
 
     def _is_written(self) -> bool:
         return self._is_broken or (self._channel.is_idle and not self.pending)
@@ -640,11 +655,12 @@ class Session:
 
     async def _until_threads_end(self, end: float) -> None:
         nap = 0.0005
+        end = max(end, self.loop.time() + 0.2)  # (those that have nothing to do end at once)
         while self._pool.is_alive() and self.loop.time() < end:
             await asyncio.sleep(nap)
             nap = min(2 * nap, 0.05)
 
-    async def close(self, seconds: float = 1) -> None:
+    async def close(self, seconds: float) -> None:
         """Lets go of everything; whoever still waits is told. What a stream still holds may take so long to go out."""
         with self._lock:
             if self._is_closed:

@@ -12,7 +12,20 @@ import uuid
 
 from helping import MANY, Case, joined, logged
 
-from bullmyrtle import LATER, Client, Closed, Error, InvalidParams, NotJson, NotOpen, Request, Server
+from bullmyrtle import (
+    LATER,
+    BadSettings,
+    Client,
+    Closed,
+    Error,
+    InvalidParams,
+    NoMemory,
+    NotJson,
+    NotOpen,
+    Request,
+    Server,
+    Unanswered,
+)
 
 
 @dataclasses.dataclass
@@ -374,6 +387,75 @@ class Registering(Case):
             return 5
 
         self.assertEqual(x(None), 5)
+
+    def test_settings(self):
+        with self.assertRaises(ValueError):
+            Server(cancel_by="$/stop")
+        for more in ({"framing": "pipes"}, {"framing": "contents"}, {"order": "soon"}):
+            with self.assertRaises(BadSettings):
+                Client(**more)
+
+        async def main():
+            with self.assertRaises(BadSettings):
+                async with joined(Server(content=0), Client()):
+                    pass
+
+        self.wait(main())
+
+    def test_without_cancels(self):
+        async def main():
+            server, seen = Server(cancel_by=None), []
+            server.method("$/cancelRequest")(seen.append)
+            async with joined(server) as client:
+                client.notify("$/cancelRequest", {"id": 1})
+                with self.assertRaises(Error):
+                    await client.call("nope")
+            self.assertEqual(seen, [{"id": 1}])
+
+        self.wait(main())
+
+    def test_a_tool_server_may_hear_of_cancels_itself(self):
+        async def main():
+            server, seen = Server(framing="lines"), []
+            server.method("notifications/cancelled")(seen.append)
+
+            @server.method("x")
+            async def x(params):
+                await asyncio.sleep(20)
+
+            async with joined(server) as client:
+                call = client.call("x")
+                client.notify("notifications/cancelled", {"requestId": call.key})
+                with self.assertRaises(Error) as caught:
+                    await call
+                self.assertEqual((caught.exception.code, seen), (-32800, [{"requestId": 1}]))
+
+        self.wait(main())
+
+    def test_no_memory(self):
+        def refuse(*_):
+            raise NoMemory()
+
+        async def main(name):
+            server = Server(grace=0.1)
+            server.method("x")(lambda params: params)
+            statuses = []
+
+            async def serve(channel):
+                statuses.append(await Server.serve_over(server, channel))
+
+            server.serve_over = serve
+            async with joined(server) as client:
+                self.assertEqual(await client.call("x", [1]), [1])
+                setattr(server.session._connection, name, refuse)
+                with self.assertRaises((Unanswered, Error)):
+                    await client.call("x", [2])
+            self.assertEqual(statuses, [1])
+
+        for name in ("feed", "events", "answer"):
+            with self.subTest(name), logged() as log:
+                self.wait(main(name))
+                self.assertEqual(len([it for it in log.texts if "memory" in it]), 1)
 
     def test_nothing_runs(self):
         with self.assertRaises(Closed):
