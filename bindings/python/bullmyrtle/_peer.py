@@ -47,7 +47,7 @@ class Peer:
         """
         if framing not in ("frames", "lines") or order not in ORDERS:
             raise BadSettings(f"there are no such settings: framing {framing!r}, order {order!r}")
-        by_framing = LSP_CANCEL if framing == "frames" else TOOL_CANCEL if framing == "lines" else None
+        by_framing = LSP_CANCEL if framing == "frames" else TOOL_CANCEL
         self._settings: Dict[str, Any] = {
             "framing": framing,
             "order": order,

@@ -153,6 +153,13 @@ class Events(Case):
                 len(connection.take()) + 10, 300_000 + len('{"id":1,"jsonrpc":"2.0","result":""}') + 26
             )
 
+    def test_all_events_come_at_once_however_large_they_are(self):
+        with Connection() as connection:
+            sizes = [1, 300_000, 5, 70_000, 70_000, 1_500_000, 2]
+            connection.feed(b"".join(frame(request(it, "x", ["x" * it])) for it in sizes))
+            self.assertEqual([len(it.params) for it in connection.events()], [it + 4 for it in sizes])
+            self.assertEqual(connection.events(), [])
+
     def test_texts_of_each_length_lie_where_they_should(self):
         with lines() as connection:
             for length in range(20):

@@ -1,4 +1,5 @@
 """`run` on the standard streams, in a process of its own: what they may be, who can't corrupt them, how it ends."""
+import asyncio
 import contextlib
 import os
 import pty
@@ -7,11 +8,15 @@ import socket
 import subprocess
 import tempfile
 import textwrap
+import threading
 import time
 import tty
 import unittest
 
 from helping import Case, command, environment, frame, messages, notice, request
+
+from bullmyrtle import Server
+from bullmyrtle._channels import Descriptors
 
 HEAD = """
 import asyncio, ctypes, os, subprocess, sys, threading, time
@@ -210,25 +215,37 @@ class Streams(Scripts):
         self.assertEqual(process.wait(30), 0)
 
     def test_reading_stops_while_much_is_to_be_written(self):
-        body = """
-        @server.method("much")
-        def much(params):
-            server.notify("came", [params[1]])
-            return "x" * params[0]
-        """
-        process = self.started(body)
-        one = frame(request(1, "much", [1 << 20, 1] + ["y" * 30_000]))
-        os.set_blocking(process.stdin.fileno(), False)
-        sent, quiet = 0, 0
-        # (what a server takes that nobody reads from is bounded: by its limit, and by what the pipes and one read hold)
-        while quiet < 25 and sent < 200 * len(one):
-            count = process.stdin.write(one[sent % len(one) :])
-            if count is None:
-                quiet += 1
-                time.sleep(0.02)
-            else:
-                sent, quiet = sent + count, 0
-        self.assertLess(sent, 100 * len(one))
+        async def main():
+            server = Server()
+            server.method("much")(lambda params: "x" * 20_000)
+            given, theirs = os.pipe()
+            ours, taken = os.pipe()
+            serving = asyncio.ensure_future(server.serve_over(Descriptors(given, taken)))
+            await asyncio.sleep(0)
+            one, count, sent = frame(request(1, "much", ["y" * 200])), 1000, []
+
+            def write():
+                for _ in range(count):
+                    sent.append(os.write(theirs, one))
+                os.close(theirs)
+
+            writing = threading.Thread(target=write, daemon=True)
+            writing.start()
+            await self.until(lambda: server.session._channel._is_paused)
+            await asyncio.sleep(0.2)
+            # (what it has taken in is bounded: by one read, and by what the pipe holds)
+            self.assertLess(len(sent), count)
+            loop, answers = asyncio.get_running_loop(), 0
+            while data := await loop.run_in_executor(None, os.read, ours, 1 << 20):
+                answers += data.count(b"Content-Length")
+                if answers >= count - 1 and serving.done():
+                    break
+            self.assertEqual(await serving, 0)
+            self.assertGreater(answers, count * 0.99)  # (a head may be cut in two)
+            writing.join()
+            os.close(ours)
+
+        self.wait(main(), 60)
 
 
 class Uncorrupted(Scripts):
