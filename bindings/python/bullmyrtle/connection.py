@@ -195,7 +195,7 @@ class Connection:
     def call(self, number: int, method: Json, params: Optional[Json] = None) -> int:
         """Call the other side on behalf of the open call `number`, or of nobody where it is 0, and give the key.
 
-        Refused: `NotOpen`, `InputOver`, `Full`, `NotText`, `NotJson`.
+        Refused: `NotOpen`, `NotText`, `NotJson`, `InputOver`, `Full`.
         """
         name, given = _text(method), _json(params)
         if not 0 <= number < _MOST:
@@ -211,7 +211,7 @@ class Connection:
     def call_batch(self, number: int, calls: Iterable[Tuple[Json, Optional[Json]]]) -> int:
         """Call the other side several times in one batch, and give the first key; the others follow it.
 
-        Refused: `NotOpen`, `InputOver`, `Empty`, `Full`, `NotText`, `NotJson`.
+        Refused: `NotOpen`, `NotText`, `NotJson`, `InputOver`, `Empty`, `Full`.
         """
         parts = [part for method, params in calls for part in (_text(method), _json(params))]
         if not 0 <= number < _MOST:
