@@ -15,7 +15,7 @@ LIBRARY = "libbullmyrtle.so.1"
 VARIABLE = "BULLMYRTLE_LIBRARY"
 # What starts no process, so that it is quick over the stand-in.
 WITHOUT_PROCESSES = ["test_connection", "test_methods", "test_calls", "test_trace", "test_random"]
-FEWEST = {"library": 130, "standin": 90}
+FEWEST, FEWEST_WITHOUT_PROCESSES = 160, 100
 SECONDS = 900
 
 
@@ -46,7 +46,7 @@ def check(python, over, file, names):
     for it in re.findall(r"^((?:FAIL|ERROR): .*?)^-{70}$\n(.*?)(?=^={70}$|^-{70}$)", said, re.M | re.S):
         count.check(f"{python}, over the {over}: {it[0].strip()}", False, it[1].strip()[-700:])
     count.check(f"{python}, over the {over}: its status", ended.returncode == 0, said[-1500:])
-    fewest = FEWEST[over] if over == "library" or not names else 1
+    fewest = FEWEST_WITHOUT_PROCESSES if names else FEWEST
     count.check(f"{python}, over the {over}: {fewest} tests at least", many >= fewest, f"{many}")
     count.passed += max(0, many - said.count("\nFAIL:") - said.count("\nERROR:"))
     print(f"{python}: {many} tests over the {over}", flush=True)
