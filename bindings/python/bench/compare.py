@@ -1,0 +1,168 @@
+"""usage: compare.py [--requests N] [--rounds N]
+
+How fast a server of this package is, beside python3-pylsp-jsonrpc where that is installed. Both have the same methods in
+Python. They are measured in turn, and the best of the rounds is told:
+
+  at once    requests a second, where all are sent at once
+  ping       microseconds from a request to its answer, one after the other (the median)
+  call back  the same, for a method that calls the client first
+  start      milliseconds from the start of the process to its first answer, beside a process that imports
+             json and asyncio alone
+"""
+import json
+import os
+import statistics
+import subprocess
+import sys
+import threading
+import time
+
+PACKAGE = os.path.dirname(os.path.dirname(os.path.abspath(__file__)))
+OURS = """
+import sys
+from bullmyrtle import Server
+server = Server()
+@server.method("hover")
+def hover(params):
+    return {"contents": params["textDocument"]["uri"], "line": params["position"]["line"]}
+@server.method("back")
+async def back(params, request):
+    return await request.call("twice", params)
+sys.exit(server.run())
+"""
+THEIRS = """
+import sys
+from pylsp_jsonrpc.endpoint import Endpoint
+from pylsp_jsonrpc.streams import JsonRpcStreamReader, JsonRpcStreamWriter
+def hover(params):
+    return {"contents": params["textDocument"]["uri"], "line": params["position"]["line"]}
+def back(params):
+    return lambda: endpoint.request("twice", params).result()
+writer = JsonRpcStreamWriter(sys.stdout.buffer)
+endpoint = Endpoint({"hover": hover, "back": back}, writer.write)
+JsonRpcStreamReader(sys.stdin.buffer).listen(endpoint.consume)
+"""
+PARAMS = {
+    "textDocument": {"uri": "file:///home/someone/project/src/main.py"},
+    "position": {"line": 12, "character": 4},
+}
+
+
+def frame(value):
+    data = json.dumps({"jsonrpc": "2.0", **value}, separators=(",", ":")).encode()
+    return b"Content-Length: %d\r\n\r\n%s" % (len(data), data)
+
+
+def received(file):
+    length = 0
+    while (line := file.readline().strip()) != b"":
+        if line.lower().startswith(b"content-length:"):
+            length = int(line[15:])
+    return json.loads(file.read(length))
+
+
+class Server:
+    def __init__(self, code):
+        self.began = time.perf_counter()
+        self.process = subprocess.Popen(
+            [sys.executable, "-c", code], stdin=subprocess.PIPE, stdout=subprocess.PIPE, bufsize=-1
+        )
+        self.ask("hover", PARAMS)
+        self.start = time.perf_counter() - self.began
+
+    def send(self, data):
+        self.process.stdin.write(data)
+        self.process.stdin.flush()
+
+    def ask(self, method, params):
+        self.send(frame({"id": 1, "method": method, "params": params}))
+        while "method" in (got := received(self.process.stdout)):
+            self.send(frame({"id": got["id"], "result": 2 * got["params"][0]}))
+        return got["result"]
+
+    def at_once(self, count):
+        data = b"".join(frame({"id": it, "method": "hover", "params": PARAMS}) for it in range(count))
+        began = time.perf_counter()
+        writing = threading.Thread(target=self.send, args=(data,))
+        writing.start()
+        seen, tail = 0, b""
+        while seen < count:
+            got = tail + self.process.stdout.read1(1 << 16)
+            seen += got.count(b'"result"')
+            # (a name that is cut in two counts with what follows it)
+            tail = got[-7:] if b'"result"' not in got[-14:] else b""
+        took = time.perf_counter() - began
+        writing.join()
+        # (what is left of the last answer)
+        os.set_blocking(self.process.stdout.fileno(), False)
+        time.sleep(0.2)
+        self.process.stdout.read()
+        os.set_blocking(self.process.stdout.fileno(), True)
+        return count / took
+
+    def each(self, count, method, params):
+        took = []
+        for _ in range(count):
+            began = time.perf_counter()
+            self.ask(method, params)
+            took.append(time.perf_counter() - began)
+        return statistics.median(took) * 1e6
+
+    def end(self):
+        self.process.stdin.close()
+        self.process.stdout.close()
+        self.process.terminate()
+        self.process.wait()
+
+
+def measured(code, requests):
+    server = Server(code)
+    small = max(20, requests // 20)
+    found = {
+        "start": server.start * 1000,
+        "ping": server.each(small, "hover", PARAMS),
+        "call back": server.each(small, "back", [4]),
+        "at once": server.at_once(requests),
+    }
+    server.end()
+    return found
+
+
+def start_of(code):
+    began = time.perf_counter()
+    subprocess.run([sys.executable, "-c", code], check=True)
+    return (time.perf_counter() - began) * 1000
+
+
+def number(words, name, default):
+    return int(words[words.index(name) + 1]) if name in words else default
+
+
+def main(words):
+    requests, rounds = number(words, "--requests", 20_000), number(words, "--rounds", 5)
+    os.environ["PYTHONPATH"] = os.pathsep.join([PACKAGE, *filter(None, [os.environ.get("PYTHONPATH")])])
+    servers = {"bullmyrtle": OURS}
+    if (
+        subprocess.run(
+            [sys.executable, "-c", "import pylsp_jsonrpc"], stderr=subprocess.DEVNULL, check=False
+        ).returncode
+        == 0
+    ):
+        servers["pylsp-jsonrpc"] = THEIRS
+    found = {name: [] for name in servers}
+    starts = []
+    for _ in range(rounds):
+        for name, code in servers.items():
+            found[name].append(measured(code, requests))
+        starts.append(start_of("import json, asyncio"))
+    for name, all_ in found.items():
+        best = {what: (max if what == "at once" else min)(it[what] for it in all_) for what in all_[0]}
+        print(
+            f"{name:14} at once {best['at once']:9,.0f} requests/s   ping {best['ping']:6.0f} us   "
+            f"call back {best['call back']:6.0f} us   start {best['start']:5.0f} ms"
+        )
+    print(f"{'import':14} json, asyncio: {min(starts):.0f} ms")
+
+
+if __name__ == "__main__":
+    main(sys.argv[1:])

@@ -1,0 +1,158 @@
+"""Finds the shared library, and tells ctypes of its calls, as include/bullmyrtle.h declares them."""
+from __future__ import annotations
+
+import ctypes
+import os
+import struct
+from ctypes import POINTER, c_bool, c_char_p, c_int32, c_int64, c_size_t, c_uint32, c_uint64, c_void_p
+from typing import Any, Dict, List, Tuple
+
+from .errors import LibraryError
+
+INTERFACE = 1
+FILE = "libbullmyrtle.so.1"
+VARIABLE = "BULLMYRTLE_LIBRARY"
+
+FRAMINGS = ("frames", "lines", "contents")
+ORDERS = ("as-answered", "as-came")
+CLOSED, READ_FAILED = 0, 1
+CALL, CANCELLED, REPLIED, UNANSWERED, INPUT_OVER = 1, 2, 3, 4, 5
+# By the flags of INPUT_OVER.
+HOWS = (
+    "Clean",
+    "BadHead",
+    "BadLength",
+    "TwoLengths",
+    "TooLarge",
+    "NoLength",
+    "HeadTooLong",
+    "Truncated",
+    "Read",
+    "Full",
+)
+
+
+class Settings(ctypes.Structure):
+    _fields_ = [
+        ("framing", c_uint32),
+        ("order", c_uint32),
+        ("takes_cancels", c_uint32),
+        ("content", c_uint32),
+        ("calls", c_uint64),
+    ]
+
+
+class Handle(ctypes.Structure):
+    _fields_ = [("at", c_void_p)]
+
+
+class Event(ctypes.Structure):
+    _fields_ = [
+        ("kind", c_uint32),
+        ("flags", c_uint32),
+        ("number", c_uint64),
+        ("key", c_uint64),
+        ("code", c_int64),
+        ("name_len", c_size_t),
+        ("text_len", c_size_t),
+        ("id_len", c_size_t),
+    ]
+
+
+# The same, for what bm_next_all packs.
+EVENT = struct.Struct("@IIQQqNNN")
+
+
+class Counts(ctypes.Structure):
+    _fields_ = [
+        (name, c_uint64)
+        for name in (
+            "calls",
+            "requests",
+            "open",
+            "waiting",
+            "own_calls",
+            "answers_written",
+            "unreadable",
+            "invalid",
+            "ignored",
+        )
+    ]
+
+
+_AT = POINTER(Handle)
+_BYTES = [c_char_p, c_size_t]
+# Each call, with its result and its parameters.
+CALLS: Dict[str, Tuple[Any, List[Any]]] = {
+    "bm_interface": (c_uint32, []),
+    "bm_new": (c_int32, [POINTER(Settings), POINTER(c_void_p)]),
+    "bm_free": (None, [Handle]),
+    "bm_feed": (c_int32, [_AT, *_BYTES]),
+    "bm_end": (c_int32, [_AT, c_uint32]),
+    "bm_next": (c_int32, [_AT, POINTER(Event), c_void_p, c_size_t]),
+    "bm_next_all": (c_int32, [_AT, c_void_p, c_size_t, POINTER(c_size_t), POINTER(c_uint32)]),
+    "bm_call": (c_int32, [_AT, c_uint64, *_BYTES, *_BYTES, POINTER(c_uint64)]),
+    "bm_call_batch": (c_int32, [_AT, c_uint64, *_BYTES, POINTER(c_size_t), c_size_t, POINTER(c_uint64)]),
+    "bm_notify": (c_int32, [_AT, *_BYTES, *_BYTES]),
+    "bm_withdraw": (c_int32, [_AT, c_uint64]),
+    "bm_answer": (c_int32, [_AT, c_uint64, *_BYTES]),
+    "bm_fail": (c_int32, [_AT, c_uint64, c_int64, *_BYTES, *_BYTES]),
+    "bm_cancel": (c_int32, [_AT, c_uint64]),
+    "bm_pending": (c_size_t, [_AT]),
+    "bm_take": (c_size_t, [_AT, c_void_p, c_size_t]),
+    "bm_is_done": (c_bool, [_AT]),
+    "bm_counts": (None, [_AT, POINTER(Counts)]),
+}
+
+_loaded: Any = None
+
+
+def find() -> str:
+    """The file of the library: the one that the variable names, that in the package, or that of the repository."""
+    named = os.environ.get(VARIABLE)
+    if named:
+        return os.path.abspath(named)
+    here = os.path.dirname(os.path.abspath(__file__))
+    places = (here, os.path.normpath(os.path.join(here, "..", "..", "..", "release")))
+    for place in places:
+        file = os.path.join(place, FILE)
+        if os.path.isfile(file):
+            return file
+    raise LibraryError(f"{FILE} is neither in {' nor in '.join(places)}, and {VARIABLE} doesn't name it")
+
+
+def declare(library: Any) -> None:
+    """Tells ctypes of the calls, and refuses a library that isn't this package's."""
+    try:
+        for name, (result, parameters) in CALLS.items():
+            call = getattr(library, name)
+            call.restype, call.argtypes = result, parameters
+    except AttributeError as error:
+        raise LibraryError(f"the library lacks a call: {error}") from None
+    version = library.bm_interface()
+    if version != INTERFACE:
+        raise LibraryError(f"the library has the interface {version}, and this package is for {INTERFACE}")
+
+
+def library() -> Any:
+    """The library, loaded when it is first asked for.
+
+    PyDLL keeps the interpreter's lock during a call. The calls are short, and giving the lock away at each one would
+    hand it to whatever other thread computes, for five milliseconds.
+    """
+    global _loaded
+    if _loaded is None:
+        file = find()
+        try:
+            loaded = ctypes.PyDLL(file)
+        except OSError as error:
+            raise LibraryError(f"{file} can't be loaded: {error}") from None
+        declare(loaded)
+        _loaded = loaded
+    return _loaded
+
+
+def use(other: Any) -> None:
+    """Puts another object with the same calls in the library's place, for tests."""
+    global _loaded
+    _loaded = other

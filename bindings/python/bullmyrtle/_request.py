@@ -1,0 +1,119 @@
+"""A call that came, as its method sees it, and the replies to calls of its own."""
+from __future__ import annotations
+
+import asyncio
+from typing import TYPE_CHECKING, Any, Iterable, List, Optional, Tuple, Union
+
+from . import _json, events
+from .errors import Error, NotJson
+
+if TYPE_CHECKING:
+    from ._session import Session
+
+# A call of ours: its method and its params.
+Said = Tuple[str, Any]
+
+
+class _Later:
+    def __repr__(self) -> str:
+        return "LATER"
+
+
+#: What a method returns whose request is answered later, by `request.answer` or `request.fail`.
+LATER = _Later()
+
+
+def text_of(value: Any) -> bytes:
+    """The JSON text of a value. Raises NotJson."""
+    try:
+        return _json.dumps(value)
+    except (TypeError, ValueError) as error:
+        raise NotJson(str(error)) from error
+
+
+def optional_text(value: Any) -> Optional[bytes]:
+    return None if value is None else text_of(value)
+
+
+def words_of(text: str) -> str:
+    """A text that can be written as UTF-8."""
+    return text.encode("utf-8", "backslashreplace").decode()
+
+
+class Reply(asyncio.Future):  # type: ignore[type-arg]
+    """The reply to a call of ours. If it is cancelled, the other side is told that it isn't wanted any more."""
+
+    def __init__(self, session: Session, key: int) -> None:
+        super().__init__(loop=session.loop)
+        self._session = session
+        self.key = key
+
+    def cancel(self, *words: Any, **named: Any) -> bool:
+        is_cancelled = super().cancel(*words, **named)
+        if is_cancelled:
+            self._session.withdraw(self.key)
+        return is_cancelled
+
+
+class Request:
+    """A call that came: a method gets it as its second parameter."""
+
+    __slots__ = ("session", "number", "method", "id_text", "is_cancelled", "is_later", "keys", "kind", "task")
+
+    def __init__(self, session: Session, event: events.Call, kind: str) -> None:
+        self.session = session
+        self.number = event.number
+        self.method = event.method
+        self.id_text = event.id
+        self.kind = kind
+        self.is_cancelled = False  #: whether the other side has cancelled it
+        self.is_later = False
+        self.keys: List[int] = []
+        self.task: Optional["asyncio.Task[None]"] = None
+
+    def __repr__(self) -> str:
+        return f"<Request {self.number} {self.method!r}>"
+
+    @property
+    def id(self) -> Union[str, int, None]:
+        """The id that the other side gave it; None for a notification."""
+        return None if self.id_text is None else _json.loads(self.id_text)
+
+    @property
+    def id_key(self) -> Tuple[type, Any]:
+        """(in Python, 1 is True)"""
+        return type(self.id), self.id
+
+    @property
+    def is_notification(self) -> bool:
+        return self.id_text is None
+
+    def call(self, method: str, params: Any = None) -> Any:
+        """Call the other side on behalf of this request.
+
+        In an `async def` it gives what is to be awaited; in a method with `thread=True` it blocks, and gives the
+        result. A plain function can't wait, so there it raises RuntimeError. The result is the reply's. An error of the
+        reply is raised as `Error`; `Closed` is raised once the request is answered or cancelled, and `Unanswered` at
+        the end of the input.
+        """
+        return self.session.call([(method, params)], False, self)
+
+    def call_batch(self, calls: Iterable[Said], return_exceptions: bool = False) -> Any:
+        """Call the other side several times, in one message. The results come as a list, as with asyncio.gather."""
+        return self.session.call(list(calls), True, self, return_exceptions)
+
+    def notify(self, method: str, params: Any = None) -> None:
+        """Send the other side a notification. Any thread may do that."""
+        self.session.notify(method, params)
+
+    def answer(self, result: Any = None) -> None:
+        """Answer the request now, or later where its method returned LATER. Any thread may do that.
+
+        Raises `NotOpen` where it is answered already, `Closed` where the session is over, and `NotJson` where the
+        result has no JSON text. Where the other side has cancelled it, nothing happens.
+        """
+        self.session.answer_by_hand(self, result)
+
+    def fail(self, error: Error) -> None:
+        """Answer the request with an error, as `answer` does with a result."""
+        self.session.answer_by_hand(self, error)

@@ -1,0 +1,336 @@
+"""One end of a JSON-RPC conversation without input and output: the C interface in Python's words."""
+from __future__ import annotations
+
+import ctypes
+import threading
+from ctypes import byref, c_size_t, c_uint32, c_uint64, c_void_p, string_at
+from typing import Any, Iterable, List, Literal, NamedTuple, Optional, Tuple, Union
+
+from . import _library, events
+from .errors import REFUSALS, SMALL, BadSettings, Closed, NotOpen, NotWaiting
+from .events import Event
+
+Framing = Literal["frames", "lines", "contents"]
+Order = Literal["as-answered", "as-came"]
+Json = Union[bytes, str]
+
+_ROOM = 1 << 16
+_MOST = 1 << 64
+
+
+class Counts(NamedTuple):
+    """What has happened so far."""
+
+    calls: int  # calls that came, requests and notifications
+    requests: int  # of these, the requests
+    open: int  # calls that came and aren't answered
+    waiting: int  # calls of ours that wait for a reply
+    own_calls: int  # calls of ours, each of a batch
+    answers_written: int  # answers that have gone out, whether taken or not; an array is one
+    unreadable: int  # contents that couldn't be read
+    invalid: int  # entries that were neither a call nor a reply
+    ignored: int  # replies that nobody waited for, and cancels that reached no request
+
+
+def _text(text: Json) -> bytes:
+    """(the library itself refuses what isn't UTF-8)"""
+    return text.encode("utf-8", "surrogatepass") if isinstance(text, str) else bytes(memoryview(text))
+
+
+def _json(text: Optional[Json]) -> bytes:
+    """The bytes of a JSON text; b"" for None. A text of no bytes isn't JSON, and neither is a blank."""
+    return b"" if text is None else _text(text) or b" "
+
+
+class Connection:
+    """One end of a JSON-RPC conversation, without input and output, threads or a clock.
+
+    Feed it the bytes that you have read, ask it for events, answer and call, and take the bytes that are to be written,
+    in whatever order you like. Params, results and data are JSON texts: bytes in UTF-8, or str.
+
+    A call that can't be made raises one of the exceptions below `Refused`, and has then changed nothing. Any thread may
+    make any call at any time.
+    """
+
+    def __init__(
+        self,
+        framing: Framing = "frames",
+        order: Order = "as-answered",
+        cancels: bool = True,
+        content: Optional[int] = None,
+        calls: Optional[int] = None,
+    ) -> None:
+        """Make a connection.
+
+        framing -- "frames" with a head, as in LSP; "lines", as in MCP; or "contents", one to each `feed` and `take`
+        order -- whether answers go out "as-answered", or in the order in which the requests came ("as-came")
+        cancels -- whether the protocol has `$/cancelRequest`
+        content -- how many bytes a content may have, at most 16,777,216, which is also the default
+        calls -- how many calls may come
+        """
+        self._at: Any = None
+        self._lock = threading.Lock()
+        self._library = library = _library.library()
+        self._bm_answer = library.bm_answer
+        if framing not in _library.FRAMINGS or order not in _library.ORDERS:
+            raise BadSettings(f"there are no such settings: framing {framing!r}, order {order!r}")
+        # (0 stands for the greatest in the library, and isn't a limit here)
+        limits = (content, 1 << 32), (calls, _MOST)
+        if any(it is not None and not 1 <= it < most for it, most in limits):
+            raise BadSettings(f"there are no such limits: content {content!r}, calls {calls!r}")
+        settings = _library.Settings(
+            _library.FRAMINGS.index(framing),
+            _library.ORDERS.index(order),
+            bool(cancels),
+            content or 0,
+            calls or 0,
+        )
+        at = c_void_p()
+        self._check(library.bm_new(byref(settings), byref(at)))
+        self._handle = _library.Handle(at.value)
+        self._at = byref(self._handle)
+        self._framing = framing
+        self._key = c_uint64()
+        self._key_at = byref(self._key)
+        self._used, self._count = c_size_t(), c_uint32()
+        self._used_at, self._count_at = byref(self._used), byref(self._count)
+        self._room = ctypes.create_string_buffer(_ROOM)
+        self._out = ctypes.create_string_buffer(_ROOM)
+
+    # Its end
+
+    def close(self) -> None:
+        """Free the connection with all that it holds. Later calls raise `Closed`."""
+        with self._lock:
+            if self._at is not None:
+                self._at = None
+                self._library.bm_free(self._handle)
+
+    def __enter__(self) -> Connection:
+        return self
+
+    def __exit__(self, *_: object) -> None:
+        self.close()
+
+    def __del__(self) -> None:
+        if getattr(self, "_at", None) is not None:
+            self._at = None
+            self._library.bm_free(self._handle)
+
+    def _check(self, code: int) -> None:
+        if code:
+            raise REFUSALS[code]()
+
+    def _open(self) -> Any:
+        if self._at is None:
+            raise Closed("the connection is closed")
+        return self._at
+
+    # The input
+
+    def feed(self, data: bytes) -> None:
+        """Give bytes of the input, cut as they were read. Refused: `InputOver`."""
+        if type(data) is not bytes:
+            data = bytes(memoryview(data))
+        with self._lock:
+            self._check(self._library.bm_feed(self._open(), data, len(data)))
+
+    def end(self, failed: bool = False) -> None:
+        """Say that the input is over: it was closed, or a read failed. Refused: `InputOver`."""
+        with self._lock:
+            how = _library.READ_FAILED if failed else _library.CLOSED
+            self._check(self._library.bm_end(self._open(), how))
+
+    # Events
+
+    def events(self) -> List[Event]:
+        """All events that there are now. Broken input has no event, and is answered as it is gone past here."""
+        told: List[Event] = []
+        with self._lock:
+            while self._pack(told):
+                pass
+        return told
+
+    def _pack(self, told: List[Event]) -> bool:
+        """Appends what fits the room, and says whether there was any."""
+        at, room = self._open(), self._room
+        code = self._library.bm_next_all(at, room, len(room), self._used_at, self._count_at)
+        if code == SMALL:
+            self._room = ctypes.create_string_buffer(self._used.value + _ROOM)
+            return True
+        if code:
+            if told:
+                return False  # (they are told, and what is left comes with the next call)
+            self._check(code)
+        count = self._count.value
+        if count:
+            _read(string_at(room, self._used.value), count, told)
+            if len(room) > 16 * _ROOM:
+                self._room = ctypes.create_string_buffer(_ROOM)
+        return count > 0
+
+    def next_event(self) -> Optional[Event]:
+        """The next event, or None where there is none now."""
+        event = _library.Event()
+        with self._lock:
+            at = self._open()
+            while True:
+                room = self._room
+                code = self._library.bm_next(at, byref(event), room, len(room))
+                if code != SMALL:
+                    break
+                self._room = ctypes.create_string_buffer(
+                    event.name_len + event.text_len + event.id_len + _ROOM
+                )
+            self._check(code)
+            if not event.kind:
+                return None
+            size = event.name_len + event.text_len + event.id_len + 3
+            told: List[Event] = []
+            _read(bytes(event) + string_at(room, size), 1, told)
+            return told[0]
+
+    # What is said
+
+    def call(self, number: int, method: Json, params: Optional[Json] = None) -> int:
+        """Call the other side on behalf of the open call `number`, or of nobody where it is 0, and give the key.
+
+        Refused: `NotOpen`, `NotText`, `NotJson`, `InputOver`, `Full`.
+        """
+        name, given = _text(method), _json(params)
+        if not 0 <= number < _MOST:
+            raise NotOpen()
+        with self._lock:
+            code = self._library.bm_call(
+                self._open(), number, name, len(name), given, len(given), self._key_at
+            )
+            if code:
+                raise REFUSALS[code]()
+            return self._key.value
+
+    def call_batch(self, number: int, calls: Iterable[Tuple[Json, Optional[Json]]]) -> int:
+        """Call the other side several times in one batch, and give the first key; the others follow it.
+
+        Refused: `NotOpen`, `NotText`, `NotJson`, `InputOver`, `Empty`, `Full`.
+        """
+        parts = [part for method, params in calls for part in (_text(method), _json(params))]
+        if not 0 <= number < _MOST:
+            raise NotOpen()
+        texts = b"".join(parts)
+        # (an array of no lengths still has an address)
+        lengths = (c_size_t * max(len(parts), 1))(*map(len, parts))
+        with self._lock:
+            code = self._library.bm_call_batch(
+                self._open(), number, texts, len(texts), lengths, len(parts), self._key_at
+            )
+            self._check(code)
+            return self._key.value
+
+    def notify(self, method: Json, params: Optional[Json] = None) -> None:
+        """Send a notification, also after the input is over. Refused: `NotText`, `NotJson`."""
+        name, given = _text(method), _json(params)
+        with self._lock:
+            code = self._library.bm_notify(self._open(), name, len(name), given, len(given))
+            if code:
+                raise REFUSALS[code]()
+
+    def withdraw(self, key: int) -> None:
+        """Tell the other side that this call isn't wanted any more. It still waits. Refused: `NotWaiting`."""
+        if not 0 <= key < _MOST:
+            raise NotWaiting()
+        with self._lock:
+            self._check(self._library.bm_withdraw(self._open(), key))
+
+    def answer(self, number: int, result: Optional[Json] = None) -> None:
+        """Answer a request with a result, or close a notification, without one. Refused: `NotOpen`, `NotJson`."""
+        given = result if type(result) is bytes and result else _json(result)
+        if not 0 <= number < _MOST:
+            raise NotOpen()
+        with self._lock:
+            code = self._bm_answer(self._at or self._open(), number, given, len(given))
+        if code:
+            raise REFUSALS[code]()
+
+    def fail(self, number: int, code: int, message: Json = "", data: Optional[Json] = None) -> None:
+        """Answer a request with an error, or close a notification. Refused: `NotOpen`, `NotText`, `NotJson`."""
+        text, given = _text(message), _json(data)
+        if not 0 <= number < _MOST:
+            raise NotOpen()
+        if not -(1 << 63) <= code < 1 << 63:
+            raise ValueError(f"an error's code has 64 bits: {code}")
+        with self._lock:
+            self._check(self._library.bm_fail(self._open(), number, code, text, len(text), given, len(given)))
+
+    def cancel(self, number: int) -> None:
+        """Answer a request as cancelled (-32800), and withdraw the calls on its behalf first. Refused: `NotOpen`."""
+        if not 0 <= number < _MOST:
+            raise NotOpen()
+        with self._lock:
+            self._check(self._library.bm_cancel(self._open(), number))
+
+    # The output
+
+    @property
+    def pending(self) -> int:
+        """How many bytes are to be written; in "contents" the length of the next text."""
+        with self._lock:
+            return int(self._library.bm_pending(self._open()))
+
+    def take(self, most: Optional[int] = None) -> bytes:
+        """Take the first bytes that are to be written, at most so many.
+
+        In "contents" it takes one whole text, or nothing where that is longer.
+        """
+        with self._lock:
+            at, library = self._open(), self._library
+            size = library.bm_pending(at)
+            if most is not None and size > most:
+                if self._framing == "contents":
+                    return b""
+                size = max(most, 0)
+            if not size:
+                return b""
+            room = self._out if size <= _ROOM else ctypes.create_string_buffer(size)
+            return string_at(room, library.bm_take(at, room, size))
+
+    # What has happened
+
+    @property
+    def is_done(self) -> bool:
+        """Whether the input is over, every event told, every call answered, and every byte taken."""
+        with self._lock:
+            return bool(self._library.bm_is_done(self._open()))
+
+    def counts(self) -> Counts:
+        """What has happened so far."""
+        counts = _library.Counts()
+        with self._lock:
+            self._library.bm_counts(self._open(), byref(counts))
+        return Counts(*(getattr(counts, it) for it in Counts._fields))
+
+
+def _read(data: bytes, count: int, told: List[Event]) -> None:
+    """Appends the events that lie in some bytes, as bm_next_all packs them."""
+    unpack, size, append = _library.EVENT.unpack_from, _library.EVENT.size, told.append
+    # (a named tuple's own way to be made takes twice as long)
+    make, call, is_call = tuple.__new__, events.Call, _library.CALL
+    at = 0
+    for _ in range(count):
+        kind, flags, number, key, code, name_length, text_length, id_length = unpack(data, at)
+        at += size
+        text = at + name_length + 1
+        id_ = text + text_length + 1
+        name = data[at : text - 1].decode()
+        given = data[text : id_ - 1] if text_length else None
+        at = id_ + id_length
+        if kind == is_call:
+            append(make(call, (number, name, given, data[id_:at] if flags else None)))
+        elif kind == _library.REPLIED:
+            append(events.Failed(key, code, name, given) if flags else events.Replied(key, given or b""))
+        elif kind == _library.CANCELLED:
+            append(events.Cancelled(number))
+        elif kind == _library.UNANSWERED:
+            append(events.Unanswered(key))
+        else:
+            append(events.Over(_library.HOWS[flags]))
+        at = at + 8 & ~7  # (there is a zero byte behind the id, and what follows lies at a multiple of 8)

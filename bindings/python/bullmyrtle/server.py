@@ -1,0 +1,90 @@
+"""A server: methods that answer what comes over the standard streams, or over others."""
+from __future__ import annotations
+
+import asyncio
+import contextlib
+import os
+import threading
+from typing import Optional
+
+from . import _stdio
+from ._channels import Channel, Descriptors, Streams
+from ._peer import Peer
+
+_running = threading.Lock()
+
+
+class Server(Peer):
+    """A server, as for an editor or a tool host.
+
+    >>> server = Server()
+    >>> @server.method("add")
+    ... def add(params: list) -> int:
+    ...     return sum(params)
+
+    `sys.exit(server.run())` then answers on the standard streams.
+    """
+
+    def run(self) -> int:
+        """Answer on the standard streams until the input is over, and give the status: 0 at a clean end, else 1.
+
+        An end is clean where the input was closed between two messages, each request was answered by its method in
+        time, and all answers were written; after `stop` the status is what that said.
+
+        Meanwhile nothing else in the process has the standard input and output: whoever prints, writes to the standard
+        error. Ctrl-C ends it with the status 1.
+        """
+        if not _running.acquire(blocking=False):
+            raise RuntimeError("another server has the standard streams")
+        try:
+            with _stdio.taken() as (source, sink):
+                return self._run(source, sink)
+        finally:
+            _running.release()
+
+    def _run(self, source: Optional[int], sink: Optional[int]) -> int:
+        loop = asyncio.new_event_loop()
+        try:
+            asyncio.set_event_loop(loop)
+            return loop.run_until_complete(self._serve_descriptors(source, sink))
+        except KeyboardInterrupt:
+            return 1
+        finally:
+            with contextlib.suppress(KeyboardInterrupt):
+                self._end(loop)
+            asyncio.set_event_loop(None)
+            loop.close()
+
+    async def _serve_descriptors(self, source: Optional[int], sink: Optional[int]) -> int:
+        # (the channel closes its own)
+        own_source, own_sink = (None if it is None else os.dup(it) for it in (source, sink))
+        return await self.serve_over(Descriptors(own_source, own_sink))
+
+    def _end(self, loop: asyncio.AbstractEventLoop) -> None:
+        """Ends what an interrupt left behind."""
+        for session in list(self._sessions):
+            loop.run_until_complete(session.abort())
+        tasks = asyncio.all_tasks(loop)
+        for it in tasks:
+            it.cancel()
+        if tasks:
+            loop.run_until_complete(asyncio.wait(tasks, timeout=1))
+        loop.run_until_complete(loop.shutdown_asyncgens())
+
+    async def serve_async(self, reader: asyncio.StreamReader, writer: asyncio.StreamWriter) -> int:
+        """Answer over a reader and a writer until the input is over, close the writer, and give the status.
+
+        It may run several times at once, as for `asyncio.start_server(server.serve_async, ..)`.
+        """
+        return await self.serve_over(Streams(reader, writer))
+
+    async def serve_over(self, channel: Channel) -> int:
+        """Answer over a channel; `bullmyrtle.testing` has one in memory."""
+        return await self._serve(self._session_over(channel))
+
+    def stop(self, status: int = 0, grace: Optional[float] = None) -> None:
+        """End the session, as the end of its input does, with this status. Any thread may do that.
+
+        Nothing more is read, and methods that still run have their grace, or as many seconds as are given.
+        """
+        self.session.stop(status, grace)

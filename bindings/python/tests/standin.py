@@ -1,0 +1,234 @@
+"""The calls of the C library, made of the plain model of a connection.
+
+It is for tests where the library isn't there, and to compare the library with. Each call goes through ctypes with the
+package's own declarations, so that what the package passes arrives here as it would in C.
+"""
+import ctypes
+import os
+import sys
+import types
+
+TOP = os.path.normpath(os.path.join(os.path.dirname(os.path.abspath(__file__)), "..", "..", ".."))
+sys.path.insert(0, os.path.join(TOP, "checks"))
+
+from support import connection_model as model  # noqa: E402
+
+from bullmyrtle import _library  # noqa: E402
+
+CODES = {
+    "not_open": 2,
+    "not_waiting": 3,
+    "over": 4,
+    "not_json": 5,
+    "not_text": 6,
+    "settings": 8,
+    "empty": 9,
+    "full": 10,
+}
+SMALL = 7
+
+
+class Quick(model.Model):
+    """The model, which forgets a unit whose answer is out, so that it stays quick over thousands of calls."""
+
+    def write_answers(self):
+        super().write_answers()
+        if len(self.units) > 64:
+            self.units = [it for it in self.units if it.answers and not it.is_out]
+
+
+class Held:
+    """A model, and the event that was asked for and didn't fit."""
+
+    def __init__(self, settings):
+        self.model = Quick(settings)
+        self.event = None
+
+    def peek(self):
+        if self.event is None:
+            self.event = self.model.next()
+        return self.event
+
+
+def packed(event):
+    """The numbers of an event, and its texts."""
+    kind, flags, number, key, code, name, text, id_ = 0, 0, 0, 0, 0, "", "", ""
+    if isinstance(event, model.Call):
+        kind, number, name, text, id_ = (
+            _library.CALL,
+            event.number,
+            event.method,
+            event.params or "",
+            event.id or "",
+        )
+        flags = int(event.id is not None)
+    elif isinstance(event, model.Cancelled):
+        kind, number = _library.CANCELLED, event.number
+    elif isinstance(event, model.Replied):
+        kind, key, text = _library.REPLIED, event.key, event.result
+    elif isinstance(event, model.Failed):
+        kind, flags, key, code, name = _library.REPLIED, 1, event.key, event.code, event.message
+        text = event.data or ""
+    elif isinstance(event, model.Unanswered):
+        kind, key = _library.UNANSWERED, event.key
+    elif isinstance(event, model.Over):
+        kind, flags = _library.INPUT_OVER, _library.HOWS.index(event.how)
+    parts = [it.encode() for it in (name, text, id_)]
+    numbers = (kind, flags, number, key, code, *map(len, parts))
+    return numbers, b"".join(it + b"\0" for it in parts)
+
+
+def said(call):
+    """Makes a call of the model's, and gives its code."""
+    try:
+        call()
+    except model.Refused as refused:
+        return CODES[str(refused)]
+    return 0
+
+
+def text(at, length):
+    return ctypes.string_at(at, length) if length else b""
+
+
+class StandIn:
+    """The calls, with pointers as C has them: an address, or a pointer to one of the package's structs or numbers."""
+
+    def __init__(self):
+        self._held = {}
+        self._last = 0
+
+    def _at(self, at):
+        return self._held[at.contents.at]
+
+    def _model(self, at):
+        return self._at(at).model
+
+    def bm_interface(self):
+        return _library.INTERFACE
+
+    def bm_new(self, settings, at):
+        it = settings.contents
+        made = []
+
+        def make():
+            if it.framing > 2 or it.order > 1 or it.takes_cancels > 1:
+                raise model.Refused("settings")
+            framing, order = _library.FRAMINGS[it.framing], _library.ORDERS[it.order]
+            limits = it.content or model.MOST_CONTENT, it.calls or model.MOST_CALLS
+            made.append(Held(model.Settings(framing, order, bool(it.takes_cancels), *limits)))
+
+        code = said(make)
+        if not code:
+            self._last += 8
+            at[0] = self._last
+            self._held[self._last] = made[0]
+        return code
+
+    def bm_free(self, handle):
+        del self._held[handle.at]
+
+    def bm_feed(self, at, data, length):
+        return said(lambda: self._model(at).feed(text(data, length)))
+
+    def bm_end(self, at, how):
+        return said(lambda: self._model(at).end("failed" if how else "closed"))
+
+    def bm_next(self, at, event, room, length):
+        held = self._at(at)
+        numbers, texts = packed(held.peek())
+        ctypes.memmove(event, _library.EVENT.pack(*numbers), _library.EVENT.size)
+        if len(texts) > length:
+            return SMALL
+        ctypes.memmove(room, texts, len(texts))
+        held.event = None
+        return 0
+
+    def bm_next_all(self, at, room, length, used, count):
+        if room % 8:
+            raise ValueError(f"the room isn't aligned: {room}")
+        held = self._at(at)
+        size, packs = 0, 0
+        while held.peek() is not None:
+            numbers, texts = packed(held.peek())
+            pack = _library.EVENT.pack(*numbers) + texts
+            start = -(-size // 8) * 8
+            if start + len(pack) > length:
+                if packs:
+                    break
+                used[0], count[0] = len(pack), 0
+                return SMALL
+            ctypes.memmove(room + start, pack, len(pack))
+            size = start + len(pack)
+            packs += 1
+            held.event = None
+        used[0], count[0] = size, packs
+        return 0
+
+    def bm_call(self, at, number, method, method_length, params, params_length, key):
+        def call():
+            given = text(params, params_length) or None
+            key[0] = self._model(at).call(number, text(method, method_length), given)
+
+        return said(call)
+
+    def bm_call_batch(self, at, number, data, length, lengths, count, first):
+        parts, place, whole = [], 0, text(data, length)
+        for it in range(count):
+            parts.append(whole[place : place + lengths[it]])
+            place += lengths[it]
+
+        def call():
+            calls = [(parts[it], parts[it + 1] or None) for it in range(0, count, 2)]
+            first[0] = self._model(at).batch(number, calls)
+
+        return said(call) if place == length and count % 2 == 0 else CODES["settings"]
+
+    def bm_notify(self, at, method, method_length, params, params_length):
+        given = text(method, method_length), text(params, params_length) or None
+        return said(lambda: self._model(at).notify(*given))
+
+    def bm_withdraw(self, at, key):
+        return said(lambda: self._model(at).withdraw(key))
+
+    def bm_answer(self, at, number, result, length):
+        return said(lambda: self._model(at).answer(number, text(result, length) or None))
+
+    def bm_fail(self, at, number, code, message, message_length, data, data_length):
+        given = text(message, message_length), text(data, data_length) or None
+        return said(lambda: self._model(at).fail(number, code, *given))
+
+    def bm_cancel(self, at, number):
+        return said(lambda: self._model(at).cancel(number))
+
+    def bm_pending(self, at):
+        return self._model(at).pending()
+
+    def bm_take(self, at, room, length):
+        data = self._model(at).take(length)
+        ctypes.memmove(room, data, len(data))
+        return len(data)
+
+    def bm_is_done(self, at):
+        held = self._at(at)
+        return held.event is None and held.model.is_done()
+
+    def bm_counts(self, at, report):
+        for name, it in self._model(at).report()._asdict().items():
+            setattr(report.contents, name, it)
+
+
+def through_ctypes(calls):
+    """The same calls as C functions, declared as the package declares them."""
+    found = types.SimpleNamespace()
+    for name, (result, parameters) in _library.CALLS.items():
+        # (a callback gets bytes only up to a zero byte, and an address as it is)
+        kinds = [ctypes.c_void_p if it is ctypes.c_char_p else it for it in parameters]
+        inner = ctypes.PYFUNCTYPE(result, *kinds)(getattr(calls, name))
+        inner.argtypes = parameters
+        setattr(found, name, inner)
+    return found
+
+
+def install():
+    _library.use(through_ctypes(StandIn()))

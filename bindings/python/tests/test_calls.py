@@ -1,0 +1,656 @@
+"""Calls back to the other side, and cancels in every state."""
+import asyncio
+import threading
+import unittest
+
+from helping import Case, joined, logged
+
+from bullmyrtle import LATER, Client, Closed, Empty, Error, Server, Unanswered
+from bullmyrtle._channels import Channel
+
+
+def a_client(**more):
+    client = Client(**more)
+
+    @client.method("twice")
+    def twice(params):
+        return 2 * params[0]
+
+    @client.method("fail")
+    def fail(params):
+        raise Error(7, "seven", params)
+
+    @client.method("slow")
+    async def slow(params):
+        await asyncio.sleep(20)
+
+    return client
+
+
+class Back(Case):
+    def both(self, method):
+        """Runs a method that calls back, async and in a thread, and gives what they answer."""
+
+        async def main():
+            server = Server()
+            server.method("thread", thread=True)(method)
+
+            @server.method("async")
+            async def later(params, request):
+                return await asyncio.get_running_loop().run_in_executor(None, method, params, request)
+
+            async with joined(server, a_client()) as client:
+                return [await client.call("thread", [4]), await client.call("async", [4])]
+
+        return self.wait(main())
+
+    def test_async(self):
+        async def main():
+            server = Server()
+
+            @server.method("x")
+            async def x(params, request):
+                first = request.call("twice", [params[0]])
+                second = request.call("twice", [params[0] + 1])
+                found = await request.call_batch([("twice", [1]), ("fail", [2])], return_exceptions=True)
+                with self.assertRaises(Error) as caught:
+                    await request.call("fail", [3])
+                return [await first, await second, found[0], found[1].data, caught.exception.message]
+
+            @server.method("through")
+            async def through(params, request):
+                return await request.call("fail", params)
+
+            async with joined(server, a_client()) as client:
+                self.assertEqual(await client.call("x", [5]), [10, 12, 2, [2], "seven"])
+                with self.assertRaises(Error) as caught:
+                    await client.call("through", ["d"])
+                self.assertEqual((caught.exception.code, caught.exception.data), (7, ["d"]))
+
+        self.wait(main())
+
+    def test_in_a_thread_it_blocks(self):
+        def method(params, request):
+            try:
+                request.call("fail", [1])
+            except Error as error:
+                code = error.code
+            return [request.call("twice", params), request.call_batch([("twice", [1]), ("twice", [2])]), code]
+
+        self.assertEqual(self.both(method), [[8, [2, 4], 7]] * 2)
+
+    def test_in_a_plain_function_it_says_that_it_would_block(self):
+        async def main():
+            server = Server()
+
+            @server.method("x")
+            def x(params, request):
+                return request.call("twice", [1])
+
+            @server.method("y")
+            def y(params, request):
+                try:
+                    request.call_batch([("twice", [1])])
+                except RuntimeError as error:
+                    return str(error)
+
+            async with joined(server, a_client()) as client:
+                with self.assertRaises(Error) as caught:
+                    await client.call("x")
+                self.assertEqual(caught.exception.code, -32603)
+                self.assertIn("would block the loop", caught.exception.message)
+                self.assertIn("thread=True", await client.call("y"))
+
+        with logged() as log:
+            self.wait(main())
+        self.assertEqual(len(log.errors), 1)
+
+    def test_an_empty_batch(self):
+        async def main():
+            async with joined(Server(), a_client()) as client:
+                with self.assertRaises(Empty):
+                    client.call_batch([])
+
+        self.wait(main())
+
+    def test_of_its_own(self):
+        async def main():
+            server, seen = Server(), []
+            client = a_client()
+            client.method("window/log")(lambda params: seen.append(params))
+
+            @server.method("x")
+            def x(params):
+                server.notify("window/log", ["hello"])
+                server.call("twice", [3]).add_done_callback(lambda it: seen.append(it.result()))
+
+            @server.method("y", thread=True)
+            def y(params):
+                server.notify("window/log", ["thread"])
+                return server.call("twice", [4])
+
+            async with joined(server, client):
+                await client.call("x")
+                await self.until(lambda: 6 in seen)
+                self.assertEqual(await client.call("y"), 8)
+            self.assertEqual(seen, [["hello"], 6, ["thread"]])
+
+        self.wait(main())
+
+    def test_the_request_is_answered_while_others_wait_for_its_calls(self):
+        async def main():
+            server, found = Server(), []
+
+            @server.method("x")
+            async def x(params, request):
+                async def helper():
+                    try:
+                        await request.call("slow")
+                    except Closed as error:
+                        found.append(error)
+                    with self.assertRaises(Closed):
+                        request.call("twice", [1])
+                    found.append("after")
+
+                found.append(asyncio.ensure_future(helper()))
+                await asyncio.sleep(0.01)
+                return "done"
+
+            async with joined(server, a_client(grace=0.1)) as client:
+                self.assertEqual(await client.call("x"), "done")
+                await self.until(lambda: "after" in found)
+                self.assertIsInstance(found[1], Closed)
+
+        with logged():
+            self.wait(main())
+
+    def test_a_call_that_isnt_wanted_any_more(self):
+        async def main():
+            server, gone = Server(), []
+            client = Client()
+
+            @client.method("slow")
+            async def slow(params):
+                try:
+                    await asyncio.sleep(20)
+                except asyncio.CancelledError:
+                    gone.append(params)
+                    raise
+
+            @server.method("x")
+            async def x(params, request):
+                try:
+                    await asyncio.wait_for(request.call("slow", params), 0.05)
+                except asyncio.TimeoutError:
+                    return "too slow"
+
+            async with joined(server, client):
+                self.assertEqual(await client.call("x", [1]), "too slow")
+                await self.until(lambda: gone == [[1]])
+
+        self.wait(main())
+
+    def test_the_end_of_the_input(self):
+        async def main():
+            server, found = Server(), []
+
+            @server.method("x")
+            async def x(params, request):
+                with self.assertRaises(Unanswered):
+                    await request.call("slow")
+                with self.assertRaises(Unanswered):
+                    request.call("slow")
+                with self.assertRaises(Unanswered):
+                    request.call_batch([("slow", None)])
+                request.notify("last")
+                found.append("async")
+
+            @server.method("y", thread=True)
+            def y(params, request):
+                for _ in range(2):
+                    with self.assertRaises(Unanswered):
+                        request.call("slow")
+                found.append("thread")
+
+            async with joined(server, a_client()) as client:
+                client.notify("x")
+                client.notify("y")
+                await self.until(lambda: len(server._sessions) and len(server.session._replies) == 2)
+            self.assertEqual(sorted(found), ["async", "thread"])
+
+        with logged():
+            self.wait(main())
+
+    def test_the_client_gets_unanswered_too(self):
+        async def main():
+            server = Server(grace=0.05)
+            kept = []
+
+            @server.method("x")
+            def x(params, request):
+                kept.append(request)
+                return LATER
+
+            @server.method("exit")
+            def end(params):
+                server.stop(3)
+
+            client = Client()
+            async with joined(server, client):
+                call = client.call("x")
+                client.notify("exit")
+                with self.assertRaises((Error, Unanswered)):
+                    await call
+                await self.until(lambda: not client._sessions)
+                with self.assertRaises(Closed):
+                    client.call("x")
+
+        with logged():
+            self.wait(main())
+
+
+class Cancels(Case):
+    """Each state in which a request may be cancelled, in the way of both protocols."""
+
+    framing = "frames"
+
+    def cancelled(self, register, state, after=None):
+        """Cancels a request once its method is in a state; gives the server's log."""
+
+        async def main():
+            server = Server(framing=self.framing)
+            register(server)
+            withdrawn = []
+            client = Client(framing=self.framing)
+
+            @client.method("slow")
+            async def slow(params):
+                try:
+                    await asyncio.sleep(20)
+                except asyncio.CancelledError:
+                    withdrawn.append(params)
+                    raise
+
+            async with joined(server, client):
+                call = client.call("x", [1])
+                if state is not None:
+                    await self.until(state)
+                await self.cancel(client, call)
+                if after is not None:
+                    await self.until(lambda: after(withdrawn))
+                self.assertEqual(await client.call("alive"), True)
+                counts = server.session._connection.counts()
+                self.assertEqual((counts.open, counts.waiting), (0, 0))
+
+        with logged() as log:
+            self.wait(main())
+        return log.texts
+
+    async def cancel(self, client, call):
+        """Cancels a call of the client's as the protocol does, and waits for its answer."""
+        # (a Reply that is cancelled would not tell of the answer)
+        name, member = {
+            "frames": ("$/cancelRequest", "id"),
+            "lines": ("notifications/cancelled", "requestId"),
+        }[self.framing]
+        client.notify(name, {member: call.key})
+        with self.assertRaises(Error) as caught:
+            await call
+        self.assertEqual((caught.exception.code, caught.exception.message), (-32800, "Request cancelled"))
+
+    @staticmethod
+    def alive(server):
+        server.method("alive")(lambda params: True)
+
+    def test_async_that_sleeps(self):
+        seen = []
+
+        def register(server):
+            self.alive(server)
+
+            @server.method("x")
+            async def x(params, request):
+                seen.append("began")
+                try:
+                    await asyncio.sleep(20)
+                except asyncio.CancelledError:
+                    seen.append(request.is_cancelled)
+                    raise
+
+        self.assertEqual(self.cancelled(register, lambda: seen, lambda _: seen == ["began", True]), [])
+
+    def test_before_it_began(self):
+        seen = []
+
+        def register(server):
+            self.alive(server)
+
+            @server.method("x")
+            async def x(params):
+                seen.append(1)
+                await asyncio.sleep(20)
+
+        self.assertEqual(self.cancelled(register, None), [])
+
+    def test_while_its_calls_wait(self):
+        seen = []
+
+        def register(server):
+            self.alive(server)
+
+            @server.method("x")
+            async def x(params, request):
+                calls = [request.call("slow", [it]) for it in range(3)]
+                seen.append(1)
+                try:
+                    await asyncio.gather(*calls)
+                finally:
+                    seen.append([it.cancelled() for it in calls])
+
+        log = self.cancelled(register, lambda: seen, lambda withdrawn: sorted(withdrawn) == [[0], [1], [2]])
+        self.assertEqual((log, seen), ([], [1, [True] * 3]))
+
+    def test_a_thread_whose_call_waits(self):
+        seen = []
+
+        def register(server):
+            self.alive(server)
+
+            @server.method("x", thread=True)
+            def x(params, request):
+                seen.append("began")
+                try:
+                    request.call("slow", [1])
+                except Closed:
+                    seen.append(request.is_cancelled)
+                try:
+                    request.call("slow", [2])
+                except Closed:
+                    seen.append("closed")
+                request.answer("too late")
+                return "too late"
+
+        log = self.cancelled(register, lambda: seen, lambda withdrawn: len(seen) == 3)
+        self.assertEqual((log, seen), ([], ["began", True, "closed"]))
+
+    def test_a_thread_that_works(self):
+        seen, free = [], threading.Event()
+
+        def register(server):
+            self.alive(server)
+
+            @server.method("x", thread=True)
+            def x(params):
+                seen.append("began")
+                free.wait(20)
+                seen.append("result")
+                return "too late"
+
+            @server.method("free")
+            def let(params):
+                free.set()
+
+        def after(withdrawn):
+            free.set()
+            return len(seen) == 2
+
+        self.assertEqual(self.cancelled(register, lambda: seen, after), [])
+
+    def test_a_thread_that_raises_afterwards(self):
+        seen, free = [], threading.Event()
+
+        def register(server):
+            self.alive(server)
+
+            @server.method("x", thread=True)
+            def x(params):
+                seen.append("began")
+                free.wait(20)
+                seen.append("raised")
+                raise KeyError("too late")
+
+        def after(withdrawn):
+            free.set()
+            return len(seen) == 2
+
+        self.assertEqual(self.cancelled(register, lambda: seen, after), [])
+
+    def test_a_thread_that_hasnt_begun(self):
+        seen, free = [], threading.Event()
+
+        async def main():
+            server = Server(framing=self.framing, workers=1)
+            self.alive(server)
+
+            @server.method("hold", thread=True)
+            def hold(params):
+                free.wait(20)
+
+            @server.method("x", thread=True)
+            def x(params):
+                seen.append(1)
+
+            client = Client(framing=self.framing)
+            async with joined(server, client):
+                first = client.call("hold")
+                await self.cancel(client, client.call("x"))
+                free.set()
+                await first
+                self.assertTrue(await client.call("alive"))
+            self.assertEqual(seen, [])
+
+        self.wait(main())
+
+    def test_it_goes_on_all_the_same(self):
+        seen = []
+
+        def register(server):
+            self.alive(server)
+
+            @server.method("x")
+            async def x(params, request):
+                seen.append("began")
+                try:
+                    await asyncio.sleep(20)
+                except asyncio.CancelledError:
+                    pass
+                with self.assertRaises(Closed):
+                    request.call("slow")
+                seen.append("went on")
+                return "too late"
+
+        self.assertEqual(self.cancelled(register, lambda: seen, lambda _: len(seen) == 2), [])
+
+    def test_it_raises_as_it_is_cancelled(self):
+        seen = []
+
+        def register(server):
+            self.alive(server)
+
+            @server.method("x")
+            async def x(params):
+                seen.append("began")
+                try:
+                    await asyncio.sleep(20)
+                finally:
+                    seen.append("raised")
+                    raise KeyError("x")
+
+        self.assertEqual(self.cancelled(register, lambda: seen, lambda _: len(seen) == 2), [])
+
+    def test_later(self):
+        seen = []
+
+        def register(server):
+            self.alive(server)
+
+            @server.method("x")
+            def x(params, request):
+                seen.append(request)
+                return LATER
+
+        def after(_):
+            seen[0].answer("too late")
+            seen[0].fail(Error(1, "too late"))
+            return seen[0].is_cancelled
+
+        self.assertEqual(self.cancelled(register, lambda: seen, after), [])
+
+    def test_a_helper_that_awaits_its_call(self):
+        seen = []
+
+        def register(server):
+            self.alive(server)
+
+            @server.method("x")
+            async def x(params, request):
+                async def helper():
+                    try:
+                        await request.call("slow")
+                    except Closed:
+                        seen.append("closed")
+
+                seen.append(asyncio.ensure_future(helper()))
+                await asyncio.sleep(20)
+
+        self.assertEqual(self.cancelled(register, lambda: seen, lambda _: len(seen) == 2), [])
+
+    def test_after_the_answer_and_of_what_isnt_there(self):
+        async def main():
+            server = Server(framing=self.framing)
+            self.alive(server)
+            client = Client(framing=self.framing)
+            name, member = {
+                "frames": ("$/cancelRequest", "id"),
+                "lines": ("notifications/cancelled", "requestId"),
+            }[self.framing]
+            async with joined(server, client):
+                for id_ in (1, "1", None, 1.0, True, [1], 99):
+                    self.assertTrue(await client.call("alive"))
+                    client.notify(name, {member: id_})
+                client.notify(name)
+                client.notify(name, [1])
+                self.assertTrue(await client.call("alive"))
+
+        with logged() as log:
+            self.wait(main())
+        self.assertEqual(log.texts, [])
+
+    def test_ids_are_compared_as_values(self):
+        async def main():
+            server = Server(framing=self.framing)
+            self.alive(server)
+
+            @server.method("x")
+            async def x(params, request):
+                await asyncio.sleep(20)
+
+            client = Client(framing=self.framing)
+            name, member = {
+                "frames": ("$/cancelRequest", "id"),
+                "lines": ("notifications/cancelled", "requestId"),
+            }[self.framing]
+            async with joined(server, client):
+                call = client.call("x")
+                for other in ("1", 1.0, True, [1], None, 2):
+                    client.notify(name, {member: other})
+                self.assertTrue(await client.call("alive"))
+                self.assertFalse(call.done())
+                await self.cancel(client, call)
+
+        with logged():
+            self.wait(main())
+
+    def test_the_client_cancels_by_cancelling_what_it_awaits(self):
+        seen = []
+
+        async def main():
+            server = Server(framing=self.framing)
+            self.alive(server)
+
+            @server.method("x")
+            async def x(params):
+                try:
+                    await asyncio.sleep(20)
+                except asyncio.CancelledError:
+                    seen.append("cancelled")
+                    raise
+
+            client = Client(framing=self.framing)
+            async with joined(server, client):
+                with self.assertRaises(asyncio.TimeoutError):
+                    await asyncio.wait_for(client.call("x"), 0.05)
+                await self.until(lambda: seen)
+                self.assertTrue(await client.call("alive"))
+
+        self.wait(main())
+
+    def test_a_notification_isnt_cancelled(self):
+        async def main():
+            server, seen = Server(framing=self.framing), []
+            self.alive(server)
+
+            @server.method("x")
+            async def x(params):
+                await asyncio.sleep(0.05)
+                seen.append(params)
+
+            client = Client(framing=self.framing)
+            async with joined(server, client):
+                client.notify("x", [1])
+                for id_ in range(3):
+                    client.notify("$/cancelRequest", {"id": id_})
+                await self.until(lambda: seen)
+
+        with logged() as log:
+            self.wait(main())
+        self.assertEqual(log.texts, [])
+
+
+class ToolCancels(Cancels):
+    framing = "lines"
+
+
+class Turned(Case):
+    """A batch of a request and its cancel: the connection tells both at once."""
+
+    def test_it(self):
+        class Kept(Channel):
+            def __init__(self):
+                self.written = b""
+
+            def start(self, session):
+                self.session = session
+
+            def write(self):
+                self.written += self.session.take(1 << 20)
+
+        async def main():
+            server, channel, seen = Server(framing="lines", cancel_by="$/cancelRequest"), Kept(), []
+
+            @server.method("x")
+            async def x(params):
+                seen.append("began")
+                await asyncio.sleep(20)
+
+            @server.method("y")
+            def y(params):
+                return 5
+
+            serving = asyncio.ensure_future(server.serve_over(channel))
+            await asyncio.sleep(0)
+            cancel = b'{"jsonrpc":"2.0","method":"$/cancelRequest","params":{"id":1}}'
+            for name in (b"x", b"y"):
+                channel.session.received(b'[{"jsonrpc":"2.0","method":"%s","id":1},%s]\n' % (name, cancel))
+            await self.until(lambda: channel.written.count(b"\n") == 2)
+            self.assertEqual(seen, ["began"])
+            channel.session.ended(False)
+            self.assertEqual(await serving, 0)
+            self.assertEqual(channel.written.count(b"-32800"), 1)
+            self.assertIn(b'"result":5', channel.written)
+
+        self.wait(main())
+
+
+if __name__ == "__main__":
+    unittest.main()

@@ -1,0 +1,154 @@
+"""The package installs offline into a fresh environment, and says clearly where it can't run."""
+import importlib
+import os
+import subprocess
+import sys
+import tempfile
+import unittest
+import zipfile
+
+from helping import OVER, PACKAGE, Case, frame, messages, request
+
+import bullmyrtle
+from bullmyrtle import LibraryError, _library
+
+SERVER = """
+import sys, bullmyrtle
+from bullmyrtle import Server
+server = Server()
+server.method("where")(lambda params: [bullmyrtle.__file__, bullmyrtle._library.find()])
+sys.exit(server.run())
+"""
+
+
+class Wheels(Case):
+    def setUp(self):
+        room = tempfile.TemporaryDirectory()
+        self.addCleanup(room.cleanup)
+        self.room = room.name
+        self.env = {
+            name: it
+            for name, it in os.environ.items()
+            if not name.startswith(("PYTHON", "BULLMYRTLE", "PIP"))
+        }
+        if OVER == "library":
+            self.library = _library.find()
+        else:
+            # (what is in it doesn't matter, as long as nobody loads it)
+            self.library = os.path.join(self.room, _library.FILE)
+            with open(self.library, "wb") as it:
+                it.write(b"not a library")
+        self.env["BULLMYRTLE_LIBRARY"] = self.library
+
+    def run_quietly(self, *words, **more):
+        how = {"env": self.env, "cwd": self.room, "capture_output": True, "timeout": 120, "check": False}
+        return subprocess.run(words, **{**how, **more})
+
+    def test_it_installs_offline(self):
+        python = os.path.join(self.room, "venv", "bin", "python")
+        # (this Python's pip does it, since it takes long to put one into the environment)
+        pip = [sys.executable, "-m", "pip", "--python", python, "--disable-pip-version-check"]
+        made = self.run_quietly(sys.executable, "-m", "venv", "--without-pip", "venv")
+        if made.returncode or self.run_quietly(*pip, "list").returncode:
+            self.skipTest("it needs the modules venv and pip, from version 22.3 on")
+        got = self.run_quietly(*pip, "install", "--no-index", PACKAGE)
+        self.assertEqual(got.returncode, 0, got.stdout + got.stderr)
+        del self.env["BULLMYRTLE_LIBRARY"]
+        if OVER == "library":
+            got = self.run_quietly(python, "-c", SERVER, input=frame(request(1, "where")))
+            where = messages(got.stdout)[0]["result"]
+        else:
+            got = self.run_quietly(
+                python,
+                "-c",
+                "import bullmyrtle; print(bullmyrtle.__file__); print(bullmyrtle._library.find())",
+            )
+            where = got.stdout.decode().split()
+        self.assertEqual(got.returncode, 0, got.stderr)
+        for it in where:
+            self.assertTrue(it.startswith(os.path.join(self.room, "venv")), it)
+        with open(where[1], "rb") as installed, open(self.library, "rb") as given:
+            self.assertEqual(installed.read(), given.read())
+        # (nothing is left behind in the sources)
+        self.assertFalse({"build", "dist", "bullmyrtle.egg-info"} & set(os.listdir(PACKAGE)))
+
+    def build(self, hook, room):
+        sys.path.insert(0, os.path.join(PACKAGE, "build_backend"))
+        try:
+            wheels = importlib.import_module("wheels")
+        finally:
+            del sys.path[0]
+        before = os.environ.get("BULLMYRTLE_LIBRARY")
+        os.environ["BULLMYRTLE_LIBRARY"] = self.library
+        try:
+            os.makedirs(os.path.join(self.room, room))
+            return os.path.join(self.room, room, getattr(wheels, hook)(os.path.join(self.room, room)))
+        finally:
+            del os.environ["BULLMYRTLE_LIBRARY"]
+            if before is not None:
+                os.environ["BULLMYRTLE_LIBRARY"] = before
+
+    def test_the_wheel(self):
+        one, other = self.build("build_wheel", "one"), self.build("build_wheel", "other")
+        with open(one, "rb") as first, open(other, "rb") as second:
+            self.assertEqual(first.read(), second.read())
+        self.assertTrue(
+            one.endswith(f"bullmyrtle-{bullmyrtle.__version__}-py3-none-manylinux2014_x86_64.whl")
+        )
+        with zipfile.ZipFile(one) as wheel:
+            names = wheel.namelist()
+            about = wheel.read(next(it for it in names if it.endswith("METADATA"))).decode()
+        modules = {
+            f"bullmyrtle/{it}"
+            for it in os.listdir(os.path.join(PACKAGE, "bullmyrtle"))
+            if not it.startswith("__pycache__")
+        }
+        self.assertEqual(
+            {it for it in names if "dist-info" not in it}, modules | {f"bullmyrtle/{_library.FILE}"}
+        )
+        self.assertIn("bullmyrtle/py.typed", names)
+        self.assertNotIn("License", about)
+        self.assertIn("Requires-Python: >=3.8", about)
+        self.assertTrue(self.build("build_sdist", "sdist").endswith(".tar.gz"))
+        self.assertTrue(self.build("build_editable", "editable").endswith(".whl"))
+
+    def test_without_the_library(self):
+        self.env["BULLMYRTLE_LIBRARY"] = os.path.join(self.room, "nowhere")
+        self.env["PYTHONPATH"] = PACKAGE
+        code = "import bullmyrtle\ntry:\n    bullmyrtle.Connection()\n"
+        code += "except ImportError as error:\n    print(type(error).__name__, error)"
+        got = self.run_quietly(sys.executable, "-c", code)
+        self.assertIn("LibraryError " + self.env["BULLMYRTLE_LIBRARY"], got.stdout.decode(), got.stderr)
+        self.env["BULLMYRTLE_LIBRARY"] = "libc.so.6"
+        for name in os.listdir("/lib/x86_64-linux-gnu") if os.path.isdir("/lib/x86_64-linux-gnu") else ():
+            if name == "libc.so.6":
+                self.env["BULLMYRTLE_LIBRARY"] = f"/lib/x86_64-linux-gnu/{name}"
+                got = self.run_quietly(sys.executable, "-c", code)
+                self.assertIn("lacks a call", got.stdout.decode())
+
+    def test_another_interface(self):
+        class Other:
+            def __getattr__(self, name):
+                return lambda: 2
+
+        with self.assertRaises(LibraryError) as caught:
+            _library.declare(Other())
+        self.assertIn("interface 2", str(caught.exception))
+
+    def test_elsewhere(self):
+        self.env["PYTHONPATH"] = PACKAGE
+        for change, words in (
+            ("sys.platform = 'darwin'", "this is darwin on x86_64"),
+            ("sys.platform = 'win32'; del os.uname", "this is win32 on another machine"),
+            ("os.uname = lambda: type('U', (), {'machine': 'aarch64'})", "this is linux on aarch64"),
+            ("sys.maxsize = 2**31 - 1", "with 32 bits"),
+        ):
+            code = f"import os, sys\n{change}\ntry:\n    import bullmyrtle\n"
+            code += "except ImportError as error:\n    print(error)"
+            got = self.run_quietly(sys.executable, "-c", code).stdout.decode()
+            self.assertIn("bullmyrtle is for Linux on x86-64", got)
+            self.assertIn(words, got)
+
+
+if __name__ == "__main__":
+    unittest.main()

@@ -1,0 +1,491 @@
+"""`run` on the standard streams, in a process of its own: what they may be, who can't corrupt them, how it ends."""
+import asyncio
+import contextlib
+import os
+import pty
+import signal
+import socket
+import subprocess
+import tempfile
+import textwrap
+import threading
+import time
+import tty
+import unittest
+
+from helping import Case, command, environment, frame, messages, notice, request
+
+from bullmyrtle import Server
+from bullmyrtle._channels import Descriptors
+
+HEAD = """
+import asyncio, ctypes, os, subprocess, sys, threading, time
+from bullmyrtle import LATER, Error, Server
+server = Server(grace=float(os.environ.get("GRACE", "20")))
+@server.method("echo")
+def echo(params):
+    return params
+@server.method("exit")
+def leave(params):
+    server.stop(params[0] if params else 0)
+"""
+TAIL = """
+status = server.run()
+alive = [it.name for it in threading.enumerate() if it is not threading.main_thread()]
+print("threads", alive, file=sys.stderr)
+sys.exit(status)
+"""
+
+
+class Scripts(Case):
+    def setUp(self):
+        room = tempfile.TemporaryDirectory()
+        self.addCleanup(room.cleanup)
+        self.room = room.name
+
+    def script(self, body="", tail=TAIL):
+        file = os.path.join(self.room, "server.py")
+        with open(file, "w", encoding="utf-8") as it:
+            it.write(HEAD + textwrap.dedent(body) + textwrap.dedent(tail))
+        return command(file)
+
+    def ran(self, given, body="", tail=TAIL, grace=20):
+        """Runs a server on this input, and gives its status, its messages and its errors."""
+        how = {"capture_output": True, "timeout": 60, "env": environment(GRACE=str(grace)), "check": False}
+        ended = subprocess.run(self.script(body, tail), input=given, **how)
+        return ended.returncode, ended.stdout, ended.stderr.decode()
+
+    def started(self, body="", tail=TAIL, **more):
+        how = {"stdin": subprocess.PIPE, "stdout": subprocess.PIPE, "stderr": subprocess.PIPE, **more}
+        process = subprocess.Popen(self.script(body, tail), env=environment(), bufsize=0, **how)
+        self.addCleanup(self.ended, process)
+        return process
+
+    @staticmethod
+    def ended(process):
+        if process.poll() is None:
+            process.kill()
+        process.wait()
+        for it in (process.stdin, process.stdout, process.stderr):
+            if it is not None:
+                it.close()
+
+
+def echoed(id_, params):
+    return {"id": id_, "jsonrpc": "2.0", "result": params}
+
+
+def read_message(descriptor):
+    """Reads one message from a descriptor."""
+    data = b""
+    while b"\r\n\r\n" not in data:
+        more = os.read(descriptor, 1)
+        if not more:
+            raise EOFError(data)
+        data += more
+    length = int(data.split(b":")[1])
+    body = b""
+    while len(body) < length:
+        body += os.read(descriptor, length - len(body))
+    return messages(data + body)[0]
+
+
+def read_line(file):
+    data = b""
+    while not data.endswith(b"\n"):
+        more = file.read(1)
+        if not more:
+            raise EOFError(data)
+        data += more
+    return data
+
+
+class Streams(Scripts):
+    given = frame(request(1, "echo", ["a"])) + frame(request(2, "echo", ["b" * 3000]))
+    answers = [echoed(1, ["a"]), echoed(2, ["b" * 3000])]
+
+    def test_pipes(self):
+        status, out, err = self.ran(self.given)
+        self.assertEqual((status, messages(out), err), (0, self.answers, "threads []\n"))
+
+    def test_files(self):
+        with open(os.path.join(self.room, "in"), "wb") as it:
+            it.write(self.given)
+        with open(os.path.join(self.room, "in"), "rb") as given, open(
+            os.path.join(self.room, "out"), "wb"
+        ) as out:
+            ended = subprocess.run(
+                self.script(),
+                stdin=given,
+                stdout=out,
+                stderr=subprocess.PIPE,
+                timeout=60,
+                env=environment(),
+                check=False,
+            )
+        with open(os.path.join(self.room, "out"), "rb") as out:
+            self.assertEqual((ended.returncode, messages(out.read())), (0, self.answers), ended.stderr)
+
+    def test_nothing(self):
+        ended = subprocess.run(
+            self.script(),
+            stdin=subprocess.DEVNULL,
+            stdout=subprocess.DEVNULL,
+            stderr=subprocess.PIPE,
+            timeout=60,
+            env=environment(),
+            check=False,
+        )
+        self.assertEqual((ended.returncode, ended.stderr), (0, b"threads []\n"))
+
+    def test_sockets(self):
+        for both in (True, False):
+            with self.subTest(both=both), contextlib.ExitStack() as stack:
+                ours, theirs = map(stack.enter_context, socket.socketpair())
+                process = self.started(stdin=theirs, stdout=theirs if both else subprocess.PIPE)
+                theirs.close()
+                ours.sendall(self.given)
+                ours.shutdown(socket.SHUT_WR)
+                data = b""
+                while more := ours.recv(1 << 16) if both else process.stdout.read(1 << 16):
+                    data += more
+                self.assertEqual(messages(data), self.answers)
+                self.assertEqual(process.wait(30), 0)
+
+    def test_terminals(self):
+        ours, theirs = pty.openpty()
+        tty.setraw(theirs)
+        process = self.started(stdin=theirs, stdout=theirs)
+        os.close(theirs)
+        os.write(ours, frame(request(1, "echo", ["a"])))
+        self.assertEqual(read_message(ours), self.answers[0])
+        os.write(ours, frame(notice("exit")))
+        self.assertEqual(process.wait(30), 0)
+        os.close(ours)
+
+    def test_a_terminal_that_hangs_up(self):
+        ours, theirs = pty.openpty()
+        tty.setraw(theirs)
+        process = self.started(stdin=theirs, stdout=theirs, start_new_session=True)
+        os.close(theirs)
+        os.write(ours, frame(request(1, "echo", ["a"])))
+        self.assertEqual(read_message(ours), self.answers[0])
+        os.close(ours)
+        # (the end of the input, as the kernel tells of it)
+        self.assertEqual((process.wait(30), process.stderr.read()), (0, b"threads []\n"))
+
+    def test_their_mode_isnt_changed(self):
+        process = self.started()
+        process.stdin.write(self.given)
+        read_message(process.stdout.fileno())
+        self.assertTrue(os.get_blocking(process.stdout.fileno()))
+        modes = []
+        for name in (0, 1):
+            with open(f"/proc/{process.pid}/fdinfo/{name}", encoding="ascii") as it:
+                modes.append(
+                    int(next(line.split()[1] for line in it if line.startswith("flags")), 8) & os.O_NONBLOCK
+                )
+        self.assertEqual(modes, [0, 0])
+        process.stdin.close()
+        self.assertEqual(process.wait(30), 0)
+
+    def test_nonblocking_pipes(self):
+        process = self.started()
+        os.set_blocking(process.stdin.fileno(), False)
+        os.set_blocking(process.stdout.fileno(), False)
+        process.stdin.write(frame(request(1, "echo", ["a"])))
+        os.set_blocking(process.stdout.fileno(), True)
+        self.assertEqual(read_message(process.stdout.fileno()), self.answers[0])
+        process.stdin.close()
+        self.assertEqual(process.wait(30), 0)
+
+    def test_much_that_is_read_slowly(self):
+        body = """
+        @server.method("much")
+        def much(params):
+            return "x" * params[0]
+        """
+        process = self.started(body)
+        for id_ in range(8):
+            process.stdin.write(frame(request(id_, "much", [400_000])))
+        time.sleep(0.5)
+        for id_ in range(8):
+            self.assertEqual(len(read_message(process.stdout.fileno())["result"]), 400_000)
+        process.stdin.close()
+        self.assertEqual(process.wait(30), 0)
+
+    def test_reading_stops_while_much_is_to_be_written(self):
+        async def main():
+            server = Server()
+            server.method("much")(lambda params: "x" * 20_000)
+            given, theirs = os.pipe()
+            ours, taken = os.pipe()
+            serving = asyncio.ensure_future(server.serve_over(Descriptors(given, taken)))
+            await asyncio.sleep(0)
+            one, count, sent = frame(request(1, "much", ["y" * 200])), 1000, []
+
+            def write():
+                for _ in range(count):
+                    sent.append(os.write(theirs, one))
+                os.close(theirs)
+
+            writing = threading.Thread(target=write, daemon=True)
+            writing.start()
+            await self.until(lambda: server.session._channel._is_paused)
+            await asyncio.sleep(0.2)
+            # (what it has taken in is bounded: by one read, and by what the pipe holds)
+            self.assertLess(len(sent), count)
+            loop, answers = asyncio.get_running_loop(), 0
+            while data := await loop.run_in_executor(None, os.read, ours, 1 << 20):
+                answers += data.count(b"Content-Length")
+                if answers >= count - 1 and serving.done():
+                    break
+            self.assertEqual(await serving, 0)
+            self.assertGreater(answers, count * 0.99)  # (a head may be cut in two)
+            writing.join()
+            os.close(ours)
+
+        self.wait(main(), 60)
+
+
+class Uncorrupted(Scripts):
+    """Nobody but the server writes to the standard output, or reads from the standard input."""
+
+    def test_writers(self):
+        body = """
+        print("printed before", end="")
+        @server.method("all")
+        def all_(params):
+            print("printed")
+            sys.stdout.write("written")
+            sys.__stdout__.write("original")
+            sys.stdout.buffer.write(b"buffered")
+            os.write(1, b"descriptor")
+            libc = ctypes.CDLL(None)
+            libc.puts(b"libc")
+            libc.fflush(None)
+            libc.write(1, b"raw", 3)
+            subprocess.run(["sh", "-c", "echo child; echo err >&2"], check=True)
+            return subprocess.run(["sh", "-c", "echo kept"], check=True, stdout=subprocess.PIPE).stdout.decode()
+        """
+        status, out, err = self.ran(frame(request(1, "all")) + frame(request(2, "echo", [1])), body)
+        self.assertEqual((status, messages(out)), (0, [echoed(1, "kept\n"), echoed(2, [1])]))
+        for it in "printed before|printed|written|original|buffered|descriptor|libc|raw|child|err".split("|"):
+            self.assertIn(it, err)
+
+    def test_readers(self):
+        body = """
+        @server.method("all")
+        def all_(params):
+            child = subprocess.run(["cat"], check=True, stdout=subprocess.PIPE).stdout
+            return [sys.stdin.read(), os.read(0, 100).decode(), child.decode(), os.readlink("/proc/self/fd/0")]
+        """
+        status, out, _ = self.ran(frame(request(1, "all")) + frame(request(2, "echo", [1])), body)
+        self.assertEqual((status, messages(out)), (0, [echoed(1, ["", "", "", "/dev/null"]), echoed(2, [1])]))
+
+    def test_children_inherit_neither(self):
+        body = """
+        @server.method("all")
+        def all_(params):
+            words, pipe = ["ls", "-l", "/proc/self/fd"], subprocess.PIPE
+            return subprocess.run(words, check=True, stdout=pipe, close_fds=False).stdout.decode()
+        """
+        process = self.started(body)
+        process.stdin.write(frame(request(1, "all")))
+        listed = read_message(process.stdout.fileno())["result"]
+        for stream in (process.stdin, process.stdout):
+            self.assertNotIn(os.readlink(f"/proc/self/fd/{stream.fileno()}"), listed)
+        process.stdin.close()
+        self.assertEqual(process.wait(30), 0)
+
+    def test_both_are_restored(self):
+        tail = """
+        status = server.run()
+        print("after", os.read(0, 100).decode().strip(), flush=True)
+        subprocess.run(["echo", "child"], check=True)
+        sys.exit(status)
+        """
+        process = self.started(tail=tail)
+        process.stdin.write(frame(request(1, "echo", [1])) + frame(notice("exit")))
+        self.assertEqual(read_message(process.stdout.fileno()), echoed(1, [1]))
+        time.sleep(0.1)
+        process.stdin.write(b"more\n")
+        self.assertEqual(read_line(process.stdout) + read_line(process.stdout), b"after more\nchild\n")
+        self.assertEqual(process.wait(30), 0)
+
+    def test_run_may_run_again(self):
+        tail = """
+        def count():
+            return len(os.listdir("/proc/self/fd"))
+        before = count()
+        print("status", server.run(), flush=True)
+        print("status", server.run(), flush=True)
+        assert count() == before, (count(), before)
+        """
+        process = self.started(tail=tail)
+        process.stdin.write(frame(notice("exit", [4])))
+        self.assertEqual(read_line(process.stdout), b"status 4\n")
+        process.stdin.write(frame(request(1, "echo", [1])))
+        self.assertEqual(read_message(process.stdout.fileno()), echoed(1, [1]))
+        process.stdin.close()
+        self.assertEqual(read_line(process.stdout), b"status 0\n")
+        self.assertEqual(process.wait(30), 0, process.stderr.read())
+
+    def test_two_at_once(self):
+        body = """
+        @server.method("other", thread=True)
+        def other(params):
+            return Server().run()
+        """
+        status, out, err = self.ran(frame(request(1, "other")), body)
+        self.assertEqual((status, messages(out)[0]["error"]["code"]), (0, -32603))
+        self.assertIn("standard streams", err)
+
+
+class Ends(Scripts):
+    def test_statuses(self):
+        well = frame(request(1, "echo", [1]))
+        for given, status in (
+            (b"", 0),
+            (well, 0),
+            (well + b"Content-Length: 5\r\n\r\n", 1),
+            (b"nonsense\r\n\r\n", 1),
+            (frame(b"nonsense"), 0),
+            (well + frame(notice("exit")), 0),
+            (well + frame(notice("exit", [3])), 3),
+            (frame(notice("exit", [0])) + well, 0),
+        ):
+            with self.subTest(given=given):
+                got, out, err = self.ran(given)
+                self.assertEqual((got, err), (status, "threads []\n"))
+                self.assertEqual(
+                    len(messages(out)),
+                    given.count(b"Content-Length")
+                    - given.count(b"exit")
+                    - (given[-4:] == b"\r\n\r\n" and b"Length: 5" in given),
+                )
+
+    def test_grace(self):
+        body = """
+        @server.method("sleep")
+        async def sleep(params):
+            await asyncio.sleep(params[0])
+            return params
+        @server.method("block", thread=True)
+        def block(params):
+            time.sleep(params[0])
+            return params
+        @server.method("stubborn")
+        async def stubborn(params):
+            try:
+                await asyncio.sleep(20)
+            except asyncio.CancelledError:
+                await asyncio.sleep(20)
+        @server.method("later")
+        def later(params, request):
+            return LATER
+        """
+        given = frame(request(1, "sleep", [0.05])) + frame(request(2, "block", [0.05]))
+        status, out, err = self.ran(given, body)
+        self.assertEqual((status, {it["id"] for it in messages(out)}, err), (0, {1, 2}, "threads []\n"))
+        for method, threads in (("sleep", []), ("block", ["bullmyrtle-1"]), ("stubborn", []), ("later", [])):
+            with self.subTest(method):
+                began = time.monotonic()
+                status, out, err = self.ran(frame(request(1, method, [20])), body, grace=0.3)
+                self.assertLess(time.monotonic() - began, 15)
+                self.assertEqual((status, messages(out)[0]["error"]["code"]), (1, -32800))
+                self.assertEqual(
+                    err, f"{method}: it didn't end in time, and is cancelled\nthreads {threads}\n"
+                )
+
+    def test_a_thread_whose_call_is_unanswered_ends(self):
+        body = """
+        @server.method("ask", thread=True)
+        def ask(params, request):
+            request.call("nobody")
+        """
+        status, out, err = self.ran(frame(request(1, "ask")), body)
+        self.assertEqual((status, messages(out)[1]["error"]["code"], err), (0, -32603, "threads []\n"))
+        self.assertIn("Unanswered", messages(out)[1]["error"]["message"])
+
+    def test_nobody_reads(self):
+        process = self.started()
+        process.stdout.close()
+        process.stdin.write(frame(request(1, "echo", [1])))
+        self.assertEqual((process.wait(30), process.stderr.read()), (1, b"threads []\n"))
+
+    def test_nobody_reads_a_socket(self):
+        ours, theirs = socket.socketpair()
+        process = self.started(stdout=theirs)
+        theirs.close()
+        ours.close()
+        process.stdin.write(frame(request(1, "echo", [1])))
+        self.assertEqual((process.wait(30), process.stderr.read()), (1, b"threads []\n"))
+
+    def test_a_full_device(self):
+        with open("/dev/full", "wb") as full:
+            process = self.started(stdout=full)
+        process.stdin.write(frame(request(1, "echo", [1])))
+        self.assertEqual(process.wait(30), 1)
+        self.assertEqual(process.stderr.read(), b"threads []\n")
+
+    def test_closed_streams(self):
+        words = " ".join(f"'{it}'" for it in self.script(tail="\nos._exit(server.run())\n"))
+        for how in ("<&-", ">&-", "<&- >&-", "<&- >&- 2>&-"):
+            with self.subTest(how):
+                ended = subprocess.run(
+                    ["sh", "-c", f"{words} {how}"],
+                    stdin=subprocess.DEVNULL,
+                    capture_output=True,
+                    timeout=60,
+                    env=environment(),
+                    check=False,
+                )
+                self.assertEqual((ended.returncode, ended.stdout, ended.stderr), (1, b"", b""))
+
+    def test_an_interrupt(self):
+        body = """
+        @server.method("async")
+        async def later(params):
+            server.notify("began")
+            await asyncio.sleep(20)
+        @server.method("spin")
+        async def spin(params):
+            server.session._flush()
+            server.notify("began"); server.session._flush()
+            time.sleep(20)
+        @server.method("plain")
+        def plain(params):
+            server.notify("began"); server.session._flush()
+            time.sleep(20)
+        @server.method("thread", thread=True)
+        def thread(params):
+            server.notify("began")
+            server.call("nobody")
+        """
+        for method in ("async", "spin", "plain", "thread", None):
+            with self.subTest(method):
+                process = self.started(body)
+                process.stdin.write(frame(request(1, method or "echo", [])))
+                read_message(process.stdout.fileno())
+                process.send_signal(signal.SIGINT)
+                self.assertEqual((process.wait(15), process.stderr.read()), (1, b"threads []\n"))
+
+    def test_sys_exit_in_a_method(self):
+        body = """
+        @server.method("plain")
+        def plain(params):
+            sys.exit(7)
+        @server.method("async")
+        async def later(params):
+            await asyncio.sleep(0)
+            sys.exit(7)
+        """
+        for method in ("plain", "async"):
+            with self.subTest(method):
+                status, out, err = self.ran(frame(request(1, "echo", [1])) + frame(request(2, method)), body)
+                self.assertEqual((status, messages(out), err), (7, [echoed(1, [1])], ""))
+
+
+if __name__ == "__main__":
+    unittest.main()
