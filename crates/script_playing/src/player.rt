@@ -3,7 +3,7 @@ use crate::event_line::{put_event, put_report};
 use crate::line::Line;
 use crate::refusal::Refusal;
 use crate::saying::{answer_of, error_of, outgoing_of, outgoings_of};
-use connection::{Connection, Event, Refused, Settings};
+use connection::{Connection, Event, HowEnded, Refused, Settings};
 use json_texts::TextReader;
 use script_actions::{Action, Spoken, Wanted};
 use std::alloc::Global;
@@ -40,13 +40,13 @@ impl Player {
     pub fn play(&mut self, action: &Action, line: &mut Line) -> Result<(), Refusal> {
         match action {
             Action::Settings(_) => Err(Refusal::Settings),
-            Action::Feed(piece) => done(self.connection.feed(piece.as_slice()), line),
-            Action::End(how) => done(self.connection.end(*how), line),
+            Action::Feed(piece) => self.feed(piece.as_slice(), line),
+            Action::End(how) => self.end(*how, line),
             Action::Next => self.next(line),
             Action::Call { number, spoken } => self.call(*number, spoken, line),
             Action::Batch { number, spoken } => self.call_batch(*number, spoken.as_slice(), line),
             Action::Notify(spoken) => self.notify(spoken, line),
-            Action::Withdraw { key } => done(self.connection.withdraw(*key), line),
+            Action::Withdraw { key } => self.withdraw(*key, line),
             Action::Answer { number, result } => self.answer(*number, result, line),
             Action::Fail {
                 number,
@@ -54,12 +54,32 @@ impl Player {
                 message,
                 data,
             } => self.fail(*number, *code, message.as_slice(), data, line),
-            Action::Cancel { number } => done(self.connection.cancel(*number), line),
+            Action::Cancel { number } => self.cancel(*number, line),
             Action::Take { room } => self.take(*room, line),
             Action::Pending => self.pending(line),
             Action::IsDone => self.is_done(line),
-            Action::Report => Ok(put_report(line, &self.connection.report())?),
+            Action::Report => self.report(line),
         }
+    }
+
+    fn feed(&mut self, piece: &[u8], line: &mut Line) -> Result<(), Refusal> {
+        done(self.connection.feed(piece), line)
+    }
+
+    fn end(&mut self, how: HowEnded, line: &mut Line) -> Result<(), Refusal> {
+        done(self.connection.end(how), line)
+    }
+
+    fn withdraw(&mut self, key: u64, line: &mut Line) -> Result<(), Refusal> {
+        done(self.connection.withdraw(key), line)
+    }
+
+    fn cancel(&mut self, number: u64, line: &mut Line) -> Result<(), Refusal> {
+        done(self.connection.cancel(number), line)
+    }
+
+    fn report(&self, line: &mut Line) -> Result<(), Refusal> {
+        Ok(put_report(line, &self.connection.report())?)
     }
 
     fn next(&mut self, line: &mut Line) -> Result<(), Refusal> {
