@@ -1,6 +1,6 @@
 """Plays each stream of examples/ with the table there, read as it comes, lazily, and with the last method first, and compares what is
 printed with the file beside the stream; and runs the commands of its page, of the first one and of the page on commands. Each link of a page
-leads somewhere, the page on connections shows the files of a program that the gate runs, and the page on changes begins with the program's version."""
+leads somewhere, and the page on changes begins with the program's version."""
 import glob
 import os
 import re
@@ -48,13 +48,6 @@ def check_page(count, *place):
                 count.check(f"{place}: {text!r}", (ended.returncode, output) == (0, printed), f"{ended.returncode}, {output!r}, {ended.stderr!r}")
 
 
-def check_host(count):
-    """The page on connections shows a program that the gate runs, its input and its output."""
-    shown = [text for mark, text in pages.blocks_of(count, "docs", "connection.md") if mark in ("rust", "in", "out")]
-    files = [text_of(f"{ran.TOP}/crates/connection_example/{it}") for it in ("src/main.rt", "stdin", "stdout")]
-    count.check("docs/connection.md shows the files of crates/connection_example", shown == files)
-
-
 def prose_of(file):
     return re.sub(r"^```.*?^```", "", text_of(file), flags=re.M | re.S)
 
@@ -94,7 +87,6 @@ count.check("each output is compared", not strange, f"{strange}")
 check_page(count, "examples", "README.md")
 check_page(count, "README.md")
 check_page(count, "docs", "commands.md")
-check_host(count)
 check_links(count)
 check_version(count)
 count.end()
