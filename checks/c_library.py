@@ -1,6 +1,7 @@
 """usage: python3 checks/c_library.py [--library FOLDER] [--cases N]      tries N sessions, 1,000 where none are named
 
-The C library in a folder, out/library where none is named, as bin/build-library builds it. Where there is none, the header alone is tried. Its header, its exports and its map have the same
+The C library in a folder; where none is named, in out/library, as bin/build-library builds it, or else the released one. Where there is none,
+the header alone is tried. Its header, its exports and its map have the same
 calls, with the same parameters, and the structs lie as C, ctypes and the exports lay them out. The header compiles without a warning, as C99
 and as C++. The programs of examples/c are built and run, with the shared library and with the static one, and so is a player of scripts,
 which gives what the model of docs/connection.md does for its rows and for random sessions; a part of it runs under valgrind."""
@@ -30,7 +31,8 @@ WATCHED = 60
 
 def words_of(words: Iterable[str]) -> argparse.Namespace:
     parser = argparse.ArgumentParser(usage=__doc__.partition("\n\n")[0].removeprefix("usage: "))
-    parser.add_argument("--library", default=os.path.join(ran.TOP, "out", "library"))
+    built, released = (os.path.join(ran.TOP, *it) for it in (("out", "library"), ("release",)))
+    parser.add_argument("--library", default=built if os.path.isdir(built) else released)
     parser.add_argument("--cases", type=int, default=SESSIONS)
     return parser.parse_args([*words])
 

@@ -1,0 +1,244 @@
+/* One end of a JSON-RPC 2.0 conversation whose methods are your own code: a connection.
+ *
+ * A connection does no input and no output, starts no thread and reads no clock. You feed it the bytes that you have
+ * read, ask it for events, answer and call, and take the bytes that are to be written, in whatever order you like. What
+ * it does with them is told in docs/connection.md.
+ *
+ * Rules for all calls
+ *
+ * Memory. All bytes are copied within the call: the library keeps no pointer of yours, and lends you none of its own.
+ *   It takes memory by malloc, realloc and free of the C library.
+ * Pointers. None is NULL, not even to bytes whose length is 0. A pointer to a struct or a number is aligned as C aligns
+ *   it. What a call writes to (an event, a room, a key, a count) overlaps with nothing else that is passed to it.
+ * Lengths. They count bytes, unless it is said otherwise. A text that you pass needs no zero byte at its end.
+ * Threads. Make one call at a time on one connection. Which thread makes it doesn't matter, as long as something orders
+ *   the calls, such as a lock. Calls on different connections may be made at the same time. Make no call in a signal
+ *   handler, nor in the child of fork() where the process has other threads.
+ * Answers. A call that gives an int32_t gives one of the codes below. If it isn't BM_OK, the call has told you nothing,
+ *   has said nothing for you, and has written nothing to what you passed, unless it is said otherwise. A call may give
+ *   BM_NO_MEMORY whatever else is wrong with it, and may then be made again. If several other codes apply, the first of
+ *   these is given: BM_SETTINGS, BM_NOT_OPEN, BM_NOT_WAITING, BM_NOT_TEXT, BM_NOT_JSON, BM_OVER, BM_EMPTY, BM_FULL.
+ *   In a batch a method that isn't text comes before params that aren't JSON, whichever call has them.
+ *
+ * JSON is one JSON value in UTF-8, at most 120 levels deep. It is told and written compactly: without blanks, with the
+ * members in their order, and with numbers digit for digit.
+ */
+#ifndef BULLMYRTLE_H
+#define BULLMYRTLE_H
+
+#include <stdbool.h>
+#include <stddef.h>
+#include <stdint.h>
+
+#ifdef __cplusplus
+extern "C" {
+#endif
+
+/* The version of this header. bm_interface() gives the library's. */
+#define BM_INTERFACE 1
+
+/* What a call gives. */
+enum {
+    BM_OK,
+    BM_NO_MEMORY,   /* memory was refused; the call may be made again */
+    BM_NOT_OPEN,    /* the number is no call that came, or it is answered already */
+    BM_NOT_WAITING, /* the key is no call of yours that waits, or it is withdrawn already, or cancels are off */
+    BM_OVER,        /* the input is over */
+    BM_NOT_JSON,    /* bytes that aren't JSON, or params that are neither an array nor an object */
+    BM_NOT_TEXT,    /* a method's name or an error's message that isn't UTF-8 */
+    BM_SMALL,       /* the room is too small for the next event, which waits */
+    BM_SETTINGS,    /* a setting, a way to end or a list of lengths that there can't be */
+    BM_EMPTY,       /* a batch of no calls */
+    BM_FULL         /* the keys would go over 2^53 - 1 */
+};
+
+/* How contents are framed. */
+enum {
+    BM_FRAMES,  /* behind a head with its Content-Length, as in the Language Server Protocol */
+    BM_LINES,   /* one content a line, as in the standard streams of MCP */
+    BM_CONTENTS /* each bm_feed gives one content, and each bm_take takes one, as with WebSocket */
+};
+
+/* When answers go out. */
+enum {
+    BM_AS_ANSWERED, /* as soon as all requests of their content are answered */
+    BM_AS_CAME      /* not before the answers of the contents that came before */
+};
+
+/* How the input ended, as you tell it. */
+enum { BM_CLOSED, BM_READ_FAILED };
+
+/* The kinds of events. */
+enum {
+    BM_NONE,       /* there is no event now */
+    BM_CALL,       /* the other side calls: a request or a notification */
+    BM_CANCELLED,  /* the other side cancels one of its requests, which is still to be answered */
+    BM_REPLIED,    /* the reply to a call of yours */
+    BM_UNANSWERED, /* the input is over, and a call of yours has no reply */
+    BM_INPUT_OVER  /* the input is over; the last event */
+};
+
+/* Flags of an event: of BM_CALL, of BM_REPLIED. */
+enum { BM_REQUEST = 1 };
+enum { BM_ERROR = 1 };
+
+/* Flags of BM_INPUT_OVER: why the input is over. */
+enum {
+    BM_OVER_CLEAN,         /* bm_end said BM_CLOSED */
+    BM_OVER_BAD_HEAD,      /* a line of a head that isn't a field (BM_FRAMES) */
+    BM_OVER_BAD_LENGTH,    /* a Content-Length that isn't a number (BM_FRAMES) */
+    BM_OVER_TWO_LENGTHS,   /* a head with two of them (BM_FRAMES) */
+    BM_OVER_TOO_LARGE,     /* a content is longer than the setting allows */
+    BM_OVER_NO_LENGTH,     /* a head without Content-Length (BM_FRAMES) */
+    BM_OVER_HEAD_TOO_LONG, /* a head of more than 4,096 bytes (BM_FRAMES) */
+    BM_OVER_TRUNCATED,     /* the input was closed inside a frame (BM_FRAMES) */
+    BM_OVER_READ,          /* bm_end said BM_READ_FAILED */
+    BM_OVER_CALLS          /* more calls came than the setting allows */
+};
+
+/* What a connection is made with. All zero is a good start: frames, answers as soon as they can go out, no cancels, and
+ * the greatest limits. */
+typedef struct {
+    uint32_t framing;       /* BM_FRAMES, BM_LINES or BM_CONTENTS */
+    uint32_t order;         /* BM_AS_ANSWERED or BM_AS_CAME */
+    uint32_t takes_cancels; /* 1 where the protocol has $/cancelRequest, else 0 */
+    uint32_t content;       /* how many bytes a content may have, at most 16,777,216; 0 is this greatest value */
+    uint64_t calls;         /* how many calls may come; 0 is the greatest value, 2^64 - 1 */
+} bm_settings;
+
+/* A connection. A copy of this struct is the same connection. */
+typedef struct {
+    void *at;
+} bm_connection;
+
+/* An event. Its texts lie in the room that was passed with it, one behind the other: the name, a zero byte, the text, a
+ * zero byte, the id and a zero byte. So the text begins at room + name_len + 1, the id at room + name_len + text_len +
+ * 2, and all three need name_len + text_len + id_len + 3 bytes. The zero bytes aren't counted, and are there for
+ * lengths of 0 too. What isn't named for a kind is 0.
+ *
+ *   BM_CALL        number; flags: BM_REQUEST or 0; name: the method; text: the params as JSON, of length 0 where there
+ *                  are none; id: as JSON, of length 0 where it is a notification
+ *   BM_CANCELLED   number: that of the request
+ *   BM_REPLIED     key: that of your call; flags: BM_ERROR or 0; text: the result as JSON. Where it is an error: code;
+ *                  name: its message; text: its data as JSON, of length 0 where there are none
+ *   BM_UNANSWERED  key: that of your call
+ *   BM_INPUT_OVER  flags: why, by one of the names above
+ */
+typedef struct {
+    uint32_t kind;
+    uint32_t flags;
+    uint64_t number; /* counts the calls that came, from 1 */
+    uint64_t key;    /* counts your calls, from 1 */
+    int64_t code;
+    size_t name_len;
+    size_t text_len;
+    size_t id_len;
+} bm_event;
+
+/* What has happened so far. */
+typedef struct {
+    uint64_t calls;           /* calls that came, requests and notifications */
+    uint64_t requests;        /* of these, the requests */
+    uint64_t open;            /* calls that came and aren't answered */
+    uint64_t waiting;         /* your calls that wait for a reply */
+    uint64_t own_calls;       /* your calls, each of a batch */
+    uint64_t answers_written; /* answers that have gone out, whether taken or not; an array is one */
+    uint64_t unreadable;      /* contents that couldn't be read */
+    uint64_t invalid;         /* entries that were neither a call nor a reply */
+    uint64_t ignored;         /* replies that nobody waited for, and cancels that reached no request */
+} bm_report;
+
+/* The version of the library's calls: compare it with BM_INTERFACE before any other call. */
+uint32_t bm_interface(void);
+
+/* Makes a connection and writes it to *at, as in
+ *     bm_connection connection;
+ *     int32_t code = bm_new(&settings, &connection.at);
+ * *at needn't hold anything before, and is written where the code is BM_OK. Give the connection back by bm_free.
+ * BM_SETTINGS: there are no such settings. BM_NO_MEMORY. */
+int32_t bm_new(const bm_settings *settings, void **at);
+
+/* Frees the connection with all that it holds. No call on it may follow, nor one on a copy of the struct. */
+void bm_free(bm_connection connection);
+
+/* Gives bytes of the input, cut as they were read. With BM_CONTENTS each call gives one content; else a length of 0
+ * changes nothing. After a fault of the input, bytes are accepted and ignored.
+ * BM_OVER: the input was ended by bm_end. BM_NO_MEMORY: none of the bytes was taken. */
+int32_t bm_feed(bm_connection *connection, const uint8_t *bytes, size_t length);
+
+/* Says how the input ended: BM_CLOSED or BM_READ_FAILED. Once all that came before has been told, the calls that wait
+ * are told as BM_UNANSWERED, and then comes BM_INPUT_OVER. It needs no memory.
+ * BM_OVER: it was ended before. BM_SETTINGS: there is no such way to end. */
+int32_t bm_end(bm_connection *connection, uint32_t how);
+
+/* Tells the next event: it is moved to *event and the room. Call it until the kind is BM_NONE: an answer to broken
+ * input goes out only as it is gone past.
+ * BM_SMALL: the event doesn't fit the room. *event is written, so its lengths say how much room it needs. The event
+ * isn't told, and comes again. BM_NO_MEMORY. */
+int32_t bm_next(bm_connection *connection, bm_event *event, uint8_t *room, size_t length);
+
+/* Tells as many of the next events as fit the room: each a bm_event and, right behind it, its texts; each at the next
+ * multiple of 8 from the room's start, which has to lie at a multiple of 8 itself. Writes to *count how many there are
+ * (0 where there is no event), and to *used how many bytes of the room they take. It asks for one event more than it
+ * tells, so contents may have come of which nothing is told yet. What doesn't fit comes first the next time, be it by
+ * this call or by bm_next.
+ * BM_SMALL: not even the first event fits. *count is 0, and *used is how much room it needs. BM_NO_MEMORY: not even the
+ * first event could be had. */
+int32_t bm_next_all(bm_connection *connection, uint8_t *room, size_t length, size_t *used, uint32_t *count);
+
+/* Calls the other side, on behalf of the open call `number`, or of nobody where it is 0. Writes to *key the key under
+ * which the reply is told. A length of 0 for params is none. Replies to calls of an answered number are ignored.
+ * BM_NOT_OPEN, BM_NOT_TEXT, BM_NOT_JSON, BM_OVER, BM_FULL, BM_NO_MEMORY. */
+int32_t bm_call(bm_connection *connection, uint64_t number, const uint8_t *method, size_t method_length,
+                const uint8_t *params, size_t params_length, uint64_t *key);
+
+/* Calls the other side several times in one batch, all or nothing. The bytes hold each call's method and params, one
+ * behind the other; `lengths` has two numbers a call, the method's length and that of the params (0: none), and
+ * `lengths_count` is twice the number of calls. Writes the first key to *first; the others follow it.
+ * BM_SETTINGS: the count is odd, or the lengths don't add up to that of the bytes. BM_NOT_OPEN, BM_NOT_TEXT,
+ * BM_NOT_JSON, BM_OVER, BM_EMPTY, BM_FULL, BM_NO_MEMORY. */
+int32_t bm_call_batch(bm_connection *connection, uint64_t number, const uint8_t *bytes, size_t length,
+                      const size_t *lengths, size_t lengths_count, uint64_t *first);
+
+/* Sends a notification, also after the input is over. A length of 0 for params is none.
+ * BM_NOT_TEXT, BM_NOT_JSON, BM_NO_MEMORY. */
+int32_t bm_notify(bm_connection *connection, const uint8_t *method, size_t method_length, const uint8_t *params,
+                  size_t params_length);
+
+/* Tells the other side that this call of yours isn't wanted any more. It still waits for its reply, which is told.
+ * BM_NOT_WAITING, BM_NO_MEMORY. */
+int32_t bm_withdraw(bm_connection *connection, uint64_t key);
+
+/* Answers a request with a result, or closes a notification: pass a length of 0 for one, since nothing is written. Each
+ * call that came is held until it is answered, notifications too.
+ * BM_NOT_OPEN, BM_NOT_JSON, BM_NO_MEMORY. */
+int32_t bm_answer(bm_connection *connection, uint64_t number, const uint8_t *result, size_t length);
+
+/* Answers a request with an error, or closes a notification. A length of 0 for data is none.
+ * BM_NOT_OPEN, BM_NOT_TEXT, BM_NOT_JSON, BM_NO_MEMORY. */
+int32_t bm_fail(bm_connection *connection, uint64_t number, int64_t code, const uint8_t *message, size_t message_length,
+                const uint8_t *data, size_t data_length);
+
+/* Answers a request as cancelled (-32800), and first withdraws your calls on its behalf that wait.
+ * BM_NOT_OPEN, BM_NO_MEMORY. */
+int32_t bm_cancel(bm_connection *connection, uint64_t number);
+
+/* How many bytes are to be written; with BM_CONTENTS, the length of the next text. It isn't limited: stop feeding while
+ * it is large. */
+size_t bm_pending(bm_connection *connection);
+
+/* Moves the first bytes that are to be written to the room, as many as it has room for, and gives how many they are.
+ * With BM_CONTENTS it moves one whole text, or gives 0 where the room is too small for it. */
+size_t bm_take(bm_connection *connection, uint8_t *room, size_t length);
+
+/* Whether all is done: the input is over, every event is told, every call that came is answered, every byte taken. */
+bool bm_is_done(bm_connection *connection);
+
+/* Writes what has happened so far. */
+void bm_counts(bm_connection *connection, bm_report *report);
+
+#ifdef __cplusplus
+}
+#endif
+
+#endif
