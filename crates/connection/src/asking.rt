@@ -14,7 +14,7 @@ use content_streams::StreamEnd;
 use std::alloc::AllocError;
 
 impl Connection {
-    ghost use Rattle.connection.specs.Connections.{GoesOn, IsStill, StandsAfter, HasGoneOn};
+    ghost use Rattle.connection.specs.Connections.{GoesOn, IsStill, SamePieces, StandsAfter, HasGoneOn};
     ghost use Rattle.connection.specs.Inner.{IsNext, HasMoved, HasStayed};
     ghost use Rattle.content_streams.specs.Streams.{next_content};
 
@@ -30,6 +30,7 @@ impl Connection {
         ensures err { (history : History) (told : List Told) → StandsAfter self.old history told →
             OnErr result (HasGoneOn self.old self.new history told) }
         ensures settings { self.new.settings ≡ self.old.settings }
+        ensures pieces { SamePieces self.old.stream self.new.stream }
     {
         loop {
             if let Some(event) = self.next_untold() {
@@ -47,6 +48,7 @@ impl Connection {
             IfSome result (λ event. StandsAfter self.new history (told ++ event ∷ [])) }
         ensures none { result ≡ None → (self.new ≡ self.old) × (self.old.desk.untold ≡ []) }
         ensures settings { self.new.settings ≡ self.old.settings }
+        ensures stream { self.new.stream ≡ self.old.stream }
     {
         self.desk.next_event()
     }

@@ -28,6 +28,8 @@ impl Connection {
         ensures err { IfErr result (λ why. (self.new ≡ self.old) ×
             ((history : History) (told : List Event) → StandsAfter self.old history told →
             IsRefusal why (refusal self.old.settings.takes_cancels history (called number outgoing.now)))) }
+        ensures stream { self.new.stream ≡ self.old.stream }
+        ensures taken { self.new.desk.out.taken ≡ self.old.desk.out.taken }
     {
         self.desk.call(number, outgoing)
     }
@@ -43,6 +45,8 @@ impl Connection {
         ensures err { IfErr result (λ why. (self.new ≡ self.old) ×
             ((history : History) (told : List Event) → StandsAfter self.old history told →
             IsRefusal why (refusal self.old.settings.takes_cancels history (called_all number outgoings.now)))) }
+        ensures stream { self.new.stream ≡ self.old.stream }
+        ensures taken { self.new.desk.out.taken ≡ self.old.desk.out.taken }
     {
         self.desk.call_batch(number, outgoings)
     }
@@ -52,6 +56,8 @@ impl Connection {
         ensures ok { (history : History) (told : List Event) →
             StandsAfter self.old history told → OnOk result (StandsAfter self.new (noticed outgoing.now ∷ history) told) }
         ensures err { OnErr result (self.new ≡ self.old) }
+        ensures stream { self.new.stream ≡ self.old.stream }
+        ensures taken { self.new.desk.out.taken ≡ self.old.desk.out.taken }
     {
         self.desk.notify(outgoing)
     }
@@ -65,6 +71,8 @@ impl Connection {
         ensures err { IfErr result (λ why. (self.new ≡ self.old) ×
             ((history : History) (told : List Event) → StandsAfter self.old history told →
             IsRefusal why (refusal self.old.settings.takes_cancels history (withdrew key)))) }
+        ensures stream { self.new.stream ≡ self.old.stream }
+        ensures taken { self.new.desk.out.taken ≡ self.old.desk.out.taken }
     {
         self.desk.withdraw(key)
     }
@@ -79,6 +87,8 @@ impl Connection {
         ensures err { IfErr result (λ why. (self.new ≡ self.old) ×
             ((history : History) (told : List Event) → StandsAfter self.old history told →
             IsRefusal why (refusal self.old.settings.takes_cancels history (answered number answer.now)))) }
+        ensures stream { self.new.stream ≡ self.old.stream }
+        ensures taken { self.new.desk.out.taken ≡ self.old.desk.out.taken }
     {
         self.desk.answer(number, answer)
     }
@@ -93,6 +103,8 @@ impl Connection {
         ensures err { IfErr result (λ why. (self.new ≡ self.old) ×
             ((history : History) (told : List Event) → StandsAfter self.old history told →
             IsRefusal why (refusal self.old.settings.takes_cancels history (answered number (Standard Cancelled))))) }
+        ensures stream { self.new.stream ≡ self.old.stream }
+        ensures taken { self.new.desk.out.taken ≡ self.old.desk.out.taken }
     {
         self.desk.cancel(number)
     }
