@@ -24,40 +24,17 @@ ROWS = [
 ]
 # The same of the table of reading and writing alone.
 ROWS_READ = ("single requests", "batches of 100", "one param of 8 MB")
-
-# What reading and writing alone answers beside the player's rows: contents, and those that answer them.
-ANSWERED = [
-    ("a notification", ['{"jsonrpc":"2.0","method":"nope","params":[1]}'], []),
-    ("a reply to a call", ['{"jsonrpc":"2.0","id":"1.1","result":true}'], []),
-    ("a reply to no call", ['{"jsonrpc":"2.0","id":"x","error":{"code":1,"message":"m"}}'], []),
-    (
-        "ids that are null and below 0",
-        ['{"jsonrpc":"2.0","method":"nope","id":null}', '{"jsonrpc":"2.0","method":"nope","id":-7}'],
-        [
-            '{"error":{"code":-32601,"message":"Method not found"},"id":null,"jsonrpc":"2.0"}',
-            '{"error":{"code":-32601,"message":"Method not found"},"id":-7,"jsonrpc":"2.0"}',
-        ],
-    ),
-    (
-        "the greatest id",
-        ['{"jsonrpc":"2.0","method":"nope","id":18446744073709551615}'],
-        ['{"error":{"code":-32601,"message":"Method not found"},"id":18446744073709551615,"jsonrpc":"2.0"}'],
-    ),
-    (
-        "an id that is a text",
-        ['{"jsonrpc":"2.0","method":"nope","id":"a\\"\\u0062"}'],
-        ['{"error":{"code":-32601,"message":"Method not found"},"id":"a\\"b","jsonrpc":"2.0"}'],
-    ),
-    ("a batch of a request and what has no answer", [f"[{rows.NOTICE},{rows.REQUEST},{rows.NOTICE}]"], [f"[{rows.NOT_FOUND}]"]),
-    ("a long answer, then a short one", ["[1,2,3]", rows.REQUEST], [f"[{rows.INVALID},{rows.INVALID},{rows.INVALID}]", rows.NOT_FOUND]),
-]
+# The same of the tables of the host.
+ROWS_HOST = ("requests", "batches of 100", "open calls", "a request", "a call back", "a param of 8 MB")
+ROWS_HOST_MEMORY = ("a small request", "an unknown method", "a notification")
 
 # A request with small params and its answer ask for memory so often at most, where nothing but reading and writing is done.
 MOST_REQUESTS = 8
 
 count = ran.Count()
-BENCH = ran.gates_program("peer_bench")
+BENCH, HOST = ran.gates_program("peer_bench"), ran.gates_program("connection_bench")
 count.check("the gate built peer_bench", BENCH is not None)
+count.check("the gate built connection_bench", HOST is not None)
 
 
 def check_work(words, name, number, outcome):
@@ -101,44 +78,36 @@ def check_all():
         count.check(f"refused words {words}", status == 2 and output == b"" and errors.startswith(b"error: "), f"{status}, {errors!r}")
     for room in (0, 1, 20):
         got = ran.run_into(room, ["desk", "--units", "3"], program=BENCH)
-        told = b"desk straight: 3 released in "[:room]
-        count.check(f"an output that takes {room} bytes", got == (1, told, b"failed: Write\n"), f"{got}")
+        count.same(f"an output that takes {room} bytes", got, (1, b"desk straight: 3 released in "[:room], b"failed: Write\n"))
 
 
 def check_memory():
     """Of 10,000 requests that were open at once nothing is kept once they are released, and few bytes of each behind an open call."""
     desk = [BENCH, "desk", "--units", "10000", "--order"]
-    status, most, last = refusals.memory_held([*desk, "straight"])
+    status, most, last, *_ = refusals.counted([*desk, "straight"])
     count.check("10,000 open requests take memory", status == 0 and most >= 1_000_000, f"{status}, {most:,} bytes")
     count.check("their memory goes back", last <= 32_768, f"{last:,} bytes")
-    status, most, last = refusals.memory_held([*desk, "behind"])
+    status, most, last, *_ = refusals.counted([*desk, "behind"])
     count.check("a number that is over keeps little behind an open one", status == 0 and last <= 10_000 * 32, f"{status}, {last:,} bytes")
 
 
 def check_reading():
     """Frames are answered as the player answers them without methods, however they end; and texts at random are read alike in two ways."""
     for name, given, output, end in rows.ROWS:
-        errors = f"input ended: {end}\n".encode() if end else b""
-        got = ran.run(["answer"], given, program=BENCH)
-        count.check(f"answered alone: {name}", got == (1 if end else 0, output, errors), f"{got}")
-    for name, given, answers in ANSWERED:
-        got = ran.run(["answer"], rows.frames(*given), program=BENCH)
-        count.check(f"answered alone: {name}", got == (0, rows.frames(*answers), b""), f"{got}")
+        status, errors = rows.ended(end)
+        count.same(f"answered alone: {name}", ran.run(["answer"], given, program=BENCH), (status, output, errors))
     # (more than is read at once, so that some contents come in two pieces)
     ids = range(1, 3_001)
     requests = rows.frames(*('{"jsonrpc":"2.0","method":"nope","id":%d}' % it for it in ids))
-    answers = rows.frames(*('{"error":{"code":-32601,"message":"Method not found"},"id":%d,"jsonrpc":"2.0"}' % it for it in ids))
-    status, output, errors = ran.run(["answer"], requests, program=BENCH)
-    count.check("3,000 requests answered alone", (status, output == answers, errors) == (0, True, b""), f"{status}, {len(output)} bytes, {errors!r}")
+    answers = rows.frames(*(rows.failed(-32601, "Method not found", it) for it in ids))
+    count.same("3,000 requests answered alone", ran.run(["answer"], requests, program=BENCH), (0, answers, b""))
     for texts in (0, 1, 100_000):
-        got = ran.run(["compare", f"--texts={texts}"], program=BENCH)
-        count.check(f"{texts} texts", got == (0, b"compare: %d alike\n" % texts, b""), f"{got}")
-    answers = rows.frames(rows.NOT_FOUND)
-    for room in (0, 1, len(answers) - 1):
-        got = ran.run_into(room, ["answer"], rows.frames(rows.REQUEST), program=BENCH)
-        count.check(f"an output that takes {room} bytes of an answer", got == (1, answers[:room], b"failed: Write\n"), f"{got}")
-    got = ran.run_on_broken(["answer"], rows.frames(rows.REQUEST), program=BENCH)
-    count.check("an input that breaks off", got == (1, answers, b"failed: Read\n"), f"{got}")
+        count.same(f"{texts} texts", ran.run(["compare", f"--texts={texts}"], program=BENCH), (0, b"compare: %d alike\n" % texts, b""))
+    request, answer = rows.frames(rows.REQUEST), rows.frames(rows.NOT_FOUND)
+    for room in (0, 1, len(answer) - 1):
+        got = ran.run_into(room, ["answer"], request, program=BENCH)
+        count.same(f"an output that takes {room} bytes of an answer", got, (1, answer[:room], b"failed: Write\n"))
+    count.same("an input that breaks off", ran.run_on_broken(["answer"], request, program=BENCH), (1, answer, b"failed: Read\n"))
 
 
 def requests_each(params):
@@ -146,7 +115,7 @@ def requests_each(params):
     made = []
     for size in (1_000, 2_000):
         requests = ('{"jsonrpc":"2.0","method":"nope","params":%s,"id":%d}' % (params, it) for it in range(1, size + 1))
-        status, number = refusals.requests_for_memory([BENCH, "answer"], rows.frames(*requests))
+        status, *_, number = refusals.counted([BENCH, "answer"], rows.frames(*requests))
         count.check(f"{size} requests with params {params} are answered", status == 0, f"{status}")
         made.append(number)
     return (made[1] - made[0]) / 1_000
@@ -163,12 +132,12 @@ def check_requests():
 
 
 def check_run():
-    """All that bench/run measures of the player and the server, on small sizes."""
+    """All that bench/run measures of the player, the server and the host, on small sizes."""
     wanted = contenders.lacking(counts=False)
     if wanted:
         print(f"SKIPPED: bench/run on small sizes, which wants {' '.join(wanted)}", flush=True)
         return
-    words = [os.path.join(ran.TOP, "bench", "run"), "--quick", "--small", "1000", "--runs", "1", "--reading", BENCH]
+    words = [os.path.join(ran.TOP, "bench", "run"), "--quick", "--small", "1000", "--runs", "1", "--reading", BENCH, "--hosting", HOST]
     ended = subprocess.run(words, capture_output=True, text=True, timeout=600, check=False)
     count.check("bench/run on small sizes", ended.returncode == 0, f"{ended.stdout[-500:]} {ended.stderr[-1000:]}")
     for name in ROWS:
@@ -177,6 +146,12 @@ def check_run():
     for name in ROWS_READ:
         lines = re.findall(rf"^{name} +\d+ reading\b", ended.stdout, re.M)
         count.check(f"bench/run's row of reading and writing alone: {name}", len(lines) == 2, f"it has {lines}")
+    # (the hosts' tables are the last: that in Rattle, and those over the library)
+    *_, hosted, embedded = ended.stdout.split("sent at once")
+    for name in (*ROWS_HOST, *ROWS_HOST_MEMORY):
+        for labels, text in ((["baseline", "ours"], hosted), (["baseline", "in C", "in Rust"], embedded)):
+            lines = re.findall(rf"^{name}(?: +\d+)? +({'|'.join(labels)})\b", text, re.M)
+            count.check(f"bench/run's row of hosts: {name}, {labels}", {*lines} == {*labels}, f"it has {lines}")
     count.check("bench/run says where ours is behind", "behind the baseline at the largest size" in ended.stdout)
 
 
@@ -186,5 +161,6 @@ if BENCH:
     if not ran.lacks("cc", refusals.WHY):
         check_memory()
         check_requests()
-    check_run()
+    if HOST:
+        check_run()
 count.end()

@@ -1,17 +1,14 @@
 """Streams that fail at each byte, and streams that give or take few bytes at a time: `play` and `serve` write the row's very bytes, or the
 front of them that was taken, and say why they ended. What is waited for ends within 20 seconds, and a server's threads end with it."""
 import errno
-import os
 import random
-import subprocess
-import tempfile
 import time
-from concurrent.futures import ThreadPoolExecutor
+from functools import partial
 
 from support import narrow
 from support import ran
 from support import rows
-from support.client import Client, error, request, result
+from support.client import Client, ended, error, request, result
 
 GIVEN = rows.frames(rows.ask(), rows.replied("1.1"))
 FIRST = len(rows.frames(rows.ask()))
@@ -33,14 +30,11 @@ class Check:
 
     def expect(self, words: list[str], given: bytes, wanted: tuple[int, bytes, bytes], **limits: object) -> None:
         """The program's status and its two outputs on streams with these limits."""
-        got = self.narrowed.run(words, given, **limits)
-        self.count.check(f"{words[0]} with {limits}", got == wanted, f"{got} in place of {wanted}"[:900])
+        self.count.same(f"{words[0]} with {limits}", self.narrowed.run(words, given, **limits), wanted)
 
     def all(self, runs: list[tuple]) -> None:
         """Some of these side by side; each is words, input, what is wanted, and limits."""
-        with ThreadPoolExecutor(len(os.sched_getaffinity(0))) as pool:
-            for wait in [pool.submit(self.expect, words, given, wanted, **limits) for words, given, wanted, limits in runs]:
-                wait.result()
+        ran.side_by_side(partial(self.expect, words, given, wanted, **limits) for words, given, wanted, limits in runs)
 
 
 def outputs_that_stop(check: Check) -> None:
@@ -105,21 +99,13 @@ def threads_become(client: Client, wanted: int) -> bool:
     return client.threads() == wanted
 
 
-def end_of(client: Client) -> tuple[object, bytes]:
-    try:
-        status = client.process.wait(narrow.PATIENCE)
-    except subprocess.TimeoutExpired:
-        return f"no end after {narrow.PATIENCE} seconds", b""
-    return status, client.process.stderr.read()
-
-
 def end_after(it: Client, goes_on: bool) -> tuple[object, bytes]:
     """How a server ends that reads once more: more input, or its end."""
     if goes_on:
         it.send(rows.replied("1.1"))
     else:
         it.close_input()
-    return end_of(it)
+    return ended(it.process, narrow.PATIENCE)
 
 
 def after_a_failed_write(check: Check, workers: int, goes_on: bool) -> None:
@@ -152,30 +138,22 @@ def after_a_failed_read(check: Check, workers: int) -> None:
         it.send(rows.ask())
         got = [it.receive(narrow.PATIENCE) for _ in range(3)]
         check.count.check("what came before a failed read is answered", got == [rows.called("1.1"), error(7, -32000, "No reply"), None], f"{got}")
-        got = end_of(it)
+        got = ended(it.process, narrow.PATIENCE)
         check.count.check(f"{workers} workers and a failed read", got == (1, READ_END), f"{got}")
 
 
-def main() -> None:
-    count = ran.Count()
-    ran.built()
+def check_all(count: ran.Count) -> None:
     if ran.lacks("cc", narrow.WHY):
-        count.end()
-    count.check("the row's bytes are as long as they are worked out", (FIRST, len(GIVEN), len(REPLIED)) == (76, 140, 144))
-    with tempfile.NamedTemporaryFile("w", suffix=".toml", encoding="utf-8") as table:
-        table.write(rows.METHODS)
-        table.flush()
-        check = Check(count, narrow.Narrowed(), table.name)
-        outputs_that_stop(check)
-        inputs_that_fail(check)
-        both_fail(check)
-        much_traffic(check)
-        for workers in (1, 2, 8, 64):
-            for goes_on in (False, True):
-                after_a_failed_write(check, workers, goes_on)
-                after_a_frame_fault(check, workers, goes_on)
-            after_a_failed_read(check, workers)
-    count.end()
+        return
+    count.same("the row's bytes are as long as they are worked out", (FIRST, len(GIVEN), len(REPLIED)), (76, 140, 144))
+    check = Check(count, narrow.Narrowed(), rows.file_of(rows.METHODS))
+    for it in (outputs_that_stop, inputs_that_fail, both_fail, much_traffic):
+        it(check)
+    for workers in (1, 2, 8, 64):
+        for goes_on in (False, True):
+            after_a_failed_write(check, workers, goes_on)
+            after_a_frame_fault(check, workers, goes_on)
+        after_a_failed_read(check, workers)
 
 
-main()
+ran.script(check_all)

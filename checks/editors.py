@@ -1,14 +1,10 @@
 """Runs the clients that editors have of their own on the language server of examples/language_server: each starts it, asks for a hover,
 for which the server calls the editor back, cancels a request, asks for what the server doesn't know, and ends it."""
 import os
-import subprocess
-import tempfile
 import time
 
 from support import ran
 
-count = ran.Count()
-ran.built()
 HERE = os.path.dirname(os.path.abspath(__file__))
 EDITORS = [
     ("nvim", ["--headless", "--clean", "-S", f"{HERE}/editors/neovim.lua"]),
@@ -28,30 +24,26 @@ def status_in(file):
         time.sleep(0.02)
     if not os.path.isfile(file):
         return "it runs on"
-    with open(file, encoding="ascii") as it:
-        return it.read().strip()
+    return ran.text_of(file).strip()
 
 
-def check(editor, words, room):
-    telling, status = f"{room}/rpc_tool", f"{room}/status"
-    with open(telling, "w", encoding="ascii") as it:
-        it.write(TELLING.format(program=ran.BUILT, status=status))
+def check(count, editor, words):
+    status = f"{ran.ROOM.name}/{editor}-status"
+    telling = ran.file_of(f"{editor}-tool", TELLING.format(program=ran.BUILT, status=status))
     os.chmod(telling, 0o755)
     env = {**os.environ, "RPC_TOOL": telling, "METHODS": f"{ran.TOP}/examples/language_server/methods.toml"}
-    try:
-        ended = subprocess.run([editor, *words], stdin=subprocess.DEVNULL, capture_output=True, timeout=60, env=env, check=False)
-    except subprocess.TimeoutExpired:
-        count.check(editor, False, "no end after 60 seconds")
-        return
-    said = (ended.stdout + ended.stderr).decode(errors="replace").strip()
+    ended, told = ran.told_by([editor, *words], 60, env=env)
+    said = told.decode(errors="replace").strip()
     print(said)
-    count.check(editor, ended.returncode == 0 and "FAILED" not in said and "and shutdown" in said, said)
+    count.check(editor, ended == 0 and "FAILED" not in said and "and shutdown" in said, f"{ended} {said}")
     program = status_in(status)
     count.check(f"the program that {editor} started ends", program == "0", program)
 
 
-for name, how in EDITORS:
-    if not ran.lacks(name, "no run of its client"):
-        with tempfile.TemporaryDirectory() as folder:
-            check(name, how, folder)
-count.end()
+def check_editors(count):
+    for name, how in EDITORS:
+        if not ran.lacks(name, "no run of its client"):
+            check(count, name, how)
+
+
+ran.script(check_editors)

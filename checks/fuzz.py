@@ -6,19 +6,18 @@ the built program too, over real pipes. What is written has to keep the laws of 
 as small as it goes and written to out/fuzz, and the line that says so has the command that tries it again."""
 import argparse
 import sys
-import tempfile
 from functools import partial
 from typing import Iterable
 
 from support import cases
 from support import fuzzing
 from support import ran
+from support import rows
 
 CASES = 5_000
 
 # A stream of one request, and what is written for it.
-REQUEST = b'Content-Length: 40\r\n\r\n{"jsonrpc":"2.0","method":"nope","id":1}'
-ANSWERED = b'Content-Length: 77\r\n\r\n{"error":{"code":-32601,"message":"Method not found"},"id":1,"jsonrpc":"2.0"}'
+REQUEST, ANSWERED = rows.frames(rows.REQUEST), rows.frames(rows.NOT_FOUND)
 
 
 def words_of(words: Iterable[str]) -> argparse.Namespace:
@@ -35,38 +34,35 @@ def check_worked(count: ran.Count, player: str) -> None:
     given = b"".join(b"%s 62\n%s" % (how, REQUEST) for how in (b"play eager first -", b"play lazy 1,0 7,30", b"serve 2 22,1"))
     written = b"Clean 1 0 0 1 0 99\n" + ANSWERED
     got = ran.run(["cases"], given + b"play eager last 61 61\n" + REQUEST[:-1], program=player)
-    count.check("four cases", got == (0, written * 3 + b"Truncated 0 0 0 0 0 0\n", b""), f"{got}")
+    count.same("four cases", got, (0, written * 3 + b"Truncated 0 0 0 0 0 0\n", b""))
 
 
 def check_refusals(count: ran.Count, player: str, file: str) -> None:
     """The player refuses what is no case, and what it can't run."""
     refused = (b"x", b"play\n", b"play eager\n", b"play eager first 0\n", b"play soon first - 0\n", b"play eager 1,x - 0\n", b"play eager first - 1\n")
     for given in (*refused, b"serve first - 0\n", b"serve 4 -1 0\n", b"serve 4 - 99999999999\n", b"turn 4 - 0\n", b"\xff - 0\n"):
-        got = ran.run(["cases"], given, program=player)
-        count.check(f"refused: {given!r}", got == (2, b"", b"a case cannot be read\n"), f"{got}")
+        count.same(f"refused: {given!r}", ran.run(["cases"], given, program=player), (2, b"", b"a case cannot be read\n"))
     for workers in (0, 65):
         got = ran.run(["cases"], b"serve %d - 0\n" % workers, program=player)
-        count.check(f"{workers} workers", got == (0, b"Workers 0 0 0 0 0 0\n", b""), f"{got}")
+        count.same(f"{workers} workers", got, (0, b"Workers 0 0 0 0 0 0\n", b""))
     for table, wanted in ((file + "x", b"table: cannot be read\n"), (__file__, b"table: refused\n")):
-        got = ran.run(["cases", "--table", table], b"", program=player)
-        count.check(f"refused: {table}", got == (2, b"", wanted), f"{got}")
+        count.same(f"refused: {table}", ran.run(["cases", "--table", table], b"", program=player), (2, b"", wanted))
 
 
 def main(words: list[str]) -> None:
     options = words_of(words)
     ran.built()
-    with tempfile.TemporaryDirectory() as room:
-        fuzzer = fuzzing.Fuzzer(partial(cases.run, options.player), room)
-        fuzzer.count.check("the gate built peer_bench", options.player is not None)
-        if options.player and options.replay:
-            why = fuzzer.breaks(fuzzing.trial_in(options.replay))
-            fuzzer.count.check(options.replay, why is None, why or "")
-        elif options.player:
-            check_worked(fuzzer.count, options.player)
-            check_refusals(fuzzer.count, options.player, fuzzer.tables.files["traced"])
-            fuzzer.try_all(options.seed, options.cases)
-            fuzzer.check_floors()
-        fuzzer.count.end()
+    fuzzer = fuzzing.Fuzzer(partial(cases.run, options.player))
+    fuzzer.count.check("the gate built peer_bench", options.player is not None)
+    if options.player and options.replay:
+        why = fuzzer.breaks(fuzzing.trial_in(options.replay))
+        fuzzer.count.check(options.replay, why is None, why or "")
+    elif options.player:
+        check_worked(fuzzer.count, options.player)
+        check_refusals(fuzzer.count, options.player, fuzzer.tables.files["traced"])
+        fuzzer.try_all(options.seed, options.cases)
+        fuzzer.check_floors()
+    fuzzer.count.end()
 
 
 main(sys.argv[1:])

@@ -8,7 +8,7 @@ import os
 import re
 import subprocess
 import tempfile
-from concurrent.futures import ThreadPoolExecutor
+from functools import partial
 
 from support import ran
 from support import refusals
@@ -21,99 +21,116 @@ LARGE = 65_536
 SPARE = 4_000_000
 
 
-def request(number):
-    return '{"jsonrpc":"2.0","method":"nope","id":%d}' % number
+TABLE = ("--table", rows.file_of(rows.METHODS))
 
 
-def singles(size):
-    return rows.frames(*(request(it) for it in range(1, size + 1)))
+def request(number, params=""):
+    return '{"jsonrpc":"2.0","method":"nope",%s"id":%d}' % (params, number)
 
 
-def batches(size):
-    firsts = range(1, size + 1, 100)
-    return rows.frames(*("[" + ",".join(request(it) for it in range(first, first + 100)) + "]" for first in firsts))
+def with_params(params):
+    return rows.frames(request(1, f'"params":{params},'))
 
 
-def one_batch(size):
-    return rows.frames("[" + ",".join(request(it) for it in range(1, size + 1)) + "]")
+def to(size):
+    return range(1, size + 1)
 
 
-def notifications(size):
-    return rows.frames(*['{"jsonrpc":"2.0","method":"nope","params":[1,2]}'] * size)
-
-
-def broken(size):
-    return rows.frames(*["{"] * size)
-
-
-def long_heads(size):
+# How the inputs are made, of so many calls, bytes or members. The requests of the last ones make one call each.
+SHAPES = {
+    "single requests": lambda size: rows.frames(*map(request, to(size))),
     # (a head of so many bytes: its length, a field as long as needed, and the empty line)
-    head = "Content-Length: 40\r\nX:" + "a" * (size - 26) + "\r\n\r\n"
-    return (head + request(1)).encode() * 20 if size else b""
+    "heads of so many bytes": lambda size: f"Content-Length: 40\r\nX:{'a' * (size - 26)}\r\n\r\n{request(1)}".encode() * 20,
+    "a content of so many bytes": lambda size: with_params(f'["{"a" * (size - len(request(1, PARAMS)))}"]'),
+    "batches of 100": lambda size: rows.frames(*(rows.batch(*map(request, range(it, it + 100))) for it in to(size)[::100])),
+    "one batch": lambda size: rows.frames(rows.batch(*map(request, to(size)))),
+    "notifications": lambda size: rows.frames(*['{"jsonrpc":"2.0","method":"nope","params":[1,2]}'] * size),
+    "unreadable contents": lambda size: rows.frames(*["{"] * size),
+    "one long string": lambda size: with_params(f'["{"a" * size}"]'),
+    "params of many members": lambda size: with_params("{" + ",".join('"%d":%d' % (it * 7919 % size, it) for it in range(size)) + "}"),
+    "calls": lambda size: rows.frames(*(text for it in to(size) for text in (rows.ask(it), rows.replied(f"{it}.1")))),
+    "open calls": lambda size: rows.frames(*map(rows.ask, to(size)), *(rows.replied(f"{it}.1") for it in reversed(to(size)))),
+    "calls without a reply": lambda size: rows.frames(*map(rows.ask, to(size))),
+    "cancels": lambda size: rows.frames(*map(rows.ask, to(size)), *map(rows.cancel, reversed(to(size)))),
+}
+# Params that hold an empty text.
+PARAMS = '"params":[""],'
 
-
-def long_content(size):
-    front, back = '{"jsonrpc":"2.0","method":"nope","params":["', '"],"id":1}'
-    return rows.frames(front + "a" * (size - len(front) - len(back)) + back)
-
-
-def long_text(size):
-    return rows.frames('{"jsonrpc":"2.0","method":"nope","params":["' + "a" * size + '"],"id":1}')
-
-
-def many_members(size):
-    members = ",".join('"%d":%d' % (it * 7919 % size, it) for it in range(size))
-    return rows.frames('{"jsonrpc":"2.0","method":"nope","params":{' + members + '},"id":1}')
-
-
-def calls(size):
-    """Requests that make one call each, each replied to at once."""
-    return rows.frames(*sum(((rows.ask(it), rows.replied(f"{it}.1")) for it in range(1, size + 1)), ()))
-
-
-def open_calls(size):
-    """The same, replied to once all have come, the last first."""
-    return rows.frames(*map(rows.ask, range(1, size + 1)), *(rows.replied(f"{it}.1") for it in range(size, 0, -1)))
-
-
-def cancels(size):
-    """Requests that make one call each, and are then cancelled, the last first."""
-    return rows.frames(*map(rows.ask, range(1, size + 1)), *map(rows.cancel, range(size, 0, -1)))
-
-
-def never_replied(size):
-    """Requests that make one call each, and wait for its reply until the input is over."""
-    return rows.frames(*map(rows.ask, range(1, size + 1)))
-
-
-# what stands for the file of the table of methods
-TABLE = "TABLE"
-
-# name, how the input is made, its greater size, and the options it is played with
+# the shape, its greater size, and the options it is played with
 INPUTS = [
-    ("single requests", singles, 4_000, ()),
-    ("single requests", singles, 2_000, ("--piece", "512")),
-    ("single requests", singles, 400, ("--piece", "1")),
-    ("heads of so many bytes", long_heads, 4_096, ("--piece", "1")),
-    ("a content of so many bytes", long_content, 16_777_216, ("--piece", "512")),
-    ("batches of 100", batches, 4_000, ()),
-    ("one batch", one_batch, 4_000, ()),
-    ("notifications", notifications, 2_000, ()),
-    ("unreadable contents", broken, 2_000, ()),
-    ("one long string", long_text, 2_000_000, ()),
-    ("one long string", long_text, 2_000_000, ("--piece", "512")),
-    ("params of many members", many_members, 20_000, ()),
-    ("calls", calls, 2_000, ("--table", TABLE)),
-    ("open calls", open_calls, 2_000, ("--table", TABLE)),
-    ("open calls", open_calls, 2_000, ("--table", TABLE, "--lazy", "--last")),
-    ("calls without a reply", never_replied, 20_000, ("--table", TABLE)),
-    ("cancels", cancels, 2_000, ("--table", TABLE)),
-    ("cancels", cancels, 2_000, ("--table", TABLE, "--lazy")),
+    ("single requests", 4_000, ()),
+    ("single requests", 2_000, ("--piece", "512")),
+    ("single requests", 400, ("--piece", "1")),
+    ("heads of so many bytes", 4_096, ("--piece", "1")),
+    ("a content of so many bytes", 16_777_216, ("--piece", "512")),
+    ("batches of 100", 4_000, ()),
+    ("one batch", 4_000, ()),
+    ("notifications", 2_000, ()),
+    ("unreadable contents", 2_000, ()),
+    ("one long string", 2_000_000, ()),
+    ("one long string", 2_000_000, ("--piece", "512")),
+    ("params of many members", 20_000, ()),
+    ("calls", 2_000, TABLE),
+    ("open calls", 2_000, TABLE),
+    ("open calls", 2_000, ("--lazy", "--last", *TABLE)),
+    ("calls without a reply", 20_000, TABLE),
+    ("cancels", 2_000, TABLE),
+    ("cancels", 2_000, ("--lazy", *TABLE)),
 ]
 
 
 # The bench program's ways to finish units at the desk, and its greater number of them.
 ORDERS, UNITS = ("straight", "windows", "cancels", "stream", "behind", "batch"), 20_000
+
+
+def add(number):
+    return '{"jsonrpc":"2.0","method":"add","params":[%d,1],"id":%d}' % (number, number)
+
+
+def hosted_calls(size):
+    """Requests that a host answers at once."""
+    return rows.frames(*map(add, range(1, size + 1)))
+
+
+def hosted_batch(size):
+    """One batch of them."""
+    return rows.frames("[" + ",".join(map(add, range(1, size + 1))) + "]")
+
+
+def hosted_open_calls(size):
+    """Requests for each of which a host calls back, replied to once all have come, the last first."""
+    asked = ('{"jsonrpc":"2.0","method":"ask","params":[%d],"id":%d}' % (it, it) for it in range(1, size + 1))
+    return rows.frames(*asked, *('{"jsonrpc":"2.0","id":%d,"result":true}' % it for it in range(size, 0, -1)))
+
+
+def hosted_cancels(size):
+    """The same, cancelled, the last first."""
+    asked = ('{"jsonrpc":"2.0","method":"ask","params":[%d],"id":%d}' % (it, it) for it in range(1, size + 1))
+    return rows.frames(*asked, *('{"jsonrpc":"2.0","method":"$/cancelRequest","params":{"id":%d}}' % it for it in range(size, 0, -1)))
+
+
+def hosted_text(size):
+    """A param that is called back with."""
+    return rows.frames('{"jsonrpc":"2.0","method":"ask","params":["' + "a" * size + '"],"id":1}') if size else b""
+
+
+def head_in_bytes(size):
+    """A head of so many bytes, fed one at a time; the content and its answer, in a script."""
+    head = b"Content-Length: 40\r\nX:" + b"a" * (size - 26) + b"\r\n\r\n"
+    feeds = "".join("feed %02x\n" % it for it in head) if size else ""
+    ends = f"feed {request(1).encode().hex()}\nnext\ntake 1000\n" if size else ""
+    return f"settings frames as-answered cancels 1000 10\n{feeds}{ends}".encode()
+
+
+# what a connection is measured by: name, how the input is made, its greater size, and the command that takes it
+CONNECTION = [
+    ("a host's calls", hosted_calls, 20_000, "host"),
+    ("a host's open calls", hosted_open_calls, 20_000, "host"),
+    ("a host's cancelled calls", hosted_cancels, 20_000, "host"),
+    ("a host's one batch", hosted_batch, 100_000, "host"),
+    ("a host's param of so many bytes", hosted_text, 16_700_000, "host"),
+    ("a head of so many bytes, in single bytes", head_in_bytes, 4_096, "script"),
+]
 
 
 def instructions(words, given=b""):
@@ -125,17 +142,23 @@ def instructions(words, given=b""):
     return int(found[1]) if found and ended.returncode == 0 else None
 
 
-def inputs(table):
-    """What is measured of the program, with a table in this file: a label, the greater size, and what gives the instructions of a size."""
-    for name, make, size, options in INPUTS:
-        words = [ran.BUILT, "play", *(table if it == TABLE else it for it in options)]
-        yield " ".join([name, *options]), size, lambda size, make=make, words=words: instructions(words, make(size) if size else b"")
+def inputs():
+    """What is measured of the program: a label, the greater size, and what gives the instructions of a size."""
+    for name, size, options in INPUTS:
+        words = [ran.BUILT, "play", *options]
+        yield " ".join([name, *(it for it in options if it not in TABLE)]), size, lambda size, make=SHAPES[name], words=words: instructions(words, make(size) if size else b"")
 
 
 def orders(bench):
     """The same of the desk."""
     for order in ORDERS:
         yield f"the desk, {order}", UNITS, lambda units, order=order: instructions([bench, "desk", "--order", order, "--units", str(units)])
+
+
+def connections(bench):
+    """The same of a connection."""
+    for name, make, size, command in CONNECTION:
+        yield name, size, lambda size, make=make, command=command: instructions([bench, command], make(size))
 
 
 def check_growth(count, label, size, begun, half, whole):
@@ -148,30 +171,38 @@ def check_growth(count, label, size, begun, half, whole):
     count.check(label, growth <= MOST, f"growth {growth:.2f}, at most {MOST}")
 
 
-def check_all(count, table):
+def check_all(count):
     """Counts the instructions of all sizes, as many side by side as there are processors, and compares them."""
-    bench = ran.gates_program("peer_bench")
+    if ran.lacks("valgrind", "it counts the instructions"):
+        return
+    bench, connection = ran.gates_program("peer_bench"), ran.gates_program("connection_bench")
     count.check("the gate built peer_bench", bench is not None)
-    with ThreadPoolExecutor(len(os.sched_getaffinity(0))) as pool:
-        measured = [*inputs(table), *(orders(bench) if bench else ())]
-        counts = [[pool.submit(counted, it) for it in (0, size // 2, size)] for _, size, counted in measured]
-        for (label, size, _), waits in zip(measured, counts):
-            check_growth(count, label, size, *(it.result() for it in waits))
+    count.check("the gate built connection_bench", connection is not None)
+    measured = [*inputs(), *(orders(bench) if bench else ()), *(connections(connection) if connection else ())]
+    counts = iter(ran.side_by_side(partial(counted, it) for _, size, counted in measured for it in (0, size // 2, size)))
+    for label, size, _ in measured:
+        check_growth(count, label, size, next(counts), next(counts), next(counts))
+
+
+def check_memory(count):
+    if not ran.lacks("cc", refusals.WHY):
+        check_promise(count)
+        check_finished(count)
 
 
 def check_promise(count):
     """Refuses each large request: a promise of bytes makes none, and bytes that come do."""
     refusing = refusals.Refusals()
     promised = refusing.run([ran.BUILT, "play"], b"Content-Length: 16777216\r\n\r\n", "REFUSE_OVER", LARGE)
-    count.check("a promise costs nothing", promised == (1, b"", b"input ended: Truncated\n", False), f"{promised}")
+    count.same("a promise costs nothing", promised, (1, b"", b"input ended: Truncated\n", False))
     came = refusing.run([ran.BUILT, "play"], rows.frame(b" " * 70_000), "REFUSE_OVER", LARGE)
-    count.check("70,000 bytes that come are refused", came == (1, b"", b"failed: Memory\n", True), f"{came}")
+    count.same("70,000 bytes that come are refused", came, (1, b"", b"failed: Memory\n", True))
 
 
-def check_finished(count, table):
+def check_finished(count):
     """Compares the most that is held through a thousand runs of a method and through many. The program keeps what it writes until the
     input is over, so it is told apart: notifications write nothing, and of answers twice their bytes are left out."""
-    play = [ran.BUILT, "play", "--table", table]
+    play = [ran.BUILT, "play", *TABLE]
     notice = '{"jsonrpc":"2.0","method":"add","params":[2,3]}'
     thousand = rows.frames(rows.batch(*[notice] * 1_000))
     requests = [notice.replace("}", ',"id":%d}' % it) for it in range(1, 1_000_001)]
@@ -181,21 +212,10 @@ def check_finished(count, table):
         ("100,000 notifications, one by one", rows.frames(*[notice] * 1_000), rows.frames(*[notice] * 99_000), 0),
         ("1,000,000 requests", rows.frames(*requests[:1_000]), rows.frames(*requests[1_000:]), answers),
     ):
-        status, least, _ = refusals.memory_held(play, few)
-        then, most, _ = refusals.memory_held(play, few + more)
+        status, least, *_ = refusals.counted(play, few)
+        then, most, *_ = refusals.counted(play, few + more)
         print(f"{name}: {most:,} bytes at most, {least:,} for the first 1,000 of them, {written:,} written", flush=True)
         count.check(f"{name} leave nothing behind", (status, then) == (0, 0) and 0 < most <= least + 2 * written + SPARE, f"{least:,}, {most:,}")
 
 
-count = ran.Count()
-ran.built()
-with tempfile.TemporaryDirectory() as room:
-    table = os.path.join(room, "table.toml")
-    with open(table, "w", encoding="utf-8") as it:
-        it.write(rows.METHODS)
-    if not ran.lacks("cc", refusals.WHY):
-        check_promise(count)
-        check_finished(count, table)
-    if not ran.lacks("valgrind", "it counts the instructions"):
-        check_all(count, table)
-count.end()
+ran.script(check_memory, check_all)

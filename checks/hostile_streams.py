@@ -1,14 +1,13 @@
 """Hostile streams, by a peer with methods: heads and contents at their limits, cut at each place; thousands of replies that nobody waits for;
 batches of 10,000 requests; values as deep as they may be; and cancels by ids of every kind. They are played, eagerly and lazily, and served
 by two workers."""
-import os
 import random
-import tempfile
-from concurrent.futures import ThreadPoolExecutor
+from functools import partial
 
 from support import narrow
 from support import ran
 from support import rows
+from support.written import contents_of
 
 # Inputs of at most so many bytes are cut at each place; longer ones about their ends.
 SHORT = 300
@@ -42,9 +41,9 @@ class Peer:
     def expect(self, name: str, words: list[str], given: bytes, outputs: list[bytes], end: str = "", cuts: str = "") -> None:
         """The whole output is one of these, by these words and with reads that are cut there."""
         got = self.narrowed.run(words, given, read_cuts=cuts) if cuts else ran.run(words, given)
-        errors = f"input ended: {end}\n".encode() if end else b""
-        is_well = got[0] == (1 if end else 0) and got[1] in outputs and got[2] == errors
-        self.count.check(f"{name}, {words[0]} {words[3:]} {cuts}", is_well, f"status {got[0]}, {got[1][:300]!r}, {got[2][:300]!r}")
+        status, errors = rows.ended(end)
+        wanted = status, got[1] if got[1] in outputs else outputs, errors
+        self.count.same(f"{name}, {words[0]} {words[3:]} {cuts}", got, wanted)
 
     def by_all(self, name: str, given: bytes, output: bytes, lazily: bytes | None = None) -> None:
         """An input, played eagerly and lazily and with the last first, and served."""
@@ -64,18 +63,13 @@ def places(size: int) -> list[int]:
 
 def cut_streams(peer: Peer) -> None:
     """Each stream in pieces of each size, and in two reads of a server."""
-    with ThreadPoolExecutor(len(os.sched_getaffinity(0))) as pool:
-        waits = []
-        for name, given, output, end in STREAMS:
-            for place in places(len(given)):
-                for words in ([], ["--lazy"]):
-                    waits.append(pool.submit(peer.expect, name, [*peer.play, "--piece", str(place), *words], given, [output], end))
-                if peer.narrowed:
-                    waits.append(pool.submit(peer.expect, name, peer.serve, given, [output], end, str(place)))
-        if peer.narrowed:
-            waits += [pool.submit(peer.expect, *it) for it in cut_in_three(peer)]
-        for it in waits:
-            it.result()
+    runs = []
+    for name, given, output, end in STREAMS:
+        for place in map(str, places(len(given))):
+            runs += [(name, [*peer.play, "--piece", place, *words], given, [output], end) for words in ([], ["--lazy"])]
+            runs += [(name, peer.serve, given, [output], end, place)] if peer.narrowed else []
+    runs += cut_in_three(peer) if peer.narrowed else []
+    ran.side_by_side(partial(peer.expect, *it) for it in runs)
 
 
 def cut_in_three(peer: Peer) -> list[tuple]:
@@ -111,7 +105,7 @@ def many_at_once(peer: Peer) -> None:
 
     asks, calls = rows.batch(*map(rows.ask, numbers)), [rows.called(f"{it}.1") for it in numbers]
     replies = rows.batch(*(rows.replied(f"{it}.1") for it in reversed(numbers)))
-    yes, none = (rows.batch(*(make(it) for it in numbers)) for make in (lambda it: rows.answered("true", it), unreplied))
+    yes, none = (rows.batch(*(make(it) for it in numbers)) for make in (partial(rows.answered, "true"), partial(rows.failed, -32000, "No reply")))
     # (the calls of different requests go out in whatever order they are made, and one by one they are in order)
     for given, answer in ((rows.frames(asks, replies), yes), (rows.frames(asks), none)):
         peer.expect("a batch of calls", peer.play, given, [rows.frames(*calls, answer)])
@@ -124,16 +118,11 @@ def many_at_once(peer: Peer) -> None:
     peer.by_all("a batch that cancels itself", rows.frames(cancels), rows.frames(stopped))
 
 
-def unreplied(number: int) -> str:
-    return rows.failed(-32000, "No reply", number)
-
-
 def same_contents(peer: Peer, name: str, given: bytes, contents: list[str]) -> None:
     """A server writes these contents, the last of them last, and the others in any order."""
     status, output, errors = ran.run(peer.serve, given)
-    found = [it.partition(b"\r\n\r\n")[2] for it in output.split(b"Content-Length: ")[1:]]
-    wanted = [it.encode() for it in contents]
-    is_well = (status, errors) == (0, b"") and found[-1:] == wanted[-1:] and sorted(found) == sorted(wanted)
+    found = contents_of(output)
+    is_well = (status, errors) == (0, b"") and found[-1:] == contents[-1:] and sorted(found) == sorted(contents)
     peer.count.check(f"{name}, served", is_well, f"status {status}, {len(found):,} contents, {errors!r}")
 
 
@@ -209,19 +198,10 @@ def cancels_of_all_kinds(peer: Peer) -> None:
         peer.by_all(f"{name}, a request", rows.frames(asked, request), rows.frames(rows.called("1.1"), waits, rows.NOT_FOUND.replace('"id":1', '"id":0')))
 
 
-def main() -> None:
-    count = ran.Count()
-    ran.built()
-    narrowed = None if ran.lacks("cc", narrow.WHY) else narrow.Narrowed()
-    with tempfile.NamedTemporaryFile("w", suffix=".toml", encoding="utf-8") as table:
-        table.write(rows.METHODS)
-        table.flush()
-        peer = Peer(count, table.name, narrowed)
-        cut_streams(peer)
-        replies_without_end(peer)
-        many_at_once(peer)
-        cancels_of_all_kinds(peer)
-    count.end()
+def check_all(count: ran.Count) -> None:
+    peer = Peer(count, rows.file_of(rows.METHODS), None if ran.lacks("cc", narrow.WHY) else narrow.Narrowed())
+    for check in (cut_streams, replies_without_end, many_at_once, cancels_of_all_kinds):
+        check(peer)
 
 
-main()
+ran.script(check_all)

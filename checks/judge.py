@@ -11,6 +11,7 @@ from typing import Optional
 from support import ran
 from support.bodies import Body, Sources, read_bodies
 from support.rounds import hurt_beside, judge_right, judge_wrong
+from support.trees import Ran, Trees
 from support.trial import Crate, Trial, Turn
 from support.verdicts import Output, read_output
 
@@ -51,6 +52,27 @@ UNCOVERED = "fn toy::{0}: no proof: the borrow checker does not cover this funct
 UNCOVERED_BY_HAND = "fn toy::{0}: no proof: expected `{0}_spec` in ./proofs/{0}/Proof.antt; the borrow checker does not cover this function yet: src/lib.rt:6:5: it is lent"
 UNMADE = "fn toy::{0}: no proof: the borrow checker's part in its proof is not made yet: help: write the method in each `impl`"
 UNTOLD = "fn toy::{0}: could not tell: the search met a limit"
+
+# The last line of a check, and whether it says that all is proved, and whether it says anything.
+TRUSTED = "sum=dac8208d650f15bf native=nat,char,string logic-built=trusted libraries-built=trusted statements=trusted incremental=trusted"
+AXIOMS = "axioms libc: libc::heap::rattle_alloc, libc::heap::rattle_dealloc (2 of the 128 declared)\naxioms os: none reached of the 22 declared\n"
+LAST_LINES = [
+    ("a library", f"logic=proved functions=2 {TRUSTED}", True, True),
+    ("a static library", f"{AXIOMS}logic=proved functions=2 axioms=2 target=x86_64-unknown-linux-gnu cpu=x86-64-v2 {TRUSTED}", True, True),
+    ("a static library that reaches no axiom", f"logic=proved functions=2 target=x86_64-unknown-linux-gnu cpu=x86-64-v2 {TRUSTED}", True, True),
+    ("a program", f"{AXIOMS}logic=proved functions=2 axioms=2 target=x86_64-unknown-linux-gnu cpu=x86-64-v2 main=Wait {TRUSTED}", True, True),
+    ("what isn't proved", "logic=not-proved", False, True),
+    ("a static library that isn't proved", f"{AXIOMS}logic=not-proved axioms=2 target=x86_64-unknown-linux-gnu cpu=x86-64-v2", False, True),
+    ("some functions", "only=2 proved=2", True, True),
+    ("some functions, one not proved", "only=2 proved=1", False, True),
+    ("no function", "only=0 proved=0", False, True),
+    ("a line that isn't whole", "logic=prov", False, False),
+    ("another word", "logic=assumed functions=2", False, False),
+    ("a report alone", AXIOMS.rstrip(), False, False),
+    ("no last line", "rattle: no verdict: antt ran out of memory", False, False),
+    ("two last lines", "logic=proved functions=1\nlogic=proved functions=2", False, False),
+    ("two that differ", "logic=not-proved\nlogic=proved functions=2", False, False),
+]
 
 # What the prover says of a function, and what that makes of its wrong body: in a round, where another body is wrong beside it, and alone.
 # None: it is to be tried alone.
@@ -105,6 +127,28 @@ def check_verdicts(count: ran.Count, crate: Crate) -> None:
         count.check(f"{name}, of a right body", right.is_well == (line == PROVED), f"{right}")
 
 
+def check_last_lines(count: ran.Count) -> None:
+    """What the last line says, behind lines on functions; with none of these nothing is said. Hints of the kit's commands may follow it."""
+    lines = "".join(f"{PROVED.format(it)}\n" for it in ("inner", "outer"))
+    for name, last, is_proved, has_verdict in LAST_LINES:
+        for where, text in (("", f"{lines}{last}\n"), (", and hints behind it", f"{lines}{last}\nrt: rt lemma WORD.. finds a lemma\n")):
+            output = read_output(text)
+            count.check(f"{name}{where}", (output.is_proved, output.has_verdict) == (is_proved, has_verdict), f"{output}")
+        count.check(f"{name}, without a function", not read_output(f"{last}\n").has_verdict, last)
+
+
+def check_static(count: ran.Count, room: str) -> None:
+    """A static library is checked as one: crates.txt says which crate is."""
+    with open(f"{room}/crates.txt", "w", encoding="utf-8") as it:
+        it.write("low: json\n# staticlib: none\ntoy staticlib: core low\nstaticlib: low\n")
+    trees = Trees(room, f"{room}/copies", {}, 60)
+    trees.libraries["low"] = "LOW"
+    for name, is_static in (("low", False), ("toy", True), ("staticlib", False)):
+        words = trees.words(name, room, 1, ["f"])
+        count.check(f"{name} is checked as what it is", ("--crate-type" in words) == is_static and words[-2:] == ["--only", "f"], f"{words}")
+    count.check("the libraries below", trees.below == {"low": [], "toy": ["low"], "staticlib": ["low"]}, f"{trees.below}")
+
+
 def labels(trial: Trial) -> list[str]:
     return [it.label for it in trial.waiting]
 
@@ -137,6 +181,27 @@ def check_rounds(count: ran.Count, room: str) -> None:
             count.check(f"{name}: alone it is proved", word_of(crate, outer) == "proved" and not crate.is_well, f"{crate.judged}")
 
 
+def check_control(count: ran.Count, room: str) -> None:
+    """Rounds come once the crate is proved with its comments, whatever kind of crate it is; and else it fails, and none comes."""
+    proved = "".join(f"{PROVED.format(it)}\n" for it in ("inner", "outer"))
+    fallen = f"{CLAUSE.format('inner')}\n{PROVED.format('outer')}\n"
+    library, static = LAST_LINES[0][1], LAST_LINES[1][1]
+    for name, text, status, is_well in (
+        ("a library", f"{proved}{library}\n", 0, True),
+        ("a static library", f"{proved}{static}\n", 0, True),
+        ("a comment that is refused", f"{fallen}logic=not-proved\n", 1, False),
+        ("a status that says otherwise", f"{proved}{static}\n", 1, False),
+        ("no line on a function", f"{PROVED.format('inner')}\n{library}\n", 0, False),
+        ("no verdict", proved, 3, False),
+    ):
+        with tempfile.TemporaryDirectory(dir=room) as folder:
+            crate = toy(folder)
+        trial = Trial([crate], SimpleNamespace(needed=[]), 1, "")
+        trial.judge_proof(crate, Ran(status, text, 0.0, 0.0, False))
+        wanted = ("proved", ["round-1"], False) if is_well else ("NOT proved", [], True)
+        count.same(f"{name}: the control", (crate.comments, labels(trial), bool(crate.failures)), wanted)
+
+
 def check_beside(count: ran.Count, crate: Crate) -> None:
     """A function that no body of a round touches is hurt by it only where it falls for a reason of its own."""
     inner = crate.bodies[:1]
@@ -153,6 +218,9 @@ def main() -> None:
         check_verdicts(count, crate)
         check_beside(count, crate)
         check_rounds(count, room)
+        check_control(count, room)
+        check_last_lines(count)
+        check_static(count, room)
     count.end()
 
 

@@ -1,13 +1,14 @@
 """The laws that checks/fuzz.py judges by accept right outputs, and refuse outputs that are wrong in one place each; all are written by hand.
 And what a stream holds is read as docs/protocol.md says."""
 import tomllib
-from collections.abc import Callable
 
 from support import laws
 from support import ran
 from support import reading
 from support import rows
 from support.cases import Ran
+from support.laws import broken
+from support.rows import batch, cancel
 
 TABLE = laws.Table(frozenset({"ask", "two", "note"}), False, {"ask": 1, "two": 2})
 
@@ -32,14 +33,6 @@ def error(id_, code, text):
     return '{"error":{"code":%d,"message":"%s"},"id":%s,"jsonrpc":"2.0"}' % (code, text, id_)
 
 
-def cancel(id_):
-    return '{"jsonrpc":"2.0","method":"$/cancelRequest","params":{"id":%s}}' % id_
-
-
-def batch(*entries):
-    return "[" + ",".join(entries) + "]"
-
-
 def note(name, number):
     return '{"jsonrpc":"2.0","method":"%s","params":["param-%d"]}' % (name, number)
 
@@ -57,22 +50,18 @@ def told(came, wrote):
     return coming, laws.told_by(coming, ran_of(came, wrote))
 
 
-def broken(check: Callable[[], object]):
-    """The law that a check finds broken, if any."""
-    try:
-        check()
-    except laws.Broken as fault:
-        return str(fault)
-    return None
+def judged(name, is_well, check):
+    """What keeps the laws is accepted, and what doesn't is refused."""
+    why = broken(check)
+    count.check(f"{'accepted' if is_well else 'refused'}: {name}", (why is None) == is_well, why or "")
 
 
 def refuses(name, came, wrote):
-    count.check(f"refused: {name}", broken(lambda: told(came, wrote)) is not None)
+    judged(name, False, lambda: told(came, wrote))
 
 
 def accepts(name, came, wrote):
-    why = broken(lambda: told(came, wrote))
-    count.check(f"accepted: {name}", why is None, why or "")
+    judged(name, True, lambda: told(came, wrote))
 
 
 def check_one_run():
@@ -115,11 +104,11 @@ def check_units():
 def check_reports():
     came, wrote = [ask(1, 1)], [called(1), error(1, -32000, "No reply")]
     coming, right = laws.Coming(reading.read(rows.frames(*came)), TABLE), ran_of(came, wrote, polls=2)
-    count.check("accepted: a report", broken(lambda: laws.told_by(coming, right)) is None)
+    judged("a report", True, lambda: laws.told_by(coming, right))
     for wrong in ({"end": "Truncated"}, {"numbers": 2}, {"messages": 2}, {"calls": 0}, {"answers": 2}, {"polls": 3}):
         changed = Ran(**{**vars(right), **wrong})
-        count.check(f"refused: a report with {wrong}", broken(lambda: laws.told_by(coming, changed)) is not None)
-        count.check(f"refused: cut otherwise, {wrong}", broken(lambda: laws.check_cut(right, changed, "eager")) is not None)
+        judged(f"a report with {wrong}", False, lambda: laws.told_by(coming, changed))
+        judged(f"cut otherwise, {wrong}", False, lambda: laws.check_cut(right, changed, "eager"))
 
 
 def check_cancels():
@@ -133,26 +122,26 @@ def check_cancels():
         return lambda: laws.check_beside(*told(came, wrote), plain)
 
     for name, wrote in (("a cancel that hits", hit), ("one that comes too late", missed), ("one before the first turn", [called(2), gone, second])):
-        count.check(f"accepted: {name}", broken(beside(wrote)) is None, broken(beside(wrote)) or "")
+        judged(name, True, beside(wrote))
     by_text = [called(1), called(2), answer(7, "reply-1"), error('"7"', -32800, "Request cancelled")]
-    count.check("refused: a cancel of a number takes its text", broken(beside(by_text)) is not None)
+    judged("a cancel of a number takes its text", False, beside(by_text))
     other = [called(1), called(2).replace("confirm", "refuse"), gone, second]
-    count.check("refused: another message", broken(beside(other)) is not None)
-    count.check("refused: a message is lacking", broken(beside([called(1), gone, second])) is not None)
-    count.check("refused: withdrawn twice", broken(beside([*hit[:3], *hit[2:]])) is not None)
-    count.check("refused: a call behind a withdrawal", broken(beside([called(2), rows.withdrawn("1.1"), called(1), gone, second])) is not None)
+    judged("another message", False, beside(other))
+    judged("a message is lacking", False, beside([called(1), gone, second]))
+    judged("withdrawn twice", False, beside([*hit[:3], *hit[2:]]))
+    judged("a call behind a withdrawal", False, beside([called(2), rows.withdrawn("1.1"), called(1), gone, second]))
     late = [*came[:2], came[3], came[2], came[4]]
-    count.check("refused: withdrawn, and its reply was there", broken(lambda: told(late, hit)) is not None)
+    judged("withdrawn, and its reply was there", False, lambda: told(late, hit))
 
     (coming, told_hit), (_, told_missed) = told(came, hit), told(came, missed)
-    count.check("refused: a lazy run that cancels nobody", broken(lambda: laws.check_lazy(coming, told_missed)) is not None)
-    count.check("refused: a lazy run that calls before it cancels", broken(lambda: laws.check_lazy(coming, told_hit)) is not None)
+    judged("a lazy run that cancels nobody", False, lambda: laws.check_lazy(coming, told_missed))
+    judged("a lazy run that calls before it cancels", False, lambda: laws.check_lazy(coming, told_hit))
     silent = told(came, [called(2), gone, second])[1]
-    count.check("accepted: a lazy run", broken(lambda: laws.check_lazy(coming, silent)) is None)
+    judged("a lazy run", True, lambda: laws.check_lazy(coming, silent))
     kept = told(came, [called(1), called(2), gone, second])[1]
-    count.check("accepted: an eager run", broken(lambda: laws.check_eager(coming, told_hit, told_hit)) is None)
-    count.check("refused: an eager run that doesn't withdraw", broken(lambda: laws.check_eager(coming, kept, kept)) is not None)
-    count.check("refused: another pick cancels another", broken(lambda: laws.check_eager(coming, told_hit, told_missed)) is not None)
+    judged("an eager run", True, lambda: laws.check_eager(coming, told_hit, told_hit))
+    judged("an eager run that doesn't withdraw", False, lambda: laws.check_eager(coming, kept, kept))
+    judged("another pick cancels another", False, lambda: laws.check_eager(coming, told_hit, told_missed))
 
 
 def check_eager_runs():
@@ -167,8 +156,7 @@ def check_eager_runs():
         ("a cancel of what isn't finished", before, [*calls, rows.withdrawn("2.1"), first, gone], True),
         ("what isn't finished isn't cancelled", before, [*calls, first, second], False),
     ):
-        why = broken(lambda: laws.check_cancelled_eagerly(*told(contents, wrote), plain))
-        count.check(f"{'accepted' if is_well else 'refused'}: {name}", (why is None) == is_well, why or "")
+        judged(name, is_well, lambda: laws.check_cancelled_eagerly(*told(contents, wrote), plain))
 
     came = [ask(1, 1), batch(reply("1.1", 1), ask(2, 2)), reply("2.1", 2), ask(3, 3), cancel(3)]
     gone, withdrawn = error(3, -32800, "Request cancelled"), rows.withdrawn("3.1")
@@ -179,8 +167,7 @@ def check_eager_runs():
         ("an answer behind a later call", [called(1), called(2), first, called(3), second, withdrawn, gone], False),
         ("a call before an earlier answer", [called(1), called(2), called(3), first, second, withdrawn, gone], False),
     ):
-        why = broken(lambda: laws.check_timely(*told(came, wrote)))
-        count.check(f"{'accepted' if is_well else 'refused'}: {name}", (why is None) == is_well, why or "")
+        judged(name, is_well, lambda: laws.check_timely(*told(came, wrote)))
 
 
 def check_notices():
@@ -195,8 +182,7 @@ def check_notices():
         ("a notice comes twice", [begun, ended, done, note("begun", 2), note("begun", 2)], False),
         ("a notice of nobody", [begun, ended, done, note("begun", 2), '{"jsonrpc":"2.0","method":"begun"}'], False),
     ):
-        why = broken(lambda: laws.check_beside(*told(came, wrote), plain))
-        count.check(f"{'accepted' if is_well else 'refused'}: {name}", (why is None) == is_well, why or "")
+        judged(name, is_well, lambda: laws.check_beside(*told(came, wrote), plain))
 
 
 def check_readings():

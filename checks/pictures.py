@@ -1,7 +1,5 @@
 """Plays what the left side sends in each picture of the page on the protocol: up to each message, what is written is the picture's."""
-import os
 import re
-import tempfile
 
 from support import pages
 from support import ran
@@ -31,16 +29,13 @@ def check_picture(count, name, table, picture):
         count.check(f"{name}, its first {at} messages", well, f"status {status}, {printed.decode()!r}, {errors!r}, and not {output!r}")
 
 
-count = ran.Count()
-ran.built()
-blocks = pages.blocks_of(count, "docs", "protocol.md")
-tables = [text for mark, text in blocks if mark == "toml"]
-pictures = [text for mark, text in blocks if mark == "picture"]
-count.check("the page has a table and four pictures at least", len(tables) == 1 and len(pictures) >= 4, f"{len(tables)}, {len(pictures)}")
-with tempfile.TemporaryDirectory() as room:
-    file = os.path.join(room, "table.toml")
-    with open(file, "w", encoding="utf-8") as it:
-        it.write("".join(tables))
+def check_page(count):
+    blocks = pages.blocks_of(count, "docs", "protocol.md")
+    tables, pictures = ([text for mark, text in blocks if mark == kind] for kind in ("toml", "picture"))
+    count.check("the page has a table and four pictures at least", len(tables) == 1 and len(pictures) >= 4, f"{len(tables)}, {len(pictures)}")
+    file = ran.file_of("table.toml", "".join(tables))
     for number, picture in enumerate(pictures, 1):
         check_picture(count, f"picture {number}", file, picture)
-count.end()
+
+
+ran.script(check_page)

@@ -7,7 +7,6 @@ a law, at most N (20,000), and that stream is made as small as it goes. Control,
 compiled alike, in as many streams as the slowest bug took, and in 3,000 at least. Where nothing is named, it is only seen whether the texts
 of --all still stand; so `bin/test` runs it."""
 import argparse
-import os
 import shutil
 import sys
 import tempfile
@@ -86,48 +85,38 @@ def planted(body: Body, sources: Sources, room: str) -> dict[str, str]:
 
 @dataclass
 class Outcome:
-    """What became of a bug."""
+    """What became of a bug: how long the build took, and the stream that was found, with the bytes that were left of it."""
 
-    label: str
-    what: str
-    most: int  # streams that are tried
-    seconds: float = 0  # that the build took
+    seconds: float = 0
     found: Optional[fuzzing.Found] = None
-    small: int = 0  # the bytes of the stream that was left of it
+    small: int = 0
     unbuilt: str = ""
 
 
-def tried(label: str, bug: Optional[tuple[Body, Sources]], most: int, seed: int) -> Outcome:
+def tried(bug: Optional[tuple[Body, Sources]], most: int, seed: int) -> Outcome:
     """Builds the player with a bug, or without any, and tries so many streams with it."""
-    outcome = Outcome(label, bug[0].what if bug else "", most)
     with tempfile.TemporaryDirectory(prefix="planted-") as room:
         begun = time.monotonic()
         try:
             unproved.build(PLAYER, f"{room}/{PLAYER}", planted(*bug, room) if bug else {})
         except unproved.Unbuilt as fault:
-            outcome.unbuilt = str(fault)
-            return outcome
-        outcome.seconds = time.monotonic() - begun
-        fuzzer = fuzzing.Fuzzer(partial(cases.run, f"{room}/{PLAYER}"), room, has_program=False)
-        outcome.found = fuzzer.first_broken(seed, most)
-        if outcome.found and bug:
-            outcome.small = len(fuzzer.shrunk(outcome.found.trial).stream)
-    return outcome
+            return Outcome(unbuilt=str(fault))
+        seconds = time.monotonic() - begun
+        fuzzer = fuzzing.Fuzzer(partial(cases.run, f"{room}/{PLAYER}"), has_program=False)
+        found = fuzzer.first_broken(seed, most)
+        return Outcome(seconds, found, len(fuzzer.shrunk(found.trial).stream) if found and bug else 0)
 
 
-def take(count: ran.Count, outcome: Outcome) -> None:
-    """Counts what became of a bug, or of the control, and tells it."""
+def take(count: ran.Count, name: str, what: str, most: int, outcome: Outcome) -> None:
+    """Counts what became of a bug, or of the control, which does nothing, and tells it."""
     found = outcome.found
+    count.check(f"{name} is built", not outcome.unbuilt, outcome.unbuilt)
     if outcome.unbuilt:
-        count.check(f"{outcome.label} is built", False, outcome.unbuilt)
-    elif outcome.label == NOTHING:
-        count.check(f"nothing is found in {outcome.most:,} streams of the unchanged sources", found is None, f"{found}")
-        print(f"{NOTHING}: built in {outcome.seconds:.0f} s, {outcome.most:,} streams to play", flush=True)
-    else:
-        count.check(f"{outcome.label} is found in {outcome.most:,} streams", found is not None, outcome.what)
-    if found and outcome.label != NOTHING:
-        told = f"found in stream {found.after:,}, shrunk to {outcome.small:,} bytes: {found.law[:200]}"
-        print(f"{outcome.label} ({outcome.what} Built in {outcome.seconds:.0f} s.) {told}", flush=True)
+        return
+    is_well = (found is not None) == bool(what)
+    count.check(f"{name} is {'' if what else 'not '}found in {most:,} streams", is_well, f"{what} {found}")
+    told = f"found in stream {found.after:,}, shrunk to {outcome.small:,} bytes: {found.law[:200]}" if found else f"not found in {most:,} streams"
+    print(f"{name} ({what} Built in {outcome.seconds:.0f} s.) {told}", flush=True)
 
 
 def main(words: list[str]) -> None:
@@ -141,12 +130,13 @@ def main(words: list[str]) -> None:
         count.end()
     slowest = 0
     with ThreadPoolExecutor(options.jobs) as pool:
-        waits = [pool.submit(tried, it, known[it], options.cases, options.seed) for it in names if it in known]
-        for wait in waits:
+        waits = {it: pool.submit(tried, known[it], options.cases, options.seed) for it in names if it in known}
+        for name, wait in waits.items():
             outcome = wait.result()
-            take(count, outcome)
+            take(count, name, known[name][0].what, options.cases, outcome)
             slowest = max(slowest, outcome.found.after if outcome.found else 0)
-    take(count, tried(NOTHING, None, max(options.control, slowest), options.seed))
+    most = max(options.control, slowest)
+    take(count, NOTHING, "", most, tried(None, most, options.seed))
     count.end()
 
 

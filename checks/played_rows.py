@@ -7,9 +7,8 @@ import argparse
 import glob
 import os
 import sys
-import tempfile
-from concurrent.futures import ThreadPoolExecutor
 from dataclasses import replace
+from functools import partial
 from typing import Iterator, Optional
 
 from support import cases
@@ -57,11 +56,6 @@ def is_given(row: Row, got: Ran) -> bool:
     return got.output in row.outputs and got.end == row.end and are_counted
 
 
-def cases_of(row: Row, how: str) -> Iterator[Case]:
-    for sizes in cuttings(len(row.stream), how in WAYS["eager"]):
-        yield Case(how, sizes, row.stream)
-
-
 def cuttings(length: int, is_eager: bool) -> Iterator[tuple[int, ...]]:
     """The sizes of the pieces in which a stream of so many bytes comes. What is left behind them is a piece too."""
     yield ()
@@ -88,7 +82,8 @@ def check_refusals(count: ran.Count) -> None:
 
 def why_not(player: str, table: Optional[str], row: Row, way: str) -> str:
     """What comes of the row otherwise than it says, or nothing."""
-    tried = [case for how in WAYS.get(way, [f"serve {way}"]) for case in cases_of(row, how)]
+    hows = WAYS.get(way, [f"serve {way}"])
+    tried = [Case(how, sizes, row.stream) for how in hows for sizes in cuttings(len(row.stream), how in WAYS["eager"])]
     try:
         found = cases.run(player, table, tried, PATIENCE)
     except ValueError as fault:
@@ -99,29 +94,21 @@ def why_not(player: str, table: Optional[str], row: Row, way: str) -> str:
     return ""
 
 
-def written(file: str, text: str) -> str:
-    with open(file, "w", encoding="utf-8") as it:
-        it.write(text)
-    return file
-
-
-def play_all(count: ran.Count, player: str, files: list[str], room: str) -> None:
-    tables = {name: text and written(os.path.join(room, name), text) for name, text in rows.TABLES.items()}
-    with ThreadPoolExecutor(len(os.sched_getaffinity(0))) as pool:
-        waits = []
-        for file in files:
-            try:
-                with open(file, encoding="utf-8", newline="") as it:
-                    names, found = read_rows(it.read())
-            except Unread as fault:
-                count.check(file, False, str(fault))
-                continue
-            for row, table, way in ((row, table, way) for row in found for table in names for way in row.ways):
-                label = f"{os.path.basename(file)}: {row.name}, {way}, table {table}"
-                waits.append((label, pool.submit(why_not, player, tables[table], row, way)))
-        for label, wait in waits:
-            why = wait.result()
-            count.check(label, not why, why)
+def play_all(count: ran.Count, player: str, files: list[str]) -> None:
+    tables = {name: text and rows.file_of(text) for name, text in rows.TABLES.items()}
+    runs = {}
+    for file in files:
+        try:
+            with open(file, encoding="utf-8", newline="") as it:
+                names, found = read_rows(it.read())
+        except Unread as fault:
+            count.check(file, False, str(fault))
+            continue
+        for row, table, way in ((row, table, way) for row in found for table in names for way in row.ways):
+            label = f"{os.path.basename(file)}: {row.name}, {way}, table {table}"
+            runs[label] = partial(why_not, player, tables[table], row, way)
+    for label, why in zip(runs, ran.side_by_side(runs.values())):
+        count.check(label, not why, why)
 
 
 def main(words: list[str]) -> None:
@@ -134,8 +121,7 @@ def main(words: list[str]) -> None:
     count.check("there are rows", len(files) > 0)
     check_refusals(count)
     if options.player:
-        with tempfile.TemporaryDirectory() as room:
-            play_all(count, options.player, files, room)
+        play_all(count, options.player, files)
     count.end()
 
 

@@ -3,7 +3,6 @@ that are refused, and devices that fail."""
 import os
 import socket
 import subprocess
-import tempfile
 import threading
 
 from support import ran
@@ -11,24 +10,17 @@ from support import rows
 
 count = ran.Count()
 ran.built()
-ROOM = tempfile.TemporaryDirectory()
+METHODS = rows.file_of(rows.METHODS)
 
 
-def file_of(name, text):
-    """A file with this text, for the time that the checks run."""
-    path = os.path.join(ROOM.name, name)
-    with open(path, "wb") as it:
-        it.write(text if isinstance(text, bytes) else text.encode())
-    return path
+def expect(name, words, given, output, errors=b"", status=0, program=None):
+    count.same(name, ran.run(words, given, program), (status, output, errors))
 
 
-TABLES = {it: file_of(f"table{number}.toml", it) for number, it in enumerate((rows.METHODS, rows.OPENING, rows.EACH))}
-METHODS = TABLES[rows.METHODS]
-
-
-def expect(name, words, given, output, errors=b"", status=0, program=ran.BUILT):
-    got = ran.run(words, given, program)
-    count.check(name, got == (status, output, errors), f"status {got[0]}, {got[1][:300]!r}, {got[2][:300]!r}")
+def expect_end(name, words, given, output, end):
+    """The same of an input that ends so, "" where it ends clean."""
+    status, errors = rows.ended(end)
+    expect(name, words, given, output, errors, status)
 
 
 # Two calls in one content; entries that are no calls and a request, and their answers; and a reply that stands behind a call too many.
@@ -42,24 +34,22 @@ expect("the first line", ["play", "--lines"], line, (rows.NOT_FOUND + "\n").enco
 
 for name, given, output, end in rows.ROWS:
     for piece in ("1", "7", "4095", "4096", "4097", "65536"):
-        errors = f"input ended: {end}\n".encode() if end else b""
-        expect(f"{name}, in pieces of {piece}", ["play", "--piece", piece], given, output, errors, 1 if end else 0)
+        expect_end(f"{name}, in pieces of {piece}", ["play", "--piece", piece], given, output, end)
 
 # Methods of a table, as frames in pieces and as lines.
 for name, table, ways, given, output in rows.PLAYS:
     for way in ways:
-        words = ["play", "--table", TABLES[table], *way]
+        words = ["play", "--table", rows.file_of(table), *way]
         for piece in ("1", "7", "65536"):
             expect(f"{name}, {way} in pieces of {piece}", [*words, "--piece", piece], rows.frames(*given), rows.frames(*output))
         expect(f"{name}, {way} as lines", [*words, "--lines"], rows.lines(*given), rows.lines(*output))
 for name, given, output, end in rows.ROWS:
     if b'"add"' not in given:
-        errors = f"input ended: {end}\n".encode() if end else b""
-        expect(f"{name}, with methods", ["play", f"--table={METHODS}", "--lazy", "--last"], given, output, errors, 1 if end else 0)
+        expect_end(f"{name}, with methods", ["play", f"--table={METHODS}", "--lazy", "--last"], given, output, end)
 cut = rows.frames(rows.ask(), rows.replied("1.1")) + b"x\r\n"
-expect("an answer before a fault", ["play", "--table", METHODS], cut, rows.frames(rows.called("1.1"), rows.answered("true")), b"input ended: BadHead\n", 1)
+expect_end("an answer before a fault", ["play", "--table", METHODS], cut, rows.frames(rows.called("1.1"), rows.answered("true")), "BadHead")
 cut = rows.frames(rows.ask()) + b"x\r\n" + rows.frames(rows.replied("1.1"))
-expect("a reply behind a fault", ["play", "--table", METHODS], cut, rows.frames(rows.called("1.1"), rows.NO_REPLY), b"input ended: BadHead\n", 1)
+expect_end("a reply behind a fault", ["play", "--table", METHODS], cut, rows.frames(rows.called("1.1"), rows.NO_REPLY), "BadHead")
 
 # Large inputs: the greatest content, contents beyond 100,000 bytes, many frames, a large batch, a long string.
 greatest = b'"' + b"a" * 16_777_214 + b'"'
@@ -79,11 +69,11 @@ expect("100,000 frames", ["play"], many, rows.frames(rows.NOT_FOUND) * 100_000)
 text = '{"jsonrpc":"2.0","method":"nope","id":1,"params":["' + "a" * 8_000_000 + '"]}'
 expect("a string of 8 MB", ["play"], rows.frames(text), rows.frames(rows.NOT_FOUND))
 one_over = b"Content-Length: 16777217\r\n\r\n" + b"a" * 16_777_217
-expect("a content over the limit", ["play"], one_over, b"", b"input ended: TooLarge\n", 1)
+expect_end("a content over the limit", ["play"], one_over, b"", "TooLarge")
 notices = rows.frames(rows.batch(*[rows.NOTICE] * 1_000)) * 1_000
 expect("1,000,000 calls", ["play"], notices, b"")
 full = notices + rows.frames(rows.REQUEST, "[]")
-expect("1,000,001 calls", ["play"], full, b"", b"input ended: Full\n", 1)
+expect_end("1,000,001 calls", ["play"], full, b"", "Full")
 asks, replies = [rows.ask(it) for it in numbers], [rows.replied(f"{it}.1") for it in numbers]
 calls, results = [rows.called(f"{it}.1") for it in numbers], [rows.answered("true", it) for it in numbers]
 words = ["play", "--lines", "--table", METHODS]
@@ -118,16 +108,15 @@ LIMITED = [
 ]
 CUT = ("a content of the limit", "a content over the limit", "a call more", "a batch with a call too many")
 for name, words, given, output, end in LIMITED:
-    told = f"input ended: {end}\n".encode() if end else b""
     for command in (["play"], ["play", "--piece", "1"], ["play", "--lazy", "--piece", "7"], ["serve"], ["serve", "--workers", "1"]):
-        expect(f"{name}, {command}", [*command, *words], given, output, told, 1 if end else 0)
+        expect_end(f"{name}, {command}", [*command, *words], given, output, end)
     # (the first piece ends at each place of the stream)
     for size in range(2, len(given)) if name in CUT else ():
-        expect(f"{name}, in pieces of {size}", ["play", "--piece", str(size), *words], given, output, told, 1 if end else 0)
-expect("a line over the limit", ["play", "--lines", "--content", "39"], line, b"", b"input ended: TooLarge\n", 1)
+        expect_end(f"{name}, in pieces of {size}", ["play", "--piece", str(size), *words], given, output, end)
+expect_end("a line over the limit", ["play", "--lines", "--content", "39"], line, b"", "TooLarge")
 expect("a line of the limit", ["play", "--lines", "--content", "40"], line, (rows.NOT_FOUND + "\n").encode())
-expect("notices over the limit of calls", ["play", "--calls", "999999"], notices, b"", b"input ended: Full\n", 1)
-expect("a content over a limit near the standard one", ["play", "--content", "16777215"], rows.frame(greatest), b"", b"input ended: TooLarge\n", 1)
+expect_end("notices over the limit of calls", ["play", "--calls", "999999"], notices, b"", "Full")
+expect_end("a content over a limit near the standard one", ["play", "--content", "16777215"], rows.frame(greatest), b"", "TooLarge")
 
 # Lines: the last needs no LF, empty ones are passed over, and a CR is part of its line.
 answer, unreadable = f"{rows.NOT_FOUND}\n".encode(), f"{rows.UNREADABLE}\n".encode()
@@ -152,8 +141,7 @@ for rest, end in (
     (b"Content-Length: 16777217\r\n", "TooLarge"),
     (b"\r\n", "NoLength"),
 ):
-    whole = rows.frames(rows.REQUEST)
-    expect(f"a request and {rest}", ["play"], whole + rest, rows.frames(rows.NOT_FOUND), f"input ended: {end}\n".encode(), 1)
+    expect_end(f"a request and {rest}", ["play"], rows.frames(rows.REQUEST) + rest, rows.frames(rows.NOT_FOUND), end)
 
 # Command lines.
 for words in (["--help"], ["play", "--help"], ["check", "--help"], ["--version"]):
@@ -204,16 +192,16 @@ for words in REFUSED:
 
 # Tables that aren't taken. The words are judged first, then the table, and then the input.
 CANT_READ = b"table: cannot be read\n"
-missing, broken = os.path.join(ROOM.name, "none.toml"), file_of("broken.toml", rows.METHODS + '[[method.step]]\nkind = "nosuch"\n')
+missing, broken = os.path.join(ran.ROOM.name, "none.toml"), rows.file_of(rows.METHODS + '[[method.step]]\nkind = "nosuch"\n')
 MIXED_UP = b"Content-Length: 1\nContent-Length: 1\n"
 for command in (["play"], ["play", "--lines", "--lazy"], ["check"]):
     expect(f"{command}, a table that isn't there", [*command, "--table", missing], line, b"", CANT_READ, 2)
-    expect(f"{command}, a folder for a table", [*command, "--table", ROOM.name], line, b"", CANT_READ, 2)
+    expect(f"{command}, a folder for a table", [*command, "--table", ran.ROOM.name], line, b"", CANT_READ, 2)
     expect(f"{command}, a table at fault", [*command, "--table", broken], MIXED_UP, b"", b"table: Step, method 6, step 2\n", 2)
 expect("the methods are counted", ["check", "--table", METHODS], b"", b"ok: 6 methods\n")
-one = file_of("one.toml", rows.METHODS[: rows.METHODS.index('[[method]]\nname = "ask"')])
+one = rows.file_of(rows.METHODS[: rows.METHODS.index('[[method]]\nname = "ask"')])
 expect("the first of them alone", ["check", "--table", one], b"", b"ok: 1 methods\n")
-expect("an opening isn't counted", ["check", "--table", TABLES[rows.OPENING]], b"", b"ok: 0 methods\n")
+expect("an opening isn't counted", ["check", "--table", rows.file_of(rows.OPENING)], b"", b"ok: 0 methods\n")
 status, output, errors = ran.run(["play", "--table", missing, "--piece", "0"], line)
 count.check("words before the table", status == 2 and output == b"" and errors.startswith(b"error: "), f"{status}, {errors!r}")
 ended = subprocess.run([ran.BUILT, "play", "--table", broken], stdin=os.open("/", os.O_RDONLY), capture_output=True, timeout=60)
@@ -244,11 +232,11 @@ def fed(words, packets, ours, its, **how):
 for packets, wanted in ((999_999, (0, b"", b"")), (1_000_000, (1, b"", b"failed: Read\n"))):
     ours, its = socket.socketpair(socket.AF_UNIX, socket.SOCK_SEQPACKET)
     got = fed(["play", "--lines"], packets, ours.detach(), its.fileno(), stdin=its.detach())
-    count.check(f"an input of {packets} reads", got == wanted, f"{got}")
+    count.same(f"an input of {packets} reads", got, wanted)
 for packets, wanted in ((999_999, (2, b"", b"table: Version, method 0, step 0\n")), (1_000_000, (2, b"", CANT_READ))):
     its, ours = os.pipe2(os.O_DIRECT)
     got = fed(["play", "--table", f"/dev/fd/{its}"], packets, ours, its, stdin=subprocess.DEVNULL, pass_fds=[its])
-    count.check(f"a table of {packets} reads", got == wanted, f"{got}")
+    count.same(f"a table of {packets} reads", got, wanted)
 
 # Devices that fail. Of a failed read nothing is played; a failed write stands in place of how the input ended.
 WRITE = b"failed: Write\n"
@@ -257,26 +245,20 @@ with open("/dev/full", "wb") as full:
 count.check("a full device", (ended.returncode, ended.stderr) == (1, WRITE))
 ended = subprocess.run([ran.BUILT, "play"], stdin=os.open("/", os.O_RDONLY), capture_output=True, timeout=60)
 count.check("an input that can't be read", (ended.returncode, ended.stdout, ended.stderr) == (1, b"", b"failed: Read\n"))
-for words in (["play", "--lines"], ["play", "--lines", "--piece=5"], ["play", "--lines", "--table", TABLES[rows.OPENING]]):
-    got = ran.run_on_broken(words, line)
-    count.check(f"a read that fails behind a line, {words}", got == (1, b"", b"failed: Read\n"), f"{got}")
-for room in (0, 1, 77):
-    got = ran.run_into(room, ["play", "--lines"], line)
-    count.check(f"an output that takes {room} bytes", got == (1, answer[:room], WRITE), f"{got}")
-got = ran.run_into(78, ["play", "--lines"], line)
-count.check("an output that takes the answer and no more", got == (0, answer, b""), f"{got}")
-got = ran.run_into(10, ["play", "--lines"], long)
-count.check("an output that fails before a content too long", got == (1, answer[:10], WRITE), f"{got}")
-got = ran.run_into(0, ["play"], rows.frames(rows.REQUEST) + b"Content-Length: 1\r\n")
-count.check("an output that fails where the input ended badly", got == (1, b"", WRITE), f"{got}")
-got = ran.run_into(13, ["check", "--table", METHODS])
-count.check("an output that takes all but the last byte of what check says", got == (1, b"ok: 6 methods", WRITE), f"{got}")
+for words in (["play", "--lines"], ["play", "--lines", "--piece=5"], ["play", "--lines", "--table", rows.file_of(rows.OPENING)]):
+    count.same(f"a read that fails behind a line, {words}", ran.run_on_broken(words, line), (1, b"", b"failed: Read\n"))
+count.same("an output that takes the answer and no more", ran.run_into(78, ["play", "--lines"], line), (0, answer, b""))
+# name, how many bytes the output takes, words, input, and the whole output
+NARROW = [
+    *((f"an output that takes {room} bytes", room, ["play", "--lines"], line, answer) for room in (0, 1, 77)),
+    ("before a content too long", 10, ["play", "--lines"], long, answer),
+    ("where the input ended badly", 0, ["play"], rows.frames(rows.REQUEST) + b"Content-Length: 1\r\n", b""),
+    ("all but the last byte of what check says", 13, ["check", "--table", METHODS], b"", b"ok: 6 methods\n"),
+    *((f"{words} into an output that takes nothing", 0, words, b"", b"") for words in (["--help"], ["--version"])),
+]
 called = rows.lines(rows.called("1.1"), rows.NO_REPLY)
-for room in (0, 62, 63, 100):
-    got = ran.run_into(room, ["play", "--lines", "--table", METHODS], rows.lines(rows.ask()))
-    count.check(f"an output that takes {room} bytes of a call and its answer", got == (1, called[:room], WRITE), f"{got}")
-for words in (["--help"], ["--version"]):
-    got = ran.run_into(0, words)
-    count.check(f"{words} into an output that takes nothing", got == (1, b"", WRITE), f"{got}")
+NARROW += [(f"{it} bytes of a call and its answer", it, ["play", "--lines", "--table", METHODS], rows.lines(rows.ask()), called) for it in (0, 62, 63, 100)]
+for name, room, words, given, output in NARROW:
+    count.same(f"an output that fails: {name}", ran.run_into(room, words, given), (1, output[:room], WRITE))
 
 count.end()

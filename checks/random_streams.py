@@ -2,57 +2,30 @@
 proved of the program is that it writes one of the outputs that are allowed; that it is the one that `play`, `--lazy` and `--last` stand
 for is only tested, by the rows and here."""
 import json
-import os
 import random
-import tempfile
 import tomllib
 
+from support import fuzzing
 from support import model
 from support import ran
 from support import rows
-from support.grammar import ERRORS, IDS, PARAMS, RESULTS
+from support.grammar import Grammar
 
 STREAMS = 3_000
 WAYS = ([], [], ["--lazy"], ["--last"], ["--lazy", "--last"])
 
 
-def call(chance, names):
-    entry = {"jsonrpc": "2.0", "method": chance.choice(names), "params": chance.choice(PARAMS), "id": chance.choice(IDS)}
-    return {it: entry[it] for it in entry if it in ("jsonrpc", "method") or chance.random() < 0.9}
+def methods_of(table):
+    """The methods of a table with how many calls each makes, and one that it hasn't."""
+    return {"nope": 0, **{it["name"]: sum(map(fuzzing.calls_in, it.get("step", []))) for it in tomllib.loads(table).get("method", [])}}
 
 
-def reply(chance, most):
-    """A reply to one of the calls that there may be, or to none."""
-    entry = {"jsonrpc": chance.choice(["2.0"] * 9 + ["1.0"]), "id": f"{chance.randint(0, most)}.{chance.choice((1, 1, 1, 2, 2, 3))}"}
-    if chance.random() < 0.7:
-        entry["result"] = chance.choice(RESULTS)
-    if chance.random() < 0.3:
-        entry["error"] = chance.choice(ERRORS)
-    return entry
-
-
-def entry_of(chance, names, most):
-    kind = chance.random()
-    if kind < 0.4:
-        return call(chance, names)
-    if kind < 0.8:
-        return reply(chance, most)
-    if kind < 0.92:
-        return {"jsonrpc": "2.0", "method": "$/cancelRequest", "params": {"id": chance.choice(IDS)}}
-    return chance.choice((1, [], {"foo": 1}, {"method": 5}, {"jsonrpc": "2.0", "method": "$/cancelRequest", "id": 1}))
-
-
-def stream(chance, names):
-    lines = []
-    for at in range(1, chance.randint(2, 16)):
-        batch = [entry_of(chance, names, at) for _ in range(chance.randint(0, 4))]
-        single = entry_of(chance, names, at)
-        lines.append("{" if chance.random() < 0.03 else json.dumps(batch if chance.random() < 0.3 else single))
-    return lines
-
-
-def names_of(table):
-    return [*(it["name"] for it in tomllib.loads(table).get("method", [])), "nope"]
+def stream(chance, table):
+    """Lines, mostly of calls, replies that calls wait for, and cancels; now and then a batch, or what can't be read."""
+    grammar = Grammar(chance, methods_of(table))
+    for _ in range(chance.randint(2, 16)):
+        value = [grammar.entry() for _ in range(chance.randint(0, 4))] if chance.random() < 0.3 else grammar.entry()
+        yield "{" if chance.random() < 0.03 else json.dumps(value)
 
 
 def check_model(count):
@@ -60,28 +33,18 @@ def check_model(count):
     for name, table, ways, given, output in rows.PLAYS:
         for way in ways:
             got = model.play(table, given, "--lazy" in way, "--last" in way)
-            count.check(f"the model: {name}, {way}", got == output, f"{got}")
+            count.same(f"the model: {name}, {way}", got, output)
 
 
-def check_streams(count, room):
-    with open(os.path.join(ran.TOP, "examples", "toolbox.toml"), encoding="utf-8") as it:
-        tables = [rows.METHODS, rows.OPENING, rows.EACH, it.read()]
-    files = [os.path.join(room, f"table{at}.toml") for at in range(len(tables))]
-    for file, table in zip(files, tables):
-        with open(file, "w", encoding="utf-8") as it:
-            it.write(table)
+def check_streams(count):
+    tables = [rows.METHODS, rows.OPENING, rows.EACH, ran.text_of("examples", "toolbox.toml")]
     for seed in range(STREAMS):
         chance = random.Random(seed)
-        file, table = chance.choice([*zip(files, tables)])
-        lines, way, piece = stream(chance, names_of(table)), chance.choice(WAYS), chance.choice(("1", "7", "65536"))
+        table = chance.choice(tables)
+        lines, way, piece = [*stream(chance, table)], chance.choice(WAYS), chance.choice(("1", "7", "65536"))
         output = rows.lines(*model.play(table, lines, "--lazy" in way, "--last" in way))
-        got = ran.run(["play", "--lines", "--table", file, "--piece", piece, *way], rows.lines(*lines))
+        got = ran.run(["play", "--lines", "--table", rows.file_of(table), "--piece", piece, *way], rows.lines(*lines))
         count.check(f"stream {seed}, {way}", got == (0, output, b""), f"{lines} give {got}, and not {output}")
 
 
-count = ran.Count()
-ran.built()
-check_model(count)
-with tempfile.TemporaryDirectory() as room:
-    check_streams(count, room)
-count.end()
+ran.script(check_model, check_streams)

@@ -1,8 +1,6 @@
 """Refuses each request for memory in turn, one alone and then all from it on, until a run meets no refusal: what is written is then the
 row's bytes, or a prefix of them with `failed: Memory`; where the table found none, nothing is written. So it is for `play`, for `serve`
 and for `check`; and tests that the gate built, run so, pass or name want of memory, and nothing else."""
-import os
-import tempfile
 from collections.abc import Callable
 
 from support import ran
@@ -60,7 +58,7 @@ class Refused:
 
     def peer(self, name: str, words: list[str], given: bytes, outputs: list[bytes], end: str = "") -> None:
         """The program writes one of these outputs, or a front of one where memory is refused."""
-        whole = (1, f"input ended: {end}\n".encode()) if end else (0, b"")
+        whole = rows.ended(end)
 
         def is_well(status: int, wrote: bytes, said: bytes, was_refused: bool) -> bool:
             if (status, said) == whole and wrote in outputs:
@@ -78,15 +76,7 @@ class Refused:
             self.each(name, list(test), b"", is_well, ways)
 
 
-def goes_on(status: int, _wrote: bytes, _said: bytes, _was_refused: bool) -> bool:
-    return status == 0
-
-
-def ends_by_name(status: int, _wrote: bytes, said: bytes, was_refused: bool) -> bool:
-    return status == 0 or was_refused and status == FAILED and said in NAMING
-
-
-def played(refused: Refused, tables: dict[str, str]) -> None:
+def played(refused: Refused) -> None:
     """Rows, and the methods of a table, by `play`."""
     for name, given, output, end in rows.ROWS:
         refused.peer(name, ["play"], given, [output], end)
@@ -95,17 +85,17 @@ def played(refused: Refused, tables: dict[str, str]) -> None:
     refused.peer("two lines", ["play", "--lines"], lines, [answers])
     for name, table, ways, given, output in rows.PLAYS:
         for way in ways:
-            words = ["play", "--table", tables[table], *way]
+            words = ["play", "--table", rows.file_of(table), *way]
             refused.peer(f"{name}, {way}", words, rows.frames(*given), [rows.frames(*output)])
 
 
-def checked(refused: Refused, tables: dict[str, str]) -> None:
+def checked(refused: Refused) -> None:
     """Tables by `check`."""
     for table, count in ((rows.METHODS, 6), (rows.OPENING, 0), (rows.EACH, 1)):
-        refused.peer(f"a table of {count} methods", ["check", "--table", tables[table]], b"", [b"ok: %d methods\n" % count])
+        refused.peer(f"a table of {count} methods", ["check", "--table", rows.file_of(table)], b"", [b"ok: %d methods\n" % count])
 
 
-def served(refused: Refused, tables: dict[str, str]) -> None:
+def served(refused: Refused) -> None:
     """Rows by `serve` with two workers. A cancel may find its handler parked, out or not turned yet."""
     asked, cancelled = [rows.called("1.1"), rows.answered("true")], [rows.called("1.1"), rows.withdrawn("1.1"), rows.CANCELLED]
     two = [rows.TWO_CALLS, rows.answered('["A","B"]', 1)]
@@ -117,16 +107,14 @@ def served(refused: Refused, tables: dict[str, str]) -> None:
         ("an unknown method", None, [rows.REQUEST], [[rows.NOT_FOUND]]),
     ]
     for name, table, given, outputs in streams:
-        words = ["serve", "--workers", "2", *(["--table", tables[table]] if table else [])]
+        words = ["serve", "--workers", "2", *(["--table", rows.file_of(table)] if table else [])]
         refused.peer(f"{name}, served", words, rows.frames(*given), [rows.frames(*it) for it in outputs])
 
 
-def explained(refused: Refused, room: str) -> None:
+def explained(refused: Refused) -> None:
     """With `--explain` the first line is one that stands alone without it. Lines that found no memory are left out after it; where memory ran out
     before, what was missing is told, if the words were read."""
-    broken = os.path.join(room, "broken.toml")
-    with open(broken, "w", encoding="utf-8") as it:
-        it.write(rows.METHODS + '[[method.step]]\nkind = "nosuch"\n')
+    broken = rows.file_of(rows.METHODS + '[[method.step]]\nkind = "nosuch"\n')
     named = ["  method: note", "  kind: nosuch", "  field: kind", "  cause: this version has no such kind of step"]
     refused_table = ["table: Step, method 6, step 2", f"  file: {broken}", *named]
     at_fault = ["input ended: BadHead", "  frame: from byte 63", "  fault: at byte 65"]
@@ -149,27 +137,16 @@ def explained(refused: Refused, room: str) -> None:
         refused.each(f"{words}", [ran.BUILT, *words], given, is_well)
 
 
-def main() -> None:
-    count = ran.Count()
-    ran.built()
+def check_all(count: ran.Count) -> None:
     if ran.lacks("cc", refusals.WHY):
-        count.end()
+        return
     refused = Refused(count)
-    with tempfile.TemporaryDirectory() as room:
-        tables = {}
-        for table in (rows.METHODS, rows.OPENING, rows.EACH):
-            tables[table] = os.path.join(room, f"table{len(tables)}.toml")
-            with open(tables[table], "w", encoding="utf-8") as it:
-                it.write(table)
-        played(refused, tables)
-        checked(refused, tables)
-        served(refused, tables)
-        explained(refused, room)
+    for it in (played, checked, served, explained):
+        it(refused)
     for name in GO_ON:
-        refused.test(name, goes_on, WAYS[:1])
+        refused.test(name, lambda status, *_: status == 0, WAYS[:1])
     for name in END:
-        refused.test(name, ends_by_name, WAYS)
-    count.end()
+        refused.test(name, lambda status, _, said, was_refused: status == 0 or was_refused and status == FAILED and said in NAMING, WAYS)
 
 
-main()
+ran.script(check_all)

@@ -3,70 +3,40 @@ out of order; calls that are answered late; and many cancels of requests that wa
 played too, by the player on one thread, and compared with what was served."""
 import collections
 import io
-import os
+import json
 import random
-import tempfile
 import threading
+from concurrent.futures import ThreadPoolExecutor
 
 from support import client as peer
 from support import ran
 from support import rows
-from support.client import Client, call, cancel, error, notification, request, result
+from support.client import Client, call, cancel, error, notification, request
+from support.traffic import CANCELLED, Said, planned
 
 count = ran.Count()
 ran.built()
-ROOM = tempfile.TemporaryDirectory()
-METHODS = os.path.join(ROOM.name, "methods.toml")
-with open(METHODS, "w", encoding="utf-8") as table:
-    table.write(rows.METHODS)
+METHODS = rows.file_of(rows.METHODS)
 SEED = 20_261_123
 REQUESTS = 100_000
-CANCELLED = (-32800, "Request cancelled")
+# How many calls the methods make.
+CALLS = {"ask": 1, "gate": 1, "keep": 1, "two": 2}
 
 
-def reply_value(number, turn):
-    """What the other side answers to the call number.turn."""
-    return [None, True, False, number, f"{number}.{turn}", [turn]][(number * 7 + turn) % 6]
-
-
-def is_faulty(number, turn):
-    """Whether it answers with an error in its place."""
-    return (number + turn) % 11 == 0
+def said(number, turn):
+    """What the other side answers to the call number.turn: a value, or an error in its place."""
+    if (number + turn) % 11 == 0:
+        return Said(error=(number, "sorry"))
+    return Said([None, True, False, number, f"{number}.{turn}", [turn]][(number * 7 + turn) % 6])
 
 
 def reply(number, turn):
-    key = f"{number}.{turn}"
-    return error(key, number, "sorry") if is_faulty(number, turn) else result(key, reply_value(number, turn))
-
-
-def kept(number, turn):
-    if is_faulty(number, turn):
-        return {"ok": False, "error": {"code": number, "message": "sorry"}}
-    return {"ok": True, "result": reply_value(number, turn)}
+    return said(number, turn).text(f"{number}.{turn}")
 
 
 def answer(id_, number, method, params):
     """What a request is answered, and what its handler sends on the way: the number is that of its call entry."""
-    if method == "add":
-        return result(id_, params[0] + params[1]), []
-    if method == "note":
-        return result(id_, None), [notification("log", [params[0]])]
-    if method == "two":
-        calls = f'[{call(f"{number}.1", "a")},{call(f"{number}.2", "b")}]'
-        faulty = next((turn for turn in (1, 2) if is_faulty(number, turn)), None)
-        if faulty:
-            return error(id_, number, "sorry"), [calls]
-        return result(id_, [reply_value(number, 1), reply_value(number, 2)]), [calls]
-    asked = [call(f"{number}.1", "confirm", params[:1] if method == "ask" else None)]
-    if method == "keep":
-        return result(id_, kept(number, 1)), asked
-    if is_faulty(number, 1):
-        return error(id_, number, "sorry"), asked
-    if method == "ask":
-        return result(id_, reply_value(number, 1)), asked
-    if reply_value(number, 1) is True:
-        return result(id_, "yes"), asked
-    return error(id_, 7, "no"), asked
+    return planned(number, id_, method, params, [said(number, turn + 1) for turn in range(CALLS.get(method, 0))])
 
 
 class Load:
@@ -94,7 +64,7 @@ class Load:
             if content is None or not isinstance(content, str) or content.startswith("nothing for "):
                 count.check("the load's answers", False, f"{content} after {len(self.answers):,} answers of {wanted:,}")
                 break
-            value = peer.json.loads(content)
+            value = json.loads(content)
             entries = value if isinstance(value, list) else [value]
             if "method" not in entries[0]:
                 self.answers.append((value["id"], content))
@@ -134,18 +104,13 @@ class Load:
 
 def run(load, wanted, send_all, most):
     """Sends, reads and replies by threads of their own, and gives what came behind the answers."""
-    threads = [threading.Thread(target=load.read, args=(wanted,)), threading.Thread(target=load.reply_out_of_order, args=(most,))]
-    for it in threads:
-        it.start()
-    send_all()
-    for it in threads:
-        it.join()
+    with ThreadPoolExecutor(2) as pool:
+        waits = [pool.submit(load.read, wanted), pool.submit(load.reply_out_of_order, most)]
+        send_all()
+    for it in waits:
+        it.result()
     load.client.close_input()
     return load.client.end()
-
-
-def in_order(name, answers, ids):
-    count.check(f"{name}: each request is answered once, in order of arrival", [it for it, _ in answers] == ids, f"{len(answers):,} answers")
 
 
 # ---- many requests of all kinds
@@ -171,7 +136,8 @@ with Client(["--table", METHODS, "--workers", "4"]) as client:
 
     left, status, errors = run(load, REQUESTS, send_all, 40)
     count.check("many requests: the end", (left, status, errors) == ([], 0, b""), f"{left[:3]} {status} {errors!r}")
-    in_order("many requests", load.answers, list(range(1, REQUESTS + 1)))
+    ids = [it for it, _ in load.answers]
+    count.check("each request is answered once, in order of arrival", ids == [*range(1, REQUESTS + 1)], f"{len(ids):,} answers")
     hits = 0
     notices = collections.Counter()
     for id_, found in load.answers:
@@ -201,7 +167,7 @@ with Client(["--table", METHODS, "--workers", "4"]) as client:
     served = dict(load.answers)
     played = {}
     for content in peer.contents_in(io.BytesIO(output)):
-        value = peer.json.loads(content)
+        value = json.loads(content)
         if isinstance(value, dict) and "method" not in value:
             played[value["id"]] = content
     differing = [it for it in served if it not in wishes and served[it] != played.get(it)]
@@ -223,7 +189,7 @@ with Client(["--table", METHODS, "--workers", "4"]) as client:
     for key in keys:
         load.send(reply(*key))
     answers = [client.receive() for _ in range(LATE)]
-    wanted = [answer(id_, id_, "two", None)[0] for id_ in range(1, LATE + 1)]
+    wanted = [answer(id_, id_, "two", [])[0] for id_ in range(1, LATE + 1)]
     count.check(f"{LATE:,} requests whose calls are answered late", answers == wanted)
     client.close_input()
     count.check("late replies: the end", client.end() == ([], 0, b""))
@@ -235,7 +201,7 @@ with Client(["--table", METHODS, "--workers", "4"]) as client:
     load = Load(client, SEED + 3)
     for id_ in range(1, PARKED + 1):
         load.send(request(id_, "ask", [id_]))
-    calls = sorted((client.receive() for _ in range(PARKED)), key=lambda it: int(peer.json.loads(it)["id"].split(".")[0]))
+    calls = sorted((client.receive() for _ in range(PARKED)), key=lambda it: int(json.loads(it)["id"].split(".")[0]))
     count.check("the calls of those that wait", calls == [call(f"{it}.1", "confirm", [it]) for it in range(1, PARKED + 1)])
     order = list(range(1, PARKED + 1))
     load.random.shuffle(order)

@@ -3,28 +3,16 @@ each byte, a client that doesn't read, and nothing to do."""
 import os
 import signal
 import subprocess
-import tempfile
-import threading
 import time
+from concurrent.futures import ThreadPoolExecutor
 
-from support import client as peer
 from support import ran
 from support import rows
-from support.client import Client, call, cancel, error, notification, request, result
+from support.client import Client, call, cancel, ended, error, notification, request, result
 
 count = ran.Count()
 ran.built()
-ROOM = tempfile.TemporaryDirectory()
-
-
-def file_of(name, text):
-    file = os.path.join(ROOM.name, name)
-    with open(file, "w", encoding="utf-8") as it:
-        it.write(text)
-    return file
-
-
-METHODS, GREETING, EACH = file_of("methods.toml", rows.METHODS), file_of("greeting.toml", rows.OPENING), file_of("each.toml", rows.EACH)
+METHODS, GREETING, EACH = map(rows.file_of, (rows.METHODS, rows.OPENING, rows.EACH))
 ASK, ASKED = request(7, "ask", ["x"]), call("1.1", "confirm", ["x"])
 REPLY, YES = result("1.1", True), result(7, True)
 NO_REPLY, CANCELLED = error(7, -32000, "No reply"), error(7, -32800, "Request cancelled")
@@ -32,33 +20,21 @@ WITHDRAWN = notification("$/cancelRequest", {"id": "1.1"})
 UNKNOWN = request(1, "nope")
 
 
+same = count.same
+
+
 def expect(name, words, given, outputs, errors=b"", status=0):
     """The server's whole output for this input is one of these."""
     got = ran.run(["serve", *words], given)
-    is_well = got[0] == status and got[1] in outputs and got[2] == errors
-    count.check(name, is_well, f"status {got[0]}, {got[1][:300]!r}, {got[2][:300]!r}")
-
-
-def same(name, found, wanted):
-    count.check(name, found == wanted, f"{found!r}"[:600])
-
-
-def ended(process):
-    """What a server ends with, and what it wrote of errors."""
-    try:
-        status = process.wait(peer.PATIENCE)
-    except subprocess.TimeoutExpired:
-        process.kill()
-        return "it runs on", b""
-    return status, process.stderr.read()
+    same(name, got, (status, got[1] if got[1] in outputs else outputs, errors))
 
 
 # ---- whole inputs
 
 for name, given, output, end in rows.ROWS:
     for workers in ("1", "4"):
-        errors = f"input ended: {end}\n".encode() if end else b""
-        expect(f"{name}, by {workers}", ["--workers", workers], given, [output], errors, 1 if end else 0)
+        status, errors = rows.ended(end)
+        expect(f"{name}, by {workers}", ["--workers", workers], given, [output], errors, status)
 
 table = ["--table", METHODS]
 called_back = rows.frames(ASKED, YES)
@@ -215,9 +191,6 @@ def idle(workers):
         same(f"the end of {workers} workers", it.end(), ([], 0, b""))
 
 
-together = [threading.Thread(target=idle, args=(it,)) for it in ("1", "4", "64")]
-for one in together:
-    one.start()
-for one in together:
-    one.join()
+with ThreadPoolExecutor(3) as pool:
+    [*pool.map(idle, ("1", "4", "64"))]
 count.end()

@@ -2,7 +2,6 @@
 other, of which the first is filled up to its last call; and, where there is `cc`, one that loses some 20 bytes a call, which it has to see."""
 import os
 import re
-import subprocess
 import sys
 
 from support import ran
@@ -19,13 +18,9 @@ LOSES = ["--seconds", "20", "--lose", "50"]
 
 def soaked(words: list[str]) -> tuple[int | str, str]:
     """A run's status, and what it told."""
-    try:
-        ended = subprocess.run([sys.executable, SOAK, *words], capture_output=True, timeout=300, check=False)
-        status, told = ended.returncode, ended.stdout.decode() + ended.stderr.decode()
-    except subprocess.TimeoutExpired:
-        status, told = "no end after 300 seconds", ""
-    print(told, end="", flush=True)
-    return status, told
+    status, told = ran.told_by([sys.executable, SOAK, *words], 300)
+    print(told.decode(), end="", flush=True)
+    return status, told.decode()
 
 
 def check_run(count: ran.Count, words: list[str], servers: int) -> None:
@@ -36,15 +31,12 @@ def check_run(count: ran.Count, words: list[str], servers: int) -> None:
         count.check(f"bench/soak {' '.join(words)} had {what}", re.search(rf"[1-9][\d,]* {what}\b", told) is not None)
 
 
-def main() -> None:
-    count = ran.Count()
-    ran.built()
+def check_runs(count: ran.Count) -> None:
     for words, servers in RUNS:
         check_run(count, words, servers)
     if not ran.lacks("cc", refusals.WHY):
         status, told = soaked(LOSES)
         count.check("a loss is seen", status == 1 and re.search(r"DIFFERS: .* are kept", told) is not None, f"status {status}")
-    count.end()
 
 
-main()
+ran.script(check_runs)

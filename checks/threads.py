@@ -1,8 +1,6 @@
 """What starts threads, many times in a row: each run ends by itself. The tests of job slots that have two workers pass, and of 10,000 jobs
 that four workers turn each comes home once, turned once. And a server whose client waits for each answer before its next request: no wake-up
 is lost, however soon its threads go to sleep."""
-import subprocess
-
 from support import ran
 
 # How often each test, and each hand-out of jobs, is run.
@@ -13,21 +11,12 @@ JOBS, ROUNDS = 10_000, 20_000
 count = ran.Count()
 
 
-def told_by(words, seconds):
-    """The status and the output of a command, or that it didn't end."""
-    try:
-        ended = subprocess.run(words, capture_output=True, timeout=seconds, check=False)
-    except subprocess.TimeoutExpired:
-        return f"no end after {seconds} seconds", b""
-    return ended.returncode, ended.stdout
-
-
 def check_tests():
     for threaded in THREADED:
         test = ran.test_named(threaded)
         count.check(f"the gate built {threaded}", test is not None)
         for turn in range(1, TURNS + 1 if test else 1):
-            status, _ = told_by(test, 60)
+            status, _ = ran.told_by(test, 60)
             count.check(f"{threaded}, run {turn}", status == 0, f"{status}")
             if status:
                 break
@@ -36,7 +25,7 @@ def check_tests():
 def check_jobs(bench):
     for room in ("8", "128"):
         for turn in range(1, TURNS + 1):
-            status, output = told_by([bench, "slots", "--workers", "4", "--room", room, "--jobs", str(JOBS)], 60)
+            status, output = ran.told_by([bench, "slots", "--workers", "4", "--room", room, "--jobs", str(JOBS)], 60)
             well = status == 0 and output.startswith(b"slots: %d turned in " % JOBS)
             count.check(f"{JOBS} jobs by way of {room} slots, run {turn}", well, f"{status}, {output!r}")
             if not well:
@@ -47,8 +36,7 @@ def check_wake_ups(bench):
     for workers in ("1", "4"):
         for yields in ("0", "5"):
             words = ["lockstep", "--rounds", str(ROUNDS), "--workers", workers, "--yields", yields]
-            told = told_by([bench, *words], 120)
-            count.check(f"peer_bench {' '.join(words)}", told == (0, b"%d requests answered\n" % ROUNDS), f"{told}")
+            count.same(f"peer_bench {' '.join(words)}", ran.told_by([bench, *words], 120), (0, b"%d requests answered\n" % ROUNDS))
 
 
 check_tests()

@@ -6,10 +6,8 @@ wrong bodies of different functions are tried at once, in rounds, in copies of t
 and at what these call: each changed function must fall for a reason of its own, and every other is proved, or falls only because it
 calls one of those. What hurts more than that is tried singly, and what isn't refused on the whole crate. Control: right bodies, which
 are written differently, and a comment in each other function that has bodies must be proved, and the rounds stand on what that proof
-kept. Beside a gate (--gate) it stands on what the gate has proved and kept; a crate of which the gate keeps nothing has its first round
-from nothing, with the right bodies in it and without comments. What became of a crate's bodies is kept on this machine: they are tried
-again once a file changes on which that rests, or with --anew. checks/tried.txt tells of which crates all bodies were tried as they stand,
-on whatever machine: a landing (--in-turn) tries all other crates, and of these some, in turn.
+kept. checks/tried.txt tells of which crates all bodies were tried as they stand, on whatever machine: these aren't tried again, unless
+they are named, or with --anew.
 
 For each wrong body a line says how it was refused: by which clauses or goals, or only because an answer by hand no longer fits
 (which says less: a right body could be refused so too). One that is proved is a failure, and so is one that doesn't compile, whose
@@ -23,48 +21,37 @@ import signal
 import sys
 import tempfile
 import time
-import traceback
+from collections import Counter
 
-from support.bodies import Body, Sources, read_bodies
-from support.kept import Kept
-from support.ran import TOP
+from support.bodies import Sources, read_bodies
+from support.ran import TOP, text_of
 from support.record import Record
-from support.rounds import in_turn
-from support.trees import Trees, crates_in, stop_all
+from support.trees import Trees
 from support.trial import Crate, Trial, say
+from tools import machine  # (it stands in bin/)
+from tools.repository import listing
 
 
 def arguments() -> argparse.Namespace:
     summary, _, more = __doc__.partition("\n\n")
     parser = argparse.ArgumentParser(description=summary, epilog=more, formatter_class=argparse.RawDescriptionHelpFormatter)
-    parser.add_argument("names", nargs="*", metavar="NAME", help="a crate, a body, or CRATE/BODY; none: all bodies of all crates")
+    parser.add_argument("names", nargs="*", metavar="NAME", help="a crate, a body, or CRATE/BODY; none: the crates that checks/tried.txt doesn't have as they stand")
     parser.add_argument("--stands", action="store_true", help="only look whether each old text stands once, in the function that is named, and whether docs/proofs.md names bodies that there are; proves nothing")
     parser.add_argument("--kept", action="store_true", help="use what is kept in crates/*/out where the crate is proved there, and prove the others")
-    parser.add_argument("--anew", action="store_true", help="try all, also where an earlier run on this machine tried the same files")
-    how = parser.add_mutually_exclusive_group()
-    how.add_argument("--in-turn", action="store_true", help="what a landing has to pass: try one wrong body of each function, another one as the sources change; of the crates that checks/tried.txt has as they stand, only some, in turn")
-    how.add_argument("--record", action="store_true", help="try all bodies of the crates that checks/tried.txt doesn't have as they stand, and write it")
-    parser.add_argument("--gate", default="", metavar="FOLDER", help="take libraries and kept work from a gate that runs beside, as it hands them on there (bin/test does so)")
+    parser.add_argument("--anew", action="store_true", help="try all, also the crates that checks/tried.txt has as they stand")
+    parser.add_argument("--record", action="store_true", help="write checks/tried.txt, the line of each crate as soon as all of its bodies are tried; of those that are named it tries the ones that the file doesn't have as they stand")
     parser.add_argument("--jobs", type=int, metavar="N", default=default_jobs(), help="checks side by side (default: %(default)s), each with up to 2.5 GB")
     parser.add_argument("--minutes", type=float, metavar="M", default=120, help="the most that one check may take (default: %(default)s)")
     parser.add_argument("--logs", metavar="FOLDER", help="keep the output of each check there")
     given = parser.parse_args()
-    if given.record and given.names:
-        parser.error("--record is of all crates")
+    if given.record and not {*given.names} <= {*listing().lines}:
+        parser.error("--record takes whole crates")
     return given
 
 
 def default_jobs() -> int:
     """As many as there are processors, where memory holds them."""
-    with open("/proc/meminfo", encoding="ascii") as it:
-        free = next(int(line.split()[1]) for line in it if line.startswith("MemAvailable:"))
-    return max(1, min(len(os.sched_getaffinity(0)), 1024 * free // 2_500_000_000))
-
-
-def chosen(crate: Crate, names: list[str]) -> list[Body]:
-    if not names or crate.name in names:
-        return crate.bodies
-    return [it for it in crate.bodies if it.name in names or it.label in names]
+    return max(1, min(machine.processors(), machine.memory() // machine.MEMORY))
 
 
 def read_crates(names: list[str]) -> tuple[list[Crate], list[str]]:
@@ -72,15 +59,15 @@ def read_crates(names: list[str]) -> tuple[list[Crate], list[str]]:
     crates: list[Crate] = []
     problems: list[str] = []
     found: set[str] = set()
-    for name in crates_in(TOP):
+    for name in listing().lines:
         if not os.path.isdir(f"{TOP}/crates/{name}/wrong-bodies"):
             continue
         sources = Sources(f"{TOP}/crates/{name}")
         bodies, unfit = read_bodies(sources)
-        crate = Crate(name, sources, bodies)
         found |= {name, *(it.name for it in bodies), *(it.label for it in bodies)}
-        crate.bodies = chosen(crate, names)
         asked = not names or name in names
+        crate = Crate(name, sources, bodies if asked else [it for it in bodies if {it.name, it.label} & {*names}])
+        crate.is_whole = not unfit and len(crate.bodies) == len(bodies)
         problems += [it for it in unfit if asked or any(f": {word.rpartition('/')[2]}: " in it for word in names)]
         if crate.bodies:
             crates.append(crate)
@@ -88,12 +75,11 @@ def read_crates(names: list[str]) -> tuple[list[Crate], list[str]]:
     return crates, problems
 
 
-def report(crates: list[Crate], problems: list[str], names: list[str]) -> tuple[int, int]:
-    """Prints what became of each body; gives how many passed and failed."""
-    passed, failures = 0, list(problems)
+def report(crates: list[Crate], names: list[str]) -> tuple[int, list[str]]:
+    """Prints what became of each body; gives how many passed, and what failed."""
+    passed, failures = 0, []
     for crate in crates:
-        order = {it: at for at, it in enumerate(crate.bodies)}
-        for it in sorted(crate.judged, key=lambda it: order[it.body]):
+        for it in sorted(crate.judged, key=lambda it: crate.bodies.index(it.body)):
             if it.is_well:
                 passed += 1
                 how = {"refused": "refused by", "by hand answer": "refused only because a hand answer no longer fits:"}
@@ -104,127 +90,87 @@ def report(crates: list[Crate], problems: list[str], names: list[str]) -> tuple[
         lost = [it.name for it in crate.bodies if lost.count(it) != 1 and not crate.is_recorded]
         failures += [f"{crate.name}: {len(lost)} bodies were not judged: {', '.join(lost)}"] if lost else []
         failures += crate.failures
-        passed += crate.comments == "proved"
-    if not passed and not failures and not all(it.is_recorded for it in crates):
-        failures.append("no body was judged")
+        passed += crate.comments == "proved" or crate.is_recorded
     if not names and not any(it.wrong for it in crates):
         failures.append("no crate has a wrong body")
-    for it in failures:
-        say(f"FAILED: {it}")
-    return passed, len(failures)
+    return passed, failures
 
 
 def summary(crates: list[Crate], seconds: float, wall: float) -> None:
     """How many were refused and how, by crate, and what it took."""
-    for crate in (it for it in crates if it.is_recorded):
-        say(f"== {crate.name}: not tried: all its bodies were, as they stand, when checks/tried.txt was written")
-    for crate in (it for it in crates if not it.is_recorded):
-        if crate.is_kept:
-            say(f"== {crate.name}: kept: an earlier run on this machine tried the same bodies of the same files")
-        wrong = [it for it in crate.judged if not it.body.is_right]
-        counts = {word: sum(it.word == word and it.is_well for it in wrong) for word in ("refused", "by hand answer")}
-        right = sum(it.is_well for it in crate.judged if it.body.is_right)
+    for crate in crates:
+        if crate.is_recorded:
+            say(f"== {crate.name}: not tried: checks/tried.txt has it as it stands")
+            continue
+        counts = Counter(it.word for it in crate.judged if it.is_well)
         say(
             f"== {crate.name}: {len(crate.wrong)} wrong bodies in {crate.checks} checks, {counts['refused']} refused by a clause or goal, "
-            f"{counts['by hand answer']} only because a hand answer no longer fits; {right} of {len(crate.right)} right bodies proved; "
+            f"{counts['by hand answer']} only because a hand answer no longer fits; {counts['proved']} of {len(crate.right)} right bodies proved; "
             f"comments {crate.comments}; {crate.seconds:.0f} processor seconds"
         )
     say(f"== in all {seconds:.0f} processor seconds, {wall:.0f} s")
 
 
-def interrupted(folder: str) -> None:
-    """Ends what runs, and this run as a failure."""
-    stop_all()
-    shutil.rmtree(folder, ignore_errors=True)
-    print("FAILED: it was interrupted\n0 passed, 1 failed", flush=True)
-    os._exit(1)
-
-
 def unknown_in_proofs() -> list[str]:
     """The names that docs/proofs.md tells as refused bodies and that no file has."""
     known = {os.path.basename(it).removesuffix(".edit") for it in glob.glob(f"{TOP}/crates/*/must-fail/*.edit")}
-    for name in crates_in(TOP):
+    for name in listing().lines:
         known |= {it.name for it in read_bodies(Sources(f"{TOP}/crates/{name}"))[0]}
-    with open(f"{TOP}/docs/proofs.md", encoding="utf-8") as it:
-        rows = [line.split("|")[-2] for line in it.read().split("\n") if line.startswith("|") and line.endswith("|")]
+    rows = [line.split("|")[-2] for line in text_of("docs", "proofs.md").split("\n") if line.startswith("|") and line.endswith("|")]
     named = [word for cell in rows for word in re.findall(r"`(\w+)`", cell)]
     return [f"docs/proofs.md tells of {it}, and no wrong body has that name" for it in dict.fromkeys(named) if it not in known]
 
 
-def look(crates: list[Crate], problems: list[str]) -> int:
-    """Says which texts no longer stand, and proves nothing."""
-    for it in problems:
-        say(f"FAILED: {it}")
-    standing = sum(len(it.bodies) for it in crates)
-    failed = len(problems) or int(not standing)
-    say(f"{standing} passed, {failed} failed")
-    return 1 if failed else 0
-
-
-def attempt_anew(crates: list[Crate], given: argparse.Namespace) -> float:
-    """Tries the bodies of those crates of which no earlier run knows all; gives the processor seconds that it took."""
-    kept = Kept(TOP)
-    whole = [it for it in crates if len(it.bodies) == len(read_bodies(it.sources)[0])]
-    record = Record(TOP, kept)
-    if given.in_turn or given.record:
-        leave_out(whole, record, given)
-    if given.in_turn:
-        for it in whole:
-            it.bodies = in_turn(it.bodies, kept.of_crate(it.name, {}))
-    known = [it for it in whole if it.is_recorded or kept.take(it, given.anew)]
-    left = [it for it in crates if it not in known]
-    seconds = attempt(left, given) if left else 0.0
-    for it in whole:
-        kept.keep(it)
-    kept.shrink()
-    if given.record:
-        record.write(whole)
-    return seconds
-
-
-def leave_out(crates: list[Crate], record: Record, given: argparse.Namespace) -> None:
-    """Has the crates not tried that the record has as they stand; for a landing some of them are, in turn."""
-    recorded = [] if given.anew else [it for it in crates if record.has(it)]
-    drawn = record.in_turn(recorded) if given.in_turn else []
-    for it in recorded:
-        it.is_recorded = it not in drawn
-
-
-def attempt(crates: list[Crate], given: argparse.Namespace) -> float:
-    """Tries the crates' bodies in a folder of this run; gives the processor seconds that it took."""
+def attempt(crates: list[Crate], given: argparse.Namespace, record: Record) -> float:
+    """Tries the crates' bodies in a folder of this run, and writes the record where that is asked for; gives the processor seconds that it
+    took."""
     with tempfile.TemporaryDirectory(prefix="wrong-bodies-") as folder:
-        for it in (signal.SIGTERM, signal.SIGINT, signal.SIGHUP):
-            signal.signal(it, lambda *_: interrupted(folder))
-        trees = Trees(TOP, folder, {it.name: it.control(it.right) for it in crates}, given.minutes * 60, given.gate)
+        # (it ends as after an interrupt from the keyboard: what runs is stopped, and the folder is removed)
+        for it in (signal.SIGTERM, signal.SIGHUP):
+            signal.signal(it, lambda number, _: sys.exit(128 + number))
+        trees = Trees(TOP, folder, {it.name: it.control for it in crates}, given.minutes * 60)
         if given.kept:
             kept = [it for it in trees.needed if trees.take_kept(it)]
             say(f"== kept work of: {', '.join(kept) or 'no crate'}")
-        trial = Trial(crates, trees, max(1, given.jobs), given.logs or "")
+
+        def is_done(crate: Crate) -> None:
+            if given.record and crate.is_whole and crate.is_well:
+                is_kept = record.keep(crate)
+                say(f"== {crate.name}: {'recorded' if is_kept else 'NOT recorded: a file has changed meanwhile'}")
+
+        trial = Trial(crates, trees, max(1, given.jobs), given.logs or "", is_done)
         trial.run()
         return trial.seconds
 
 
 def main() -> int:
     given, began, seconds = arguments(), time.monotonic(), 0.0
+    record = None if given.stands else Record(TOP)
     crates, problems = read_crates(given.names)
     problems += [] if given.names else unknown_in_proofs()
     if given.stands:
-        return look(crates, problems)
+        return end(sum(len(it.bodies) for it in crates), problems)
     if not shutil.which("rt"):
         problems, crates = ["the command rt of the Rattle kit isn't on the PATH"], []
-    if crates:
-        seconds = attempt_anew(crates, given)
-    passed, failed = report(crates, problems, given.names)
+    for it in crates:
+        is_left_out = not given.anew and (given.record or not given.names)
+        it.is_recorded = is_left_out and it.is_whole and record.has(it)
+    left = [it for it in crates if not it.is_recorded]
+    if left:
+        seconds = attempt(left, given, record)
+    passed, failures = report(crates, given.names)
     summary(crates, seconds, time.monotonic() - began)
-    say(f"{passed} passed, {failed} failed")
-    return 1 if failed else 0
+    return end(passed, problems + failures)
+
+
+def end(passed: int, failures: list[str]) -> int:
+    """Tells what failed, and the tally."""
+    failures = failures or ([] if passed else ["no body was looked at"])
+    for it in failures:
+        say(f"FAILED: {it}")
+    say(f"{passed} passed, {len(failures)} failed")
+    return 1 if failures else 0
 
 
 if __name__ == "__main__":
-    try:
-        status = main()
-    except Exception as error:  # whatever breaks is a failure, never a pass
-        traceback.print_exc()
-        print(f"FAILED: {error}\n0 passed, 1 failed", flush=True)
-        status = 1
-    sys.exit(status)
+    sys.exit(main())

@@ -18,6 +18,8 @@ BASELINE = os.path.join(FOLDER, "target", "release", "baseline")
 CLIENT = os.path.join(FOLDER, "target", "release", "client")
 # The table of the methods that are built into the baseline.
 METHODS = ("--table", os.path.join(FOLDER, "methods.toml"))
+# By `host` it hosts over a connection.
+HOSTING = os.path.join(TOP, "crates", "connection_bench", "out", "connection_bench")
 # By `answer` it reads and writes, and does nothing else.
 READING = os.path.join(TOP, "crates", "peer_bench", "out", "peer_bench")
 
@@ -65,6 +67,7 @@ def lacking(counts: bool) -> List[str]:
     """Debian's packages that have to be installed first."""
     wanted = [] if glob.glob("/usr/share/cargo/registry/serde_json-1.*") else ["librust-serde-json-dev"]
     wanted += [] if shutil.which("cargo") else ["cargo"]
+    wanted += [] if shutil.which("cc") else ["gcc", "libc6-dev"]
     wanted += [] if shutil.which("valgrind") or not counts else ["valgrind"]
     return wanted
 
@@ -75,17 +78,30 @@ def built(before: Optional[str], reading: Optional[str], counts: bool) -> Progra
     if wanted:
         sys.exit(f"bench/run: first apt-get install -y {' '.join(wanted)}")
     subprocess.run([os.path.join(TOP, "bin", "rpc_tool"), "--version"], check=True, stdout=subprocess.DEVNULL)
-    subprocess.run(["cargo", "build", "--release", "--offline", "--quiet"], cwd=FOLDER, check=True)
+    build_baseline()
     ours = program.current(sources.stamp())
     if ours is None:
         sys.exit("bench/run: the program's sources changed while it was built")
-    return Programs(ours, reading or built_reading(), before)
+    return Programs(ours, reading or proved(READING), before)
 
 
-def built_reading() -> str:
-    """The program that reads and writes alone, proved and built over what earlier checks kept."""
+def built_host(hosting: Optional[str]) -> str:
+    """The program that hosts, which is taken as it is where it is named; and the baseline, whose host it is measured beside."""
+    wanted = lacking(counts=False)
+    if wanted:
+        sys.exit(f"bench/run: first apt-get install -y {' '.join(wanted)}")
+    build_baseline()
+    return hosting or proved(HOSTING)
+
+
+def build_baseline() -> None:
+    subprocess.run(["cargo", "build", "--release", "--offline", "--quiet"], cwd=FOLDER, check=True)
+
+
+def proved(program_file: str) -> str:
+    """A program of the repository, proved and built over what earlier checks kept."""
     words = ["rt", "run", "--", "--version"]
-    ended = subprocess.run(words, cwd=os.path.dirname(os.path.dirname(READING)), capture_output=True, text=True, check=False)
+    ended = subprocess.run(words, cwd=os.path.dirname(os.path.dirname(program_file)), capture_output=True, text=True, check=False)
     if ended.returncode:
-        sys.exit(f"bench/run: peer_bench isn't proved or doesn't build:\n{ended.stderr[-2000:]}")
-    return READING
+        sys.exit(f"bench/run: {os.path.basename(program_file)} isn't proved or doesn't build:\n{ended.stderr[-2000:]}")
+    return program_file

@@ -1,7 +1,7 @@
 """The tables of `serve`: loads in bulk, round trips, and a server that has nothing to do."""
 import os
 import tempfile
-from typing import Callable, Dict, List, NamedTuple
+from typing import Callable, Dict, List, NamedTuple, Sequence
 
 from measures import loads, rounds
 from measures.behind import Behind
@@ -63,10 +63,11 @@ def show_bulk(row: Row, size: int, seen: Dict[str, List[Played]], half: Dict[str
         print(f"{row.name:20} {size:>9} {label:17} {figures}", flush=True)
 
 
-def bulks(servers: List[Contender], small: int, runs: int, behind: Behind) -> None:
+def show_bulks(rows: Sequence[Row], title: str, servers: List[Contender], small: int, runs: int, behind: Behind) -> None:
+    """Measures and prints half of each row's size, and all of it."""
     head = f"{'req/s':>10} {'ratio':>6} {'cpu us':>10} {'growth':>7} {'peak KiB':>9}"
-    print(f"{'sent at once':20} {'size':>9} {'program':17} {head}")
-    for row in BULKS:
+    print(f"{title:20} {'size':>9} {'program':17} {head}")
+    for row in rows:
         half: Dict[str, List[Played]] = {}
         for size in (row.size // small // 2, row.size // small):
             seen = played(row, size, servers, runs)
@@ -94,10 +95,10 @@ def show_trips(row: Row, seen: Dict[str, List[Played]]) -> None:
         print(f"{row.name:20} {len(times[label]):>9} {label:17} {figures}", flush=True)
 
 
-def trips(servers: List[Contender], small: int, runs: int, behind: Behind) -> None:
+def show_trips_of(rows: Sequence[Row], title: str, servers: List[Contender], small: int, runs: int, behind: Behind) -> None:
     head = f"{'median us':>10} {'ratio':>6} {'99th us':>10} {'cpu us':>10} {'peak KiB':>9}"
-    print(f"{'there and back':20} {'trips':>9} {'program':17} {head}")
-    for row in (*TRIPS, *LONG):
+    print(f"{title:20} {'trips':>9} {'program':17} {head}")
+    for row in rows:
         seen = played(row, max(2, row.size // small), servers, runs)
         show_trips(row, seen)
         behind.note(row.name, row.why, {label: at_share(times, 50) for label, times in times_of(seen).items()})
@@ -105,6 +106,6 @@ def trips(servers: List[Contender], small: int, runs: int, behind: Behind) -> No
 
 def table(programs: Programs, small: int, runs: int, behind: Behind) -> None:
     servers = programs.servers(WORKERS)
-    bulks(servers, small, runs, behind)
+    show_bulks(BULKS, "sent at once", servers, small, runs, behind)
     print()
-    trips(servers, small, runs, behind)
+    show_trips_of((*TRIPS, *LONG), "there and back", servers, small, runs, behind)

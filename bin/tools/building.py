@@ -1,17 +1,20 @@
 """Proves the crates that the program or the C library stands on, side by side where they don't stand on each other, and builds it.
 
-All is proved from nothing, in a copy of exactly the files that the stamp covers. The later a crate can come, the further its proof stands
+All is proved from nothing, in a copy of exactly the files that the stamp covers, but for the crates whose libraries are given, as the gate
+has proved and built them. The later a crate can come, the further its proof stands
 back behind others; those that can't wait share the processors."""
+import contextlib
+import fcntl
 import os
-import re
 import shutil
 import signal
 import subprocess
+import sys
 import tempfile
 import time
 
 from tools import sources
-from tools.machine import MEMORY, free_memory, processors
+from tools.machine import MEMORY, memory, processors
 from tools.prover import Prover
 from tools.repository import TOP, Fault, listing, read_bytes, read_text
 
@@ -31,7 +34,7 @@ class Run:
 
     def __init__(self, name, files, log):
         self.name, self.log, self.process, self.jobs, self.spare = name, log, None, 0, 0.0
-        self.functions, self.cost = estimate(files), cost(files)
+        self.cost = cost(files)
 
     def can_wait(self):
         return self.spare > SPARE
@@ -52,9 +55,6 @@ class Run:
     def is_running(self):
         return self.process is not None and self.process.poll() is None
 
-    def has_ended(self):
-        return self.process is not None and self.process.poll() is not None
-
     def told(self):
         return read_bytes(self.log).decode(errors="replace") if os.path.isfile(self.log) else ""
 
@@ -62,14 +62,6 @@ class Run:
         """Looks at how it ended; it fails where the crate isn't proved."""
         if self.process.returncode:
             raise Fault(f"{self.name} isn't proved, or doesn't build:\n{self.told()[-3000:]}")
-        self.functions = len(re.findall(r"^fn \S+: proved", self.told(), re.M))
-
-
-def estimate(files):
-    """How many functions files seem to have: those that are written, and those of derived impls."""
-    texts = [read_text(it) for it in files if it.endswith(".rt")]
-    derived = [it for text in texts for it in re.findall(r"derive\(([^)]*)\)", text)]
-    return sum(len(re.findall(r"\bfn \w+", it)) for it in texts) + sum(len(it.split(",")) for it in derived)
 
 
 def cost(files):
@@ -80,7 +72,7 @@ def cost(files):
 
 def lay_out(room, of):
     """Copies what the program or the library is built from, and gives a run for each crate, lowest first."""
-    listed, names = listing(), sources.crates(of=of)
+    listed, names = listing(), listing().below(of)
     with open(f"{room}/crates.txt", "w", encoding="utf-8") as it:
         it.writelines(f"{listed.lines[name]}\n" for name in names)
     beside = [f"{TOP}/{it}" for it in ("HANDLES", *sources.BESIDE[of])]
@@ -92,26 +84,24 @@ def lay_out(room, of):
 
 
 def measure_ways(runs, listed):
-    """Finds by how much of the longest way of crates, each standing on the one before, a crate can come later. What `runs` has stands
-    above what comes before it there."""
-    ahead, behind = {}, {}
+    """Finds by how much of the longest way of crates, each standing on the one before, a crate can come later."""
+    cost = {it.name: it.cost for it in runs}
+    used = {name: [it for it in listed.libraries[name] if it in cost] for name in cost}
+    using = {name: [it for it in cost if name in used[it]] for name in cost}
+    way = lambda name, ways: cost[name] + max((way(it, ways) for it in ways[name]), default=0)
+    ways = {name: way(name, used) + way(name, using) - cost[name] for name in cost}
     for run in runs:
-        ahead[run.name] = run.cost + max((ahead[it] for it in listed.libraries[run.name] if it in ahead), default=0)
-    for run in reversed(runs):
-        behind[run.name] = run.cost + max((behind[it.name] for it in runs if it.name in behind and run.name in listed.libraries[it.name]), default=0)
-    longest = max(ahead.values())
-    for run in runs:
-        run.spare = 1 - (ahead[run.name] + behind[run.name] - run.cost) / longest
+        run.spare = 1 - ways[run.name] / max(ways.values())
 
 
 class Building:
     """The proofs under way, each of which starts once the libraries below its crate are built."""
 
-    def __init__(self, room, say, of):
+    def __init__(self, room, say, of, given):
         self.say, self.begun, self.said = say, time.monotonic(), 0.0
-        self.listed, self.memory = listing(), free_memory()
-        self.runs, self.prover = lay_out(room, of), Prover(room, self.listed, of)
-        self.done = set()
+        self.listed, self.memory = listing(), memory()
+        self.runs, self.prover = lay_out(room, of), Prover(room, self.listed, of, given)
+        self.done = {*given}
         measure_ways(self.runs, self.listed)
 
     def prove(self):
@@ -123,7 +113,7 @@ class Building:
                     self.said = time.monotonic() - self.begun
                     self.say(f"{self.progress()}; at work: {', '.join(it.name for it in self.runs if it.is_running())}")
                 time.sleep(LOOK)
-                for run in (it for it in self.runs if it.has_ended() and it.name not in self.done):
+                for run in (it for it in self.runs if it.process and not it.is_running() and it.name not in self.done):
                     run.take_end()
                     self.done.add(run.name)
             self.say(self.progress())
@@ -133,7 +123,7 @@ class Building:
 
     def start_ready(self):
         """Starts each proof that can start now, as memory allows, first those that can wait the least."""
-        ready = [it for it in self.runs if it.process is None and {*self.listed.below(it.name)} - {it.name} <= self.done]
+        ready = [it for it in self.runs if it.process is None and it.name not in self.done and {*self.listed.below(it.name)} - {it.name} <= self.done]
         running = [it for it in self.runs if it.is_running()]
         # (a check by several jobs takes a sixth more for each: what others have work for is lost by that)
         share = max(min(LEAST, processors()), processors() // max(1, sum(not it.can_wait() for it in (*ready, *running))))
@@ -145,9 +135,8 @@ class Building:
                 running.append(run)
 
     def progress(self):
-        proved, functions = sum(it.functions for it in self.runs if it.name in self.done), sum(it.functions for it in self.runs)
         minutes = (time.monotonic() - self.begun) / 60
-        return f"{proved} of some {functions} functions proved, {minutes:.1f} minutes so far"
+        return f"{len(self.done)} of {len(self.runs)} crates proved, {minutes:.1f} minutes so far"
 
     def told(self):
         return "".join(f"== {it.name}\n{it.told()}" for it in self.runs)
@@ -161,7 +150,25 @@ def link_program(prover):
     return prover.made
 
 
-def build(log, say, keep, of=sources.PROGRAM, link=link_program):
+def left_by_gate(of):
+    """The libraries that the gate built for what is built here: all of them, or none. One with a stamp beside it is of other commands."""
+    found = {it: f"{TOP}/crates/{it}/out/rlib/{it}.rlib" for it in listing().below(of)[:-1]}
+    is_whole = all(os.path.isdir(it) and not os.path.isfile(f"{os.path.dirname(it)}/stamp") for it in found.values())
+    return found if is_whole else {}
+
+
+@contextlib.contextmanager
+def alone(file):
+    """Waits for a run beside this one that builds the same; ends as a command does that is told to stop."""
+    os.makedirs(os.path.dirname(file), exist_ok=True)
+    with open(f"{file}.lock", "w", encoding="utf-8") as lock:
+        fcntl.flock(lock, fcntl.LOCK_EX)
+        for it in (signal.SIGTERM, signal.SIGHUP):
+            signal.signal(it, lambda number, _: sys.exit(128 + number))
+        yield
+
+
+def build(log, say, keep, of=sources.PROGRAM, link=link_program, given=None):
     """Proves and builds the program or the library, and hands what `link` makes of it to `keep` with its stamp. What the prover said goes to
     the file `log`."""
     if shutil.which("rt") is None:
@@ -169,7 +176,7 @@ def build(log, say, keep, of=sources.PROGRAM, link=link_program):
     say(f"proving and building, which takes some minutes (what the prover says is then in {os.path.relpath(log, TOP)})")
     stamp = sources.stamp(of=of)
     with tempfile.TemporaryDirectory(prefix=f"{of}-build-") as room:
-        building = Building(room, say, of)
+        building = Building(room, say, of, given or {})
         if sources.sum_of(room, of) != stamp[0]:
             raise Fault("the sources changed while they were copied: try again")
         try:

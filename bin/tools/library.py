@@ -80,15 +80,19 @@ def is_whole(folder, stamp):
 
 
 def compared():
-    """Compares the files in out/library/ with the released ones: whether they are the same, and what to say."""
+    """Compares the files in out/library/ with the released ones: whether they are the same, or None where nothing can be compared, and what
+    to say."""
     lacking = [it for it in (*FILES, SUMS, STAMP) if not os.path.isfile(f"{RELEASED}/{it}")]
     if lacking:
-        return False, f"there is nothing to compare with: release/ has no {', '.join(lacking)}"
-    if read_text(f"{RELEASED}/{STAMP}").split("\n")[0] != read_text(f"{BUILT}/{STAMP}").split("\n")[0]:
-        return False, "release/ has the library of other sources"
+        return None, f"there is no released library to compare with: release/ has no {', '.join(lacking)}"
+    (released, released_kit), (built, built_kit) = (read_text(f"{it}/{STAMP}").split("\n")[:2] for it in (RELEASED, BUILT))
+    if released != built:
+        return None, "release/ has the library of other sources, and it isn't compared: bin/release writes it anew"
     if read_text(f"{RELEASED}/{SUMS}") != sums_of(RELEASED):
         return False, "release/ has other sums than those of its files"
     other = [it for it in FILES if read_bytes(f"{RELEASED}/{it}") != read_bytes(f"{BUILT}/{it}")]
+    if other and released_kit != built_kit:
+        return None, f"release/ has a library that was built by another kit, {released_kit}, and differs from what this one makes: bin/release writes it anew"
     if other:
         return False, f"release/ has the stamp of these sources, and DIFFERS from what they give: {', '.join(other)}"
     return True, "the released library is the one that these sources give, byte for byte"

@@ -1,10 +1,7 @@
-"""What the machine has: processors, free memory, and the tools that the checks use."""
+"""What the machine has: processors, memory, and the tools that the checks use."""
 import os
-import re
 import shutil
 import subprocess
-
-from tools.repository import read_text
 
 # The most that one check is likely to take, in bytes.
 MEMORY = 2_500_000_000
@@ -16,17 +13,9 @@ def processors():
     return len(os.sched_getaffinity(0))
 
 
-def processor_seconds():
-    """The seconds that the processors were at work, had nothing to do, and were taken away by the host of this machine, all since it began."""
-    told = [int(it) / os.sysconf("SC_CLK_TCK") for it in read_text("/proc/stat").split("\n")[0].split()[1:9]]
-    user, nice, system, idle, waiting, interrupts, soft_interrupts, stolen = told
-    return user + nice + system + interrupts + soft_interrupts, idle + waiting, stolen
-
-
-def free_memory():
-    """The memory that is free, in bytes."""
-    found = re.search(r"MemAvailable:\s+(\d+) kB", read_text("/proc/meminfo"))
-    return int(found[1]) * 1024
+def memory():
+    """The machine's memory, in bytes."""
+    return os.sysconf("SC_PHYS_PAGES") * os.sysconf("SC_PAGE_SIZE")
 
 
 def lacking():

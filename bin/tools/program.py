@@ -1,7 +1,6 @@
 """The program, as released in release/ or as built here in out/, and which of them is of the sources that lie here."""
 import hashlib
 import os
-import shutil
 import sys
 
 from tools import sources
@@ -68,7 +67,6 @@ def release(stamp):
     """Writes release/ from the program in out/."""
     if not is_built(stamp):
         raise Fault(f"{BUILT} isn't of the sources that lie here")
-    shutil.rmtree(os.path.dirname(RELEASED), ignore_errors=True)
     write(RELEASED, read_bytes(BUILT), 0o755)
     write(CHECKSUM, checksum_line(BUILT).encode())
     write(RELEASED_STAMP, stamp_text(stamp))

@@ -10,10 +10,10 @@ PROCESSOR = "x86-64"
 
 
 class Prover:
-    """Crates in a folder of their own, and beside them the libraries that are built of them."""
+    """Crates in a folder of their own, and beside them the libraries that are built of them, but for those that are given."""
 
-    def __init__(self, room, listed, of=sources.PROGRAM):
-        self.room, self.listed, self.of, self.kit = room, listed, of, kit.folder()
+    def __init__(self, room, listed, of, given):
+        self.room, self.listed, self.of, self.given, self.kit = room, listed, of, given, kit.folder()
         self.made = f"{room}/{of}"
         os.makedirs(f"{room}/libraries")
 
@@ -21,7 +21,7 @@ class Prover:
         return f"{self.room}/crates/{name}"
 
     def library(self, name):
-        return f"{self.room}/libraries/{name}.rlib"
+        return self.given.get(name, f"{self.room}/libraries/{name}.rlib")
 
     def build(self, name, jobs):
         """A check of a crate from nothing by so many processors, which builds its library, of statements alone, or the program, or what the C
@@ -31,7 +31,8 @@ class Prover:
         at = {it: self.library(it) if it in self.listed.lines else f"{self.kit}/rlibs/{it}.rlib" for it in used}
         words = [f"{self.kit}/bin/rattle", "build", "--crate-name", name, "src/main.rt" if is_program else "src/lib.rt"]
         words += [word for it in used for word in ("--extern", f"{it}={at[it]}")]
-        words += ["-L", f"dependency={self.kit}/rlibs", "-L", f"dependency={self.room}/libraries"]
+        folders = [f"{self.kit}/rlibs", f"{self.room}/libraries", *map(os.path.dirname, self.given.values())]
+        words += [word for it in folders for word in ("-L", f"dependency={it}")]
         words += ["--antt-project", f"{self.kit}/rattle/logic/antt-project.json", "--logic-built", f"{self.kit}/logic_built"]
         words += ["--links", f"{name}=", "--jobs", str(jobs)]
         if name != self.of:

@@ -1,4 +1,5 @@
 """Runs the parts of a test, and tells what passed, what failed, what was skipped, and which parts took longest."""
+import os
 import re
 import subprocess
 import sys
@@ -6,7 +7,7 @@ import threading
 import time
 from typing import List, NamedTuple
 
-from tools.machine import processor_seconds, processors
+from tools.machine import processors
 from tools.repository import TOP
 
 TALLY = re.compile(r"(\d+) passed, (\d+) failed\s*")
@@ -39,7 +40,7 @@ def tally(part, status, lines):
 class Report:
     def __init__(self):
         self.passed, self.failed, self.skipped, self.seconds = 0, 0, [], {}
-        self.printing, self.begun, self.at_begin = threading.Lock(), time.monotonic(), processor_seconds()
+        self.printing, self.begun = threading.Lock(), time.monotonic()
 
     def say(self, text):
         with self.printing:
@@ -54,20 +55,15 @@ class Report:
         self.skipped.append(text)
         self.say(f"{SKIPPED}{text}")
 
-    def run(self, part, is_shown_at_once=True, started=None, heard=None):
-        """Runs a part, and gives whether all of it passed. What it prints is shown line by line, or whole once it has ended; `started` is told
-        its process, and `heard` each line."""
+    def run(self, part, is_shown_at_once=True):
+        """Runs a part, and gives whether all of it passed. What it prints is shown line by line, or whole once it has ended."""
         begun, lines = time.monotonic(), []
         if is_shown_at_once:
             self.say(part.name)
         how = {"stdin": subprocess.DEVNULL, "stdout": subprocess.PIPE, "stderr": subprocess.STDOUT}
         with subprocess.Popen(part.words, cwd=part.folder, errors="replace", **how) as process:
-            if started:
-                started(process.pid)
             for line in process.stdout:
                 lines.append(line)
-                if heard:
-                    heard(line)
                 if is_shown_at_once:
                     with self.printing:
                         sys.stdout.write(line)
@@ -86,21 +82,17 @@ class Report:
         return failed == 0
 
     def end(self):
-        """Prints the slowest parts, what the processors did and what was skipped, and then the last line; gives the status."""
+        """Prints the slowest parts and what was skipped, and then the last line; gives the status."""
         if self.seconds:
             self.print_slowest()
-            self.print_processors()
         for it in self.skipped:
             print(f"{SKIPPED}{it}")
         print(f"{self.passed} passed, {self.failed} failed", flush=True)
         return 1 if self.failed else 0
 
     def print_slowest(self):
-        print(f"\nThe slowest parts of {(time.monotonic() - self.begun) / 60:.1f} minutes, in seconds (those of the gate run side by side):")
+        used, minutes = os.times(), (time.monotonic() - self.begun) / 60
+        work = used.children_user + used.children_system
+        print(f"\nThe slowest parts of {minutes:.1f} minutes, in seconds; {work:,.0f} seconds of {processors()} processors:")
         for name, seconds in sorted(self.seconds.items(), key=lambda it: -it[1])[:SHOWN]:
             print(f"{seconds:8.0f}  {name}")
-
-    def print_processors(self):
-        """(A host that takes processors away makes the test longer, and what it takes is no work of the test.)"""
-        work, idle, stolen = (now - then for now, then in zip(processor_seconds(), self.at_begin))
-        print(f"{processors()} processors: {work:,.0f} seconds at work, {idle:,.0f} idle, {stolen:,.0f} taken away by the host")

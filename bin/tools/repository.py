@@ -34,6 +34,10 @@ class Listing:
                 found += [it for it in self.below(library) if it not in found]
         return [*found, name]
 
+    def is_static(self, name):
+        """Whether the crate is a static library, as in a line `NAME staticlib: LIBRARY ..`."""
+        return self.lines[name].partition(":")[0].split()[1:] == ["staticlib"]
+
     def above(self, names):
         """The crates that stand on one of these, and these, lowest first."""
         return sorted((it for it in self.lines if {*self.below(it)} & {*names}), key=lambda it: len(self.below(it)))

@@ -94,13 +94,6 @@ def places_of(sources: Sources, file: str, old: str) -> list["re.Match[str]"]:
     return [*re.finditer(r"\s+".join(map(re.escape, old.split())), sources.text(file))]
 
 
-def moved_to(sources: Sources, file: str, old: str) -> str:
-    """Where else in the crate a text stands, to say so."""
-    others = [f"src/{it}" for it in files_below(f"{sources.folder}/src") if it.endswith(".rt") and f"src/{it}" != file]
-    found = [it for it in others if places_of(sources, it, old)]
-    return f" (it stands in {', '.join(found[:3])})" if found else ""
-
-
 def change_of(sources: Sources, named: list[str], file: str, old: str, new: str) -> Change:
     """The change that a body makes to a file, in which its old text stands once, or once in the functions that are named."""
     if not old.split():
@@ -110,7 +103,7 @@ def change_of(sources: Sources, named: list[str], file: str, old: str, new: str)
         meant = [fn for fn in sources.functions(file) if fn.name in named]
         found = [it for it in found if any(fn.holds(it.start(), it.end()) for fn in meant)] or found
     if len(found) != 1:
-        times = f"stands {len(found)} times, and not once, in {file}" if found else f"no longer stands in {file}{moved_to(sources, file, old)}"
+        times = f"stands {len(found)} times, and not once, in {file}" if found else f"no longer stands in {file}"
         raise Unfit(f"its old text {times}: {' '.join(old.split())[:160]}")
     return Change(file, found[0].start(), found[0].end(), new.strip())
 

@@ -1,4 +1,5 @@
-"""What C sees of the library, read three times: from the header, from the sources of the exports, and from the map of the calls."""
+"""What C sees of the library, read four times: from the header, from the sources of the exports, from the map of the calls, and from the
+declarations of the crate in Rust."""
 import ctypes
 import os
 import re
@@ -7,7 +8,9 @@ from support import ran
 
 HEADER = os.path.join(ran.TOP, "include", "bullmyrtle.h")
 MAP = os.path.join(ran.TOP, "include", "bullmyrtle.map")
-CRATE = os.path.join(ran.TOP, "crates", "bullmyrtle", "src")
+CRATES = os.path.join(ran.TOP, "crates")
+EXPORTS = os.path.join(CRATES, "bullmyrtle", "src", "lib.rt")
+RUST = os.path.join(ran.TOP, "bindings", "rust", "src", "sys.rs")
 
 # What stands in C for a type of an export's parameter, or of its result.
 IN_C = {
@@ -31,8 +34,33 @@ IN_C = {
     "usize": ["size_t"],
     "bool": ["bool"],
 }
+# The same for what stock Rust declares.
+IN_RUST = {
+    "bm_connection": "bm_connection",
+    "*mut bm_connection": "bm_connection *",
+    "*const bm_settings": "const bm_settings *",
+    "*mut bm_event": "bm_event *",
+    "*mut bm_report": "bm_report *",
+    "*mut *mut c_void": "void **",
+    "*const u8": "const uint8_t *",
+    "*mut u8": "uint8_t *",
+    "*const usize": "const size_t *",
+    "*mut usize": "size_t *",
+    "*mut u32": "uint32_t *",
+    "*mut u64": "uint64_t *",
+    "u32": "uint32_t",
+    "u64": "uint64_t",
+    "i32": "int32_t",
+    "i64": "int64_t",
+    "usize": "size_t",
+    "bool": "bool",
+}
 # The structs: by their names in C, the file and the name of the struct that the exports have for each.
-STRUCTS = {"bm_settings": ("settings.rt", "Settings"), "bm_event": ("head.rt", "EventHead"), "bm_report": ("report.rt", "Report")}
+STRUCTS = {
+    "bm_settings": ("bullmyrtle/src/settings.rt", "Settings"),
+    "bm_event": ("event_rooms/src/head.rt", "EventHead"),
+    "bm_report": ("bullmyrtle/src/report.rt", "Report"),
+}
 WIDTHS = {"uint32_t": ctypes.c_uint32, "uint64_t": ctypes.c_uint64, "int64_t": ctypes.c_int64, "size_t": ctypes.c_size_t}
 
 
@@ -62,12 +90,24 @@ def in_map() -> list[str]:
 
 
 def in_exports() -> dict[str, tuple[str, list[str]]]:
-    found = re.findall(r'pub (?:unsafe )?extern "C" fn (bm_\w+)\(([^)]*)\)(?: -> (\w+))?', text_of(os.path.join(CRATE, "lib.rt")))
+    found = re.findall(r'pub (?:unsafe )?extern "C" fn (bm_\w+)\(([^)]*)\)(?: -> (\w+))?', text_of(EXPORTS))
     made = {}
     for name, takes, gives in found:
         kinds = [it.split(":", 1)[1].strip() for it in takes.split(",") if it.strip()]
         made[name] = (IN_C[gives][0] if gives else "void", [part for kind in kinds for part in IN_C[kind]])
     return made
+
+
+def in_rust() -> dict[str, tuple[str, list[str]]]:
+    """By the calls' names, what each gives and takes as stock Rust declares them."""
+    found = re.findall(r"pub fn (bm_\w+)\(([^)]*)\)(?: -> (\w+))?;", text_of(RUST))
+    kinds = {name: [it.split(":", 1)[1].strip() for it in takes.split(",") if it.strip()] for name, takes, _ in found}
+    return {name: (IN_RUST[gives] if gives else "void", [IN_RUST[it] for it in kinds[name]]) for name, _, gives in found}
+
+
+def fields_in_rust(name: str) -> list[tuple[str, str]]:
+    body = re.search(r"#\[repr\(C\)\]\n(?:#.*\n)*pub struct " + name + r" \{([^}]*)\}", text_of(RUST)).group(1)
+    return [(IN_RUST[kind], field) for field, kind in re.findall(r"pub (\w+): (\w+),", body)]
 
 
 def fields_in_header(name: str) -> list[tuple[str, str]]:
@@ -78,7 +118,7 @@ def fields_in_header(name: str) -> list[tuple[str, str]]:
 
 def fields_in_exports(name: str) -> list[tuple[str, str]]:
     file, kind = STRUCTS[name]
-    before, body = re.search(r"(#\[repr\(C\)\]\n(?:#.*\n)*)pub struct " + kind + r" \{([^}]*)\}", text_of(os.path.join(CRATE, file))).groups()
+    before, body = re.search(r"(#\[repr\(C\)\]\n(?:#.*\n)*)pub struct " + kind + r" \{([^}]*)\}", text_of(os.path.join(CRATES, file))).groups()
     assert before
     return [(IN_C[kind][0], field) for field, kind in re.findall(r"pub (\w+): (\w+),", body)]
 

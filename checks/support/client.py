@@ -1,5 +1,4 @@
 """A client of the server: it starts the program, sends contents in frames, and reads the frames that come."""
-import json
 import os
 import queue
 import subprocess
@@ -7,6 +6,7 @@ import threading
 
 from support import ran
 from support import rows
+from support.model import text_of as compact
 
 # How long anything is waited for, in seconds, before a check fails.
 PATIENCE = 60
@@ -25,6 +25,16 @@ def contents_in(stream):
         if len(content) != size:
             raise ValueError(f"a frame of {size} bytes has {len(content)}")
         yield content.decode()
+
+
+def ended(process, patience=PATIENCE):
+    """What a server ends with, and what it wrote of errors."""
+    try:
+        status = process.wait(patience)
+    except subprocess.TimeoutExpired:
+        process.kill()
+        return f"no end after {patience} seconds", b""
+    return status, process.stderr.read()
 
 
 class Client:
@@ -77,11 +87,7 @@ class Client:
             if content is None or not isinstance(content, str) or content.startswith("nothing for "):
                 break
             left.append(content)
-        try:
-            status = self.process.wait(PATIENCE)
-        except subprocess.TimeoutExpired:
-            return left, "it runs on", b""
-        return left, status, self.process.stderr.read()
+        return left, *ended(self.process)
 
     def seconds_used(self):
         """The processor seconds that it has used so far, by all its threads."""
@@ -103,12 +109,8 @@ class Client:
         return len(os.listdir(f"/proc/{self.process.pid}/task"))
 
 
-def compact(value):
-    """A value's text as the peer writes it: compact, with members in the order of their names."""
-    return json.dumps(value, separators=(",", ":"), sort_keys=True, ensure_ascii=False)
-
-
 def request(number, method, params=None):
+    """A request, or, with the key of a call for its number, a call to the other side."""
     return compact({"id": number, "jsonrpc": "2.0", "method": method, **({} if params is None else {"params": params})})
 
 
@@ -128,5 +130,4 @@ def error(number, code, text, **data):
     return compact({"error": {"code": code, "message": text, **data}, "id": number, "jsonrpc": "2.0"})
 
 
-def call(key, method, params=None):
-    return request(key, method, params)
+call = request

@@ -28,8 +28,6 @@ ALONE, MORE = 20, 1.5
 SHARE = 10
 FOLDER = os.path.join(ran.TOP, "out", "fuzz")
 MOST_FAILURES = 5
-TRACED = os.path.join(ran.TOP, "checks", "support", "traced.toml")
-TOOLBOX = os.path.join(ran.TOP, "examples", "toolbox.toml")
 TELLERS = {"ask": 1, "two": 2, "chain": 4, "keep": 2, "each": None}
 # What at least has to come about in a thousand streams, so that streams that say nothing fail.
 FLOORS = {"streams with three answers": 500, "cancels that hit": 100, "replies that were used": 500}
@@ -43,19 +41,14 @@ def calls_in(step: dict[str, Any]) -> int:
 class Tables:
     """The tables that streams are run with: their files, and what the laws know of them."""
 
-    def __init__(self, room: str):
-        with open(TRACED, encoding="utf-8") as it:
-            traced = it.read()
-        with open(TOOLBOX, encoding="utf-8") as it:
-            toolbox = it.read()
+    def __init__(self) -> None:
+        traced, toolbox = ran.text_of("checks", "support", "traced.toml"), ran.text_of("examples", "toolbox.toml")
         opened = traced + rows.OPENING.partition("\n")[2]
         texts = {"traced": traced, "opened": opened, "methods": rows.METHODS, "toolbox": toolbox}
-        self.files = {name: os.path.join(room, f"{name}.toml") for name in texts}
+        self.files = {name: ran.file_of(f"{name}.toml", text) for name, text in texts.items()}
         self.known: dict[str, laws.Table] = {}
         self.methods: dict[str, dict[str, int]] = {}  # with how many calls each may make
         for name, text in texts.items():
-            with open(self.files[name], "w", encoding="utf-8") as it:
-                it.write(text)
             table = tomllib.loads(text)
             self.methods[name] = {it["name"]: sum(map(calls_in, it.get("step", []))) for it in table["method"]}
             tellers = TELLERS if name in ("traced", "opened") else {}
@@ -103,7 +96,7 @@ class Judge:
         words = ["serve", "--workers", str(workers), "--table", self.tables.files[trial.table]]
         status, output, errors = ran.run(words, trial.stream)
         end = coming.stream.end
-        wanted = (0, b"") if end == "Clean" else (1, f"input ended: {end}\n".encode())
+        wanted = rows.ended(end if end != "Clean" else "")
         laws.require((status, errors) == wanted, f"the program's status is {status}, and it says {errors!r}")
         plainly = laws.Coming(reading.read(trial.plain), coming.table)
         plain = laws.told_by(plainly, Ran(end, 0, 0, 0, 0, 0, ran.run(words, trial.plain)[1]), has_report=False)
@@ -129,8 +122,8 @@ class Found:
 class Fuzzer:
     """Tries streams with a player, and some of them with the built program too, unless it is to be left out."""
 
-    def __init__(self, player: Player, room: str, has_program: bool = True):
-        self.player, self.tables, self.has_program = player, Tables(room), has_program
+    def __init__(self, player: Player, has_program: bool = True):
+        self.player, self.tables, self.has_program = player, Tables(), has_program
         self.judge = Judge(self.tables)
         self.count = ran.Count()
         self.failures = 0
@@ -149,7 +142,7 @@ class Fuzzer:
         for table in self.tables.files:
             group = [it for it in trials if it.table == table]
             for trial, found in zip(group, self.run(table, group)):
-                yield trial, found if isinstance(found, str) else self.broken(trial, found)
+                yield trial, found if isinstance(found, str) else laws.broken(partial(self.judge.judge, trial, found))
 
     def run(self, table: str, group: list[Trial]) -> list[list[Ran] | str]:
         """What each trial gives, or why it gave nothing."""
@@ -163,20 +156,9 @@ class Fuzzer:
                 return [f"the player: {fault}"]
             return [it for trial in group for it in self.run(table, [trial])]
 
-    def broken(self, trial: Trial, found: list[Ran]) -> Optional[str]:
-        try:
-            self.judge.judge(trial, found)
-        except laws.Broken as fault:
-            return str(fault)
-        return None
-
     def served(self, trial: Trial, number: int) -> Optional[str]:
         """What the program breaks as it serves a stream."""
-        try:
-            self.judge.judge_program(trial, 1 if number % 2 else 4)
-        except laws.Broken as fault:
-            return str(fault)
-        return None
+        return laws.broken(lambda: self.judge.judge_program(trial, 1 if number % 2 else 4))
 
     def breaks(self, trial: Trial) -> Optional[str]:
         """What a trial breaks that is run by itself, thrice, since servers may be lucky, and served by the program too."""
@@ -236,12 +218,11 @@ class Fuzzer:
                     return
 
     def take(self, trial: Trial, name: str, why: Optional[str]) -> None:
+        self.failures += why is not None
         if why is None:
             self.count.check(name, True)
-        else:
-            self.failures += 1
-            if self.failures <= MOST_FAILURES:
-                self.tell(trial, name, why)
+        elif self.failures <= MOST_FAILURES:
+            self.tell(trial, name, why)
 
     def check_floors(self) -> None:
         """Streams that say nothing show nothing."""

@@ -6,8 +6,7 @@ from typing import Any, Callable
 
 from support.reading import entry_of
 
-# What ids, params, results and errors may be, beside those that can be traced.
-IDS = (1, 2, 7, "1", "a", None, 1.5)
+# What params, results and errors may be, beside those that can be traced.
 PARAMS = ([], ["x"], [2, 3], [2, "3"], [[1]], [1.5], [2**63 - 1, 1], [None, *range(16)], {"file": "f"}, {"section": "s"}, {"a": 1}, "x", None)
 RESULTS = (True, False, None, 5, "s", ["A", "B"], {"k": [1]}, [1.5])
 ERRORS = ({"code": 5, "message": "m"}, {"code": 5, "message": "m", "data": [1]}, {"code": "5"}, {"code": 5, "message": "m", "data": 0.5}, None)

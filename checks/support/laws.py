@@ -2,8 +2,8 @@
 was written (written.py), and about two runs of one stream; none says what a method does."""
 import re
 from collections import Counter, defaultdict
-from dataclasses import dataclass, field
-from typing import Any, Iterator, Optional
+from dataclasses import dataclass, field, replace
+from typing import Callable, Iterator, Optional
 
 from support import model
 from support.cases import Ran
@@ -22,6 +22,15 @@ class Broken(Exception):
 def require(holds: bool, text: str) -> None:
     if not holds:
         raise Broken(text)
+
+
+def broken(check: Callable[[], object]) -> Optional[str]:
+    """The law that a check finds broken, if any."""
+    try:
+        check()
+    except Broken as fault:
+        return str(fault)
+    return None
 
 
 @dataclass
@@ -347,11 +356,7 @@ def check_timely(coming: Coming, told: Told) -> None:
         reached = due
 
 
-def counts_of(ran: Ran) -> tuple[str, int, int, int, int, int]:
-    return ran.end, ran.numbers, ran.messages, ran.calls, ran.answers, ran.polls
-
-
 def check_cut(whole: Ran, cut: Ran, how: str) -> None:
     """The same input, cut otherwise, gives the same bytes and the same report."""
     require(cut.output == whole.output, f"{how}: cut otherwise, it writes {cut.output!r} in place of {whole.output!r}")
-    require(cut == whole, f"{how}: cut otherwise, the report has {counts_of(cut)} in place of {counts_of(whole)}")
+    require(cut == whole, f"{how}: cut otherwise, the report has {replace(cut, output=b'')} in place of {replace(whole, output=b'')}")

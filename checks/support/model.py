@@ -7,7 +7,7 @@ from dataclasses import dataclass, field
 from functools import cache
 
 from support import reading
-from support.reading import ABSENT, INVALID_REPLY, SIGNED, is_integer, is_whole
+from support.reading import ABSENT, SIGNED, is_integer, is_whole
 
 PARSE_ERROR = {"code": -32700, "message": "Parse error"}
 INVALID_REQUEST = {"code": -32600, "message": "Invalid Request"}
@@ -167,9 +167,16 @@ class Peer:
         if self.table.get("opening"):
             self.handlers[0] = Handler(run(self.table["opening"], 0, None))
 
-    def take(self, line):
-        """A line comes in."""
-        self.take_unit(reading.unit_of(reading.Frame(line.encode(), False, 0, 0)))
+    def play(self, frames, is_lazy):
+        """Frames come in, and then the input is over."""
+        for frame in frames:
+            if not is_lazy:
+                self.go_on()
+            self.take_unit(reading.unit_of(frame))
+        if not is_lazy:
+            self.go_on()
+        self.is_over = True
+        self.go_on()
 
     def take_unit(self, came):
         unit = Unit(came.is_batch)
@@ -260,12 +267,5 @@ class Peer:
 def play(table, lines, is_lazy=False, is_last=False):
     """The lines that go out."""
     peer = Peer(table, is_last)
-    if not is_lazy:
-        peer.go_on()
-    for line in lines:
-        peer.take(line)
-        if not is_lazy:
-            peer.go_on()
-    peer.is_over = True
-    peer.go_on()
+    peer.play([reading.Frame(it.encode(), False, 0, 0) for it in lines], is_lazy)
     return [text_of(it) for it in peer.written]

@@ -1,7 +1,6 @@
 """Runs the program on standard streams that are cut, short or broken."""
 import os
 import subprocess
-import tempfile
 
 from support import ran
 from support import refusals
@@ -12,11 +11,10 @@ PATIENCE = 20
 
 
 class Narrowed:
-    """The library that narrows streams, compiled in a folder that goes with it."""
+    """The library that narrows streams."""
 
     def __init__(self) -> None:
-        self.room = tempfile.TemporaryDirectory(prefix="narrow-")
-        self.library = refusals.compiled("narrow_streams", self.room.name)
+        self.library = refusals.compiled("narrow_streams")
 
     def environment(self, **limits: object) -> dict[str, str]:
         """The environment of a program with these limits, which are named as narrow_streams.c says, in lower case."""

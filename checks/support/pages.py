@@ -1,5 +1,4 @@
 """Takes the fenced blocks out of a page, and plays the lines that pages and examples show."""
-import os
 import re
 
 from support import ran
@@ -7,8 +6,7 @@ from support import ran
 
 def blocks_of(count, *place):
     """The blocks of a page in their order, each with the words behind its fence."""
-    with open(os.path.join(ran.TOP, *place), encoding="utf-8") as page:
-        text = page.read()
+    text = ran.text_of(*place)
     blocks = re.findall(r"^```([^\n]*)\n(.*?)^```$\n?", text, re.M | re.S)
     fences = len(re.findall(r"^\s*```", text, re.M))
     count.check(f"each block of {'/'.join(place)} begins and ends", fences == 2 * len(blocks), f"{fences} fences round {len(blocks)}")
@@ -17,5 +15,4 @@ def blocks_of(count, *place):
 
 def check_play(count, name, words, given, output):
     """Plays lines with a table, and compares what is printed; the input ends clean."""
-    got = ran.run(["play", "--lines", *words], given.encode())
-    count.check(f"{name}: {' '.join(words)}", got == (0, output.encode(), b""), f"status {got[0]}, {got[1].decode()!r}, {got[2]!r}, and not {output!r}")
+    count.same(f"{name}: {' '.join(words)}", ran.run(["play", "--lines", *words], given.encode()), (0, output.encode(), b""))

@@ -58,14 +58,7 @@ def played(kind: type[Peer], table: str, case: Case) -> Ran:
     """What a peer of this kind writes."""
     peer = kind(table, case)
     frames, end = peer.frames(case)
-    if not peer.is_lazy:
-        peer.go_on()
-    for frame in frames:
-        peer.take_unit(reading.unit_of(frame))
-        if not peer.is_lazy:
-            peer.go_on()
-    peer.is_over = True
-    peer.go_on()
+    peer.play(frames, peer.is_lazy)
     return report_of(peer, end)
 
 
@@ -195,20 +188,3 @@ class AnswersAtTheEnd(Peer):
         held, self.units = ([], self.units) if self.is_over else (self.units, [])
         super().write()
         self.units += held
-
-
-WRONG = (
-    HearsTwice,
-    HearsTheLast,
-    HearsAhead,
-    AnswersAsTheyEnd,
-    CancelsByNumber,
-    CancelsTexts,
-    WithdrawsAll,
-    TakesTextsForNumbers,
-    LosesFramesAtCuts,
-    SpeaksLate,
-    CancelsTheFinished,
-    SparesTheParked,
-    AnswersAtTheEnd,
-)

@@ -1,4 +1,4 @@
-"""Runs the built program, and counts what passed."""
+"""What all scripts share: they run the built program, count what passed, and end with the tally."""
 import glob
 import os
 import resource
@@ -8,6 +8,7 @@ import socket
 import subprocess
 import sys
 import tempfile
+from concurrent.futures import ThreadPoolExecutor
 
 TOP = os.path.dirname(os.path.dirname(os.path.dirname(os.path.abspath(__file__))))
 PROGRAM = os.path.join(TOP, "bin", "rpc_tool")
@@ -15,8 +16,9 @@ sys.path.insert(0, os.path.join(TOP, "bin"))
 
 from tools import program as programs  # noqa: E402 (it stands in bin/)
 from tools import sources  # noqa: E402
-from tools.repository import Fault  # noqa: E402
 
+# Where a script's files lie, as long as it runs.
+ROOM = tempfile.TemporaryDirectory(prefix="check-")
 # The program of the sources that lie here, once built() has been called: the released one, or the one that was built here.
 BUILT = programs.BUILT
 
@@ -34,15 +36,57 @@ class Count:
             self.failed += 1
             print(f"FAILED: {name}{': ' + why if why else ''}"[:2000], flush=True)
 
+    def same(self, name, found, wanted):
+        self.check(name, found == wanted, f"{str(found)[:900]} in place of {str(wanted)[:900]}")
+
     def end(self):
         print(f"{self.passed} passed, {self.failed} failed")
         sys.exit(1 if self.failed else 0)
+
+
+def script(*checks):
+    """Builds the program where it isn't built yet, runs a script's checks, each of which counts, and ends."""
+    built()
+    count = Count()
+    for it in checks:
+        it(count)
+    count.end()
+
+
+def file_of(name, text):
+    """A file with this text, or these bytes, as long as the script runs."""
+    path = os.path.join(ROOM.name, name)
+    with open(path, "wb") as it:
+        it.write(text if isinstance(text, bytes) else text.encode())
+    return path
+
+
+def text_of(*place):
+    """The text of a file of the repository."""
+    with open(os.path.join(TOP, *place), encoding="utf-8") as it:
+        return it.read()
+
+
+def side_by_side(calls):
+    """What each of these gives, in their order. As many run at once as there are processors."""
+    with ThreadPoolExecutor(len(os.sched_getaffinity(0))) as pool:
+        return [it.result() for it in [pool.submit(call) for call in calls]]
 
 
 def run(words, given=b"", program=None, env=None, **more):
     """Runs the program, and gives its status and what it wrote to its two outputs."""
     ended = subprocess.run([program or BUILT, *words], input=given, capture_output=True, timeout=120, env=env, **more)
     return ended.returncode, ended.stdout, ended.stderr
+
+
+def told_by(words, seconds, **more):
+    """The status of any command, or that it didn't end, and what it wrote to both outputs."""
+    how = {"stdin": subprocess.DEVNULL, "stdout": subprocess.PIPE, "stderr": subprocess.STDOUT, "timeout": seconds, "check": False, **more}
+    try:
+        ended = subprocess.run(words, **how)
+    except subprocess.TimeoutExpired:
+        return f"no end after {seconds} seconds", b""
+    return ended.returncode, ended.stdout
 
 
 def run_into(room, words, given=b"", program=None):
@@ -75,15 +119,10 @@ def run_on_broken(words, given, program=None):
 def built():
     """Builds the program where it isn't built yet."""
     global BUILT
-    ended = subprocess.run([PROGRAM, "--version"], stdin=subprocess.DEVNULL, capture_output=True, check=False)
-    try:
-        BUILT = programs.current(sources.stamp())
-    except Fault as fault:
-        print(fault)
-        BUILT = None
-    if ended.returncode or BUILT is None:
-        print(ended.stderr.decode(errors="replace")[-2000:])
-        print("0 passed, 1 failed")
+    status, said = told_by([PROGRAM, "--version"], None)
+    BUILT = None if status else programs.current(sources.stamp())
+    if BUILT is None:
+        print(f"{said.decode(errors='replace')[-2000:]}\n0 passed, 1 failed")
         sys.exit(1)
 
 

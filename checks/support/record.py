@@ -2,28 +2,60 @@
 
 A line is a crate, how many bodies it has, and the sum of all that their verdicts rest on: the logic, the scripts that judge, the bodies'
 files, and the sources of the crate and of those below it. The prover's verdict on the same text is the same, so a crate whose line holds
-needn't be tried at each landing; a part of those is tried all the same, in turn, so that a record that is wrong comes to light."""
+needn't be tried again. A line is written as soon as its crate is done, so that a run that is interrupted keeps what it has."""
+import contextlib
+import fcntl
 import hashlib
 import os
 import tempfile
+from typing import Iterable, Iterator
 
-from support.kept import Kept
+from support.trees import PARTS
 from support.trial import Crate
 from tools import kit  # (it stands in bin/)
+from tools.repository import listing
+from tools.sources import line_of
 
 FILE = "checks/tried.txt"
 HEAD = """# The crates of which all wrong bodies were refused and all right ones proved, as they stand: each with the number of its bodies
 # and the sum of all that this rests on. Written by python3 checks/wrong_bodies.py --record
 """
-# One body in so many is tried in turn.
-PART = 5
+# The scripts that decide a verdict. (What runs the checks, and in which order, decides none.)
+JUDGES = [f"checks/support/{it}.py" for it in ("bodies", "functions", "rounds", "verdicts")]
+
+
+def sum_of(*parts: object) -> str:
+    return hashlib.sha256(repr(parts).encode()).hexdigest()
 
 
 class Record:
-    def __init__(self, root: str, kept: Kept) -> None:
+    """The lines that there are, and what those of today would be: taken as it is made, before any source is read otherwise."""
+
+    def __init__(self, root: str) -> None:
+        self.root, self.at = root, f"{root}/{FILE}"
+        self.listed = listing(root)
         # (two kits of one logic judge alike)
-        self.at, self.kept, self.logic = f"{root}/{FILE}", kept, kit.logic(kit.version() or "")
+        self.basis = sum_of(kit.logic(kit.version() or ""), [line_of(f"{root}/{it}", root) for it in JUDGES])
+        self.sums = self.of_today(self.listed.lines)
         self.lines = self.read()
+
+    def of_folder(self, folder: str) -> list[bytes]:
+        return [line_of(it, self.root) for it in sorted(f"{at}/{name}" for at, _, names in os.walk(folder) for name in names)]
+
+    def of_crate(self, name: str, known: dict[str, str]) -> str:
+        """A sum of the sources of a crate and of those below it, and of the libraries that it names; each crate is read once."""
+        if name not in known:
+            libraries = self.listed.libraries[name]
+            below = [self.of_crate(it, known) for it in libraries if it in self.listed.lines]
+            own = [self.of_folder(f"{self.root}/crates/{name}/{part}") for part in PARTS]
+            known[name] = sum_of(name, libraries, own, below)
+        return known[name]
+
+    def of_today(self, names: Iterable[str]) -> dict[str, str]:
+        """The sum of each of these crates that has bodies, as its files are now."""
+        known: dict[str, str] = {}
+        bodies = {it: self.of_folder(f"{self.root}/crates/{it}/wrong-bodies") for it in names}
+        return {name: sum_of(self.basis, self.of_crate(name, known), found) for name, found in bodies.items() if found}
 
     def read(self) -> dict[str, str]:
         """The line of each crate; a file that can't be read has none."""
@@ -34,30 +66,33 @@ class Record:
             return {}
         return {line.split()[0]: line for line in found}
 
-    def line(self, name: str, count: int) -> str:
-        """What the line of a crate is, as its files are now."""
-        return f"{name} {count} {self.kept.of_verdicts(name, self.logic)}"
+    def line(self, crate: Crate) -> str:
+        """What the line of a crate is, which has all of its bodies."""
+        return f"{crate.name} {len(crate.bodies)} {self.sums[crate.name]}"
 
     def has(self, crate: Crate) -> bool:
-        """Whether all bodies of a crate were tried as they stand. The crate has them all."""
-        return self.lines.get(crate.name) == self.line(crate.name, len(crate.bodies))
+        """Whether all bodies of a crate were tried as they stand."""
+        return self.lines.get(crate.name) == self.line(crate)
 
-    def in_turn(self, crates: list[Crate]) -> list[Crate]:
-        """Some of the crates, with up to a fifth of their bodies, though one at least: others as soon as any of their files changes."""
-        seed = " ".join(self.line(it.name, len(it.bodies)) for it in crates)
-        ordered = sorted(crates, key=lambda it: hashlib.sha256(f"{seed} {it.name}".encode()).digest())
-        drawn, left = ordered[:1], sum(len(it.bodies) for it in crates) // PART - sum(len(it.bodies) for it in ordered[:1])
-        for it in ordered[1:]:
-            if len(it.bodies) <= left:
-                drawn.append(it)
-                left -= len(it.bodies)
-        return drawn
+    @contextlib.contextmanager
+    def locked(self) -> Iterator[None]:
+        """Other runs wait with what they write."""
+        folder = os.open(os.path.dirname(self.at), os.O_RDONLY)
+        try:
+            fcntl.flock(folder, fcntl.LOCK_EX)
+            yield
+        finally:
+            os.close(folder)
 
-    def write(self, crates: list[Crate]) -> None:
-        """Writes the lines of those crates of which all is as it should be, by this run or by the record as it was."""
-        well = [it for it in crates if (self.has(it) if it.is_recorded else it.is_well and self.kept.is_same(it))]
-        lines = "".join(f"{self.line(it.name, len(it.bodies))}\n" for it in well)
-        with tempfile.NamedTemporaryFile("w", dir=os.path.dirname(self.at), delete=False, encoding="utf-8") as it:
-            it.write(HEAD + lines)
-        os.chmod(it.name, 0o644)
-        os.replace(it.name, self.at)
+    def keep(self, crate: Crate) -> bool:
+        """Writes the line of a crate of which all is as it should be, beside the others that there are; says whether it has. It has not where a
+        file has changed since this run began."""
+        if self.of_today([crate.name]).get(crate.name) != self.sums[crate.name]:
+            return False
+        with self.locked():
+            self.lines = {**self.read(), crate.name: self.line(crate)}
+            with tempfile.NamedTemporaryFile("w", dir=os.path.dirname(self.at), delete=False, encoding="utf-8") as it:
+                it.write(HEAD + "".join(f"{self.lines[name]}\n" for name in self.sums if name in self.lines))
+            os.chmod(it.name, 0o644)
+            os.replace(it.name, self.at)
+        return True

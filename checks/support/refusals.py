@@ -3,15 +3,17 @@ import os
 import struct
 import subprocess
 import tempfile
+from functools import cache
 
 from support import ran
 
 WHY = "it compiles the malloc that refuses, and the one that counts"
 
 
-def compiled(name, room):
-    """A library of support/, compiled in a folder: its file."""
-    library = os.path.join(room, f"{name}.so")
+@cache
+def compiled(name):
+    """A library of support/, compiled: its file."""
+    library = os.path.join(ran.ROOM.name, f"{name}.so")
     source = os.path.join(ran.TOP, "checks", "support", f"{name}.c")
     made = subprocess.run(["cc", "-shared", "-fPIC", "-O2", "-o", library, source], capture_output=True, check=False)
     if made.returncode:
@@ -26,8 +28,7 @@ class Held:
         self.told = tempfile.TemporaryFile()
         self.told.write(bytes(40))
         self.told.flush()
-        self.room = tempfile.TemporaryDirectory(prefix="held-")
-        env = {**os.environ, "LD_PRELOAD": compiled("count_malloc", self.room.name), "HELD_TELL": str(self.told.fileno())}
+        env = {**os.environ, "LD_PRELOAD": compiled("count_malloc"), "HELD_TELL": str(self.told.fileno())}
         self.how = {"env": {**env, **({"HELD_LOSE": str(lose)} if lose else {})}, "pass_fds": [self.told.fileno()]}
 
     def numbers(self):
@@ -40,30 +41,19 @@ class Held:
         os.pwrite(self.told.fileno(), struct.pack("Q", 1), 32)
 
 
-def counted(words, given):
-    """Runs a program: its status, and the numbers behind its last request."""
+def counted(words, given=b""):
+    """Runs a program: its status, the most bytes that it held, the bytes that it held behind its last request and at its end, and how often
+    it asked for memory."""
     held = Held()
     ended = subprocess.run(words, input=given, capture_output=True, timeout=600, check=False, **held.how)
     return ended.returncode, *held.numbers()
 
 
-def memory_held(words, given=b""):
-    """Runs a program: its status, the most bytes that it held, and the bytes that it held behind its last request."""
-    return counted(words, given)[:3]
-
-
-def requests_for_memory(words, given=b""):
-    """Runs a program: its status, and how often it asked for memory."""
-    status, *_, requests = counted(words, given)
-    return status, requests
-
-
 class Refusals:
-    """The library that refuses memory, or threads, compiled in a folder that goes with it."""
+    """The library that refuses memory, or threads."""
 
     def __init__(self, name="refuse_malloc"):
-        self.room = tempfile.TemporaryDirectory(prefix="refused-")
-        self.library = compiled(name, self.room.name)
+        self.library = compiled(name)
 
     def run(self, words, given, how, number):
         """Runs a program under refusals: its status, what it wrote to its two outputs, and whether anything was refused. `how` is

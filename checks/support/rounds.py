@@ -1,11 +1,9 @@
 """Bodies of different functions in one check: how they are put together, and what the check's output says of each."""
-import hashlib
-import re
 from dataclasses import dataclass
 from typing import Iterable, Optional
 
 from support.bodies import Body, Change
-from support.functions import Function, functions_of
+from support.functions import Function
 from support.trees import Ran
 from support.verdicts import Output, Verdict
 
@@ -36,17 +34,6 @@ def rounds_of(bodies: Iterable[Body]) -> list[list[Body]]:
             rounds.append(found := [])
         found.append(body)
     return rounds + apart
-
-
-def in_turn(bodies: list[Body], seed: str) -> list[Body]:
-    """The right bodies and, of each function, one of its wrong ones: another seed gives another choice."""
-    picked = [it for it in bodies if it.is_right]
-    for function in dict.fromkeys(fn for it in bodies if not it.is_right for fn in it.functions):
-        having = [it for it in bodies if not it.is_right and function in it.functions]
-        if not any(it in picked for it in having):
-            told = hashlib.sha256(f"{seed} {function.file} {function.name}".encode()).digest()
-            picked.append(having[int.from_bytes(told[:8], "big") % len(having)])
-    return [it for it in bodies if it in picked]
 
 
 def is_inside(name: str, function: Function) -> bool:
@@ -103,19 +90,6 @@ def hurt_beside(output: Output, bodies: list[Body], known: set[str]) -> list[str
     fallen = [it.name for it in output.fallen() if not any(is_of(it, fn) for fn in edited)]
     missing = [it for it in known if it not in output.verdicts and not any(is_inside(it, fn) for fn in edited)]
     return fallen + missing
-
-
-def blamed(output: Output, bodies: list[Body], texts: dict[str, str]) -> list[Body]:
-    """Those bodies in whose functions, as the texts have them, the errors stand that kept the check from a verdict."""
-    found: list[Body] = []
-    for body in bodies:
-        for file, line in output.places:
-            lines = texts.get(file, "").split("\n")
-            offset = sum(len(it) + 1 for it in lines[: line - 1])
-            named = {it.name for it in functions_of(body.crate, file, texts.get(file, "")) if it.holds(offset, offset)}
-            if any(it.file == file and it.name in named for it in body.functions) and body not in found:
-                found.append(body)
-    return found
 
 
 def short(items: list[str]) -> str:

@@ -1,6 +1,7 @@
 """The rows of checks/played_rows as other scripts go over them, and what inputs and outputs are made of."""
-import os
+from functools import cache
 
+from support import ran
 from support.row_files import frame, rows_of
 
 REQUEST = '{"jsonrpc":"2.0","method":"nope","id":1}'
@@ -25,8 +26,7 @@ def lines(*contents):
 
 
 # Methods that add, call the other side, and tell it something: those that the baseline has built in.
-with open(os.path.join(os.path.dirname(__file__), "..", "..", "bench", "baseline", "methods.toml"), encoding="utf-8") as table:
-    METHODS = table.read()
+METHODS = ran.text_of("bench", "baseline", "methods.toml")
 
 # What a peer calls by itself as it starts, and what it then tells.
 OPENING = """version = 2
@@ -55,6 +55,17 @@ method = "f"
 kind = "answer"
 value = "$r"
 """
+
+
+@cache
+def file_of(table):
+    """A file with this table."""
+    return ran.file_of(f"table{hash(table)}.toml", table)
+
+
+def ended(end):
+    """The status of a run whose input ended so, "" where it ended clean, and what it says."""
+    return (1, f"input ended: {end}\n".encode()) if end else (0, b"")
 
 
 def ask(number=7):
@@ -93,14 +104,12 @@ def batch(*entries):
 
 NO_REPLY = failed(-32000, "No reply")
 CANCELLED = failed(-32800, "Request cancelled")
-CONFIRM = '{"id":"1.1","jsonrpc":"2.0","method":"confirm"}'
 TWO_CALLS = batch('{"id":"1.1","jsonrpc":"2.0","method":"a"}', '{"id":"1.2","jsonrpc":"2.0","method":"b"}')
 HELLO = '{"id":"0.1","jsonrpc":"2.0","method":"hello"}'
-EAGER, LAZY, LAST = [], ["--lazy"], ["--last"]
 
 # The tables by which rows are played.
 TABLES = {"none": None, "methods": METHODS, "opening": OPENING, "each": EACH}
-OPTIONS = {"eager": EAGER, "lazy": LAZY, "last": LAST}
+OPTIONS = {"eager": [], "lazy": ["--lazy"], "last": ["--last"]}
 # Of a peer without methods: name, input, output, how the input ends ("" where it ends clean). (Long streams are for played_rows.py alone.)
 ROWS = [
     (it.name, it.stream, it.outputs[0], it.end.replace("Clean", ""))

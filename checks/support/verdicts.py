@@ -1,9 +1,12 @@
 """What a check's output says of each function, and why those that fall do."""
+import os
 import re
 from dataclasses import dataclass, field
 
 LINE = re.compile(r"(fn|struct|enum|union|impl|trait|law) (\S+): (proved|not proved|no proof|could not tell|assumed|not assumed)\b(.*)")
 ONLY = re.compile(r"only=(?P<asked>\d+) proved=(?P<proved>\d+)")
+# (of a program or a static library the line has more words than of a library, as `axioms=3 target=x86_64-unknown-linux-gnu`)
+LOGIC = re.compile(r"logic=(?P<word>proved|not-proved)(?: [\w-]+=\S+)*")
 GOAL = re.compile(r"note: (?P<place>\S+:\d+:\d+): it is not proved that (?P<what>.*?) \(`(?P<goal>[^`]+)`\)(?P<rest>.*)")
 ERROR = re.compile(r"(?:\./)?(?P<file>(?:src|specs|proofs)/\S+?):(?P<line>\d+):\d+: error: (?P<what>.*)")
 GONE = re.compile(r"has no field|is not in scope|has no `|was not admitted")
@@ -72,7 +75,6 @@ class Output:
     has_verdict: bool
     unread: list[str]  # texts of src/ that the prover could not read
     first_error: str
-    places: list[tuple[str, int]]  # the files and lines of src/ that errors name
 
     def fallen(self) -> list[Verdict]:
         return [it for it in self.verdicts.values() if it.falls_by_itself]
@@ -117,7 +119,7 @@ def attach(errors: list["re.Match[str]"], verdicts: dict[str, Verdict]) -> None:
     """Gives each error on an answer to the function that the answer is of; in a cycle of calls the answer's name begins with it."""
     by_folder = {folder_of(it.name): it for it in verdicts.values()}
     for error in errors:
-        folder, _, cycle = parent_of(error["file"]).rstrip("/").rpartition("/")
+        folder, _, cycle = os.path.dirname(error["file"]).rpartition("/")
         answer = goal_of_answer(error["what"])
         member = answer.strip("`").partition("-")[0]
         verdict = by_folder.get(f"{folder}/{member}/" if cycle.startswith("+") else f"{folder}/{cycle}/")
@@ -139,8 +141,8 @@ def verdict_of(logic: list[str]) -> tuple[bool, bool]:
         return False, False
     if only := ONLY.fullmatch(logic[0]):
         return only["asked"] == only["proved"] != "0", True
-    is_proved = logic[0].startswith("logic=proved ")
-    return is_proved, is_proved or logic[0] == "logic=not-proved"
+    told = LOGIC.fullmatch(logic[0].rstrip())
+    return bool(told) and told["word"] == "proved", bool(told)
 
 
 def read_output(text: str) -> Output:
@@ -169,9 +171,4 @@ def read_output(text: str) -> Output:
     unread = [f"{it['file']}:{it['line']}: {it['what'][:160]}" for it in errors if is_unread(it)]
     is_proved, has_verdict = verdict_of(logic)
     has_verdict = has_verdict and bool(verdicts)
-    places = [(it[1], int(it[2])) for it in re.finditer(r"^(?:\./)?(src/\S+?):(\d+):\d+: error", text, re.M)]
-    return Output(verdicts, is_proved, has_verdict, unread, first[:240], places)
-
-
-def parent_of(path: str) -> str:
-    return path.rpartition("/")[0] + "/"
+    return Output(verdicts, is_proved, has_verdict, unread, first[:240])

@@ -1,18 +1,23 @@
-/* A client over two descriptors that are open already: it calls the server that reads from one and writes to the other,
- * prints the reply, and ends. Each content is a line. In bash, with the host as the server:
+/* A client: it starts a server, calls it over the server's standard streams, prints the reply, and ends. Each content
+ * is a line. It waits by poll(2) for the one descriptor to be readable and for the other to be writable, and for
+ * nothing else.
  *
- *     coproc ./host
- *     ./client ${COPROC[0]} ${COPROC[1]} echo '["a",1.50]'
+ *     ./client METHOD PARAMS SERVER [WORD]..          as in: ./client echo '["a",1.50]' ./host
  */
 #include "bullmyrtle.h"
 
 #include <errno.h>
 #include <fcntl.h>
 #include <poll.h>
+#include <signal.h>
+#include <spawn.h>
 #include <stdio.h>
 #include <stdlib.h>
 #include <string.h>
+#include <sys/wait.h>
 #include <unistd.h>
+
+extern char **environ;
 
 typedef struct {
     bm_connection connection;
@@ -21,6 +26,8 @@ typedef struct {
     int status; /* -1 until there is a reply */
     uint8_t bytes[4096];
     size_t first, last; /* what was taken and isn't written yet */
+    uint8_t *room;      /* for an event's texts */
+    size_t size;
 } client;
 
 static void fail(const char *why)
@@ -35,6 +42,13 @@ static void check(int32_t code)
         fprintf(stderr, "client: the library gave the code %d\n", code);
         exit(2);
     }
+}
+
+static void make_room(client *it, size_t size)
+{
+    if (!(it->room = realloc(it->room, size)))
+        fail("out of memory");
+    it->size = size;
 }
 
 static void print(const bm_event *event, const uint8_t *room)
@@ -66,23 +80,17 @@ static void handle(client *it, const bm_event *event, const uint8_t *room)
 
 static void hear(client *it)
 {
-    static uint8_t *room;
-    static size_t size = 4096;
     bm_event event;
-    if (!room && !(room = malloc(size)))
-        fail("out of memory");
     for (;;) {
-        int32_t code = bm_next(&it->connection, &event, room, size);
+        int32_t code = bm_next(&it->connection, &event, it->room, it->size);
         if (code == BM_SMALL) {
-            size = event.name_len + event.text_len + event.id_len + 3;
-            if (!(room = realloc(room, size)))
-                fail("out of memory");
+            make_room(it, event.name_len + event.text_len + event.id_len + 3);
             continue;
         }
         check(code);
         if (event.kind == BM_NONE)
             return;
-        handle(it, &event, room);
+        handle(it, &event, it->room);
     }
 }
 
@@ -110,13 +118,19 @@ static bool has_output(client *it)
     return it->first < it->last;
 }
 
+static void close_output(client *it)
+{
+    close(it->out);
+    it->out = -1;
+}
+
 static void write_some(client *it)
 {
     ssize_t count = write(it->out, it->bytes + it->first, it->last - it->first);
     if (count >= 0)
         it->first += (size_t)count;
     else if (errno != EAGAIN && errno != EINTR)
-        fail("the server reads no more");
+        close_output(it); /* the server reads no more; it may still have written a reply */
 }
 
 /* Once the reply is there and all is written, the server's input is closed; then its output is read to its end. */
@@ -124,10 +138,8 @@ static void serve(client *it)
 {
     while (it->in >= 0) {
         bool writes = it->out >= 0 && has_output(it);
-        if (it->out >= 0 && !writes && it->status >= 0) {
-            close(it->out);
-            it->out = -1;
-        }
+        if (it->out >= 0 && !writes && it->status >= 0)
+            close_output(it);
         struct pollfd ready[2] = {{.fd = it->in, .events = POLLIN}, {.fd = writes ? it->out : -1, .events = POLLOUT}};
         if (poll(ready, 2, -1) < 0 && errno != EINTR)
             fail("poll");
@@ -138,30 +150,50 @@ static void serve(client *it)
     }
 }
 
-static int descriptor(const char *word)
+/* Starts the server, and keeps the other ends of its standard streams. */
+static pid_t start(client *it, char **words)
 {
-    int it = atoi(word);
-    int flags = fcntl(it, F_GETFL);
-    if (flags < 0 || fcntl(it, F_SETFL, flags | O_NONBLOCK) < 0)
-        fail("a descriptor isn't open");
-    return it;
+    int to[2], from[2];
+    pid_t server;
+    posix_spawn_file_actions_t actions;
+    if (pipe(to) || pipe(from) || posix_spawn_file_actions_init(&actions))
+        fail("no pipe");
+    posix_spawn_file_actions_adddup2(&actions, to[0], STDIN_FILENO);
+    posix_spawn_file_actions_adddup2(&actions, from[1], STDOUT_FILENO);
+    for (int i = 0; i < 2; i++) {
+        posix_spawn_file_actions_addclose(&actions, to[i]);
+        posix_spawn_file_actions_addclose(&actions, from[i]);
+    }
+    if (posix_spawnp(&server, words[0], &actions, NULL, words, environ))
+        fail("the server doesn't start");
+    posix_spawn_file_actions_destroy(&actions);
+    close(to[0]);
+    close(from[1]);
+    it->in = from[0];
+    it->out = to[1];
+    if (fcntl(it->in, F_SETFL, O_NONBLOCK) < 0 || fcntl(it->out, F_SETFL, O_NONBLOCK) < 0)
+        fail("fcntl");
+    return server;
 }
 
 int main(int count, char **words)
 {
     bm_settings settings = {.framing = BM_LINES};
     client it = {.status = -1};
-    if (count != 4 && count != 5) {
-        fprintf(stderr, "usage: client READ WRITE METHOD [PARAMS]\n");
+    if (count < 4) {
+        fprintf(stderr, "usage: client METHOD PARAMS SERVER [WORD]..\n");
         return 2;
     }
-    const char *method = words[3], *params = count == 5 ? words[4] : "";
-    it.in = descriptor(words[1]);
-    it.out = descriptor(words[2]);
+    const char *method = words[1], *params = words[2];
     check(bm_new(&settings, &it.connection.at));
     check(bm_call(&it.connection, 0, (const uint8_t *)method, strlen(method), (const uint8_t *)params, strlen(params),
                   &it.key));
+    make_room(&it, 4096);
+    signal(SIGPIPE, SIG_IGN); /* a write to a server that is gone fails, and doesn't end the client */
+    pid_t server = start(&it, words + 3);
     serve(&it);
+    waitpid(server, NULL, 0);
+    free(it.room);
     bm_free(it.connection);
     return it.status;
 }

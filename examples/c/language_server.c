@@ -21,6 +21,8 @@ typedef struct hover {
 
 static bm_connection connection;
 static hover *hovers;
+static uint8_t *room; /* for an event's texts */
+static size_t room_size;
 static bool is_initialized, is_shut_down, has_exit;
 
 /* Ends the program where it can't go on: there is no memory, or the streams are gone. */
@@ -41,6 +43,12 @@ static void *some(void *made)
     if (!made)
         fail("out of memory");
     return made;
+}
+
+static void make_room(size_t size)
+{
+    room = some(realloc(room, size));
+    room_size = size;
 }
 
 /* Each of these frees the value that it says. */
@@ -206,9 +214,9 @@ static void cancelled(uint64_t number)
         check(code);
 }
 
-static void handle(const bm_event *event, const char *room)
+static void handle(const bm_event *event)
 {
-    const char *text = room + event->name_len + 1;
+    const char *name = (const char *)room, *text = name + event->name_len + 1;
     cJSON *value = event->text_len ? some(cJSON_ParseWithLength(text, event->text_len)) : NULL;
     if (event->kind == BM_CANCELLED)
         cancelled(event->number);
@@ -217,9 +225,9 @@ static void handle(const bm_event *event, const char *room)
     else if (event->kind == BM_UNANSWERED)
         configured(event->key, true, NULL);
     else if (event->kind == BM_CALL && event->flags & BM_REQUEST)
-        request(event->number, room, value);
+        request(event->number, name, value);
     else if (event->kind == BM_CALL) {
-        notification(room, value);
+        notification(name, value);
         check(bm_answer(&connection, event->number, (const uint8_t *)"", 0)); /* closes the notification */
     }
     cJSON_Delete(value);
@@ -227,20 +235,17 @@ static void handle(const bm_event *event, const char *room)
 
 static void hear(void)
 {
-    static uint8_t *room;
-    static size_t size = 4096;
     bm_event event;
     while (!has_exit) {
-        int32_t code = bm_next(&connection, &event, room ? room : (room = some(malloc(size))), size);
+        int32_t code = bm_next(&connection, &event, room, room_size);
         if (code == BM_SMALL) {
-            size = event.name_len + event.text_len + event.id_len + 3;
-            room = some(realloc(room, size));
+            make_room(event.name_len + event.text_len + event.id_len + 3);
             continue;
         }
         check(code);
         if (event.kind == BM_NONE)
             return;
-        handle(&event, (const char *)room);
+        handle(&event);
     }
 }
 
@@ -262,6 +267,7 @@ int main(void)
     uint8_t bytes[65536];
     if (bm_interface() != BM_INTERFACE)
         fail("the library has another interface");
+    make_room(4096);
     check(bm_new(&settings, &connection.at));
     while (!has_exit && !bm_is_done(&connection)) {
         ssize_t count = read(STDIN_FILENO, bytes, sizeof bytes);
@@ -272,6 +278,9 @@ int main(void)
         hear();
         put();
     }
+    while (hovers)
+        free(take_hover(hovers->key, 0));
+    free(room);
     bm_free(connection);
     return is_shut_down ? 0 : 1;
 }

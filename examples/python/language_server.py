@@ -6,28 +6,20 @@ import sys
 from bullmyrtle import InvalidParams, Server
 
 server = Server()
-texts = {}  # of the documents that are open, by their URIs
-status = 1  # what the server ends with, unless it was shut down
-REPEATED = re.compile(r"\b(\w+)\s+(\1)\b", re.IGNORECASE)
+texts = {}  # of the open documents, by their URIs
+ending = {"status": 1}  # 0 once the server is shut down
+WORD, REPEATED = r"\w+", r"\b(\w+)\s+\1\b"
 
 
-def position(text, at):
-    line = text.rfind("\n", 0, at) + 1
-    return {"line": text.count("\n", 0, at), "character": len(text[line:at].encode("utf-16-le")) // 2}
-
-
-def repeated(text):
-    """Each word that stands a second time in a row, with its range and that of what goes if it is removed."""
-    for found in REPEATED.finditer(text):
-        ends = [position(text, it) for it in (found.start(2), found.end(2), found.end(1))]
-        yield found[2], {"start": ends[0], "end": ends[1]}, {"start": ends[2], "end": ends[1]}
-
-
-def text_of(params):
-    uri = params["textDocument"]["uri"]
-    if uri not in texts:
-        raise InvalidParams(f"this document isn't open: {uri}")
-    return texts[uri]
+def find(pattern, document):
+    """What matches in a document's lines, with its range. Editors count in UTF-16."""
+    if document["uri"] not in texts:
+        raise InvalidParams(f"this document isn't open: {document['uri']}")
+    for number, line in enumerate(texts[document["uri"]].split("\n")):
+        for found in re.finditer(pattern, line, re.IGNORECASE):
+            columns = [len(line[:it].encode("utf-16-le")) // 2 for it in found.span()]
+            start, end = ({"line": number, "character": it} for it in columns)
+            yield found, {"start": start, "end": end}
 
 
 @server.method("initialize")
@@ -39,66 +31,54 @@ def initialize(params: dict):
 @server.method("textDocument/didOpen")
 @server.method("textDocument/didChange")
 def changed(params: dict):
-    uri = params["textDocument"]["uri"]
-    texts[uri] = (params["contentChanges"][-1] if "contentChanges" in params else params["textDocument"])["text"]
-    found = [{"range": it, "message": f"{word!r} stands twice", "severity": 2} for word, it, _ in repeated(texts[uri])]
-    server.notify("textDocument/publishDiagnostics", {"uri": uri, "diagnostics": found})
+    document = params["textDocument"]
+    texts[document["uri"]] = params.get("contentChanges", [document])[-1]["text"]
+    words = find(REPEATED, document)
+    found = [{"range": at, "severity": 2, "message": f"{it[1]!r} stands twice"} for it, at in words]
+    server.notify("textDocument/publishDiagnostics", {"uri": document["uri"], "diagnostics": found})
 
 
 @server.method("textDocument/hover")
 async def hover(params: dict, request):
-    text, place = text_of(params), params["position"]
-    line = text.split("\n")[place["line"]]
-    at = len(line.encode("utf-16-le")[: 2 * place["character"]].decode("utf-16-le", "ignore"))
-    words = [it for it in re.finditer(r"\w+", line) if it.start() <= at <= it.end()]
-    if not words:
-        return None
-    (label,) = await request.call("workspace/configuration", {"items": [{"section": "words.label"}]})
-    count = len(re.findall(rf"\b{re.escape(words[0][0])}\b", text))
-    return {"contents": f"{label or 'count'}: {count}"}
+    place, words = params["position"], list(find(WORD, params["textDocument"]))
+    for word, at in words:
+        is_line = at["start"]["line"] == place["line"]
+        if is_line and at["start"]["character"] <= place["character"] <= at["end"]["character"]:
+            (label,) = await request.call("workspace/configuration", {"items": [{"section": "words.label"}]})
+            return {"contents": f"{label or 'count'}: {sum(it[0] == word[0] for it, _ in words)}"}
+    return None
 
 
 @server.method("textDocument/codeAction")
 def actions(params: dict):
-    uri, wanted = params["textDocument"]["uri"], params["range"]["start"]["line"]
-    for word, range_, removed in repeated(text_of(params)):
-        if range_["start"]["line"] == wanted:
-            edit = {"changes": {uri: [{"range": removed, "newText": ""}]}}
-            return [{"title": f"Remove the second {word!r}", "kind": "quickfix", "edit": edit}]
-    return []
+    found = []
+    for it, at in find(REPEATED, params["textDocument"]):
+        if at["start"]["line"] == params["range"]["start"]["line"]:
+            edit = {"changes": {params["textDocument"]["uri"]: [{"range": at, "newText": it[1]}]}}
+            found.append({"title": f"Remove the second {it[1]!r}", "kind": "quickfix", "edit": edit})
+    return found
 
 
 @server.method("workspace/executeCommand")
 async def count(params: dict, request):
     if params["command"] != "count":
         raise InvalidParams(f"unknown command: {params['command']}")
+    token = f"count {request.id}"
+    await request.call("window/workDoneProgress/create", {"token": token})
 
     def tell(kind, **more):
-        request.notify("$/progress", {"token": f"count {request.id}", "value": {"kind": kind, **more}})
+        request.notify("$/progress", {"token": token, "value": {"kind": kind, **more}})
 
-    await request.call("window/workDoneProgress/create", {"token": f"count {request.id}"})
     tell("begin", title="Counting", cancellable=True)
-    total = 0
     try:
-        for uri, text in list(texts.items()):
-            total += len(re.findall(r"\w+", text))
+        for uri in list(texts):
             tell("report", message=uri)
             await asyncio.sleep(params.get("arguments", [0])[0])  # (a cancel arrives here)
+        return sum(len(re.findall(WORD, it)) for it in texts.values())
     finally:
         tell("end")
-    return total
 
 
-@server.method("shutdown")
-def shut_down():
-    global status
-    status = 0
-
-
-@server.method("exit")
-def leave():
-    server.stop(status, grace=0)
-
-
-if __name__ == "__main__":
-    sys.exit(server.run())
+server.method("shutdown")(lambda: ending.update(status=0))
+server.method("exit")(lambda: server.stop(ending["status"], grace=0))
+sys.exit(server.run())

@@ -5,19 +5,13 @@ import sys
 from bullmyrtle import InvalidParams, Server
 
 server = Server(framing="lines")
-SCHEMA = {"type": "object", "properties": {"text": {"type": "string"}}, "required": ["text"]}
 TOOLS = {"count": "Counts the words of a text", "title": "Finds a title for a text"}
-
-
-@server.method("initialize")
-def initialize(params: dict):
-    info = {"name": "words", "version": "1.0"}
-    return {"protocolVersion": params["protocolVersion"], "capabilities": {"tools": {}}, "serverInfo": info}
-
-
-@server.method("tools/list")
-def tools():
-    return {"tools": [{"name": name, "description": it, "inputSchema": SCHEMA} for name, it in TOOLS.items()]}
+SCHEMA = {"type": "object", "properties": {"text": {"type": "string"}}, "required": ["text"]}
+LISTED = [{"name": name, "description": it, "inputSchema": SCHEMA} for name, it in TOOLS.items()]
+SERVER = {"capabilities": {"tools": {}}, "serverInfo": {"name": "words", "version": "1.0"}}
+server.method("initialize")(lambda params: {"protocolVersion": params["protocolVersion"], **SERVER})
+server.method("ping")(lambda: {})
+server.method("tools/list")(lambda: {"tools": LISTED})
 
 
 @server.method("tools/call")
@@ -25,26 +19,25 @@ async def call(params: dict, request):
     name, text = params.get("name"), params.get("arguments", {}).get("text")
     if name not in TOOLS or not isinstance(text, str):
         raise InvalidParams(f"no such tool: {name}" if name not in TOOLS else "the text is missing")
-    said = await (count(text, params.get("_meta", {}), request) if name == "count" else title(text, request))
-    return {"content": [{"type": "text", "text": said}]}
+    token = params.get("_meta", {}).get("progressToken")
+    result = await (count(text, request, token) if name == "count" else title(text, request))
+    return {"content": [{"type": "text", "text": result}]}
 
 
-async def count(text, meta, request):
+async def count(text, request, token):
     words = text.split()
     for at in range(0, len(words), 100):
-        if "progressToken" in meta:
-            about = {"progressToken": meta["progressToken"], "progress": at, "total": len(words)}
+        if token is not None:
+            about = {"progressToken": token, "progress": at, "total": len(words)}
             request.notify("notifications/progress", about)
         await asyncio.sleep(0)  # (a cancel arrives here)
     return f"{len(words)} words"
 
 
 async def title(text, request):
-    asked = {"role": "user", "content": {"type": "text", "text": f"A title for: {text}"}}
-    reply = await request.call("sampling/createMessage", {"messages": [asked], "maxTokens": 20})
+    message = {"role": "user", "content": {"type": "text", "text": f"A title for: {text}"}}
+    reply = await request.call("sampling/createMessage", {"messages": [message], "maxTokens": 20})
     return reply["content"]["text"]
 
 
-server.method("ping")(lambda params: {})
-if __name__ == "__main__":
-    sys.exit(server.run())
+sys.exit(server.run())

@@ -1,27 +1,39 @@
 //! A plain JSON-RPC 2.0 peer with six methods built in, as one writes it without proofs: buffered, one thread, `serde_json`.
 //!
-//! Its methods are those of `bench/baseline/methods.toml`. What is written is flushed whenever no input waits.
+//! Its methods are those of `bench/baseline/methods.toml`. With the word `host` it has the two methods of `connection_bench host`, and
+//! answers each request as soon as it can. What is written is flushed whenever no input waits.
+mod host;
 mod message;
 mod method;
 mod peer;
+mod side;
 
+use host::Host;
 use peer::Peer;
+use side::Side;
 use std::io::{self, BufRead, BufReader, BufWriter, Read};
 
 fn main() -> io::Result<()> {
+    let output = BufWriter::with_capacity(65_536, io::stdout().lock());
+    match std::env::args().nth(1).as_deref() {
+        Some("host") => serve(Host::new(output)),
+        _ => serve(Peer::new(output)),
+    }
+}
+
+fn serve(mut side: impl Side) -> io::Result<()> {
     let mut input = BufReader::with_capacity(65_536, io::stdin().lock());
-    let mut peer = Peer::new(BufWriter::with_capacity(65_536, io::stdout().lock()));
     let mut line = Vec::new();
     let mut content = Vec::new();
     while let Some(length) = head(&mut input, &mut line)? {
         content.resize(length, 0);
         input.read_exact(&mut content)?;
-        peer.take(&content)?;
+        side.take(&content)?;
         if input.buffer().is_empty() {
-            peer.flush()?;
+            side.flush()?;
         }
     }
-    peer.end()
+    side.end()
 }
 
 /// The length that a head gives, or none at the end of the input.

@@ -7,15 +7,16 @@ pub type Outcome = Result<Value, Value>;
 /// Which of our calls a reply is for: on behalf of which of theirs, and counted from 1.
 pub type Key = (u64, usize);
 
-pub enum Entry {
+pub enum Entry<K> {
     Call { id: Option<Value>, method: String, params: Value },
-    Reply(Key, Outcome),
+    Reply(K, Outcome),
     Stray,
     Invalid,
 }
 
-impl Entry {
-    pub fn read(value: Value) -> Self {
+impl<K> Entry<K> {
+    /// Reads an entry, and the id of a reply by `read_key`.
+    pub fn read(value: Value, read_key: impl Fn(&Value) -> Option<K>) -> Self {
         let Value::Object(mut members) = value else {
             return Entry::Invalid;
         };
@@ -25,7 +26,7 @@ impl Entry {
         if !members.contains_key("result") && !members.contains_key("error") {
             return Entry::Invalid;
         }
-        match members.get("id").and_then(Value::as_str).and_then(read_key) {
+        match members.get("id").and_then(read_key) {
             Some(key) => Entry::Reply(key, read_outcome(&mut members)),
             None => Entry::Stray,
         }
@@ -45,8 +46,8 @@ impl Entry {
 }
 
 /// The key that a text `n.t` names.
-fn read_key(text: &str) -> Option<Key> {
-    let (number, turn) = text.split_once('.')?;
+pub fn read_key(id: &Value) -> Option<Key> {
+    let (number, turn) = id.as_str()?.split_once('.')?;
     Some((decimal(number)?, decimal(turn)?.try_into().ok()?))
 }
 
@@ -102,7 +103,10 @@ pub fn answer(id: Value, outcome: Outcome) -> Value {
 }
 
 pub fn call(number: u64, turn: usize, method: &str, params: Option<Value>) -> Value {
-    let id = format!("{number}.{turn}");
+    call_with(format!("{number}.{turn}").into(), method, params)
+}
+
+pub fn call_with(id: Value, method: &str, params: Option<Value>) -> Value {
     match params {
         Some(params) => json!({"id": id, "jsonrpc": "2.0", "method": method, "params": params}),
         None => json!({"id": id, "jsonrpc": "2.0", "method": method}),

@@ -1,5 +1,6 @@
 //! The peer: it numbers the calls that come, runs their methods, and answers in the order of arrival.
-use crate::message::{answer, error_object, is_whole, notice, Entry, Key, Outcome};
+use crate::message::{answer, error_object, is_whole, notice, read_key, Entry, Key, Outcome};
+use crate::side::{write_frame, Side};
 use crate::method::{invalid_params, no_reply, Method, Started};
 use serde_json::{json, Value};
 use std::collections::{BTreeMap, BTreeSet, VecDeque};
@@ -39,14 +40,9 @@ pub struct Peer<W> {
     ready: BTreeSet<u64>,
 }
 
-impl<W: Write> Peer<W> {
-    pub fn new(output: W) -> Self {
-        let (units, runs, ready) = Default::default();
-        Peer { output, text: Vec::new(), units, released: 0, numbers: 0, runs, ready }
-    }
-
+impl<W: Write> Side for Peer<W> {
     /// Takes a content, runs what can be run, and writes what is due.
-    pub fn take(&mut self, content: &[u8]) -> io::Result<()> {
+    fn take(&mut self, content: &[u8]) -> io::Result<()> {
         match serde_json::from_slice(content) {
             Err(_) => self.units.push_back(answered(error_object(-32700, "Parse error"))),
             Ok(Value::Array(entries)) if entries.is_empty() => self.units.push_back(answered(invalid_request())),
@@ -57,7 +53,7 @@ impl<W: Write> Peer<W> {
     }
 
     /// The input is over: calls without a reply get none.
-    pub fn end(&mut self) -> io::Result<()> {
+    fn end(&mut self) -> io::Result<()> {
         for (&number, run) in &mut self.runs {
             run.replies.iter_mut().filter(|it| it.is_none()).for_each(|it| *it = Some(Err(no_reply())));
             self.ready.insert(number);
@@ -66,14 +62,21 @@ impl<W: Write> Peer<W> {
         self.flush()
     }
 
-    pub fn flush(&mut self) -> io::Result<()> {
+    fn flush(&mut self) -> io::Result<()> {
         self.output.flush()
+    }
+}
+
+impl<W: Write> Peer<W> {
+    pub fn new(output: W) -> Self {
+        let (units, runs, ready) = Default::default();
+        Peer { output, text: Vec::new(), units, released: 0, numbers: 0, runs, ready }
     }
 
     fn take_unit(&mut self, is_batch: bool, entries: impl IntoIterator<Item = Value>) -> io::Result<()> {
         self.units.push_back(Unit { is_batch, answers: Vec::new(), open: 0 });
         for entry in entries {
-            match Entry::read(entry) {
+            match Entry::read(entry, read_key) {
                 Entry::Call { id, method, params } => self.take_call(id, &method, params)?,
                 Entry::Reply(key, outcome) => self.take_reply(key, outcome),
                 Entry::Stray => {}
@@ -208,10 +211,7 @@ impl<W: Write> Peer<W> {
     }
 
     fn write(&mut self, message: &Value) -> io::Result<()> {
-        self.text.clear();
-        serde_json::to_writer(&mut self.text, message)?;
-        write!(self.output, "Content-Length: {}\r\n\r\n", self.text.len())?;
-        self.output.write_all(&self.text)
+        write_frame(&mut self.output, &mut self.text, message)
     }
 }
 

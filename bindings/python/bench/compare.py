@@ -1,13 +1,16 @@
 """usage: compare.py [--requests N] [--rounds N]
 
 How fast a server of this package is, beside python3-pylsp-jsonrpc where that is installed. Both have the same methods in
-Python. They are measured in turn, and the best of the rounds is told:
+Python. They are measured in turn, and the best of the rounds is told, since what else the machine does only adds to it:
 
   at once    requests a second, where all are sent at once
+  processor  microseconds of the server's processor time for each of these requests
   ping       microseconds from a request to its answer, one after the other (the median)
   call back  the same, for a method that calls the client first
   start      milliseconds from the start of the process to its first answer, beside a process that imports
              json and asyncio alone
+
+The machine's load stands before and behind the figures.
 """
 import json
 import os
@@ -80,9 +83,17 @@ class Server:
             self.send(frame({"id": got["id"], "result": 2 * got["params"][0]}))
         return got["result"]
 
+    def processor(self):
+        """The seconds that the server's threads have taken so far."""
+        took = 0
+        for it in os.listdir(f"/proc/{self.process.pid}/task"):
+            with open(f"/proc/{self.process.pid}/task/{it}/schedstat", encoding="ascii") as file:
+                took += int(file.read().split()[0])
+        return took / 1e9
+
     def at_once(self, count):
         data = b"".join(frame({"id": it, "method": "hover", "params": PARAMS}) for it in range(count))
-        began = time.perf_counter()
+        busy, began = self.processor(), time.perf_counter()
         writing = threading.Thread(target=self.send, args=(data,))
         writing.start()
         seen, tail = 0, b""
@@ -91,14 +102,14 @@ class Server:
             seen += got.count(b'"result"')
             # (a name that is cut in two counts with what follows it)
             tail = got[-7:] if b'"result"' not in got[-14:] else b""
-        took = time.perf_counter() - began
+        took, busy = time.perf_counter() - began, self.processor() - busy
         writing.join()
         # (what is left of the last answer)
         os.set_blocking(self.process.stdout.fileno(), False)
         time.sleep(0.2)
         self.process.stdout.read()
         os.set_blocking(self.process.stdout.fileno(), True)
-        return count / took
+        return count / took, busy / count * 1e6
 
     def each(self, count, method, params):
         took = []
@@ -122,8 +133,8 @@ def measured(code, requests):
         "start": server.start * 1000,
         "ping": server.each(small, "hover", PARAMS),
         "call back": server.each(small, "back", [4]),
-        "at once": server.at_once(requests),
     }
+    found["at once"], found["processor"] = server.at_once(requests)
     server.end()
     return found
 
@@ -149,6 +160,7 @@ def main(words):
         == 0
     ):
         servers["pylsp-jsonrpc"] = THEIRS
+    print(f"load {os.getloadavg()[0]:.1f}, {os.cpu_count()} processors, Python {sys.version.split()[0]}")
     found = {name: [] for name in servers}
     starts = []
     for _ in range(rounds):
@@ -158,10 +170,11 @@ def main(words):
     for name, all_ in found.items():
         best = {what: (max if what == "at once" else min)(it[what] for it in all_) for what in all_[0]}
         print(
-            f"{name:14} at once {best['at once']:9,.0f} requests/s   ping {best['ping']:6.0f} us   "
-            f"call back {best['call back']:6.0f} us   start {best['start']:5.0f} ms"
+            f"{name:14} at once {best['at once']:9,.0f} requests/s   processor {best['processor']:5.1f} us   "
+            f"ping {best['ping']:6.1f} us   call back {best['call back']:6.1f} us   start {best['start']:5.0f} ms"
         )
     print(f"{'import':14} json, asyncio: {min(starts):.0f} ms")
+    print(f"load {os.getloadavg()[0]:.1f}")
 
 
 if __name__ == "__main__":

@@ -7,19 +7,27 @@ import os
 import select
 import socket
 import stat
-from typing import TYPE_CHECKING, Any, List, Optional, Tuple
+from typing import TYPE_CHECKING, Any, List, Optional, Tuple, Union
+
+from ._loop import Loop
 
 if TYPE_CHECKING:
     from ._session import Session
 
 # How much is read at once, how much of the output is taken at once, and how much of it may wait until reading stops.
-_READ, _TAKEN, _WAITING = 1 << 18, 1 << 18, 1 << 20
+_READ, _TAKEN, _WAITING = 1 << 16, 1 << 18, 1 << 20
 # What a pipe that can be written to has room for (POSIX has 512 at least, and Linux a page).
 _PIPE = 4096
+_NOTHING = memoryview(b"")
+# If fewer bytes than this are taken, no more are left.
+_ALL = 1 << 16
 
 
 class Channel:
     """What a session writes to. It tells the session by `received` and `ended` what came in."""
+
+    #: Whether it tells the session once at most in each turn of the loop.
+    takes_turns = False
 
     def start(self, session: Session) -> None:
         """Begin to read."""
@@ -42,17 +50,30 @@ class Channel:
         """Let go of everything; what a buffer still holds may take so long to go out."""
 
 
+def _opened_anew(pipe: int) -> bool:
+    """Puts in the place of a pipe's end the same one opened anew, so that it has a mode of its own: never to wait."""
+    try:
+        anew = os.open(f"/proc/self/fd/{pipe}", os.O_WRONLY | os.O_NONBLOCK)
+    except OSError:
+        return False
+    os.dup2(anew, pipe, inheritable=False)
+    os.close(anew)
+    return True
+
+
 class Descriptors(Channel):
     """Two descriptors of its own: pipes, sockets, terminals or files.
 
     They stay in the mode in which they are, since that is shared with other processes. So what is read is known to be
-    there, and what is written to a pipe is known to fit.
+    there, and what is written to a pipe that can't be opened anew is known to fit.
     """
+
+    takes_turns = True
 
     def __init__(self, source: Optional[int], sink: Optional[int], pauses: bool = True) -> None:
         self._source, self._sink = source, sink
         self._pauses = pauses
-        self._rest = memoryview(b"")
+        self._rest = _NOTHING
         self._is_reading = self._is_paused = self._is_waiting = self._is_finishing = False
         self._is_stopped = False
         self._turn: Optional[asyncio.Handle] = None
@@ -62,9 +83,12 @@ class Descriptors(Channel):
             mode = os.fstat(sink).st_mode
             if stat.S_ISSOCK(mode):
                 self._socket = socket.socket(fileno=sink)
+            elif stat.S_ISFIFO(mode) and _opened_anew(sink):
+                pass
             elif stat.S_ISFIFO(mode) or os.isatty(sink):
                 self._poll = select.poll()
                 self._poll.register(sink, select.POLLOUT)
+        self._is_plain = self._socket is None and self._poll is None
 
     def start(self, session: Session) -> None:
         self._session = session
@@ -85,6 +109,9 @@ class Descriptors(Channel):
         except OSError:
             # (a file can always be read, and so the loop can't wait for it)
             self._turn = self._loop.call_soon(self._read_file)
+        else:
+            if isinstance(self._loop, Loop):
+                self._loop.read_by(self._source, self._readable)
 
     def _read_file(self) -> None:
         self._readable()
@@ -99,6 +126,8 @@ class Descriptors(Channel):
                 self._turn.cancel()
             with contextlib.suppress(OSError, ValueError):
                 self._loop.remove_reader(self._source)
+            if isinstance(self._loop, Loop):
+                self._loop.read_no_more()
 
     def _readable(self) -> None:
         assert self._source is not None
@@ -129,44 +158,52 @@ class Descriptors(Channel):
         return self._sink is None or not self._is_waiting
 
     def write(self) -> None:
-        if not self._is_waiting:
-            self._write_on()
+        self._write_on(False)
 
-    def _write_on(self) -> None:
+    def _write_on(self, is_later: bool) -> None:
+        if self._is_waiting and not is_later:
+            return
         left = 4 * _TAKEN
         while self._sink is not None:
-            if not self._rest:
-                self._rest = memoryview(self._session.take(_TAKEN))
-                if not self._rest:
-                    self._written()
-                    return
+            data = self._rest or self._session.take(_TAKEN)
+            size = len(data)
+            count = 0
             try:
-                count = self._put(self._sink) if left > 0 else 0
+                if size and left > 0:
+                    count = os.write(self._sink, data) if self._is_plain else self._put(self._sink, data)
             except BlockingIOError:
-                count = 0
+                pass
             except OSError:
                 self._break()
                 return
-            if not count:
-                self._wait()
+            if count != size:
+                self._rest = memoryview(data)[count:]
+                if not count:
+                    self._wait()
+                    return
+            elif self._rest or size >= _ALL:
+                self._rest = _NOTHING  # (and there may be more)
+            else:
+                if self._is_waiting or self._is_paused or self._is_finishing:
+                    self._written()
+                if is_later:
+                    self._session.was_written()
                 return
-            self._rest = self._rest[count:]
             left -= count
 
-    def _put(self, sink: int) -> int:
+    def _put(self, sink: int, data: Union[bytes, memoryview]) -> int:
         """Writes as much as can be written without waiting, and says how much that is."""
         if self._socket is not None:
-            return self._socket.send(self._rest, socket.MSG_DONTWAIT | socket.MSG_NOSIGNAL)
-        if self._poll is None:
-            return os.write(sink, self._rest)
-        return os.write(sink, self._rest[:_PIPE]) if self._poll.poll(0) else 0
+            return self._socket.send(data, socket.MSG_DONTWAIT | socket.MSG_NOSIGNAL)
+        assert self._poll is not None
+        return os.write(sink, data[:_PIPE]) if self._poll.poll(0) else 0
 
     def _wait(self) -> None:
         if not self._is_waiting:
             self._is_waiting = True
             assert self._sink is not None
             try:
-                self._loop.add_writer(self._sink, self._write_on)
+                self._loop.add_writer(self._sink, self._write_on, True)
             except OSError:
                 self._loop.call_soon(self._write_file)
         if self._pauses and not self._is_paused and self._session.pending > _WAITING:
@@ -175,7 +212,7 @@ class Descriptors(Channel):
 
     def _write_file(self) -> None:
         if self._is_waiting:
-            self._write_on()
+            self._write_on(True)
             self._loop.call_soon(self._write_file)
 
     def _written(self) -> None:
@@ -185,7 +222,6 @@ class Descriptors(Channel):
             self._read_on()
         if self._is_finishing:
             self._close_sink()
-        self._session.was_written()
 
     def _unwait(self) -> None:
         if self._is_waiting:
@@ -211,7 +247,7 @@ class Descriptors(Channel):
         if self._sink is not None:
             os.close(self._sink)
         self._sink = None
-        self._rest = memoryview(b"")
+        self._rest = _NOTHING
 
     def finish(self) -> None:
         self._is_finishing = True
@@ -269,7 +305,6 @@ class Streams(Channel):
                 return
             self._writer.write(data)
             data = self._session.take(_TAKEN)
-        self._session.was_written()
 
     def stop(self) -> None:
         if self._task is not None:
@@ -316,7 +351,6 @@ class Memory(Channel):
         while data:
             self._send(data)
             data = self._session.take(_TAKEN)
-        self._session.was_written()
 
     def _send(self, data: Optional[bytes]) -> None:
         if self._session is not None and self._other is not None:

@@ -3,10 +3,12 @@
 orjson and ujson are faster than the standard module, and differ from it at the edges: integers over 64 bits, NaN, how
 the exponent of a float is written. So a text at such an edge is left to the standard module. What ujson writes differs
 in too many ways, so it only reads.
+
+One difference is left, since orjson doesn't ask: an enumeration that is made of str or int too, and whose members were
+given another `_value_` by its `__new__`, is written by that value, and elsewhere as the str or int that it is.
 """
 from __future__ import annotations
 
-import dataclasses
 import enum
 import json
 import json.encoder
@@ -24,9 +26,17 @@ _DIGITS = bytes.maketrans(b"123456789", b"000000000")
 _LONG = b"0" * 19
 
 
+_PLAIN = (str, int, float, list, tuple, dict)
+
+
 def _default(value: Any) -> Any:
     """What stands for a value that JSON has none for."""
-    if dataclasses.is_dataclass(value) and not isinstance(value, type):
+    if isinstance(value, _PLAIN):
+        # (orjson asks for classes made of these, which the standard module writes without asking)
+        raise TypeError(f"{type(value).__name__} isn't known to orjson")
+    # (who has made a dataclass, has imported the module)
+    dataclasses: Any = sys.modules.get("dataclasses")
+    if dataclasses is not None and dataclasses.is_dataclass(value) and not isinstance(value, type):
         return {it.name: getattr(value, it.name) for it in dataclasses.fields(value)}
     if isinstance(value, enum.Enum):
         return value.value
@@ -40,36 +50,43 @@ def _default(value: Any) -> Any:
 _read = json.JSONDecoder().raw_decode
 
 
-def _writer() -> Callable[[Any], str]:
+def _writer() -> Dumps:
     """What writes a value. A JSONEncoder makes its inner encoder anew for each value, which takes longest."""
-    made = json.JSONEncoder(ensure_ascii=False, allow_nan=False, separators=(",", ":"), default=_default)
+    write = json.JSONEncoder(
+        ensure_ascii=False, allow_nan=False, separators=(",", ":"), default=_default
+    ).encode
     try:
         # (as JSONEncoder does; without a record of what is being written, a ring goes on until it nests too deep)
         parts: Any = json.encoder
         inner = parts.c_make_encoder(
             None, _default, parts.encode_basestring, None, ":", ",", False, False, False
         )
-        if "".join(inner(["\u00e9", {"a": 1.5}], 0)) == '["\u00e9",{"a":1.5}]':
-            return lambda value: "".join(inner(value, 0))
+        is_as_known = "".join(inner(["\u00e9", {"a": 1.5}], 0)) == '["\u00e9",{"a":1.5}]'
     except (AttributeError, TypeError):
-        pass
-    return made.encode
+        is_as_known = False
+
+    def quick(value: Any) -> bytes:
+        try:
+            return "".join(inner(value, 0)).encode()
+        except RecursionError:
+            raise ValueError("it nests too deep") from None
+
+    def plain(value: Any) -> bytes:
+        try:
+            return write(value).encode()
+        except RecursionError:
+            raise ValueError("it nests too deep") from None
+
+    return quick if is_as_known else plain
 
 
-_write = _writer()
+#: The compact text of a value, by the standard module. Raises TypeError or ValueError where it has none.
+plain_dumps = _writer()
 
 
 def plain_loads(text: bytes) -> Any:
     """The value of a compact JSON text, by the standard module."""
     return _read(text.decode())[0]
-
-
-def plain_dumps(value: Any) -> bytes:
-    """The compact text of a value, by the standard module. Raises TypeError or ValueError where it has none."""
-    try:
-        return _write(value).encode()
-    except RecursionError:
-        raise ValueError("it nests too deep") from None
 
 
 def _with_orjson(orjson: Any) -> Tuple[Loads, Dumps]:

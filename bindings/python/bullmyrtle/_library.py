@@ -4,6 +4,7 @@ from __future__ import annotations
 import ctypes
 import os
 import struct
+import sys
 from ctypes import POINTER, c_bool, c_char_p, c_int32, c_int64, c_size_t, c_uint32, c_uint64, c_void_p
 from typing import Any, Dict, List, Tuple
 
@@ -150,6 +151,24 @@ def library() -> Any:
         declare(loaded)
         _loaded = loaded
     return _loaded
+
+
+def undeclared(library: Any, name: str) -> Any:
+    """A call without declared parameters: for arguments that are ctypes' own objects, which it then passes as they are.
+
+    To check and convert them at each call takes longer than all the rest of it.
+    """
+    if not isinstance(library, ctypes.CDLL):
+        return getattr(library, name)
+    call = library[name]  # (a new one each time)
+    call.restype = CALLS[name][0]
+    return call
+
+
+def is_one_call_at_a_time(library: Any) -> bool:
+    """Whether the interpreter's lock is held during each call."""
+    has_lock: Any = getattr(sys, "_is_gil_enabled", None)
+    return isinstance(library, ctypes.PyDLL) and (has_lock is None or has_lock())
 
 
 def use(other: Any) -> None:

@@ -2,7 +2,6 @@
 from __future__ import annotations
 
 import collections.abc
-import dataclasses
 import inspect
 import sys
 import typing
@@ -80,6 +79,8 @@ def _object(of: Any) -> Fit:
 
 
 def _dataclass(kind: Any) -> Fit:
+    import dataclasses  # (here, since a server without them starts sooner)
+
     is_object = _plain(dict)
     fields = [it for it in dataclasses.fields(kind) if it.init]
     fits: Dict[str, Fit] = {}  # (filled at the first use, so that a class may have itself as a part)
@@ -119,7 +120,7 @@ def fit_for(kind: Any) -> Fit:
         return _anything
     if kind in _NAMES:
         return _plain(kind)
-    if dataclasses.is_dataclass(kind):
+    if hasattr(kind, "__dataclass_fields__"):
         return _dataclass(kind)
     if isinstance(kind, type) and hasattr(kind, "__total__") and hasattr(kind, "__annotations__"):
         return _plain(dict)  # (a TypedDict, whose members aren't looked at)

@@ -111,7 +111,7 @@ class Peer:
 
         In another thread than the loop's it blocks, and gives the result.
         """
-        return self.session.call([(method, params)], False)
+        return self.session.call_one(method, params)
 
     def call_batch(self, calls: Iterable[Said], return_exceptions: bool = False) -> Any:
         """Call the other side several times, in one message. The results come as a list, as with asyncio.gather."""

@@ -96,7 +96,7 @@ class Request:
         reply is raised as `Error`; `Closed` is raised once the request is answered or cancelled, and `Unanswered` at
         the end of the input.
         """
-        return self.session.call([(method, params)], False, self)
+        return self.session.call_one(method, params, self)
 
     def call_batch(self, calls: Iterable[Said], return_exceptions: bool = False) -> Any:
         """Call the other side several times, in one message. The results come as a list, as with asyncio.gather."""

@@ -54,9 +54,15 @@ class Session:
         workers: Optional[int],
     ) -> None:
         self.loop = asyncio.get_running_loop()
+        self._soon: Callable[[Callable[[], None]], Any] = getattr(
+            self.loop, "before_waiting", self.loop.call_soon
+        )
         self._methods = methods
         self._channel = channel
         self._connection = connection
+        #: What is to be written, so many bytes at most.
+        self.take: Callable[[int], bytes] = connection.take
+        self._answer_quickly = connection._answerer()
         self._cancel_by = cancel_by
         self._takes_tool_cancels = cancel_by not in (None, LSP_CANCEL)
         self._grace = grace
@@ -82,13 +88,14 @@ class Session:
         if self._is_closed:
             return
         try:
-            self._connection.feed(data)
+            self._events.extend(self._connection.fed(data))
         except InputOver:
             return
         except NoMemory:
             self._give_up()
             return
-        self._look()
+        if not self._is_going:
+            self._go_on()
 
     def ended(self, failed: bool) -> None:
         """The end of the input."""
@@ -120,33 +127,59 @@ class Session:
         if not self._is_going:
             self._go_on()
 
-    def _go_on(self) -> None:
+    def _go_on(self, is_later: bool = False) -> None:
         """Takes the events in their order, up to a method that starts as a task: that begins before what follows it."""
         waiting, methods, cancel_by = self._events, self._methods, self._cancel_by
+        loads, dumps, answer = _json.loads, _json.dumps, self._answer_quickly
         self._is_going = True
-        has_begun = False
+        has_begun = has_told = False
         try:
             while waiting and not has_begun:
                 event = waiting.popleft()
-                if type(event) is events.Call:
-                    name = event[1]
-                    method = methods.get(name)
-                    if method is not None and method.is_quick and name != cancel_by and not self._is_stopped:
-                        has_begun = self._call_quickly(method, event)
-                    else:
-                        has_begun = self._begin(event)
-                else:
+                if type(event) is not events.Call:
                     self._happened(event)
+                    has_told = True
+                    continue
+                number, name, params, id_ = event
+                method = methods.get(name)
+                if method is None or not method.is_quick or name == cancel_by or self._is_stopped:
+                    has_begun = self._begin(event)
+                    continue
+                # What most calls are. `_begin` does the same, by way of more functions.
+                try:
+                    given = None if params is None else loads(params)
+                    if method.fit is not None:
+                        given = method.fit(given, "params")
+                except Exception as fault:
+                    self._doesnt_fit(event, fault)
+                    continue
+                try:
+                    result = method.function(given) if method.takes else method.function()
+                except Exception as error:
+                    self._raised(number, name, error, None)
+                    continue
+                if id_ is not None and type(result) in _VALUES:
+                    try:
+                        answer(number, dumps(result))
+                        continue
+                    except (TypeError, ValueError):
+                        pass  # (what is below finds it again, and says so)
+                has_begun = self._returned_plainly(method, result, event, None)
         except NoMemory:  # (what a method raises is answered, and doesn't come here)
             self._give_up()
         finally:
-            self._is_going = has_begun
-            if has_begun:
-                self.loop.call_soon(self._go_on)
-        self._flush()
+            # (The task's first step comes before the channel's next turn, where this is the channel's turn. If it was
+            # put off until now, the channel may have its turn after it and before that step.)
+            self._is_going = has_begun and (bool(waiting) or is_later or not self._channel.takes_turns)
+            if self._is_going:
+                self.loop.call_soon(self._go_on, True)
+        if has_begun or has_told:
+            self._flush_soon()  # (whatever goes on now may have more to say)
+        else:
+            self._flush()
 
     def _happened(self, event: Event) -> None:
-        if isinstance(event, events.Replied):
+        if type(event) is events.Replied:
             reply = self._replies.pop(event.key, None)
             if reply is not None and not reply.done():
                 try:
@@ -226,29 +259,6 @@ class Session:
             log.warning("%s: %s", event.method, error.message)
         self._fail(event.number, error)
 
-    def _call_quickly(self, method: Method, event: events.Call) -> bool:
-        """Does what `_begin` does, for most calls, with as little as can be."""
-        number, name, params, id_ = event
-        try:
-            given = None if params is None else _json.loads(params)
-            if method.fit is not None:
-                given = method.fit(given, "params")
-        except Exception as fault:
-            self._doesnt_fit(event, fault)
-            return False
-        try:
-            result = method.function(given) if method.takes else method.function()
-        except Exception as error:
-            self._raised(number, name, error, None)
-            return False
-        if id_ is not None and type(result) in _VALUES:
-            try:
-                self._connection.answer(number, _json.dumps(result))
-                return False
-            except (TypeError, ValueError):
-                pass  # (what is below finds it again, and says so)
-        return self._returned_plainly(method, result, event, None)
-
     def _call_plain(self, method: Method, given: Any, event: events.Call) -> bool:
         request = self._opened(event, PLAIN)
         try:
@@ -280,15 +290,21 @@ class Session:
         return False
 
     def _run_as_task(self, awaitable: Any, request: Request) -> None:
-        request.task = self.loop.create_task(self._run(awaitable, request))
-        self._tasks.add(request.task)
-        request.task.add_done_callback(self._task_ended)
+        request.task = task = self.loop.create_task(self._run(awaitable, request))
+        if not task.done():  # (it is, where a factory of the loop's began it at once)
+            self._tasks.add(task)
 
-    def _task_ended(self, task: "asyncio.Task[None]") -> None:
-        self._tasks.discard(task)
-        if not task.cancelled():
-            task.exception()  # (KeyboardInterrupt or SystemExit, which the loop has raised; so that it isn't told twice)
-        if not self._tasks:
+    def _end_task(self, task: "asyncio.Task[None]") -> None:
+        """Cancels a task. One that hasn't begun is over without that its own code says so."""
+        task.add_done_callback(self._task_ended)
+        task.cancel()
+
+    def _task_ended(self, task: Optional["asyncio.Task[None]"]) -> None:
+        if task is not None:
+            self._tasks.discard(task)
+            if task.done() and not task.cancelled():
+                task.exception()  # (KeyboardInterrupt or SystemExit, which the loop has raised; it isn't to be told twice)
+        if self._change is not None and not self._tasks:
             self._changed()
 
     async def _run(self, awaitable: Any, request: Request) -> None:
@@ -300,8 +316,14 @@ class Session:
             raise
         except Exception as error:
             self._raised(request.number, request.method, error, request)
+        except BaseException:
+            if request.task is not None:
+                request.task.add_done_callback(self._task_ended)
+            raise
         else:
             self._returned(request, result)
+        finally:
+            self._task_ended(request.task)
 
     def _returned(self, request: Request, result: Any) -> None:
         if result is LATER:
@@ -420,7 +442,7 @@ class Session:
             reply = self._replies.pop(key, None)
             if reply is not None:
                 self._refuse(reply, Closed(f"{request.method}: the request is over"))
-        if not self._open:
+        if self._change is not None and not self._open:
             self._changed()
         self._flush_soon()
 
@@ -438,7 +460,7 @@ class Session:
         replies = [it for it in (self._replies.pop(key, None) for key in request.keys) if it is not None]
         self._closed(request)
         if request.task is not None:
-            request.task.cancel()
+            self._end_task(request.task)
         for reply in replies:
             self._refuse(reply, Closed(f"{request.method}: the request is cancelled"))
 
@@ -482,12 +504,31 @@ class Session:
         texts = [(method, optional_text(params)) for method, params in calls]
         if threading.get_ident() != self._thread:
             return self._call_and_wait(texts, is_batch, request, return_exceptions)
+        self._check_that_it_can_wait(request)
+        return self._call_now(texts, is_batch, request, return_exceptions)
+
+    def call_one(self, method: str, params: Any, request: Optional[Request] = None) -> Any:
+        """The same for one call, which is what most are."""
+        if threading.get_ident() != self._thread:
+            return self.call([(method, params)], False, request)
+        text = None if params is None else text_of(params)
+        self._check_that_it_can_wait(request)
+        try:
+            key = self._connection.call(0 if request is None else request.number, method, text)
+        except NotOpen:
+            raise Closed("the request is over") from None
+        except InputOver:
+            raise Unanswered("the input is over") from None
+        self._flush_soon()
+        return self._reply_to(key, request)
+
+    @staticmethod
+    def _check_that_it_can_wait(request: Optional[Request]) -> None:
         if request is not None and request.kind is PLAIN and not request.is_later:
             raise RuntimeError(
                 f"{request.method}: request.call would block the loop here: "
                 "make the method `async def` and await it, or register it with thread=True"
             )
-        return self._call_now(texts, is_batch, request, return_exceptions)
 
     def _call_now(
         self,
@@ -506,15 +547,17 @@ class Session:
             raise Closed("the request is over") from None
         except InputOver:
             raise Unanswered("the input is over") from None
-        replies = []
-        for key in range(first, first + len(texts)):
-            reply = Reply(self, key)
-            self._replies[key] = reply
-            replies.append(reply)
-            if request is not None:
-                request.keys.append(key)
         self._flush_soon()
-        return asyncio.gather(*replies, return_exceptions=is_gathered) if is_batch else replies[0]
+        if not is_batch:
+            return self._reply_to(first, request)
+        replies = [self._reply_to(key, request) for key in range(first, first + len(texts))]
+        return asyncio.gather(*replies, return_exceptions=is_gathered)
+
+    def _reply_to(self, key: int, request: Optional[Request]) -> Reply:
+        self._replies[key] = reply = Reply(self, key)
+        if request is not None:
+            request.keys.append(key)
+        return reply
 
     def _call_and_wait(
         self,
@@ -558,9 +601,6 @@ class Session:
 
     # What goes out
 
-    def take(self, most: int) -> bytes:
-        return b"" if self._is_closed else self._connection.take(most)
-
     @property
     def pending(self) -> int:
         return 0 if self._is_closed else self._connection.pending
@@ -568,15 +608,17 @@ class Session:
     def _flush_soon(self) -> None:
         if not self._has_flush:
             self._has_flush = True
-            self.loop.call_soon(self._flush)
+            self._soon(self._flush)
 
     def _flush(self) -> None:
         self._has_flush = False
         if not self._is_closed:
             self._channel.write()
+            if self._change is not None:
+                self._changed()
 
     def was_written(self) -> None:
-        """All that there was is written."""
+        """All that there was is written, later than it was said."""
         self._changed()
 
     def finish(self) -> None:
@@ -650,7 +692,7 @@ class Session:
             self._cancel(request)
         if self._tasks:
             for task in self._tasks:
-                task.cancel()
+                self._end_task(task)
             await asyncio.wait(set(self._tasks), timeout=1)
 
     async def _until_threads_end(self, end: float) -> None:
@@ -666,11 +708,12 @@ class Session:
             if self._is_closed:
                 return
             self._is_closed = True
+        self.take = lambda most: b""
         self._events.clear()
         closed = Closed("the session is over")
         self._open.clear()
         for task in self._tasks:
-            task.cancel()
+            self._end_task(task)
         replies, self._replies = list(self._replies.values()), {}
         for reply in replies:
             self._refuse(reply, closed)

@@ -126,6 +126,10 @@ class Traced:
 
     # What is told
 
+    def fed(self, data: bytes) -> List[Event]:
+        self._connection.feed(data)
+        return self.events()
+
     def events(self) -> List[Event]:
         with self._lock:
             told = self._connection.events()
@@ -197,6 +201,9 @@ class Traced:
             id_, _ = self._closed(number)
             if id_ is not None and result is not None:
                 self._line("send-response", _result(id_, result))
+
+    def _answerer(self) -> Callable[[int, bytes], None]:
+        return self.answer
 
     def fail(self, number: int, code: int, message: Json = "", data: Optional[Json] = None) -> None:
         with self._lock:

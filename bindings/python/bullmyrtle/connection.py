@@ -4,7 +4,7 @@ from __future__ import annotations
 import ctypes
 import threading
 from ctypes import byref, c_size_t, c_uint32, c_uint64, c_void_p, string_at
-from typing import Any, Iterable, List, Literal, NamedTuple, Optional, Tuple, Union
+from typing import Any, Callable, Iterable, List, Literal, NamedTuple, Optional, Tuple, Union
 
 from . import _library, events
 from .errors import REFUSALS, SMALL, BadSettings, Closed, NotOpen, NotWaiting
@@ -71,7 +71,6 @@ class Connection:
         self._at: Any = None
         self._lock = threading.Lock()
         self._library = library = _library.library()
-        self._bm_answer = library.bm_answer
         if framing not in _library.FRAMINGS or order not in _library.ORDERS:
             raise BadSettings(f"there are no such settings: framing {framing!r}, order {order!r}")
         # (0 stands for the greatest in the library, and isn't a limit here)
@@ -90,12 +89,16 @@ class Connection:
         self._handle = _library.Handle(at.value)
         self._at = byref(self._handle)
         self._framing = framing
-        self._key = c_uint64()
-        self._key_at = byref(self._key)
+        # What the calls below pass, once for all; whoever has the lock may change it.
+        self._number, self._length, self._more, self._key = c_uint64(), c_size_t(), c_size_t(), c_uint64()
         self._used, self._count = c_size_t(), c_uint32()
-        self._used_at, self._count_at = byref(self._used), byref(self._count)
-        self._room = ctypes.create_string_buffer(_ROOM)
+        self._key_at, self._used_at, self._count_at = byref(self._key), byref(self._used), byref(self._count)
+        self._make_room(_ROOM)
         self._out = ctypes.create_string_buffer(_ROOM)
+        self._out_view, self._out_size = memoryview(self._out), c_size_t(_ROOM)
+        names = ("bm_feed", "bm_next_all", "bm_call", "bm_answer", "bm_take")
+        quick = [_library.undeclared(library, it) for it in names]
+        self._bm_feed, self._bm_next_all, self._bm_call, self._bm_answer, self._bm_take = quick
 
     # Its end
 
@@ -133,7 +136,10 @@ class Connection:
         if type(data) is not bytes:
             data = bytes(memoryview(data))
         with self._lock:
-            self._check(self._library.bm_feed(self._open(), data, len(data)))
+            at, self._length.value = self._at or self._open(), len(data)
+            code = self._bm_feed(at, data, self._length)
+        if code:
+            raise REFUSALS[code]()
 
     def end(self, failed: bool = False) -> None:
         """Say that the input is over: it was closed, or a read failed. Refused: `InputOver`."""
@@ -147,27 +153,43 @@ class Connection:
         """All events that there are now. Broken input has no event, and is answered as it is gone past here."""
         told: List[Event] = []
         with self._lock:
-            while self._pack(told):
-                pass
+            self._tell(self._at or self._open(), told)
         return told
 
-    def _pack(self, told: List[Event]) -> bool:
-        """Appends what fits the room, and says whether there was any."""
-        at, room = self._open(), self._room
-        code = self._library.bm_next_all(at, room, len(room), self._used_at, self._count_at)
-        if code == SMALL:
-            self._room = ctypes.create_string_buffer(self._used.value + _ROOM)
-            return True
-        if code:
-            if told:
-                return False  # (they are told, and what is left comes with the next call)
-            self._check(code)
-        count = self._count.value
-        if count:
-            _read(string_at(room, self._used.value), count, told)
-            if len(room) > 16 * _ROOM:
-                self._room = ctypes.create_string_buffer(_ROOM)
-        return count > 0
+    def fed(self, data: bytes) -> List[Event]:
+        """`feed`, and then `events`: both at once take less time."""
+        if type(data) is not bytes:
+            data = bytes(memoryview(data))
+        told: List[Event] = []
+        with self._lock:
+            at, self._length.value = self._at or self._open(), len(data)
+            code = self._bm_feed(at, data, self._length)
+            if code:
+                raise REFUSALS[code]()
+            self._tell(at, told)
+        return told
+
+    def _make_room(self, size: int) -> None:
+        self._room = ctypes.create_string_buffer(size)
+        self._room_view, self._room_size = memoryview(self._room), c_size_t(size)
+
+    def _tell(self, at: Any, told: List[Event]) -> None:
+        """Appends all events that there are."""
+        while True:
+            code = self._bm_next_all(at, self._room, self._room_size, self._used_at, self._count_at)
+            if code == SMALL:
+                self._make_room(self._used.value + _ROOM)
+                continue
+            if code:
+                if told:
+                    return  # (they are told, and what is left comes with the next call)
+                raise REFUSALS[code]()
+            count = self._count.value
+            if not count:
+                return
+            _read(self._room_view[: self._used.value].tobytes(), count, told)
+            if len(self._room) > 16 * _ROOM:
+                self._make_room(_ROOM)
 
     def next_event(self) -> Optional[Event]:
         """The next event, or None where there is none now."""
@@ -179,9 +201,7 @@ class Connection:
                 code = self._library.bm_next(at, byref(event), room, len(room))
                 if code != SMALL:
                     break
-                self._room = ctypes.create_string_buffer(
-                    event.name_len + event.text_len + event.id_len + _ROOM
-                )
+                self._make_room(event.name_len + event.text_len + event.id_len + _ROOM)
             self._check(code)
             if not event.kind:
                 return None
@@ -197,13 +217,14 @@ class Connection:
 
         Refused: `NotOpen`, `NotText`, `NotJson`, `InputOver`, `Full`.
         """
-        name, given = _text(method), _json(params)
+        name = method.encode("utf-8", "surrogatepass") if type(method) is str else _text(method)
+        given = params if type(params) is bytes and params else _json(params)
         if not 0 <= number < _MOST:
             raise NotOpen()
         with self._lock:
-            code = self._library.bm_call(
-                self._open(), number, name, len(name), given, len(given), self._key_at
-            )
+            at, self._number.value = self._at or self._open(), number
+            self._length.value, self._more.value = len(name), len(given)
+            code = self._bm_call(at, self._number, name, self._length, given, self._more, self._key_at)
             if code:
                 raise REFUSALS[code]()
             return self._key.value
@@ -247,9 +268,28 @@ class Connection:
         if not 0 <= number < _MOST:
             raise NotOpen()
         with self._lock:
-            code = self._bm_answer(self._at or self._open(), number, given, len(given))
+            at, self._number.value, self._length.value = self._at or self._open(), number, len(given)
+            code = self._bm_answer(at, self._number, given, self._length)
         if code:
             raise REFUSALS[code]()
+
+    def _answerer(self) -> Callable[[int, bytes], None]:
+        """`answer`, made for a session, which answers and closes in one thread: it takes less time.
+
+        It needs no lock, since the interpreter makes one call of the library at a time. In another thread, `close`
+        might come between the look at the connection and the call: so it isn't for users.
+        """
+        if not _library.is_one_call_at_a_time(self._library):
+            return self.answer
+        number, length, call = c_uint64(), c_size_t(), self._bm_answer
+
+        def answer(which: int, result: bytes) -> None:
+            number.value, length.value = which, len(result)
+            code = call(self._at or self._open(), number, result, length)
+            if code:
+                raise REFUSALS[code]()
+
+        return answer
 
     def fail(self, number: int, code: int, message: Json = "", data: Optional[Json] = None) -> None:
         """Answer a request with an error, or close a notification. Refused: `NotOpen`, `NotText`, `NotJson`."""
@@ -277,21 +317,30 @@ class Connection:
             return int(self._library.bm_pending(self._open()))
 
     def take(self, most: Optional[int] = None) -> bytes:
-        """Take the first bytes that are to be written, at most so many.
+        """Take the first bytes that are to be written, at most so many. Fewer than 65,536 and fewer than `most` are all.
 
         In "contents" it takes one whole text, or nothing where that is longer.
         """
         with self._lock:
-            at, library = self._open(), self._library
-            size = library.bm_pending(at)
-            if most is not None and size > most:
-                if self._framing == "contents":
-                    return b""
-                size = max(most, 0)
-            if not size:
-                return b""
-            room = self._out if size <= _ROOM else ctypes.create_string_buffer(size)
-            return string_at(room, library.bm_take(at, room, size))
+            at = self._at or self._open()
+            if self._framing == "contents":
+                size = self._library.bm_pending(at)
+                return self._taken(at, size) if most is None or size <= most else b""
+            if most is None or most >= _ROOM:
+                count = self._bm_take(at, self._out, self._out_size)
+                data = self._out_view[:count].tobytes()
+                if count < _ROOM:
+                    return data  # (which is all that there was)
+                size = self._library.bm_pending(at)
+                return data + self._taken(at, size if most is None else min(size, most - _ROOM))
+            return self._taken(at, max(most, 0))
+
+    def _taken(self, at: Any, size: int) -> bytes:
+        self._length.value = size
+        if size <= _ROOM:
+            return self._out_view[: self._bm_take(at, self._out, self._length)].tobytes()
+        room = ctypes.create_string_buffer(size)
+        return string_at(room, self._bm_take(at, room, self._length))
 
     # What has happened
 
@@ -309,28 +358,31 @@ class Connection:
         return Counts(*(getattr(counts, it) for it in Counts._fields))
 
 
+_unpack, _SIZE = _library.EVENT.unpack_from, _library.EVENT.size
+_CALL, _REPLIED = _library.CALL, _library.REPLIED
+# (a named tuple's own way to be made takes twice as long)
+_make = tuple.__new__
+
+
 def _read(data: bytes, count: int, told: List[Event]) -> None:
     """Appends the events that lie in some bytes, as bm_next_all packs them."""
-    unpack, size, append = _library.EVENT.unpack_from, _library.EVENT.size, told.append
-    # (a named tuple's own way to be made takes twice as long)
-    make, call, is_call = tuple.__new__, events.Call, _library.CALL
     at = 0
     for _ in range(count):
-        kind, flags, number, key, code, name_length, text_length, id_length = unpack(data, at)
-        at += size
+        kind, flags, number, key, code, name_length, text_length, id_length = _unpack(data, at)
+        at += _SIZE
         text = at + name_length + 1
         id_ = text + text_length + 1
         name = data[at : text - 1].decode()
         given = data[text : id_ - 1] if text_length else None
         at = id_ + id_length
-        if kind == is_call:
-            append(make(call, (number, name, given, data[id_:at] if flags else None)))
-        elif kind == _library.REPLIED:
-            append(events.Failed(key, code, name, given) if flags else events.Replied(key, given or b""))
+        if kind == _CALL:
+            told.append(_make(events.Call, (number, name, given, data[id_:at] if flags else None)))
+        elif kind == _REPLIED:
+            told.append(events.Failed(key, code, name, given) if flags else events.Replied(key, given or b""))
         elif kind == _library.CANCELLED:
-            append(events.Cancelled(number))
+            told.append(events.Cancelled(number))
         elif kind == _library.UNANSWERED:
-            append(events.Unanswered(key))
+            told.append(events.Unanswered(key))
         else:
-            append(events.Over(_library.HOWS[flags]))
+            told.append(events.Over(_library.HOWS[flags]))
         at = at + 8 & ~7  # (there is a zero byte behind the id, and what follows lies at a multiple of 8)

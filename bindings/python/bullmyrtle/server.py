@@ -7,7 +7,7 @@ import os
 import threading
 from typing import Optional
 
-from . import _stdio
+from . import _loop, _stdio
 from ._channels import Channel, Descriptors, Streams
 from ._peer import Peer
 
@@ -43,7 +43,7 @@ class Server(Peer):
             _running.release()
 
     def _run(self, source: Optional[int], sink: Optional[int]) -> int:
-        loop = asyncio.new_event_loop()
+        loop = _loop.new()
         try:
             asyncio.set_event_loop(loop)
             return loop.run_until_complete(self._serve_descriptors(source, sink))

@@ -388,6 +388,50 @@ class Threads(Case):
             )
 
 
+    def test_each_call_may_meet_a_close(self):
+        calls = {
+            "feed": (b"x",),
+            "end": (),
+            "events": (),
+            "fed": (b"x",),
+            "next_event": (),
+            "call": (0, "m"),
+            "call_batch": (0, [("m", None)]),
+            "notify": ("m",),
+            "withdraw": (1,),
+            "answer": (1, b"1"),
+            "fail": (1, 1),
+            "cancel": (1,),
+            "take": (),
+            "counts": (),
+        }
+        public = {it for it in dir(Connection) if it[0] != "_"}
+        self.assertEqual(public, {*calls, "close", "pending", "is_done"})
+        for name in public - {"close"}:
+            with self.subTest(name), self.assertRaises(bullmyrtle.Closed):
+                connection = Connection()
+                connection._lock = ClosesFirst(connection)
+                found = getattr(connection, name)
+                found(*calls[name])
+
+
+class ClosesFirst:
+    """A connection's lock, which another thread has first, to close the connection."""
+
+    def __init__(self, connection):
+        self.lock = connection._lock
+        self.closing = threading.Thread(target=connection.close)
+
+    def __enter__(self):
+        if self.closing.ident is None:
+            self.closing.start()
+            self.closing.join()
+        self.lock.acquire()
+
+    def __exit__(self, *_):
+        self.lock.release()
+
+
 WIDTHS = {"uint32_t": 4, "int32_t": 4, "uint64_t": 8, "int64_t": 8, "size_t": 8, "bool": 1}
 
 

@@ -1,4 +1,5 @@
 """The same values and texts, whichever JSON module does the work."""
+import dataclasses
 import datetime
 import decimal
 import enum
@@ -6,6 +7,7 @@ import json
 import math
 import random
 import struct
+import typing
 import unittest
 import uuid
 
@@ -27,6 +29,33 @@ class Word(str, enum.Enum):
 
 class Text(str):
     pass
+
+
+@dataclasses.dataclass
+class Fields:
+    of: typing.Any
+
+
+@dataclasses.dataclass
+class TextWithFields(str):
+    of: int
+
+
+@dataclasses.dataclass
+class ObjectWithFields(dict):
+    of: int
+
+
+class Odd(enum.Enum):
+    NAN = math.nan
+    HALF = "\ud800"
+    BIG = 1 << 70
+    LIST = (1, [2.5])
+
+
+class Pair(typing.NamedTuple):
+    first: int
+    second: typing.Any
 
 
 FLOATS = [
@@ -68,6 +97,12 @@ VALUES = [
     (1, (2,)),
     [Number.ONE, Word.A, Text("x"), uuid.UUID(int=5)],
     {1: 2, None: 3, 1.5: 4, True: 5, Text("k"): 6},
+    [1 << 64, {"big": -(1 << 70)}],
+    Fields(Fields([1 << 64])),
+    TextWithFields(5),
+    ObjectWithFields(5),
+    [Odd.BIG, Odd.LIST],
+    Pair(1, None),
 ]
 REFUSED = [
     math.nan,
@@ -75,6 +110,12 @@ REFUSED = [
     {"a": -math.inf},
     "\ud800",
     {"\udfff": 1},
+    ["a\udc00b", None],
+    Fields(math.nan),
+    Fields("\ud800"),
+    Odd.NAN,
+    [Odd.HALF],
+    Pair(1, math.inf),
     b"x",
     {1, 2},
     object(),
@@ -94,6 +135,10 @@ TEXTS = [
     "1" * 400,
     '{"a":1,"a":2}',
     '"a/b"',
+    r'"a\/b\u2028\u0000"',
+    r'"\ud83d\ude00"',
+    r'["\ud800", {"\udfffa": "\udc00\ud800"}]',
+    "[12345678901234567890.5,1.7976931348623159e308,2.4703282292062327e-324]",
 ]
 
 

@@ -447,12 +447,12 @@ class Registering(Case):
             server.serve_over = serve
             async with joined(server) as client:
                 self.assertEqual(await client.call("x", [1]), [1])
-                setattr(server.session._connection, name, refuse)
+                setattr(server.session if name == "_answer_quickly" else server.session._connection, name, refuse)
                 with self.assertRaises((Unanswered, Error)):
                     await client.call("x", [2])
             self.assertEqual(statuses, [1])
 
-        for name in ("feed", "events", "answer"):
+        for name in ("fed", "_answer_quickly"):
             with self.subTest(name), logged() as log:
                 self.wait(main(name))
                 self.assertEqual(len([it for it in log.texts if "memory" in it]), 1)
@@ -588,6 +588,59 @@ class Ordering(Case):
                 self.assertEqual((found[0], found[1].code), (1, -32601))
 
         self.wait(main())
+
+
+class OneThread(Case):
+    def test_a_session_answers_quickly_and_closes_in_the_thread_of_its_loop(self):
+        """(for `Connection._answerer` takes no lock)"""
+        server, threads = Server(grace=0.05), []
+
+        @server.method("thread", thread=True)
+        def in_thread(params, request):
+            request.notify("told")
+            return params
+
+        @server.method("by hand", thread=True)
+        def by_hand(params, request):
+            request.answer(params)
+
+        @server.method("plain")
+        def plain(params):
+            return params
+
+        @server.method("async")
+        async def later(params):
+            return params
+
+        @server.method("stop", thread=True)
+        def stop():
+            server.stop(3)
+            time.sleep(0.02)
+
+        def watch():
+            connection = server.session._connection
+            answer, close = server.session._answer_quickly, connection.close
+
+            def answered(*words):
+                threads.append(("answer", threading.get_ident()))
+                answer(*words)
+
+            def closed():
+                threads.append(("close", threading.get_ident()))
+                close()
+
+            server.session._answer_quickly, connection.close = answered, closed
+
+        async def main():
+            async with joined(server, Client()) as client:
+                watch()
+                for name in ("thread", "by hand", "plain", "async"):
+                    self.assertEqual(await client.call(name, [1]), [1])
+                client.notify("stop")
+                await self.until(lambda: not server._sessions)
+
+        self.wait(main())
+        self.assertEqual(threads, [(it, threading.get_ident()) for it in ("answer", "close")])
 
 
 class Later(Case):

@@ -8,6 +8,8 @@ from helping import OVER, TOP, Case
 
 from bullmyrtle import Connection, Refused, events
 
+if sys.version_info < (3, 9):
+    raise unittest.SkipTest("the plain model needs Python 3.9 or later: no random traffic judged by it")
 sys.path.insert(0, os.path.join(TOP, "checks"))
 from support import connection_model as model  # noqa: E402
 

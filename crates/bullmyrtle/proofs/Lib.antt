@@ -1,5 +1,1 @@
 pub mod LooseSteps
-pub mod OnResults
-pub mod Packed
-pub mod Telling
-pub mod Written

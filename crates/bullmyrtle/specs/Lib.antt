@@ -1,11 +1,7 @@
-pub mod Codes
-pub mod Feeding
+pub mod Counts
 pub mod Heap
 pub mod Held
 pub mod Lending
 pub mod Made
-pub mod Outlets
-pub mod Passed
 pub mod Places
-pub mod Rooms
-pub mod Saying
+pub mod Values

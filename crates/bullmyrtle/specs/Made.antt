@@ -8,7 +8,7 @@ use Rattle.lsp_frames.specs.declared.limits.TheConstants.{LARGEST_CONTENT}
 use Rattle.connection.specs.Settings.{Chosen}
 use Rattle.connection.specs.Connections.{StandsAfter}
 use Rattle.bullmyrtle.specs.declared.settings.Settings.{Settings}
-use Rattle.bullmyrtle.specs.declared.outlet.Outlet.{Outlet}
+use Rattle.host_calls.specs.declared.outlet.Outlet.{Outlet}
 use Rattle.bullmyrtle.specs.Held.{Held}
 
 abbrev pub framing_of : ℕ → Option Framing

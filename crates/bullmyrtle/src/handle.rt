@@ -6,7 +6,7 @@ ghost use Rattle.bullmyrtle.specs.Heap.{frees};
 ghost use Rattle.bullmyrtle.specs.Held.{held_row};
 
 use crate::loose::Loose;
-use crate::outlet::Outlet;
+use host_calls::Outlet;
 use std::alloc::Global;
 use std::marker::Model;
 

@@ -2,39 +2,35 @@
 //! about them.
 #![tactic(auto)]
 
-ghost use Rattle.std.specs.Prelude.{◌≡◌, ◌++◌, None, length, drop, IsTrue};
+ghost use Rattle.std.specs.Prelude.{◌≡◌, ◌++◌, ◌↔◌, List, None, length, drop, IsTrue};
 ghost use Rattle.std.specs.Borrow.{sem};
 ghost use Rattle.std.specs.Ptr.{room_at};
 ghost use base.Fml.{fex};
+ghost use Rattle.connection_history.specs.declared.event.Event.{Event};
+ghost use Rattle.connection_history.specs.History.{History};
+ghost use Rattle.connection.specs.Connections.{IsDone, StandsAfter};
+ghost use Rattle.connection.specs.Reports.{report_of};
+ghost use Rattle.bullmyrtle.specs.Counts.{as_c};
 ghost use Rattle.outbox.specs.Output.{given_of, next_of, after_take};
 ghost use Rattle.bullmyrtle.specs.Places.{held_at};
 ghost use Rattle.bullmyrtle.specs.contracts.handle.Handle.{the_row as handle_row};
 ghost use Rattle.bullmyrtle.specs.Made.{IsMade, Given, IsGivenBy};
-ghost use Rattle.bullmyrtle.specs.Codes.{Said, code_of_said, code_of_got, value_of};
-ghost use Rattle.bullmyrtle.specs.Feeding.{HasFed, taken};
-ghost use Rattle.bullmyrtle.specs.Saying.{HasEnded, HasCalled, HasCalledAll, HasNotified, HasWithdrawn, HasAnswered, HasFailed, HasCancelled};
-ghost use Rattle.bullmyrtle.specs.Outlets.{Asked, AskedAll};
-ghost use Rattle.bullmyrtle.specs.declared.outlet.Got.{Got};
+ghost use Rattle.bullmyrtle.specs.Values.{value_of};
+ghost use Rattle.host_calls.specs.Codes.{Said, code_of_said, code_of_got};
+ghost use Rattle.host_calls.specs.Feeding.{HasFed, taken};
+ghost use Rattle.host_calls.specs.Saying.{HasEnded, HasCalled, HasCalledAll, HasNotified, HasWithdrawn, HasAnswered, HasFailed, HasCancelled};
+ghost use Rattle.host_calls.specs.Outlets.{Asked, AskedAll};
+ghost use Rattle.host_calls.specs.declared.asking.Got.{Got};
 
-mod code;
-mod event;
-mod feeding;
 mod handle;
-mod head;
 mod loose;
-mod outlet;
 mod place;
-mod put;
 mod report;
-mod room;
-mod saying;
 mod settings;
-mod texts;
 
-use code::{code_of, code_of_got};
+use event_rooms::EventHead;
 use handle::Handle;
-use head::EventHead;
-use outlet::Outlet;
+use host_calls::{Outlet, code_of, code_of_got};
 use place::Place;
 use report::Report;
 use settings::Settings;
@@ -151,7 +147,7 @@ pub extern "C" fn bm_call_batch(
     first: &mut u64,
 ) -> i32
     ensures { (said : Said) × (result ≡ code_of_said said) ×
-        HasCalledAll (value_of handle.old) (value_of handle.new) number first.old first.new said }
+        HasCalledAll (value_of handle.old) (value_of handle.new) number bytes.now lengths.now first.old first.new said }
 {
     code_of(handle.as_mut().call_batch(number, bytes, lengths, first))
 }
@@ -230,7 +226,8 @@ pub extern "C" fn bm_take(handle: &mut Handle, room: &mut [u8]) -> usize
 /// Whether all is done.
 #[unsafe(no_mangle)]
 pub extern "C" fn bm_is_done(handle: &mut Handle) -> bool
-    ensures told { IsTrue result → (value_of handle.old).next ≡ None }
+    ensures done { (history : History) (told : List Event) → StandsAfter (value_of handle.old).connection history told →
+        (IsTrue result ↔ ((value_of handle.old).next ≡ None) × IsDone (value_of handle.old).connection history told) }
     ensures same { value_of handle.new ≡ value_of handle.old }
 {
     handle.as_mut().is_done()
@@ -239,7 +236,9 @@ pub extern "C" fn bm_is_done(handle: &mut Handle) -> bool
 /// Writes what has happened so far.
 #[unsafe(no_mangle)]
 pub extern "C" fn bm_counts(handle: &mut Handle, report: &mut Report)
-    ensures { value_of handle.new ≡ value_of handle.old }
+    ensures counts { (history : History) (told : List Event) → StandsAfter (value_of handle.old).connection history told →
+        report.new ≡ as_c (report_of (value_of handle.old).connection.settings.order history) }
+    ensures same { value_of handle.new ≡ value_of handle.old }
 {
     *report = Report::of(&handle.as_mut().connection);
 }

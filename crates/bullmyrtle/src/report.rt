@@ -1,3 +1,10 @@
+ghost use Rattle.std.specs.Prelude.{◌≡◌, List};
+ghost use Rattle.connection_history.specs.declared.event.Event.{Event};
+ghost use Rattle.connection_history.specs.History.{History};
+ghost use Rattle.connection.specs.Connections.{StandsAfter};
+ghost use Rattle.connection.specs.Reports.{report_of};
+ghost use Rattle.bullmyrtle.specs.Counts.{as_c};
+
 use connection::Connection;
 
 /// What has happened so far, as C has it.
@@ -16,7 +23,10 @@ pub struct Report {
 }
 
 impl Report {
-    pub(crate) fn of(connection: &Connection) -> Report {
+    pub(crate) fn of(connection: &Connection) -> Report
+        ensures { (history : History) (told : List Event) → StandsAfter connection.now history told →
+            result ≡ as_c (report_of connection.now.settings.order history) }
+    {
         let report = connection.report();
         Report {
             calls: report.calls,

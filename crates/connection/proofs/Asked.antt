@@ -1,5 +1,5 @@
 -- A connection that goes on.
-use Rattle.std.proofs.Common.{◌≡◌, ◌≤◌, ◌<◌, ℕ, ◌+◌, ◌-◌, Bool, true, false, cond, List, [], ◌∷◌, ◌++◌, map, take, length, Some, None, refl, ap, sym, ◌∙◌, subst, append-nil, length-append, arith}
+use Rattle.std.proofs.Common.{◌≡◌, ◌≤◌, ◌<◌, ℕ, ◌+◌, ◌-◌, Bool, false, cond, List, [], ◌∷◌, ◌++◌, map, take, length, Some, None, refl, ap, sym, ◌∙◌, subst, append-nil, length-append, arith}
 use Rattle.std.proofs.lemmas.List.{map-append, take_more}
 use Rattle.std.specs.List.{slice_get}
 use Rattle.std.proofs.lemmas.Option.{slice_get_within, get_or_from_slice_get}
@@ -89,6 +89,7 @@ frame_moves c frame going next few =
       fewer = omega arith;
       pieces = same_pieces c.stream (c.stream.taken + 1);
       settings = refl;
+      taken = refl;
     }
 
 pub unit_moves : (c : Connection) (u : Unit) → c.desk.state.is_over ≡ false → IsNext c u
@@ -133,6 +134,7 @@ end_moves c close going step = record {
   fewer = subst (λ b. (length (contents c.stream) - c.stream.taken) + 0 < (length (contents c.stream) - c.stream.taken) + cond b 0 1) (sym going) (omega arith);
   pieces = same_pieces c.stream c.stream.taken;
   settings = refl;
+  taken = refl;
 }
 
 pub full_moves : (c : Connection) (u : Unit) → c.desk.state.is_over ≡ false → IsNext c u
@@ -163,6 +165,7 @@ gone_none c = record {
   gone = λ history told stands. record { history = history; steps = stays; stands = stands };
   pieces = same_pieces c.stream c.stream.taken;
   settings = refl;
+  taken = refl;
 }
 
 same_step : (c : Connection) (taken : ℕ) (desk : Desk) (told : List Event) (past now : History)
@@ -209,6 +212,7 @@ gone_more before now next gone none moved = record {
     ended = moved.pieces.ended ∙ gone.pieces.ended;
   };
   settings = moved.settings ∙ gone.settings;
+  taken = moved.taken ∙ gone.taken;
 }
 
 -- the same where nothing was left to tell

@@ -13,7 +13,6 @@ use Rattle.connection_history.specs.declared.refused.Refused.TheVariants.{NotOpe
 use Rattle.connection_history.specs.Stream.{entries_along, calls_in}
 use Rattle.connection_history.specs.History.{Happening, withdrew, answered, History, units_of, stream, is_open, key_count, caller_of, is_waiting, is_withdrawn, numbers_to}
 use Rattle.connection_history.specs.Refusals.{first_of, refusal, IsLawful, after, is_withdrawable, withdrawable, cancel_of}
-use Rattle.connection_history.specs.Events.{call_count}
 use Rattle.connection_history.proofs.Numbers.{numbers_to-rise}
 use Rattle.connection_history.proofs.OpenCalls.{open-withdrew}
 use Rattle.connection_history.proofs.OurCalls.{key_count-other, caller_of-other}
@@ -25,13 +24,12 @@ use Rattle.open_calls.specs.declared.their_call.TheirCall.{TheirCall}
 use Rattle.open_calls.specs.Numbered.{at, changed_at}
 use Rattle.open_calls.specs.Own.{withdrawn, without_caller}
 use Rattle.outbox.proofs.Left.{full_more}
-use Rattle.content_streams.specs.Streams.{Stream}
-use Rattle.connection_states.specs.States.{State, own_call, own_of, theirs_of, state_of}
+use Rattle.connection_states.specs.States.{State, own_call, own_of, theirs_of}
 use Rattle.connection_states.proofs.OwnFound.{withdrawable_found}
 use Rattle.connection_states.proofs.OwnPicked.{picked, picked-agree, filter-picked}
 use Rattle.connection_states.proofs.TheirFound.{is_among, seen-at, found}
 use Rattle.connection_states.proofs.TheirSites.{numbers_in, sites_of, theirs-seen, AreSites, all-are}
-use Rattle.connection_desk.specs.Desks.{Desk, with_texts, answer_refused, wanted_keys, after_saying, after_withdrawal, after_answer, after_cancel}
+use Rattle.connection_desk.specs.Desks.{Desk, answer_refused, wanted_keys, after_saying, after_withdrawal, after_answer, after_cancel}
 use Rattle.connection.specs.Settings.{Chosen}
 use Rattle.connection.specs.Connections.{Connection, IsDeskOf, StandsAfter}
 use Rattle.connection.proofs.Moves.{desk_withdrew, desk_answered}
@@ -183,6 +181,7 @@ with_waiting waiting d = record {
   state = record { own = record { made = d.state.own.made; waiting = waiting }; theirs = d.state.theirs; owed = d.state.owed; is_over = d.state.is_over };
   untold = d.untold;
   out = d.out;
+  tally = d.tally;
 }
 
 abbrev pub with_written : List (List ℕ) → Desk → Desk
@@ -192,6 +191,7 @@ with_written written d = record {
   state = d.state;
   untold = d.untold;
   out = record { framing = d.out.framing; written = written; taken = d.out.taken };
+  tally = d.tally;
 }
 
 abbrev pub after_withdrawals : List ℕ → Desk → Desk

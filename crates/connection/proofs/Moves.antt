@@ -1,5 +1,5 @@
 -- What each happening makes of a desk is what the history makes of it.
-use Rattle.std.proofs.Common.{rules, ◌≡◌, ℕ, ◌+◌, Bool, true, false, not, if◌then◌else◌, List, [], ◌∷◌, ◌++◌, map, length, Option, Some, None, refl, ap, sym, ◌∙◌}
+use Rattle.std.proofs.Common.{rules, ◌≡◌, ℕ, ◌+◌, Bool, List, [], ◌∷◌, ◌++◌, map, length, refl, ap, sym, ◌∙◌}
 use Rattle.std.proofs.lemmas.List.{append_assoc, append-nil, map-append}
 use Rattle.connection_messages.specs.Texts.{call_text, calls_text, notice_text, withdrawal_text}
 use Rattle.connection_messages.specs.declared.answer.Answer.{Answer}
@@ -9,17 +9,19 @@ use Rattle.connection_history.specs.declared.close.Close.{Close}
 use Rattle.connection_history.specs.declared.event.Event.{Event}
 use Rattle.connection_history.specs.declared.order.Order.{Order}
 use Rattle.connection_history.specs.Stream.{entries_in}
-use Rattle.connection_history.specs.History.{Happening, key_count, came, called, called_all, noticed, withdrew, answered, ended, History, units_of, is_over}
+use Rattle.connection_history.specs.History.{Happening, key_count, came, called, called_all, noticed, withdrew, answered, ended, History, is_over}
 use Rattle.connection_history.specs.Refusals.{IsLawful}
-use Rattle.connection_history.specs.Events.{events_of, events_at}
-use Rattle.connection_history.specs.Items.{Item, items_of, items_at, said_at, answers_at, text_of}
+use Rattle.connection_history.specs.Events.{events_at}
+use Rattle.connection_history.specs.Items.{items_of, items_at, said_at, answers_at, text_of}
 use Rattle.open_calls.specs.Numbered.{at}
 use Rattle.open_calls.specs.Own.{OwnState}
 use Rattle.open_calls.specs.Theirs.{TheirState}
 use Rattle.open_calls.specs.Owed.{OwedState}
 use Rattle.outbox.specs.Output.{Output}
-use Rattle.connection_states.specs.States.{State, state_of, own_of, theirs_of, owed_of}
-use Rattle.connection_states.specs.Steps.{after_came, after_called, after_withdrew, after_answered, after_ended, told_of_all, told_at_end, answers_of, leaving, owed_with, owed_given}
+use Rattle.connection_states.specs.States.{State, state_of, own_of}
+use Rattle.connection_states.specs.Steps.{after_came, after_called, after_withdrew, after_answered, after_ended, told_of_all, told_at_end, leaving, owed_with, owed_given}
+use Rattle.connection_states.specs.Tallies.{tally_of, tally_in, answers_let_out}
+use Rattle.connection_states.proofs.Counted.{tally-silent, tally-came, tally-answered}
 use Rattle.connection_states.proofs.OwnFollows.{own_came, own_called, own_called_all, own_withdrew, own_answered, own_ended}
 use Rattle.connection_states.proofs.OwnFound.{ended_found}
 use Rattle.connection_states.proofs.TheirAfter.{after-called, after-called_all, after-noticed, after-withdrew, after-ended, after-answered}
@@ -28,9 +30,10 @@ use Rattle.connection_states.proofs.ToldEntries.{told-came}
 use Rattle.connection_states.proofs.OwedSame.{silent-owed, silent-answers}
 use Rattle.connection_states.proofs.OwedSteps.{came-owed, came-answers}
 use Rattle.connection_states.proofs.OwedGiven.{answered-owed, answered-answers}
-use Rattle.connection_desk.specs.Desks.{Desk, with_texts, answer_texts, after_unit, after_end, after_call, after_calls, after_notice, after_withdrawal, after_answer}
+use Rattle.connection_desk.specs.Desks.{Desk, with_texts, answer_texts, capped_tally, with_counts, with_answers, after_unit, after_end, after_call, after_calls, after_notice, after_withdrawal, after_answer}
 use Rattle.connection.specs.Settings.{Chosen}
 use Rattle.connection.specs.Connections.{IsDeskOf}
+use Rattle.connection.proofs.Tallied.{answers_capped, counts_capped}
 
 -- ---- a state by its parts
 
@@ -83,26 +86,30 @@ state_came cancels order past u lawful =
 
 pub moved : (settings : Chosen) (past : History) (told : List Event) (h : Happening) (d e : Desk) → IsDeskOf settings past told d
     → e.cancels ≡ d.cancels → e.order ≡ d.order → e.state ≡ state_of settings.order (h ∷ past) → e.untold ≡ d.untold ++ events_at past h
-    → e.out.framing ≡ d.out.framing → e.out.written ≡ d.out.written ++ map text_of (items_at settings.order past h) → IsDeskOf settings (h ∷ past) told e
-moved settings past told h d e is cancels order after untold framing written = record {
+    → e.out.framing ≡ d.out.framing → e.out.written ≡ d.out.written ++ map text_of (items_at settings.order past h)
+    → e.tally ≡ capped_tally (tally_of settings.order (h ∷ past)) → IsDeskOf settings (h ∷ past) told e
+moved settings past told h d e is cancels order after untold framing written tally = record {
   cancels = cancels ∙ is.cancels;
   order = order ∙ is.order;
   state = after;
   events = ap (λ es. es ++ events_at past h) is.events ∙ append_assoc told d.untold (events_at past h) ∙ ap (λ es. told ++ es) (sym untold);
   framing = framing ∙ is.framing;
   written = written ∙ ap (λ ts. ts ++ map text_of (items_at settings.order past h)) is.written ∙ sym (map-append text_of (items_of settings.order past) (items_at settings.order past h));
+  tally = tally;
 }
 
 -- what is said by a happening that tells nothing and lets no answer out
 pub said_only : (settings : Chosen) (past : History) (told : List Event) (h : Happening) (texts : List (List ℕ)) (d e : Desk) → IsDeskOf settings past told d
     → e.cancels ≡ d.cancels → e.order ≡ d.order → e.state ≡ state_of settings.order (h ∷ past) → e.untold ≡ d.untold → events_at past h ≡ []
-    → e.out ≡ with_texts texts d.out → map text_of (said_at past h) ≡ texts → answers_at settings.order past h ≡ [] → IsDeskOf settings (h ∷ past) told e
-said_only settings past told h texts d e is cancels order after untold events out said answers =
+    → e.out ≡ with_texts texts d.out → map text_of (said_at past h) ≡ texts → answers_at settings.order past h ≡ []
+    → e.tally ≡ d.tally → tally_of settings.order (h ∷ past) ≡ tally_of settings.order past → IsDeskOf settings (h ∷ past) told e
+said_only settings past told h texts d e is cancels order after untold events out said answers tally counts =
     moved settings past told h d e is cancels order after
     (untold ∙ sym (append-nil d.untold) ∙ ap (λ es. d.untold ++ es) (sym events))
     (ap (λ (o : Output). o.framing) out)
     (ap (λ (o : Output). o.written) out
     ∙ ap (λ ts. d.out.written ++ ts) (sym said ∙ sym (ap (map text_of) (ap (λ is. said_at past h ++ is) answers ∙ append-nil (said_at past h)))))
+    (tally ∙ is.tally ∙ ap capped_tally (sym counts))
 
 pub made_is : (settings : Chosen) (past : History) (told : List Event) (d : Desk) → IsDeskOf settings past told d → d.state.own.made ≡ key_count past
 made_is settings past told d is = ap (λ (s : State). s.own.made) is.state
@@ -113,7 +120,7 @@ desk_called cancels settings past told n o d is lawful =
     said_only settings past told (called n o) (call_text (d.state.own.made + 1) o ∷ []) d (after_call n o d) is refl refl
     (ap (after_called n 1) is.state ∙ sym (state_called cancels settings.order past n o lawful)) refl refl refl
     (ap (λ k. call_text (k + 1) o ∷ []) (sym (made_is settings past told d is)))
-    (silent-answers settings.order past (called n o) refl (λ k. refl))
+    (silent-answers settings.order past (called n o) refl (λ k. refl)) refl (tally-silent settings.order past (called n o) refl (λ k. refl) refl)
 
 pub desk_called_all : (cancels : Bool) (settings : Chosen) (past : History) (told : List Event) (n : ℕ) (os : List Outgoing) (d : Desk) → IsDeskOf settings past told d
     → IsLawful cancels (called_all n os ∷ past) → IsDeskOf settings (called_all n os ∷ past) told (after_calls n os d)
@@ -121,21 +128,21 @@ desk_called_all cancels settings past told n os d is lawful =
     said_only settings past told (called_all n os) (calls_text (d.state.own.made + 1) os ∷ []) d (after_calls n os d) is refl refl
     (ap (after_called n (length os)) is.state ∙ sym (state_called_all cancels settings.order past n os lawful)) refl refl refl
     (ap (λ k. calls_text (k + 1) os ∷ []) (sym (made_is settings past told d is)))
-    (silent-answers settings.order past (called_all n os) refl (λ k. refl))
+    (silent-answers settings.order past (called_all n os) refl (λ k. refl)) refl (tally-silent settings.order past (called_all n os) refl (λ k. refl) refl)
 
 pub desk_noticed : (settings : Chosen) (past : History) (told : List Event) (o : Outgoing) (d : Desk) → IsDeskOf settings past told d
     → IsDeskOf settings (noticed o ∷ past) told (after_notice o d)
 desk_noticed settings past told o d is =
     said_only settings past told (noticed o) (notice_text o ∷ []) d (after_notice o d) is refl refl
     (is.state ∙ sym (state_noticed settings.order past o)) refl refl refl refl
-    (silent-answers settings.order past (noticed o) refl (λ k. refl))
+    (silent-answers settings.order past (noticed o) refl (λ k. refl)) refl (tally-silent settings.order past (noticed o) refl (λ k. refl) refl)
 
 pub desk_withdrew : (cancels : Bool) (settings : Chosen) (past : History) (told : List Event) (k : ℕ) (d : Desk) → IsDeskOf settings past told d
     → IsLawful cancels (withdrew k ∷ past) → IsDeskOf settings (withdrew k ∷ past) told (after_withdrawal k d)
 desk_withdrew cancels settings past told k d is lawful =
     said_only settings past told (withdrew k) (withdrawal_text k ∷ []) d (after_withdrawal k d) is refl refl
     (ap (after_withdrew k) is.state ∙ sym (state_withdrew cancels settings.order past k lawful)) refl refl refl refl
-    (silent-answers settings.order past (withdrew k) refl (λ k. refl))
+    (silent-answers settings.order past (withdrew k) refl (λ k. refl)) refl (tally-silent settings.order past (withdrew k) refl (λ k. refl) refl)
 
 -- the texts of the answers that an answered call lets out
 abbrev let_out : Order → ℕ → Answer → State → List (List ℕ)
@@ -150,6 +157,11 @@ desk_answered cancels settings past told n a d is lawful =
     (ap (λ ts. d.out.written ++ ts)
     (ap (λ order. let_out order n a d.state) is.order ∙ ap (let_out settings.order n a) is.state
     ∙ ap (map text_of) (sym (answered-answers cancels settings.order past n a lawful))))
+    (ap (λ order. with_answers (answers_let_out order n a d.state) d.tally) is.order
+    ∙ ap (λ s. with_answers (answers_let_out settings.order n a s) d.tally) is.state
+    ∙ ap (with_answers (answers_let_out settings.order n a (state_of settings.order past))) is.tally
+    ∙ answers_capped (answers_let_out settings.order n a (state_of settings.order past)) (tally_of settings.order past)
+    ∙ ap capped_tally (sym (tally-answered cancels settings.order past n a lawful)))
 
 pub desk_ended : (settings : Chosen) (past : History) (told : List Event) (close : Close) (d : Desk) → IsDeskOf settings past told d
     → IsDeskOf settings (ended close ∷ past) told (after_end close d)
@@ -158,6 +170,7 @@ desk_ended settings past told close d is =
     (ap after_ended is.state ∙ sym (state_ended settings.order past close))
     (ap (λ es. d.untold ++ es) (ap (λ (s : State). told_at_end close s.own) is.state ∙ sym (ended_found past close))) refl
     (sym (append-nil d.out.written) ∙ ap (λ is. d.out.written ++ map text_of is) (sym (silent-answers settings.order past (ended close) refl (λ k. refl))))
+    (is.tally ∙ ap capped_tally (sym (tally-silent settings.order past (ended close) refl (λ k. refl) refl)))
 
 abbrev come_out : Order → Unit → State → List (List ℕ)
 come_out order u s = answer_texts (leaving order (owed_with u s.owed))
@@ -171,3 +184,8 @@ desk_came cancels settings past told u d is lawful =
     (ap (λ ts. d.out.written ++ ts)
     (ap (λ order. come_out order u d.state) is.order ∙ ap (come_out settings.order u) is.state
     ∙ ap (map text_of) (sym (came-answers cancels settings.order past u lawful))))
+    (ap (λ order. with_counts (tally_in order u d.state) d.tally) is.order
+    ∙ ap (λ s. with_counts (tally_in settings.order u s) d.tally) is.state
+    ∙ ap (with_counts (tally_in settings.order u (state_of settings.order past))) is.tally
+    ∙ counts_capped (tally_in settings.order u (state_of settings.order past)) (tally_of settings.order past)
+    ∙ ap capped_tally (sym (tally-came cancels settings.order past u lawful)))

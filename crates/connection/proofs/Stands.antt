@@ -1,8 +1,8 @@
 -- A connection stands after what its host says.
-use Rattle.std.proofs.Common.{rules, ◌≡◌, ℕ, zero, suc, ◌+◌, ◌<◌, ◌≤◌, ◌==◌, ◌&&◌, ◌||◌, not, nat_lt, Bool, true, false, cond, List, [], ◌∷◌, ◌++◌, map, length, Option, Some, None, Result, Ok, Err, refl, sym, ap, subst, ◌∙◌, arith}
-use Rattle.std.proofs.lemmas.List.{append-nil, length-append, map-append}
+use Rattle.std.proofs.Common.{◌≡◌, ℕ, zero, suc, ◌+◌, ◌≤◌, ◌==◌, ◌&&◌, ◌||◌, not, nat_lt, Bool, true, false, cond, List, [], ◌∷◌, ◌++◌, length, Option, Some, None, Result, Ok, Err, refl, sym, ap, subst, ◌∙◌, arith}
+use Rattle.std.proofs.lemmas.List.{append-nil, length-append}
 use Rattle.std.proofs.lemmas.Grind.{flat_map-append}
-use Rattle.std.specs.Prelude.{is_some, ◌⊎◌, OnOk, IfErr, OnErr}
+use Rattle.std.specs.Prelude.{is_some, OnOk, IfErr}
 use Rattle.std.specs.Option.{option_map_or}
 use Rattle.connection_messages.specs.Texts.{call_text, calls_text, notice_text, withdrawal_text}
 use Rattle.connection_messages.specs.declared.answer.Answer.{Answer}
@@ -13,7 +13,7 @@ use Rattle.connection_history.specs.declared.refused.Refused.{Refused}
 use Rattle.connection_history.specs.declared.refused.Refused.TheVariants.{NotOpen, NotWaiting, Over, Empty, Full}
 use Rattle.connection_history.specs.Stream.{calls_in, entries_along}
 use Rattle.connection_history.specs.History.{Happening, called, called_all, noticed, withdrew, answered, History, units_of, units_at, is_open, is_over, is_waiting, is_withdrawn, key_count, numbers_to}
-use Rattle.connection_history.specs.Refusals.{IsLawful, refusal, call_refusal, first_of, most_keys}
+use Rattle.connection_history.specs.Refusals.{refusal, call_refusal, first_of, most_keys}
 use Rattle.connection_history.specs.Events.{call_count}
 use Rattle.connection_history.proofs.Tests.{different, or-left, or-right}
 use Rattle.content_streams.specs.declared.framing.Framing.{Framing}
@@ -21,13 +21,12 @@ use Rattle.content_streams.specs.declared.framing.Framing.TheVariants.{Frames, L
 use Rattle.open_calls.specs.declared.own_call.OwnCall.{OwnCall}
 use Rattle.open_calls.specs.Numbered.{at}
 use Rattle.outbox.specs.Output.{Output, framed, bytes_of_texts, full_count}
-use Rattle.connection_states.specs.States.{State, state_of, own_of, own_call, theirs_of}
-use Rattle.connection_states.proofs.OwnFound.{found_waiting}
+use Rattle.connection_states.specs.States.{state_of, own_call, theirs_of}
 use Rattle.connection_states.proofs.OwnEntries.{found as own-found}
 use Rattle.connection_states.proofs.TheirFound.{found, seen-at, is_among}
-use Rattle.connection_states.proofs.TheirSites.{sites_of, all_seen, theirs-seen, numbers_in, all-numbers}
-use Rattle.connection_desk.specs.Desks.{Desk, with_texts, has_call, call_refused, isnt_withdrawn, can_withdraw, withdraw_refused, answer_refused, after_call, after_calls, after_notice, after_withdrawal, after_answer}
-use Rattle.connection.specs.Connections.{Connection, IsDeskOf, IsStreamOf, StandsAfter, IsRefusal}
+use Rattle.connection_states.proofs.TheirSites.{sites_of, theirs-seen, all-numbers}
+use Rattle.connection_desk.specs.Desks.{Desk, with_texts, has_call, call_refused, isnt_withdrawn, withdraw_refused, answer_refused, after_call, after_calls, after_notice, after_withdrawal, after_answer}
+use Rattle.connection.specs.Connections.{Connection, IsDeskOf, StandsAfter, IsRefusal}
 use Rattle.connection.proofs.Moves.{desk_called, desk_called_all, desk_noticed, desk_withdrew, desk_answered}
 
 abbrev pub with_desk : Connection → Desk → Connection

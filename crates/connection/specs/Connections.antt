@@ -19,7 +19,8 @@ use Rattle.content_streams.specs.Streams as streams
 use Rattle.content_streams.specs.Streams.{Stream}
 use Rattle.outbox.specs.Output.{full_count, IsAllTaken}
 use Rattle.connection_states.specs.States.{state_of, theirs_of}
-use Rattle.connection_desk.specs.Desks.{Desk}
+use Rattle.connection_states.specs.Tallies.{tally_of}
+use Rattle.connection_desk.specs.Desks.{Desk, capped_tally}
 use Rattle.connection.specs.Settings.{Chosen}
 
 pub record Connection : Type 0 where
@@ -65,6 +66,7 @@ pub record IsDeskOf (settings : Chosen) (history : History) (told : List Event) 
   pub events : events_of history ≡ told ++ desk.untold
   pub framing : desk.out.framing ≡ settings.framing
   pub written : desk.out.written ≡ map text_of (items_of settings.order history)
+  pub tally : desk.tally ≡ capped_tally (tally_of settings.order history)
 
 -- The units that came are those of the first contents, as many as were taken.
 pub record IsStreamOf (settings : Chosen) (history : History) (stream : Stream) : Type 0 where

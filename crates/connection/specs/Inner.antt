@@ -24,6 +24,7 @@ pub record HasMoved (before now : Connection) : Type 0 where
   pub fewer : left now < left before
   pub pieces : SamePieces before.stream now.stream
   pub settings : now.settings ≡ before.settings
+  pub taken : now.desk.out.taken ≡ before.desk.out.taken
 
 -- it can't go on
 pub record HasStayed (before now : Connection) : Type 0 where
@@ -35,3 +36,4 @@ pub record HasGone (before now : Connection) : Type 0 where
   pub gone : (history : History) (told : List Event) → StandsAfter before history told → HasGoneOn before now history told
   pub pieces : SamePieces before.stream now.stream
   pub settings : now.settings ≡ before.settings
+  pub taken : now.desk.out.taken ≡ before.desk.out.taken

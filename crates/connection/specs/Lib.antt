@@ -1,3 +1,4 @@
 pub mod Connections
 pub mod Inner
+pub mod Reports
 pub mod Settings

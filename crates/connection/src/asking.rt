@@ -31,6 +31,7 @@ impl Connection {
             OnErr result (HasGoneOn self.old self.new history told) }
         ensures settings { self.new.settings ≡ self.old.settings }
         ensures pieces { SamePieces self.old.stream self.new.stream }
+        ensures taken { self.new.desk.out.taken ≡ self.old.desk.out.taken }
     {
         loop {
             if let Some(event) = self.next_untold() {
@@ -49,6 +50,7 @@ impl Connection {
         ensures none { result ≡ None → (self.new ≡ self.old) × (self.old.desk.untold ≡ []) }
         ensures settings { self.new.settings ≡ self.old.settings }
         ensures stream { self.new.stream ≡ self.old.stream }
+        ensures taken { self.new.desk.out.taken ≡ self.old.desk.out.taken }
     {
         self.desk.next_event()
     }

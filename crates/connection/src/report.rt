@@ -1,6 +1,10 @@
+ghost use Rattle.std.specs.Prelude.{◌≡◌, List};
+ghost use Rattle.connection_history.specs.declared.event.Event.{Event};
+ghost use Rattle.connection_history.specs.History.{History};
+
 use crate::connection::Connection;
 
-/// How often something has happened.
+/// How often something has happened. Counts stay at their greatest once they have reached it.
 #[derive(Clone, Copy, Debug, PartialEq, Eq)]
 pub struct Report {
     /// Calls that came, requests and notifications.
@@ -24,8 +28,15 @@ pub struct Report {
 }
 
 impl Connection {
+    ghost use Rattle.connection.specs.Connections.{StandsAfter};
+    ghost use Rattle.connection.specs.Reports.{report_of};
+
     /// What has happened, in numbers.
-    pub fn report(&self) -> Report {
+    pub fn report(&self) -> Report
+        ensures { (history : History) (told : List Event) →
+            StandsAfter self.now history told →
+            result ≡ report_of self.now.settings.order history }
+    {
         let tally = self.desk.tally();
         Report {
             calls: self.desk.came(),

@@ -28,6 +28,7 @@ impl Connection {
         ensures err { IfErr result (λ why. (self.new ≡ self.old) ×
             ((history : History) (told : List Event) → StandsAfter self.old history told →
             IsRefusal why (refusal self.old.settings.takes_cancels history (called number outgoing.now)))) }
+        ensures settings { self.new.settings ≡ self.old.settings }
         ensures stream { self.new.stream ≡ self.old.stream }
         ensures taken { self.new.desk.out.taken ≡ self.old.desk.out.taken }
     {
@@ -45,6 +46,7 @@ impl Connection {
         ensures err { IfErr result (λ why. (self.new ≡ self.old) ×
             ((history : History) (told : List Event) → StandsAfter self.old history told →
             IsRefusal why (refusal self.old.settings.takes_cancels history (called_all number outgoings.now)))) }
+        ensures settings { self.new.settings ≡ self.old.settings }
         ensures stream { self.new.stream ≡ self.old.stream }
         ensures taken { self.new.desk.out.taken ≡ self.old.desk.out.taken }
     {
@@ -56,6 +58,7 @@ impl Connection {
         ensures ok { (history : History) (told : List Event) →
             StandsAfter self.old history told → OnOk result (StandsAfter self.new (noticed outgoing.now ∷ history) told) }
         ensures err { OnErr result (self.new ≡ self.old) }
+        ensures settings { self.new.settings ≡ self.old.settings }
         ensures stream { self.new.stream ≡ self.old.stream }
         ensures taken { self.new.desk.out.taken ≡ self.old.desk.out.taken }
     {
@@ -71,6 +74,7 @@ impl Connection {
         ensures err { IfErr result (λ why. (self.new ≡ self.old) ×
             ((history : History) (told : List Event) → StandsAfter self.old history told →
             IsRefusal why (refusal self.old.settings.takes_cancels history (withdrew key)))) }
+        ensures settings { self.new.settings ≡ self.old.settings }
         ensures stream { self.new.stream ≡ self.old.stream }
         ensures taken { self.new.desk.out.taken ≡ self.old.desk.out.taken }
     {
@@ -87,6 +91,7 @@ impl Connection {
         ensures err { IfErr result (λ why. (self.new ≡ self.old) ×
             ((history : History) (told : List Event) → StandsAfter self.old history told →
             IsRefusal why (refusal self.old.settings.takes_cancels history (answered number answer.now)))) }
+        ensures settings { self.new.settings ≡ self.old.settings }
         ensures stream { self.new.stream ≡ self.old.stream }
         ensures taken { self.new.desk.out.taken ≡ self.old.desk.out.taken }
     {
@@ -103,6 +108,7 @@ impl Connection {
         ensures err { IfErr result (λ why. (self.new ≡ self.old) ×
             ((history : History) (told : List Event) → StandsAfter self.old history told →
             IsRefusal why (refusal self.old.settings.takes_cancels history (answered number (Standard Cancelled))))) }
+        ensures settings { self.new.settings ≡ self.old.settings }
         ensures stream { self.new.stream ≡ self.old.stream }
         ensures taken { self.new.desk.out.taken ≡ self.old.desk.out.taken }
     {

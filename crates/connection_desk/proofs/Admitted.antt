@@ -1,5 +1,5 @@
 -- What the entries of a unit do once all of its calls are open is what they do one after another.
-use Rattle.std.proofs.Common.{◌≡◌, ℕ, suc, ◌+◌, ◌<◌, ◌≤◌, ◌&&◌, nat_le, Bool, true, false, cond, if◌then◌else◌, List, [], ◌∷◌, ◌++◌, length, map, refl, sym, ap, subst, ◌∙◌, arith, add-zero, append_assoc, append-nil, length-append}
+use Rattle.std.proofs.Common.{◌≡◌, ℕ, suc, ◌+◌, ◌<◌, ◌≤◌, ◌^◌, ◌&&◌, nat_le, Bool, true, false, cond, if◌then◌else◌, List, [], ◌∷◌, ◌++◌, length, map, refl, sym, ap, subst, ◌∙◌, arith, add-zero, append_assoc, append-nil, length-append}
 use Rattle.std.proofs.lemmas.List.{map-append}
 use Rattle.std.proofs.lemmas.List.Elements.{filter-append}
 use Rattle.std.proofs.lemmas.Bool.{le-leb, leb-true, false_from_ne_true}
@@ -8,7 +8,9 @@ use Rattle.rpc_messages.specs.declared.id.Id.{Id}
 use Rattle.connection_messages.specs.declared.entry.Entry.{Entry}
 use Rattle.connection_messages.specs.declared.entry.Entry.TheVariants.{Call, Cancel, Reply, Stray, Invalid}
 use Rattle.connection_history.specs.declared.event.Event.TheVariants as event
-use Rattle.connection_history.specs.Stream.{call_in, calls_in}
+use Rattle.connection_history.specs.Counts.{is_unreadable}
+use Rattle.connection_history.specs.Stream.{call_in, calls_in, entries_in}
+use Rattle.connection_messages.specs.declared.unit.Unit.{Unit}
 use Rattle.open_calls.specs.declared.their_call.TheirCall.{TheirCall}
 use Rattle.open_calls.specs.Numbered.{up_to, Above, Below}
 use Rattle.open_calls.specs.Own.{OwnState}
@@ -17,7 +19,11 @@ use Rattle.open_calls.proofs.Numbered.{below_more, below_push, up_to_all, up_to_
 use Rattle.open_calls.proofs.Theirs.{state_of}
 use Rattle.connection_states.specs.States.{slot_count}
 use Rattle.connection_states.specs.Steps.{cancelled_if, cancelled_all, reached_numbers, theirs_after, theirs_after_all, own_after, told_of, told_of_all}
-use Rattle.connection_desk.specs.Inner.{added_call, added_calls, cancelled_to, told_at, told_along, calls_at, calls_along}
+use Rattle.connection_states.specs.Tallies.{requests_in, invalid_in, ignored_if, ignored_in}
+use Rattle.connection_desk.specs.declared.tally.Tally.{Tally}
+use Rattle.connection_desk.specs.Desks.{with_answers}
+use Rattle.connection_desk.specs.Inner.{added_call, added_calls, cancelled_to, told_at, told_along, calls_at, calls_along, counted_in}
+use Rattle.connection_desk.proofs.Counting.{IsFew, ignored_along, with_unit, all_counted}
 
 -- ---- numbers
 
@@ -201,3 +207,35 @@ told_alike place slot n own front (e ∷ es) s under came alike =
 pub told_same : (place n : ℕ) (own : OwnState) (front : List (ℕ × TheirCall)) (es : List Entry) → Below (suc n) front
     → told_along n own (front ++ added_calls place 0 n es) es ≡ told_of_all own (state_of n front) es
 told_same place n own front es under = told_alike place 0 n own front es (state_of n front) under refl refl
+
+-- ---- what is ignored
+
+ignored_alike : (place slot n : ℕ) (own : OwnState) (front : List (ℕ × TheirCall)) (es : List Entry) (s : TheirState) → Below (suc n) front → s.came ≡ n → plains front ≡ plains s.calls
+    → ignored_along n own (front ++ added_calls place slot n es) es ≡ ignored_in own s es
+ignored_alike place slot n own front [] s under came alike = refl
+ignored_alike place slot n own front (e ∷ es) s under came alike =
+    let m = n + length (call_in e) in
+    let slot2 = slot + slot_count e in
+    let calls = (theirs_after place slot e (state_of n front)).calls in
+    let added = added_calls place slot2 m es in
+    let over = above_less n m added (omega arith) (added_above place slot2 m es) in
+    let all = front ++ (added_call place slot n e ++ added) in
+    ap (λ told. ignored_if e told + ignored_along m (own_after e own) (calls_at n e all) es) (told_entry place slot n own front added e s under over came alike)
+    ∙ ap (λ fs. ignored_if e (told_of own s e) + ignored_along m (own_after e own) fs es) (calls_entry place slot n front added e under over)
+    ∙ ap (λ k. ignored_if e (told_of own s e) + k)
+    (ignored_alike place slot2 m (own_after e own) calls es (theirs_after 0 0 e s) (below_entry place slot n front e under) (count_entry n e s came) (alike_entry place slot n front e s came alike))
+
+pub ignored_same : (place n : ℕ) (own : OwnState) (front : List (ℕ × TheirCall)) (es : List Entry) → Below (suc n) front
+    → ignored_along n own (front ++ added_calls place 0 n es) es ≡ ignored_in own (state_of n front) es
+ignored_same place n own front es under = ignored_alike place 0 n own front es (state_of n front) under refl refl
+
+-- ---- what is counted
+
+-- a unit adds its counts, where its answers that went out were counted before
+pub unit_counted : (place n : ℕ) (own : OwnState) (front : List (ℕ × TheirCall)) (u : Unit) (answers : ℕ) (t : Tally) → Below (suc n) front → IsFew t → t.unreadable < 2 ^ 64
+    → counted_in u n own (front ++ added_calls place 0 n (entries_in u)) (with_answers answers t)
+    ≡ with_unit (requests_in (entries_in u)) (if is_unreadable u then 1 else 0) (invalid_in (entries_in u)) (ignored_in own (state_of n front) (entries_in u)) (with_answers answers t)
+unit_counted place n own front u answers t under few readable =
+    let es = entries_in u in
+    all_counted u n own (front ++ added_calls place 0 n es) (with_answers answers t) (record { requests = few.requests; invalid = few.invalid; ignored = few.ignored }) readable
+    ∙ ap (λ k. with_unit (requests_in es) (if is_unreadable u then 1 else 0) (invalid_in es) k (with_answers answers t)) (ignored_same place n own front es under)

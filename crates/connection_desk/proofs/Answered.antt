@@ -1,5 +1,5 @@
 -- A call is answered and closed.
-use Rattle.std.proofs.Common.{◌≡◌, ℕ, not, List, [], ◌∷◌, Some, None, sym, ap, ◌∙◌}
+use Rattle.std.proofs.Common.{◌≡◌, ℕ, ◌<◌, ◌^◌, not, List, [], ◌∷◌, length, Some, None, sym, ap, ◌∙◌}
 use Rattle.std.specs.Option.{is_some}
 use Rattle.rpc_messages.specs.declared.id.Id.{Id}
 use Rattle.connection_messages.specs.Texts.{answer_text}
@@ -12,7 +12,9 @@ use Rattle.open_calls.specs.declared.their_call.TheirCall.{TheirCall}
 use Rattle.open_calls.specs.Numbered.{at, without}
 use Rattle.open_calls.specs.Own.{without_caller}
 use Rattle.outbox.specs.Output.{Output}
-use Rattle.connection_desk.specs.Desks.{Desk, after_answer, after_given, answer_refused, answer_texts, with_texts}
+use Rattle.connection_desk.specs.Desks.{Desk, after_answer, after_given, answer_refused, answer_texts, with_answers, with_texts}
+use Rattle.connection_desk.specs.declared.tally.Tally.{Tally}
+use Rattle.connection_desk.proofs.Counting.{no_answers}
 use Rattle.connection_desk.proofs.GivenSlots.{all_stays}
 use Rattle.connection_desk.proofs.OwedLists.{Units, no_texts}
 
@@ -29,11 +31,12 @@ closed n d = record {
   };
   untold = d.untold;
   out = d.out;
+  tally = d.tally;
 }
 
 -- the same, where this is owed then
-abbrev pub closed_with : ℕ → Units → Output → Desk → Desk
-closed_with n owed out d = record {
+abbrev pub closed_with : ℕ → Units → Output → Tally → Desk → Desk
+closed_with n owed out tally d = record {
   cancels = d.cancels;
   order = d.order;
   state = record {
@@ -44,10 +47,12 @@ closed_with n owed out d = record {
   };
   untold = d.untold;
   out = out;
+  tally = tally;
 }
 
 abbrev pub answered_with : ℕ → Desk → Units → Desk
-answered_with n d owed = closed_with n (staying d.order owed) (with_texts (answer_texts (leaving d.order owed)) d.out) d
+answered_with n d owed =
+    closed_with n (staying d.order owed) (with_texts (answer_texts (leaving d.order owed)) d.out) (with_answers (length (leaving d.order owed)) d.tally) d
 
 pub not_refused : (n : ℕ) (s : State) (call : TheirCall) → at n s.theirs.calls ≡ Some call → answer_refused n s ≡ None
 not_refused n s call is = ap (λ o. first_of ((not (is_some o), NotOpen) ∷ [])) is
@@ -60,10 +65,12 @@ request_answered n d call id text a there has is =
     (sym (ap (λ o. owed_given o a d.state.owed.owed) there ∙ ap (λ i. given_to i call a d.state.owed.owed) has))
 
 pub notice_answered : (n : ℕ) (d : Desk) (call : TheirCall) (a : Answer) → at n d.state.theirs.calls ≡ Some call → call.id ≡ None
-    → leaving d.order d.state.owed.owed ≡ [] → closed n d ≡ after_answer n a d
-notice_answered n d call a there has none =
+    → leaving d.order d.state.owed.owed ≡ [] → d.tally.answers < 2 ^ 64 → closed n d ≡ after_answer n a d
+notice_answered n d call a there has none few =
     let owed = d.state.owed.owed in
-    ap (λ es. closed_with n es d.out d) (sym (all_stays d.order owed none))
-    ∙ ap (λ o. closed_with n (staying d.order owed) o d) (sym (ap (λ es. with_texts (answer_texts es) d.out) none ∙ no_texts d.out))
+    ap (λ es. closed_with n es d.out d.tally d) (sym (all_stays d.order owed none))
+    ∙ ap (λ o. closed_with n (staying d.order owed) o d.tally d) (sym (ap (λ es. with_texts (answer_texts es) d.out) none ∙ no_texts d.out))
+    ∙ ap (λ t. closed_with n (staying d.order owed) (with_texts (answer_texts (leaving d.order owed)) d.out) t d)
+    (sym (ap (λ es. with_answers (length es) d.tally) none ∙ no_answers d.tally few))
     ∙ ap (answered_with n d)
     (sym (ap (λ o. owed_given o a owed) there ∙ ap (λ i. given_to i call a owed) has))

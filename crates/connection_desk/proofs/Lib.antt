@@ -1,5 +1,6 @@
 pub mod Admitted
 pub mod Answered
+pub mod Counting
 pub mod GivenSlots
 pub mod OwedLists
 pub mod Owing

@@ -1,8 +1,9 @@
 -- Lists of owed units, and which of them are complete.
-use Rattle.std.proofs.Common.{◌≡◌, ℕ, ◌<◌, ◌==◌, not, Result, Ok, Err, OnOk, Bool, true, false, cond, List, [], ◌∷◌, ◌++◌, Option, Some, None, refl, sym, ap, subst, ◌∙◌, arith, length, take, drop, eq-eqb, append_assoc}
+use Rattle.std.proofs.Common.{◌≡◌, ℕ, suc, ◌+◌, ◌<◌, ◌==◌, not, Result, Ok, Err, OnOk, Bool, true, false, cond, List, [], ◌∷◌, ◌++◌, Option, Some, None, refl, sym, ap, subst, ◌∙◌, arith, length, take, drop, eq-eqb, append_assoc}
 use Rattle.std.proofs.lemmas.Bool.{eqb-true}
 use Rattle.std.proofs.lemmas.List.{append-nil, take_at, take-append-drop}
-use Rattle.connection_history.specs.declared.order.Order.TheVariants.{AsAnswered}
+use Rattle.connection_history.specs.declared.order.Order.{Order}
+use Rattle.connection_history.specs.declared.order.Order.TheVariants.{AsAnswered, AsCame}
 use Rattle.connection_states.specs.Steps.{is_complete, complete_front, incomplete_rest, leaving, staying}
 use Rattle.open_calls.specs.Numbered.{at, without, first_number, next_number, Above, Ascending}
 use Rattle.open_calls.specs.Owed.{OwedUnit, OwedState, IsComplete, IsCompleteUnit, text_or_none, unit_text}
@@ -192,6 +193,23 @@ first_stays place (e ∷ es) first is =
 pub none_stays : (owed : Units) → first_number owed ≡ None → incomplete_rest owed ≡ owed
 none_stays [] none = refl
 none_stays (e ∷ es) none = absurd (cc)
+
+-- ---- how many go out
+
+all_step : (b : Bool) (e : ℕ × OwedUnit) (fs gs es : Units) → length fs + length gs ≡ length es → length (cond b (e ∷ fs) fs) + length (cond (not b) (e ∷ gs) gs) ≡ suc (length es)
+all_step true e fs gs es is = omega arith
+all_step false e fs gs es is = omega arith
+
+front_step : (b : Bool) (e : ℕ × OwedUnit) (fs gs es : Units) → length fs + length gs ≡ length es → length (cond b (e ∷ fs) []) + length (cond b gs (e ∷ es)) ≡ suc (length es)
+front_step true e fs gs es is = omega arith
+front_step false e fs gs es is = omega arith
+
+-- those that go out and those that stay are all
+pub all_of : (order : Order) (owed : Units) → length (leaving order owed) + length (staying order owed) ≡ length owed
+all_of AsAnswered [] = refl
+all_of AsAnswered (e ∷ es) = all_step (is_complete e.1) e (leaving AsAnswered es) (staying AsAnswered es) es (all_of AsAnswered es)
+all_of AsCame [] = refl
+all_of AsCame (e ∷ es) = front_step (is_complete e.1) e (complete_front es) (incomplete_rest es) es (all_of AsCame es)
 
 -- ---- results
 

@@ -72,7 +72,7 @@ rest_more n key waiting next order there is = (
 -- ---- what was said
 
 abbrev pub desk_with : Desk → Output → Desk
-desk_with d out = record { cancels = d.cancels; order = d.order; state = d.state; untold = d.untold; out = out }
+desk_with d out = record { cancels = d.cancels; order = d.order; state = d.state; untold = d.untold; out = out; tally = d.tally }
 
 pub say_nothing : (d : Desk) → after_saying [] d ≡ d
 say_nothing d = ap (λ o. desk_with d o) (no_texts d.out)

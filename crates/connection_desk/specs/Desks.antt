@@ -1,5 +1,5 @@
--- A desk: what stands open, what isn't told yet, and what was written.
-use Rattle.std.specs.Prelude.{ℕ, ◌+◌, ◌≡◌, ◌⊎◌, ◌==◌, ◌&&◌, ◌||◌, not, nat_lt, List, [], ◌∷◌, ◌++◌, Bool, true, false, map, length, Option, Some, None, is_some, if◌then◌else◌}
+-- A desk: what stands open, what isn't told yet, what was written, and what is counted.
+use Rattle.std.specs.Prelude.{ℕ, ◌+◌, ◌≡◌, ◌⊎◌, ◌==◌, ◌&&◌, ◌||◌, not, nat_lt, List, [], ◌∷◌, ◌++◌, Bool, true, false, map, length, Option, Some, is_some, if◌then◌else◌}
 use Rattle.std.specs.Option.{option_map_or}
 use Rattle.rpc_messages.specs.declared.standard.Standard.TheVariants.{Cancelled}
 use Rattle.connection_messages.specs.Texts.{call_text, calls_text, notice_text, withdrawal_text}
@@ -14,6 +14,7 @@ use Rattle.connection_history.specs.declared.refused.Refused.{Refused}
 use Rattle.connection_history.specs.declared.refused.Refused.TheVariants.{Memory, NotOpen, NotWaiting, Over, Empty, Full}
 use Rattle.connection_history.specs.Refusals.{first_of, most_keys}
 use Rattle.connection_history.specs.Stream.{entries_in}
+use Rattle.connection_history.specs.Counts.{capped}
 use Rattle.connection_history.specs.Items.{text_of}
 use Rattle.open_calls.specs.declared.own_call.OwnCall.{OwnCall}
 use Rattle.open_calls.specs.Numbered.{at, changed_at}
@@ -22,6 +23,9 @@ use Rattle.open_calls.specs.Owed.{OwedUnit, given}
 use Rattle.outbox.specs.Output.{Output, IsAllTaken}
 use Rattle.connection_states.specs.States.{State}
 use Rattle.connection_states.specs.Steps.{after_came, after_called, after_withdrew, after_answered, after_ended, answers_of, leaving, staying, owed_with, owed_given, told_of_all, told_at_end}
+use Rattle.connection_states.specs.Tallies as exact
+use Rattle.connection_states.specs.Tallies.{tally_in, answers_let_out}
+use Rattle.connection_desk.specs.declared.tally.Tally.{Tally}
 use Rattle.std.specs.Prelude.{filter}
 
 pub record Desk : Type 0 where
@@ -32,6 +36,8 @@ pub record Desk : Type 0 where
   -- what the host hasn't been told yet, in its order
   pub untold : List Event
   pub out : Output
+  -- how often some things have happened
+  pub tally : Tally
 
 -- Nothing is left to do.
 pub record IsDone (d : Desk) : Type 0 where
@@ -48,6 +54,32 @@ with_texts texts o = record { framing = o.framing; written = o.written ++ texts;
 -- the texts of the answers of these units
 abbrev pub answer_texts : List (ℕ × OwedUnit) → List (List ℕ)
 answer_texts owed = map text_of (answers_of owed)
+
+-- ---- what is counted
+
+-- exact counts, each as a count of 64 bits
+abbrev pub capped_tally : exact.Tally → Tally
+capped_tally t = record {
+  requests = capped t.requests;
+  answers = capped t.answers;
+  unreadable = capped t.unreadable;
+  invalid = capped t.invalid;
+  ignored = capped t.ignored;
+}
+
+-- so many more of each
+abbrev pub with_counts : exact.Tally → Tally → Tally
+with_counts more t = record {
+  requests = capped (t.requests + more.requests);
+  answers = capped (t.answers + more.answers);
+  unreadable = capped (t.unreadable + more.unreadable);
+  invalid = capped (t.invalid + more.invalid);
+  ignored = capped (t.ignored + more.ignored);
+}
+
+-- so many more answers
+abbrev pub with_answers : ℕ → Tally → Tally
+with_answers count t = record t { answers = capped (t.answers + count) }
 
 -- ---- what is refused
 
@@ -85,6 +117,7 @@ after_unit u d = record {
   state = after_came d.order u d.state;
   untold = d.untold ++ told_of_all d.state.own d.state.theirs (entries_in u);
   out = with_texts (answer_texts (leaving d.order (owed_with u d.state.owed))) d.out;
+  tally = with_counts (tally_in d.order u d.state) d.tally;
 }
 
 abbrev pub after_end : Close → Desk → Desk
@@ -94,6 +127,7 @@ after_end close d = record {
   state = after_ended d.state;
   untold = d.untold ++ told_at_end close d.state.own;
   out = d.out;
+  tally = d.tally;
 }
 
 -- these texts are said, and so many calls of ours are made on behalf of n
@@ -119,6 +153,7 @@ after_answer n a d = record {
   state = after_answered d.order n a d.state;
   untold = d.untold;
   out = with_texts (answer_texts (leaving d.order (owed_given (at n d.state.theirs.calls) a d.state.owed.owed))) d.out;
+  tally = with_answers (answers_let_out d.order n a d.state) d.tally;
 }
 
 -- a slot of an answer is given its text
@@ -129,6 +164,7 @@ after_given place slot text d = record {
   state = record d.state { owed = record d.state.owed { owed = staying d.order (changed_at place (given slot text) d.state.owed.owed) } };
   untold = d.untold;
   out = with_texts (answer_texts (leaving d.order (changed_at place (given slot text) d.state.owed.owed))) d.out;
+  tally = with_answers (length (leaving d.order (changed_at place (given slot text) d.state.owed.owed))) d.tally;
 }
 
 -- Some texts were said since, and nothing else happened.

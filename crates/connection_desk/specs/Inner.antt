@@ -5,7 +5,10 @@ use Rattle.std.specs.VecDeque.{deque_capacity, deque_len}
 use Rattle.rpc_messages.specs.declared.id.Id.{Id}
 use Rattle.connection_messages.specs.declared.entry.Entry.{Entry}
 use Rattle.connection_messages.specs.declared.entry.Entry.TheVariants.{Call, Cancel, Reply, Stray, Invalid}
+use Rattle.connection_messages.specs.declared.unit.Unit as units
+use Rattle.connection_messages.specs.declared.unit.Unit.TheVariants.{Unreadable, Single, Batch}
 use Rattle.connection_history.specs.Stream.{call_in}
+use Rattle.connection_history.specs.Counts.{capped}
 use Rattle.connection_history.specs.declared.close.Close.{Close}
 use Rattle.connection_history.specs.declared.event.Event.{Event}
 use Rattle.connection_history.specs.declared.event.Event.TheVariants as event
@@ -19,6 +22,7 @@ use Rattle.connection_history.specs.declared.order.Order.TheVariants.{AsAnswered
 use Rattle.connection_states.specs.States.{slot_count}
 use Rattle.connection_states.specs.Steps.{leaving, is_complete, reached_numbers, own_after}
 use Rattle.connection_desk.specs.declared.events.Events.{Events}
+use Rattle.connection_desk.specs.declared.tally.Tally.{Tally}
 
 -- the last event, where the input is over
 abbrev pub over_event : Option Close → List Event
@@ -138,3 +142,36 @@ told_along n own calls (e ∷ es) =
 abbrev pub calls_along : ℕ → List Entry → List (ℕ × TheirCall) → List (ℕ × TheirCall)
 calls_along n [] calls = calls
 calls_along n (e ∷ es) calls = calls_along (n + length (call_in e)) es (calls_at n e calls)
+
+-- ---- what is counted then
+
+-- one more call came, with this id or none
+abbrev pub with_call : Option Id → Tally → Tally
+with_call None t = t
+with_call (Some id) t = record t { requests = capped (t.requests + 1) }
+
+abbrev pub with_ignored : Tally → Tally
+with_ignored t = record t { ignored = capped (t.ignored + 1) }
+
+-- a reply or a cancel of which this is told
+abbrev pub with_ignored_if : List Event → Tally → Tally
+with_ignored_if [] t = with_ignored t
+with_ignored_if (e ∷ es) t = t
+
+-- an entry of which this is told
+abbrev pub counted : List Event → Entry → Tally → Tally
+counted told (Call c) t = with_call c.id t
+counted told (Cancel id) t = with_ignored_if told t
+counted told (Reply k r) t = with_ignored_if told t
+counted told Stray t = with_ignored t
+counted told Invalid t = record t { invalid = capped (t.invalid + 1) }
+
+abbrev pub counted_along : ℕ → OwnState → List (ℕ × TheirCall) → List Entry → Tally → Tally
+counted_along n own calls [] t = t
+counted_along n own calls (e ∷ es) t =
+    counted_along (n + length (call_in e)) (own_after e own) (calls_at n e calls) es (counted (told_at n own calls e) e t)
+
+abbrev pub counted_in : units.Unit → ℕ → OwnState → List (ℕ × TheirCall) → Tally → Tally
+counted_in Unreadable n own calls t = record t { unreadable = capped (t.unreadable + 1) }
+counted_in (Single e) n own calls t = counted_along n own calls (e ∷ []) t
+counted_in (Batch es) n own calls t = counted_along n own calls es t

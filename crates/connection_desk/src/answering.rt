@@ -9,6 +9,9 @@ use connection_messages::{Answer, write_answer, write_withdrawal};
 use rpc_messages::Standard;
 use std::alloc::AllocError;
 
+/// Room for the text of an answer, which most fit in.
+const ANSWER_ROOM: usize = 128;
+
 impl Desk {
     ghost use Rattle.connection_desk.specs.Desks.{IsRefusal, after_answer, after_cancel, after_given, after_saying, answer_refused, wanted_keys, HasWithdrawn};
     ghost use Rattle.connection_messages.specs.Texts.{withdrawal_text};
@@ -21,11 +24,13 @@ impl Desk {
         ensures err { IfErr result (λ why. (self.new ≡ self.old) ×
             IsRefusal why (answer_refused number self.old.state)) }
     {
+        // It ensures that the count is of 64 bits.
+        let _answers = self.tally.answers;
         let Some(call) = self.theirs.get(number) else {
             return Err(Refused::NotOpen);
         };
         if let Some(id) = &call.id {
-            let mut text = Vec::new(self.alloc);
+            let mut text = Vec::with_capacity(self.alloc, ANSWER_ROOM)?;
             write_answer(self.alloc, &mut text, id, answer)?;
             let (place, slot) = (call.place, call.slot);
             self.give(place, slot, text)?;

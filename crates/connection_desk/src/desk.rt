@@ -42,6 +42,7 @@ impl Model for Desk {
       state = record { own = d.own; theirs = d.theirs; owed = d.owed; is_over = d.is_over };
       untold = untold_of d.events;
       out = d.outbox;
+      tally = d.tally;
     } };
 
     ghost invariant = { λ d. IsDesk d.order d.owed.owed d.is_over d.events };
@@ -49,7 +50,8 @@ impl Model for Desk {
 
 impl Desk {
     ghost use Rattle.connection_states.specs.Initial.{initial};
-    ghost use Rattle.connection_desk.specs.Desks.{after_saying, IsDone};
+    ghost use Rattle.connection_states.specs.Tallies.{no_counts};
+    ghost use Rattle.connection_desk.specs.Desks.{after_saying, capped_tally, IsDone};
     ghost use Rattle.open_calls.specs.Numbered.{at};
     ghost use Rattle.outbox.specs.Output.{after_take, given_of, next_of, IsAllTaken};
     ghost use Rattle.std.specs.Prelude.{drop, IsTrue, ◌↔◌};
@@ -62,6 +64,7 @@ impl Desk {
           state = initial;
           untold = [];
           out = record { framing = framing; written = []; taken = 0 };
+          tally = capped_tally no_counts;
         } }
     {
         Desk {
@@ -115,7 +118,9 @@ impl Desk {
     }
 
     /// How often some things have happened.
-    pub fn tally(&self) -> Tally {
+    pub fn tally(&self) -> Tally
+        ensures { result ≡ self.now.tally }
+    {
         self.tally
     }
 

@@ -10,7 +10,7 @@ ghost use Rattle.open_calls.specs.Owed.{seen_slots};
 ghost use Rattle.open_calls.specs.Theirs.{new_call};
 ghost use Rattle.connection_states.specs.States.{owed_slots, is_batch as is_batch_unit};
 ghost use Rattle.connection_states.specs.Steps.{leaving, staying, new_call_slots, new_slots, new_unit_slots};
-ghost use Rattle.connection_desk.specs.Desks.{answer_texts, with_texts};
+ghost use Rattle.connection_desk.specs.Desks.{answer_texts, with_answers, with_texts};
 ghost use Rattle.connection_desk.specs.Inner.{HaveSlots, IsLonger, IsOpenEnded, added_call, added_calls, has_cancel as has_cancel_in, most_events as most_events_in, room_of, untold_of};
 
 use crate::desk::Desk;
@@ -40,6 +40,8 @@ impl Desk {
         ensures err { OnErr result (self.new ≡ self.old) }
     {
         let mut room = self.take_room();
+        // It ensures that these counts are of 64 bits.
+        let _tally = self.tally;
         let is_batch = is_batch(&unit);
         let came = self.theirs.came();
         let place = self.owed.places();
@@ -99,14 +101,21 @@ fn owe(
         (answer_texts (leaving order
         (owed.old.owed ++ owed_slots owed.old.places is_batch (seen_slots slots.items))))
         outbox.old) }
+    ensures tally { OnOk result (tally.new ≡ with_answers
+        (length (leaving order
+        (owed.old.owed ++ owed_slots owed.old.places is_batch (seen_slots slots.items))))
+        tally.old) }
     ensures owed_err { OnErr result (owed.new ≡ owed.old) }
     ensures outbox_err { OnErr result (outbox.new ≡ outbox.old) }
+    ensures tally_err { OnErr result (tally.new ≡ tally.old) }
 {
     let place = owed.places();
     if place == u64::MAX {
         return Err(AllocError);
     }
     if slots.is_empty() {
+        // It ensures that the count is of 64 bits.
+        let _answers = tally.answers;
         owed.skip();
         return Ok(());
     }

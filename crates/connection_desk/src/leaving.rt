@@ -1,8 +1,8 @@
 //! The answers that can go out, and those that stay.
 
-ghost use Rattle.std.specs.Prelude.{◌≡◌, ◌++◌, ◌∷◌, [], ℕ, List, OnOk, OnErr, if◌then◌else◌};
+ghost use Rattle.std.specs.Prelude.{◌≡◌, ◌++◌, ◌∷◌, [], ℕ, List, length, OnOk, OnErr, if◌then◌else◌};
 ghost use Rattle.connection_states.specs.Steps.{complete_front, incomplete_rest, leaving, staying};
-ghost use Rattle.connection_desk.specs.Desks.{answer_texts, with_texts};
+ghost use Rattle.connection_desk.specs.Desks.{answer_texts, with_answers, with_texts};
 ghost use Rattle.connection_desk.specs.Inner.{HaveSlots, OnlyAt, complete_at, complete_text_at};
 ghost use Rattle.outbox.specs.Output.{OnlyPutSince};
 ghost use Rattle.open_calls.specs.Numbered.{without};
@@ -113,12 +113,12 @@ fn write_each_in_front(
 /// The units whose answers can go out are owed nothing any more, and are counted.
 pub(crate) fn let_out(order: Order, owed: &mut OwedAnswers, place: u64, tally: &mut Tally)
     requires { OnlyAt order place owed.old.owed }
-    ensures { owed.new ≡ record owed.old { owed = staying order owed.old.owed } }
+    ensures owed { owed.new ≡ record owed.old { owed = staying order owed.old.owed } }
+    ensures tally { tally.new ≡ with_answers (length (leaving order owed.old.owed)) tally.old }
 {
     let before = owed.len();
     remove_leaving(order, owed, place);
-    let count = before.saturating_sub(owed.len());
-    tally.answers = tally.answers.saturating_add(count);
+    tally.add_answers(before.saturating_sub(owed.len()));
 }
 
 /// As in `write_leaving`, `first` says that the places ascend.

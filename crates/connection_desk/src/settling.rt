@@ -6,7 +6,7 @@ ghost use Rattle.connection_history.specs.Stream.{call_in, calls_in, entries_in}
 ghost use Rattle.connection_history.specs.declared.event.Event.TheVariants as event;
 ghost use Rattle.connection_states.specs.Steps.{own_after, own_after_all};
 ghost use Rattle.open_calls.specs.Numbered.{at, without};
-ghost use Rattle.connection_desk.specs.Inner.{untold_of, room_of, IsOpenEnded, told_at, told_along, calls_at, calls_along, reached_to, cancelled_to};
+ghost use Rattle.connection_desk.specs.Inner.{untold_of, room_of, IsOpenEnded, told_at, told_along, calls_at, calls_along, reached_to, cancelled_to, counted, counted_along, counted_in, with_call, with_ignored_if};
 
 use crate::events::Events;
 use crate::tally::Tally;
@@ -35,9 +35,10 @@ pub(crate) fn settle(
     ensures untold { untold_of events.new ≡
         untold_of events.old ++ told_along came own.old theirs.old.calls (entries_in unit) }
     ensures open { IsOpenEnded events.new }
+    ensures tally { tally.new ≡ counted_in unit came own.old theirs.old.calls tally.old }
 {
     match unit {
-        Unit::Unreadable => tally.unreadable = tally.unreadable.saturating_add(1),
+        Unit::Unreadable => tally.add_unreadable(),
         Unit::Single(entry) => {
             settle_entry(own, theirs, events, tally, came, entry);
         }
@@ -66,6 +67,7 @@ fn settle_entries(
     ensures untold { untold_of events.new ≡
         untold_of events.old ++ told_along came own.old theirs.old.calls entries.items }
     ensures open { IsOpenEnded events.new }
+    ensures tally { tally.new ≡ counted_along came own.old theirs.old.calls entries.items tally.old }
 {
     let mut number = came;
     for entry in entries {
@@ -95,6 +97,8 @@ fn settle_entry(
     ensures open { IsOpenEnded events.new }
     ensures room { room_of events.new + length (told_at number own.old theirs.old.calls entry) ≡
         room_of events.old }
+    ensures tally { tally.new ≡
+        counted (told_at number own.old theirs.old.calls entry) entry tally.old }
 {
     match entry {
         Entry::Call(call) => {
@@ -103,8 +107,8 @@ fn settle_entry(
         }
         Entry::Cancel(id) => tell_cancels(theirs, events, tally, number, &id),
         Entry::Reply { key, reply } => tell_reply(own, events, tally, key, reply),
-        Entry::Stray => tally.ignore(),
-        Entry::Invalid => tally.invalid = tally.invalid.saturating_add(1),
+        Entry::Stray => tally.add_ignored(),
+        Entry::Invalid => tally.add_invalid(),
     }
     number
 }
@@ -115,14 +119,13 @@ fn tell_call(events: &mut Events, tally: &mut Tally, number: u64, call: Call)
     ensures untold { untold_of events.new ≡ untold_of events.old ++ event.Call number call ∷ [] }
     ensures open { IsOpenEnded events.new }
     ensures room { room_of events.new + 1 ≡ room_of events.old }
+    ensures tally { tally.new ≡ with_call call.id tally.old }
 {
-    if call.id.is_some() {
-        tally.requests = tally.requests.saturating_add(1);
-    }
+    tally.add_call(&call.id);
     events.push(Event::Call { number, call });
 }
 
-/// Tells the requests with this id, up to this number, that they are cancelled.
+/// Tells the requests with this id, up to this number, that they are cancelled. A cancel that reaches none is ignored.
 fn tell_cancels(theirs: &mut TheirCalls, events: &mut Events, tally: &mut Tally, most: u64, id: &Id)
     requires open { IsOpenEnded events.old }
     requires room { length (reached_to most id.now theirs.old.calls) ≤ room_of events.old }
@@ -134,14 +137,33 @@ fn tell_cancels(theirs: &mut TheirCalls, events: &mut Events, tally: &mut Tally,
     ensures open { IsOpenEnded events.new }
     ensures room { room_of events.new + length (reached_to most id.now theirs.old.calls) ≡
         room_of events.old }
+    ensures tally { tally.new ≡ with_ignored_if
+        (map event.Cancelled (reached_to most id.now theirs.old.calls)) tally.old }
 {
-    let mut is_ignored = true;
+    match reach_next(theirs, most, id) {
+        Some(number) => {
+            events.push(Event::Cancelled { number });
+            tell_more_cancels(theirs, events, most, id);
+        }
+        None => tally.add_ignored(),
+    }
+}
+
+/// Tells all requests that the cancel still reaches.
+fn tell_more_cancels(theirs: &mut TheirCalls, events: &mut Events, most: u64, id: &Id)
+    requires open { IsOpenEnded events.old }
+    requires room { length (reached_to most id.now theirs.old.calls) ≤ room_of events.old }
+    ensures theirs { theirs.new ≡ record theirs.old {
+      calls = cancelled_to most id.now theirs.old.calls;
+    } }
+    ensures untold { untold_of events.new ≡ untold_of events.old ++
+        map event.Cancelled (reached_to most id.now theirs.old.calls) }
+    ensures open { IsOpenEnded events.new }
+    ensures room { room_of events.new + length (reached_to most id.now theirs.old.calls) ≡
+        room_of events.old }
+{
     while let Some(number) = reach_next(theirs, most, id) {
         events.push(Event::Cancelled { number });
-        is_ignored = false;
-    }
-    if is_ignored {
-        tally.ignore();
     }
 }
 
@@ -169,9 +191,11 @@ fn tell_reply(own: &mut OwnCalls, events: &mut Events, tally: &mut Tally, key: u
     ensures open { IsOpenEnded events.new }
     ensures room { room_of events.new + (if is_some (at key own.old.waiting) then 1 else 0) ≡
         room_of events.old }
+    ensures tally { tally.new ≡ with_ignored_if
+        (if is_some (at key own.old.waiting) then event.Replied key reply ∷ [] else []) tally.old }
 {
     if own.get(key).is_none() {
-        return tally.ignore();
+        return tally.add_ignored();
     }
     own.remove(key);
     events.push(Event::Replied { key, reply });

@@ -2,5 +2,6 @@
 mod Answers
 mod Calls
 mod Cancels
+mod Counts
 mod End
 mod Words

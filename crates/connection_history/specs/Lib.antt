@@ -1,4 +1,5 @@
 pub mod Answers
+pub mod Counts
 pub mod Events
 pub mod History
 pub mod Items

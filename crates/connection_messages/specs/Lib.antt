@@ -1,3 +1,4 @@
+pub mod Envelope
 pub mod Numbers
 pub mod Params
 pub mod Reading

@@ -18,6 +18,9 @@ use rpc_messages::{Id, Standard};
 use std::alloc::{AllocError, Global};
 use std::mem;
 
+/// The room that is made for what stands around the texts in a message.
+const ROOM: usize = 96;
+
 /// Writes the text of a response.
 pub fn write_answer(
     alloc: Global,
@@ -27,10 +30,51 @@ pub fn write_answer(
 ) -> Result<(), AllocError>
     ensures { OnOk result (bytes.new.items ≡ bytes.old.items ++ answer_text id.now answer.now) }
 {
+    make_room(bytes, id_len(id), answer_len(answer))?;
     match answer {
         Answer::Result(text) => write_result(alloc, bytes, id, text.as_bytes()),
         Answer::Error(error) => write_error_answer(alloc, bytes, id, error),
         Answer::Standard(standard) => write_fixed(alloc, bytes, id, *standard),
+    }
+}
+
+/// Makes room at once for a message with two texts of these lengths. Escapes may need more.
+fn make_room(bytes: &mut Vec<u8>, one: usize, other: usize) -> Result<(), AllocError>
+    ensures { bytes.new.items ≡ bytes.old.items }
+{
+    bytes.reserve(ROOM.saturating_add(one).saturating_add(other))
+}
+
+fn id_len(id: &Id) -> usize {
+    match id {
+        Id::Text(text) => text.as_bytes().len(),
+        _ => 0,
+    }
+}
+
+fn answer_len(answer: &Answer) -> usize {
+    match answer {
+        Answer::Result(text) => text.as_bytes().len(),
+        Answer::Error(error) => error
+            .message
+            .as_bytes()
+            .len()
+            .saturating_add(data_len(&error.data)),
+        Answer::Standard(_) => 0,
+    }
+}
+
+fn data_len(extra: &Option<JsonText>) -> usize {
+    match extra {
+        Some(text) => text.as_bytes().len(),
+        None => 0,
+    }
+}
+
+fn params_len(params: &Option<Params>) -> usize {
+    match params {
+        Some(params) => params.as_str().len(),
+        None => 0,
     }
 }
 
@@ -160,6 +204,11 @@ pub fn write_call(
 ) -> Result<(), AllocError>
     ensures { OnOk result (bytes.new.items ≡ bytes.old.items ++ call_text key outgoing.now) }
 {
+    make_room(
+        bytes,
+        outgoing.method.as_bytes().len(),
+        params_len(&outgoing.params),
+    )?;
     bytes.extend_from_slice(b"{\"id\":")?;
     write_decimal(bytes, key)?;
     bytes.extend_from_slice(b",\"jsonrpc\":\"2.0\"")?;
@@ -227,6 +276,11 @@ pub fn write_notice(
 ) -> Result<(), AllocError>
     ensures { OnOk result (bytes.new.items ≡ bytes.old.items ++ notice_text outgoing.now) }
 {
+    make_room(
+        bytes,
+        outgoing.method.as_bytes().len(),
+        params_len(&outgoing.params),
+    )?;
     bytes.extend_from_slice(b"{\"jsonrpc\":\"2.0\"")?;
     write_method(alloc, bytes, outgoing)?;
     Ok(())

@@ -1,9 +1,11 @@
+pub mod Counted
 pub mod OwedChanges
 pub mod OwedGiven
 pub mod OwedRows
 pub mod OwedSame
 pub mod OwedSlots
 pub mod OwedSteps
+pub mod OpenCounted
 pub mod OwnEntries
 pub mod OwnFollows
 pub mod OwnFound

@@ -61,7 +61,7 @@ IsSilent h = (k : ℕ) → answer_at k h ≡ None
 silent-same : (past : History) (h : Happening) → IsSilent h → SameFrom 1 (h ∷ past) past
 silent-same past h silent k from = ap (or_else (answer_to k past)) (silent k) ∙ or_else-none (answer_to k past)
 
-silent-units : (past : History) (h : Happening) → units_at h ≡ [] → units_of (h ∷ past) ≡ units_of past
+pub silent-units : (past : History) (h : Happening) → units_at h ≡ [] → units_of (h ∷ past) ≡ units_of past
 silent-units past h none = ap (λ us. units_of past ++ us) none ∙ append-nil (units_of past)
 
 silent-all : (past : History) (h : Happening) → units_at h ≡ [] → IsSilent h → all_units (h ∷ past) ≡ all_units past

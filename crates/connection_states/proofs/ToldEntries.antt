@@ -57,13 +57,13 @@ told-entry h Invalid = refl
 
 -- ---- where a call's answer stands plays no part
 
-abbrev bare_call : TheirCall → TheirCall
+abbrev pub bare_call : TheirCall → TheirCall
 bare_call call = record call { place = 0; slot = 0 }
 
-abbrev bare_calls : List (ℕ × TheirCall) → List (ℕ × TheirCall)
+abbrev pub bare_calls : List (ℕ × TheirCall) → List (ℕ × TheirCall)
 bare_calls calls = map (λ e. (e.0, bare_call e.1)) calls
 
-abbrev bare : TheirState → TheirState
+abbrev pub bare : TheirState → TheirState
 bare s = record s { calls = bare_calls s.calls }
 
 bare_cancelled : (b : Bool) (t : TheirCall) → cond b (cancelled (bare_call t)) (bare_call t) ≡ bare_call (cond b (cancelled t) t)
@@ -74,7 +74,7 @@ all_bare_cancelled : (id : Id) (calls : List (ℕ × TheirCall)) → cancelled_a
 all_bare_cancelled id [] = refl
 all_bare_cancelled id (e ∷ calls) = λ i. (e.0, bare_cancelled (reaches id e.1) e.1 i) ∷ all_bare_cancelled id calls i
 
-bare_after : (place slot : ℕ) (e : Entry) (s : TheirState) → theirs_after 0 0 e (bare s) ≡ bare (theirs_after place slot e s)
+pub bare_after : (place slot : ℕ) (e : Entry) (s : TheirState) → theirs_after 0 0 e (bare s) ≡ bare (theirs_after place slot e s)
 bare_after place slot (Call c) s = λ i. record {
   came = s.came + 1;
   calls = sym (map-append (λ (e : ℕ × TheirCall). (e.0, bare_call e.1)) s.calls ((s.came + 1, new_call c.id place slot) ∷ [])) i;
@@ -94,7 +94,7 @@ bare_reached id [] = refl
 bare_reached id (e ∷ calls) =
     bare_one (reaches id e.1) e (filter (λ (d : ℕ × TheirCall). reaches id d.1) calls) (filter (λ (d : ℕ × TheirCall). reaches id d.1) (bare_calls calls)) (bare_reached id calls)
 
-bare_told : (own : OwnState) (s : TheirState) (e : Entry) → told_of own s e ≡ told_of own (bare s) e
+pub bare_told : (own : OwnState) (s : TheirState) (e : Entry) → told_of own s e ≡ told_of own (bare s) e
 bare_told own s (Call c) = refl
 bare_told own s (Cancel id) = ap (map event.Cancelled) (bare_reached id s.calls)
 bare_told own s (Reply k r) = refl

@@ -1,3 +1,4 @@
 pub mod Initial
 pub mod States
 pub mod Steps
+pub mod Tallies

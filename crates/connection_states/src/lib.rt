@@ -4,4 +4,5 @@
 
 mod owed_answers;
 mod own_calls;
+mod tallies;
 mod their_calls;

@@ -1,1 +1,4 @@
+pub mod Lanes
+pub mod Placed
 pub mod ReadBack
+pub mod Runs

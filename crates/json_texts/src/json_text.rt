@@ -1,7 +1,7 @@
 ghost use Rattle.std.specs.Prelude.{◌≡◌, ◌≤◌, IfOk};
 ghost use Rattle.json.specs.Tree.{HasNumbers, depth};
 ghost use Rattle.json.specs.Value.{value_view};
-ghost use Rattle.json_texts.specs.Texts.{json_text, compact_text};
+ghost use Rattle.json_texts.specs.Texts.{json_text, compact_text, IsJsonText};
 
 use crate::reading::{TextReader, text_of};
 use json::Value;
@@ -47,6 +47,16 @@ impl JsonText {
     {
         Ok(JsonText {
             text: text_of(alloc, value)?,
+        })
+    }
+
+    /// A copy of a text that is compact.
+    pub(crate) fn copy_of(alloc: Global, text: &str) -> Result<JsonText, AllocError>
+        requires { IsJsonText text.now }
+        ensures { IfOk result (λ copy. copy ≡ text.now) }
+    {
+        Ok(JsonText {
+            text: Text::copy_of(alloc, text)?,
         })
     }
 

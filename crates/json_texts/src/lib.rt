@@ -2,8 +2,12 @@
 //! of its numbers.
 #![tactic(auto)]
 
+mod compact;
 mod json_text;
+mod plain;
 mod reading;
 
+pub use compact::{name_end, value_end};
 pub use json_text::{JsonText, MOST_LEVELS, limits_of_texts_in_figures};
-pub use reading::{TextReader, read_value, text_of};
+pub use plain::plain_end;
+pub use reading::{TextReader, read_str, read_value, text_of};

@@ -7,6 +7,7 @@ ghost use Rattle.json.specs.Value.{value_view};
 ghost use Rattle.json_texts.specs.Texts.{json_text, text_value, value_of, compact_text};
 ghost use Rattle.json_texts.specs.declared.json_text.TheConstants.{MOST_LEVELS};
 
+use crate::compact::is_compact;
 use crate::json_text::{JsonText, MOST_LEVELS};
 use json::{Error, Reader, Scratch, Value};
 use json_values::Text;
@@ -30,10 +31,25 @@ pub fn read_value<'a>(
     let Ok(text) = simdutf8::compat::from_utf8(bytes) else {
         return Ok(None);
     };
-    read_text_value(alloc, text, levels, scratch)
+    read_str(alloc, text, levels, scratch)
 }
 
-fn read_text_value<'a>(
+/// The value that a text is, with its strings borrowed from it. There is none where it isn't one JSON value (RFC 8259), or
+/// nests more than `levels` deep.
+pub fn read_str<'a>(
+    alloc: Global,
+    text: &'a str,
+    levels: usize,
+    scratch: &'a mut Scratch,
+) -> Result<Option<Value<'a>>, AllocError>
+    ensures value { IfOk result (λ v. option_map value_view v ≡ value_of levels text.now) }
+    ensures writable { IfOk result (λ v. IfSome v (λ j. HasNumbers (value_view j))) }
+    ensures nests { IfOk result (λ v. IfSome v (λ j. depth (value_view j) ≤ levels)) }
+{
+    read_tokens(alloc, text, levels, scratch)
+}
+
+fn read_tokens<'a>(
     alloc: Global,
     text: &'a str,
     levels: usize,
@@ -89,14 +105,26 @@ impl TextReader {
     pub fn read(&mut self, bytes: &[u8]) -> Result<Option<JsonText>, AllocError>
         ensures { IfOk result (λ text. text ≡ compact_text MOST_LEVELS bytes.now) }
     {
+        let Ok(text) = simdutf8::compat::from_utf8(bytes) else {
+            return Ok(None);
+        };
+        if is_compact(text) {
+            return Ok(Some(JsonText::copy_of(self.alloc, text)?));
+        }
+        self.read_tokens(text)
+    }
+
+    fn read_tokens(&mut self, text: &str) -> Result<Option<JsonText>, AllocError>
+        ensures { IfOk result (λ read. read ≡ compact_text MOST_LEVELS text.now) }
+    {
         let mut scratch = self.take_scratch()?;
-        let text = read_text(self.alloc, bytes, &mut scratch);
-        if bytes.len() <= KEPT_ROOM {
+        let read = read_text(self.alloc, text, &mut scratch);
+        if text.len() <= KEPT_ROOM {
             self.scratch = Some(scratch);
         } else {
             drop(scratch);
         }
-        text
+        read
     }
 
     fn take_scratch(&mut self) -> Result<Box<Scratch>, AllocError> {
@@ -109,12 +137,12 @@ impl TextReader {
 
 fn read_text(
     alloc: Global,
-    bytes: &[u8],
+    text: &str,
     scratch: &mut Scratch,
 ) -> Result<Option<JsonText>, AllocError>
-    ensures { IfOk result (λ text. text ≡ compact_text MOST_LEVELS bytes.now) }
+    ensures { IfOk result (λ read. read ≡ compact_text MOST_LEVELS text.now) }
 {
-    match read_value(alloc, bytes, MOST_LEVELS, scratch)? {
+    match read_str(alloc, text, MOST_LEVELS, scratch)? {
         Some(value) => Ok(Some(JsonText::of_value(alloc, &value)?)),
         None => Ok(None),
     }

@@ -4,4 +4,5 @@ pub mod OwedLemmas
 pub mod OwedTexts
 pub mod Own
 pub mod Pairs
+pub mod Rows
 pub mod Theirs

@@ -26,10 +26,10 @@ less_of false false h = cc
 pub below : (a b : ℕ) → nat_cmp a b ≡ Less → a < b
 below a b h = ltb-true a b (less_of (nat_lt a b) (a == b) h)
 
-apart : (n m : ℕ) → n < m → (n == m) ≡ false
+pub apart : (n m : ℕ) → n < m → (n == m) ≡ false
 apart n m lt = ne_eqb n m (λ same. omega arith)
 
-apart_after : (n m : ℕ) → m < n → (n == m) ≡ false
+pub apart_after : (n m : ℕ) → m < n → (n == m) ≡ false
 apart_after n m lt = ne_eqb n m (λ same. omega arith)
 
 above_from : {X : Type 0} (n : ℕ) (es : List (ℕ × X)) → AllByRecursion (λ y. nat_cmp n y ≡ Less) (keys_of es) → Above n es
@@ -89,7 +89,7 @@ removed n (e ∷ es) order =
     (λ here. sym (without_above n es (subst (λ m. Above m es) (sym (eqb-true n e.0 here)) order.0)))
     (removed n es order.1)
 
-changed_above : {X : Type 0} (n : ℕ) (f : X → X) (es : List (ℕ × X)) → Above n es → changed_at n f es ≡ es
+pub changed_above : {X : Type 0} (n : ℕ) (f : X → X) (es : List (ℕ × X)) → Above n es → changed_at n f es ≡ es
 changed_above n f [] above = refl
 changed_above n f (e ∷ es) above =
     ap (λ b. (e.0, cond b (f e.1) e.1) ∷ changed_at n f es) (apart n e.0 above.0) ∙ ap (λ t. e ∷ t) (changed_above n f es above.1)
@@ -161,7 +161,7 @@ find_among p q (e ∷ es) = kept_step (q e) p e (filter q es) (find (λ x. q x &
 
 -- ---- numbers that are all below or above one
 
-keeps : {X : Type 0} (b : Bool) (P : List (ℕ × X) → Type 0) (e : ℕ × X) (es : List (ℕ × X)) → (P es → P (e ∷ es)) → P es → P (cond b (e ∷ es) es)
+pub keeps : {X : Type 0} (b : Bool) (P : List (ℕ × X) → Type 0) (e : ℕ × X) (es : List (ℕ × X)) → (P es → P (e ∷ es)) → P es → P (cond b (e ∷ es) es)
 keeps true P e es more there = more there
 keeps false P e es more there = there
 

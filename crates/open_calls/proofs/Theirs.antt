@@ -11,7 +11,7 @@ use Rattle.open_calls.specs.Numbered.{at, up_to, number_of_first, Ascending}
 use Rattle.open_calls.specs.Theirs.{TheirState, is_reached, reached, cancelled}
 use Rattle.open_calls.specs.Inner.{is_listed, passes, IsNumberIndex, IsWithNumber, IsWithoutNumber}
 use Rattle.open_calls.proofs.Numbered.{find_none, find_first, find_among}
-use Rattle.open_calls.proofs.Own.{gone_step, come_step, passes_at, undone_step, and_true, and_false, false_and, some_of, both_false}
+use Rattle.open_calls.proofs.Own.{gone_step, come_step, passes_at, and_true, and_false, false_and, some_of, both_false}
 
 abbrev pub state_of : ℕ → List (ℕ × TheirCall) → TheirState
 state_of came calls = record { came = came; calls = calls }
@@ -35,13 +35,6 @@ number_come old new was now number call has index changes none fresh =
     (ap (λ b. has_id id call.id && not b) fresh ∙ and_true (has_id id call.id))
     (λ here. ap (λ n. at n was) (sym (eqb-true number k here)) ∙ none)
     ∙ ap (passes (is_reached id)) (sym (changes k))
-
-pub number_undone : (old between new : NumbersById) (was : List (ℕ × TheirCall)) (number : ℕ) (id : Option Id) → IsWithNumber between old id number → IsWithoutNumber new between id number
-    → IsNumberIndex old was → at number was ≡ None → IsNumberIndex new was
-number_undone old between new was number id came went index none =
-    λ q k. went q k ∙ ap (λ b. if has_id q id && (number == k) then false else b) (came q k)
-    ∙ undone_step (has_id q id) (number == k) (is_listed old q k) (λ same here. index q k ∙ ap (passes (is_reached q)) (ap (λ n. at n was) (sym (eqb-true number k here)) ∙ none))
-    ∙ index q k
 
 -- ---- a cancel
 

@@ -1,16 +1,21 @@
 -- What the indexes hold.
-use Rattle.std.specs.Prelude.{ℕ, suc, ◌≡◌, ◌==◌, ◌&&◌, Bool, true, false, if◌then◌else◌, List, Option, Some, None}
+use Rattle.std.specs.Prelude.{ℕ, suc, ◌≡◌, ◌==◌, ◌&&◌, ◌||◌, Bool, true, false, if◌then◌else◌, List, Option, Some, None}
 use Rattle.std.specs.Ordering.{nat_cmp, ordering_then}
 use Rattle.std.specs.Option.{option_map_or}
 use Rattle.std.specs.declared.cmp.Ordering.{Ordering}
 use Rattle.std.specs.BTreeMap as tree
 use Rattle.std.specs.BTreeSet as sorted
 use Rattle.rpc_messages.specs.declared.id.Id.{Id}
-use Rattle.rpc_messages.specs.Ids.{id_cmp, has_id}
+use Rattle.rpc_messages.specs.Ids.{id_cmp, has_id, same_id}
 use Rattle.open_calls.specs.declared.own_call.OwnCall.{OwnCall}
 use Rattle.open_calls.specs.declared.their_call.TheirCall.{TheirCall}
 use Rattle.open_calls.specs.declared.keys_by_caller.KeysByCaller.{KeysByCaller}
+use Rattle.open_calls.specs.declared.numbers.Numbers.{Numbers}
+use Rattle.open_calls.specs.declared.numbers.Numbers.TheVariants.{One, Several}
 use Rattle.open_calls.specs.declared.numbers_by_id.NumbersById.{NumbersById}
+use Rattle.open_calls.specs.declared.other_numbers.OtherNumbers.{OtherNumbers}
+use Rattle.open_calls.specs.declared.row.Row.{Row}
+use Rattle.open_calls.specs.Rows.{IsRow, row_entries}
 use Rattle.open_calls.specs.Numbered.{at, Above, Below, Ascending}
 use Rattle.open_calls.specs.Owed.{OwedUnit}
 use Rattle.open_calls.specs.Own.{is_wanted_by}
@@ -23,13 +28,25 @@ pair_cmp a b = ordering_then (nat_cmp a.0 b.0) (nat_cmp a.1 b.1)
 abbrev pub has_key : KeysByCaller → ℕ → ℕ → Bool
 has_key index caller key = sorted.contains pair_cmp index.pairs (caller, key)
 
-abbrev pub is_in : ℕ → Option (sorted.BTreeSet ℕ) → Bool
-is_in number None = false
-is_in number (Some numbers) = sorted.contains nat_cmp numbers number
+-- whether this number is among those of an id
+abbrev pub has_number : Numbers → ℕ → Bool
+has_number (One first) number = first == number
+has_number (Several numbers) number = sorted.contains nat_cmp numbers number
 
--- whether this number stands there under this id
+abbrev pub is_in : ℕ → Option Numbers → Bool
+is_in number None = false
+is_in number (Some numbers) = has_number numbers number
+
+-- whether this number stands there under this id: in the tree, alone, or anywhere
+abbrev pub is_other : OtherNumbers → Id → ℕ → Bool
+is_other index id number = is_in number (tree.get id_cmp index.numbers id)
+
+abbrev pub is_alone : Option (Id × ℕ) → Id → ℕ → Bool
+is_alone None id number = false
+is_alone (Some entry) id number = same_id entry.0 id && (entry.1 == number)
+
 abbrev pub is_listed : NumbersById → Id → ℕ → Bool
-is_listed index id number = is_in number (tree.get id_cmp index.numbers id)
+is_listed index id number = is_alone index.alone id number || is_other index.others id number
 
 -- the index has the entries that pass
 abbrev pub passes : {X : Type 0} → (X → Bool) → Option X → Bool
@@ -51,14 +68,14 @@ pub record IsOwn (made : ℕ) (waiting : List (ℕ × OwnCall)) (all kept : Keys
   pub by_caller : IsKeyIndex all is_of waiting
   pub wanted : IsKeyIndex kept is_wanted_by waiting
 
-pub record IsTheirs (came : ℕ) (calls : List (ℕ × TheirCall)) (index : NumbersById) : Type 0 where
-  pub ascending : Ascending calls
-  pub numbered : Below (suc came) calls
-  pub by_id : IsNumberIndex index calls
+pub record IsTheirs (came : ℕ) (calls : Row TheirCall) (index : NumbersById) : Type 0 where
+  pub row : IsRow calls
+  pub numbered : Below (suc came) (row_entries calls)
+  pub by_id : IsNumberIndex index (row_entries calls)
 
-pub record IsOwed (places : ℕ) (owed : List (ℕ × OwedUnit)) : Type 0 where
-  pub ascending : Ascending owed
-  pub numbered : Below places owed
+pub record IsOwed (places : ℕ) (owed : Row OwedUnit) : Type 0 where
+  pub row : IsRow owed
+  pub numbered : Below places (row_entries owed)
 
 -- the index with this number of a request
 abbrev pub IsWithNumber : NumbersById → NumbersById → Option Id → ℕ → Type 0

@@ -2,4 +2,6 @@ pub mod Inner
 pub mod Numbered
 pub mod Owed
 pub mod Own
+pub mod Rows
+pub mod Slots
 pub mod Theirs

@@ -4,11 +4,15 @@
 #![tactic(auto)]
 
 mod keys_by_caller;
+mod numbers;
 mod numbers_by_id;
+mod other_numbers;
 mod owed;
 mod owed_answers;
 mod own_call;
 mod own_calls;
+mod row;
+mod slots;
 mod their_call;
 mod their_calls;
 

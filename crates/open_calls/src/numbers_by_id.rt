@@ -1,16 +1,17 @@
-ghost use Rattle.std.specs.Prelude.{◌≡◌, ℕ, ◌<◌, ◌==◌, ◌&&◌, true, false, if◌then◌else◌, OnOk, OnErr, MatchOption};
+ghost use Rattle.std.specs.Prelude.{◌≡◌, ℕ, ◌<◌, ◌==◌, ◌&&◌, true, false, Some, if◌then◌else◌, OnOk, OnErr, IfSome, IfNone, MatchOption};
 ghost use Rattle.rpc_messages.specs.declared.id.Id.{Id};
 ghost use Rattle.rpc_messages.specs.Ids.{same_id};
+ghost use Rattle.open_calls.specs.Inner.{is_alone};
 
+use crate::other_numbers::OtherNumbers;
 use rpc_messages::Id;
 use std::alloc::{AllocError, Global};
-use std::collections::{BTreeMap, BTreeSet};
 
-/// Numbers of requests, by their ids.
+/// Numbers of requests, by their ids. A request that is alone takes no place in the tree, which needs memory.
 #[derive(Drop)]
 pub struct NumbersById {
-    alloc: Global,
-    numbers: BTreeMap<Id, BTreeSet<u64>>,
+    alone: Option<(Id, u64)>,
+    others: OtherNumbers,
 }
 
 impl NumbersById {
@@ -20,8 +21,8 @@ impl NumbersById {
         ensures { (id : Id) (k : ℕ) → is_listed result id k ≡ false }
     {
         NumbersById {
-            alloc,
-            numbers: BTreeMap::new(alloc),
+            alone: None,
+            others: OtherNumbers::new(alloc),
         }
     }
 
@@ -32,7 +33,14 @@ impl NumbersById {
             (λ number. (is_listed self.now id.now number ≡ true) ×
             ((k : ℕ) → k < number → is_listed self.now id.now k ≡ false)) }
     {
-        self.numbers.get(id)?.first().copied()
+        let other = self.others.least(id);
+        match alone_of(&self.alone, id) {
+            Some(own) => match other {
+                Some(other) if other < own => Some(other),
+                _ => Some(own),
+            },
+            None => other,
+        }
     }
 
     /// Takes a number of this id out.
@@ -40,16 +48,11 @@ impl NumbersById {
         ensures { (q : Id) (k : ℕ) → is_listed self.new q k ≡
             (if same_id id.now q && (number == k) then false else is_listed self.old q k) }
     {
-        match self.numbers.get_mut(id) {
-            Some(numbers) => {
-                numbers.remove(&number);
-                if !numbers.is_empty() {
-                    return;
-                }
-            }
-            None => return,
+        match alone_of(&self.alone, id) {
+            Some(own) if own == number => self.alone = None,
+            _ => (),
         }
-        drop(self.numbers.remove(id));
+        self.others.remove(id, number);
     }
 
     pub fn add(&mut self, id: &Id, number: u64) -> Result<(), AllocError>
@@ -58,26 +61,21 @@ impl NumbersById {
         ensures err { OnErr result ((q : Id) (k : ℕ) →
             is_listed self.new q k ≡ is_listed self.old q k) }
     {
-        match self.numbers.get_mut(id) {
-            Some(others) => {
-                others.insert(number)?;
-                Ok(())
-            }
-            None => self.add_first(id, number),
+        if self.alone.is_some() {
+            return self.others.add(id, number);
         }
-    }
-
-    /// Adds a number of an id that has none.
-    fn add_first(&mut self, id: &Id, number: u64) -> Result<(), AllocError>
-        requires { (k : ℕ) → is_listed self.old id.now k ≡ false }
-        ensures ok { OnOk result ((q : Id) (k : ℕ) → is_listed self.new q k ≡
-            (if same_id id.now q && (number == k) then true else is_listed self.old q k)) }
-        ensures err { OnErr result ((q : Id) (k : ℕ) →
-            is_listed self.new q k ≡ is_listed self.old q k) }
-    {
-        let mut numbers = BTreeSet::new(self.alloc);
-        numbers.insert(number)?;
-        self.numbers.insert(id.clone()?, numbers)?;
+        self.alone = Some((id.clone()?, number));
         Ok(())
+    }
+}
+
+/// The number that is alone, where it is of this id.
+fn alone_of(alone: &Option<(Id, u64)>, id: &Id) -> Option<u64>
+    ensures found { IfSome result (λ number. alone.now ≡ Some (id.now, number)) }
+    ensures missing { IfNone result ((k : ℕ) → is_alone alone.now id.now k ≡ false) }
+{
+    match alone {
+        Some((own, number)) if own == id => Some(*number),
+        _ => None,
     }
 }

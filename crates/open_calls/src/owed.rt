@@ -1,18 +1,18 @@
-ghost use Rattle.std.specs.Prelude.{◌≡◌, ◌<◌, ◌++◌, Option, Some, None, OnOk, OnErr, length, map, take};
+ghost use Rattle.std.specs.Prelude.{◌≡◌, ◌<◌, ◌++◌, ◌∷◌, [], false, Option, Some, None, OnOk, OnErr, length, map, take};
 ghost use Rattle.std.specs.Option.{option_map};
 ghost use Rattle.std.specs.Io.{StartsWith};
 ghost use Rattle.connection_messages.specs.Texts.{batch_text};
 ghost use Rattle.open_calls.specs.Owed.{seen_slot, seen_slots, slot_text, slot_texts};
 
+use crate::slots::Slots;
 use std::alloc::AllocError;
 use std::marker::Model;
-use std::mem;
 
 /// A unit whose answer isn't out: of each entry that has an answer its text, once it is given.
 #[derive(Drop)]
 pub struct Owed {
     is_batch: bool,
-    slots: Vec<Option<Vec<u8>>>,
+    slots: Slots,
     /// How many slots have no text.
     lacking: u64,
 }
@@ -24,9 +24,14 @@ impl Model for Owed {
 
     ghost Value = { OwedUnit };
 
-    ghost view = { λ a. record { is_batch = a.is_batch; slots = seen_slots a.slots.items } };
+    ghost use Rattle.open_calls.specs.Slots.{slots_of};
 
-    ghost invariant = { λ a. a.lacking ≡ lacking_slots (seen_slots a.slots.items) };
+    ghost view = { λ a. record {
+      is_batch = a.is_batch;
+      slots = seen_slots (slots_of a.slots);
+    } };
+
+    ghost invariant = { λ a. a.lacking ≡ lacking_slots (seen_slots (slots_of a.slots)) };
 }
 
 impl Owed {
@@ -38,7 +43,19 @@ impl Owed {
         let lacking = slots.iter().filter(|slot| slot.is_none()).count() as u64;
         Owed {
             is_batch,
-            slots,
+            slots: Slots::Several(slots),
+            lacking,
+        }
+    }
+
+    /// A unit that is no batch. Takes no memory.
+    pub fn single(slot: Option<Vec<u8>>) -> Owed
+        ensures { result ≡ record { is_batch = false; slots = seen_slots (slot ∷ []) } }
+    {
+        let lacking = slot.is_none() as u64;
+        Owed {
+            is_batch: false,
+            slots: Slots::One(slot),
             lacking,
         }
     }
@@ -81,7 +98,7 @@ impl Owed {
             return None;
         }
         let lacks = text.is_none();
-        let was = mem::replace(&mut self.slots[slot], text);
+        let was = self.slots.replace(slot, text);
         self.lacking += lacks as u64;
         self.lacking -= was.is_none() as u64;
         was
@@ -96,7 +113,7 @@ impl Owed {
         if self.is_batch {
             put_array(bytes, self.slots.as_slice())
         } else {
-            put_slot(bytes, &self.slots[0])
+            put_slot(bytes, &self.slots.as_slice()[0])
         }
     }
 }

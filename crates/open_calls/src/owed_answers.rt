@@ -1,17 +1,16 @@
-ghost use Rattle.std.specs.Prelude.{◌≡◌, ◌+◌, ◌-◌, ◌<◌, ◌^◌, ◌++◌, ◌∷◌, [], length, OnOk, OnErr, option_copied};
+ghost use Rattle.std.specs.Prelude.{◌≡◌, ◌+◌, ◌-◌, ◌<◌, ◌^◌, ◌++◌, ◌∷◌, [], false, length, OnOk, OnErr, option_copied};
 ghost use Rattle.open_calls.specs.Numbered.{at, without, changed_at, first_number, next_number, Ascending};
 
 use crate::owed::Owed;
+use crate::row::Row;
 use std::alloc::{AllocError, Global};
-use std::collections::BTreeMap;
 use std::marker::Model;
-use std::ops::Bound;
 
 /// The units whose answer isn't out, by their places 0, 1, .. in the order in which they came.
 #[derive(Drop)]
 pub struct OwedAnswers {
     places: u64,
-    owed: BTreeMap<u64, Owed>,
+    owed: Row<Owed>,
 }
 
 impl Model for OwedAnswers {
@@ -20,10 +19,11 @@ impl Model for OwedAnswers {
     ghost Value = { OwedState };
 
     ghost use Rattle.open_calls.specs.Inner.{IsOwed};
+    ghost use Rattle.open_calls.specs.Rows.{row_entries};
 
-    ghost view = { λ a. record { places = a.places; owed = a.owed.entries } };
+    ghost view = { λ a. record { places = a.places; owed = row_entries a.owed } };
 
-    ghost invariant = { λ a. IsOwed a.places a.owed.entries };
+    ghost invariant = { λ a. IsOwed a.places a.owed };
 }
 
 impl OwedAnswers {
@@ -34,7 +34,7 @@ impl OwedAnswers {
     {
         OwedAnswers {
             places: 0,
-            owed: BTreeMap::new(alloc),
+            owed: Row::new(alloc),
         }
     }
 
@@ -42,7 +42,7 @@ impl OwedAnswers {
     pub fn len(&self) -> u64
         ensures { result ≡ length self.now.owed }
     {
-        self.owed.len() as u64
+        self.owed.len()
     }
 
     /// How many places there were. No unit that is owed an answer has this place or a greater one.
@@ -72,9 +72,39 @@ impl OwedAnswers {
         }) }
         ensures err { OnErr result (self.new ≡ self.old) }
     {
-        self.owed.insert(self.places, Owed::new(is_batch, slots))?;
+        self.open(Owed::new(is_batch, slots))
+    }
+
+    fn open(&mut self, unit: Owed) -> Result<(), AllocError>
+        requires { self.old.places < 2 ^ 64 - 1 }
+        ensures ok { OnOk result (self.new ≡ record {
+          places = self.old.places + 1;
+          owed = self.old.owed ++ (self.old.places, unit) ∷ [];
+        }) }
+        ensures err { OnErr result (self.new ≡ self.old) }
+    {
+        self.owed.make_room()?;
+        self.owed.push(self.places, unit);
         self.places += 1;
         Ok(())
+    }
+
+    /// The unit at the next place is no batch, and is owed this answer.
+    pub fn open_single(&mut self, slot: Option<Vec<u8>>) -> Result<(), AllocError>
+        requires { self.old.places < 2 ^ 64 - 1 }
+        ensures ok { OnOk result (self.new ≡ record {
+          places = self.old.places + 1;
+          owed = self.old.owed ++ (
+            self.old.places,
+            record {
+              is_batch = false;
+              slots = seen_slots (slot ∷ []);
+            },
+          ) ∷ [];
+        }) }
+        ensures err { OnErr result (self.new ≡ self.old) }
+    {
+        self.open(Owed::single(slot))
     }
 
     /// The unit at the next place is owed nothing.
@@ -94,7 +124,7 @@ impl OwedAnswers {
         } }
     {
         let place = self.places - 1;
-        drop(self.owed.remove(&place));
+        drop(self.owed.remove(place));
         self.places = place;
     }
 
@@ -102,7 +132,7 @@ impl OwedAnswers {
     pub fn lacks(&self, place: u64) -> u64
         ensures { result ≡ lacking_in (at place self.now.owed) }
     {
-        match self.owed.get(&place) {
+        match self.owed.get(place) {
             Some(unit) => unit.lacking(),
             None => 0,
         }
@@ -125,18 +155,14 @@ impl OwedAnswers {
           owed = changed_at place (replaced slot (seen_slot text)) self.old.owed;
         } }
     {
-        let unit = match self.owed.get_mut(&place) {
-            Some(unit) => unit,
-            None => return None,
-        };
-        unit.replace(slot, text)
+        self.owed.replace(place, slot, text)
     }
 
     /// The unit at this place, where it is owed an answer.
     pub fn get(&self, place: u64) -> Option<&Owed>
         ensures { option_copied result ≡ at place self.now.owed }
     {
-        self.owed.get(&place)
+        self.owed.get(place)
     }
 
     /// Puts the answer of the unit at this place behind these bytes.
@@ -146,7 +172,7 @@ impl OwedAnswers {
             bytes.old.items ++ text_or_none (at place self.now.owed)) }
         ensures err { OnErr result (bytes.new.items ≡ bytes.old.items) }
     {
-        match self.owed.get(&place) {
+        match self.owed.get(place) {
             Some(unit) => unit.put_text(bytes),
             None => Ok(()),
         }
@@ -156,7 +182,7 @@ impl OwedAnswers {
     pub fn remove(&mut self, place: u64)
         ensures { self.new ≡ record self.old { owed = without place self.old.owed } }
     {
-        drop(self.owed.remove(&place));
+        drop(self.owed.remove(place));
     }
 
     /// The least place whose unit is owed an answer. Places ascend.
@@ -164,19 +190,34 @@ impl OwedAnswers {
         ensures place { result ≡ first_number self.now.owed }
         ensures ascending { Ascending self.now.owed }
     {
-        match self.owed.first_key_value() {
-            Some((place, _)) => Some(*place),
-            None => None,
-        }
+        self.owed.first()
     }
 
     /// The least place above `after` whose unit is owed an answer.
     pub fn next(&self, after: u64) -> Option<u64>
         ensures { result ≡ next_number after self.now.owed }
     {
-        let above = (Bound::Excluded(after), Bound::Unbounded);
-        match self.owed.range(above).next() {
-            Some((place, _)) => Some(*place),
+        self.owed.next(after)
+    }
+}
+
+impl Row<Owed> {
+    ghost use Rattle.open_calls.specs.Rows.{row_entries, IsRow};
+    ghost use Rattle.open_calls.specs.Owed.{seen_slot, slot_at, replaced};
+
+    /// Puts a text, or none, into this slot of the unit with this number, and answers what stood there.
+    fn replace(&mut self, number: u64, slot: u64, text: Option<Vec<u8>>) -> Option<Vec<u8>>
+        requires { IsRow self.old }
+        ensures was { seen_slot result ≡ slot_at slot (at number (row_entries self.old)) }
+        ensures entries { row_entries self.new ≡
+            changed_at number (replaced slot (seen_slot text)) (row_entries self.old) }
+        ensures row { IsRow self.new }
+    {
+        if let Some(index) = self.place(number) {
+            return self.recent[index].1.replace(slot, text);
+        }
+        match self.older.get_mut(&number) {
+            Some(unit) => unit.replace(slot, text),
             None => None,
         }
     }

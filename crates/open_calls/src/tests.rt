@@ -1,3 +1,5 @@
+ghost use Rattle.std.specs.Prelude.{◌<◌};
+
 use super::*;
 use rpc_messages::Id;
 use std::alloc::{AllocError, Global};
@@ -124,5 +126,169 @@ fn keeps_owed_answers(rt: HostRuntime) -> Result<(), Fail> {
     assert_eq!(rt; (owed.len(), owed.first()), (1, Some(2)));
     owed.undo_unit();
     assert_eq!(rt; (owed.len(), owed.first()), (0, None));
+    Ok(())
+}
+
+#[test]
+fn keeps_a_single_answer(rt: HostRuntime) -> Result<(), Fail> {
+    let alloc = rt.alloc();
+    let mut owed = OwedAnswers::new(alloc);
+    owed.open_single(None)?;
+    owed.open_single(Some(b"1".to_vec(alloc)?))?;
+    assert_eq!(rt; (owed.places(), owed.len()), (2, 2));
+    assert_eq!(rt; (owed.lacks(0), owed.lacks(1)), (1, 0));
+    assert_eq!(rt;
+        owed.get(0).map(|unit| (unit.is_batch(), unit.len())),
+        Some((false, 1))
+    );
+    owed.give(0, 1, b"no".to_vec(alloc)?);
+    assert_eq!(rt; owed.lacks(0), 1);
+    owed.give(0, 0, b"{}".to_vec(alloc)?);
+    assert_eq!(rt; text_at(alloc, &owed, 0)?.as_slice(), b"{}".as_slice());
+    assert_eq!(rt; text_at(alloc, &owed, 1)?.as_slice(), b"1".as_slice());
+    let was = owed.replace(1, 0, None);
+    assert_eq!(rt; (was.map(|text| text.len()), owed.lacks(1)), (Some(1), 1));
+    owed.remove(0);
+    assert_eq!(rt; (owed.len(), owed.first()), (1, Some(1)));
+    Ok(())
+}
+
+/// Owes the next unit a single answer.
+fn owe(owed: &mut OwedAnswers) -> Result<(), AllocError> {
+    if owed.places() == u64::MAX {
+        return Err(AllocError);
+    }
+    owed.open_single(None)
+}
+
+/// Takes a request in.
+fn ask(calls: &mut TheirCalls, id: u64) -> Result<u64, AllocError> {
+    if calls.came() == u64::MAX {
+        return Err(AllocError);
+    }
+    calls.add(Some(Id::Unsigned(id)), 0, 0)
+}
+
+/// The numbers below 5,000 in another order: in steps that have no divisor in common with 5,000.
+fn in_steps(index: u64, step: u64) -> u64
+    ensures { result < 5000 }
+{
+    index.wrapping_mul(step) % 5000
+}
+
+#[test]
+fn owes_many_answers_in_any_order(rt: HostRuntime) -> Result<(), Fail> {
+    for step in [1, 7, 1663, 4999] {
+        let mut owed = OwedAnswers::new(rt.alloc());
+        for _ in 0..5000 {
+            owe(&mut owed)?;
+        }
+        assert_eq!(rt; (owed.len(), owed.first()), (5000, Some(0)));
+        for index in 0..5000 {
+            let place = in_steps(index, step);
+            assert_eq!(rt; owed.lacks(place), 1);
+            owed.give(place, 0, b"1".to_vec(rt.alloc())?);
+            assert_eq!(rt; owed.lacks(place), 0);
+            owed.remove(place);
+            assert_eq!(rt;
+                (owed.get(place).is_none(), owed.len()),
+                (true, 4999 - index)
+            );
+        }
+        assert_eq!(rt; (owed.first(), owed.next(0)), (None, None));
+    }
+    Ok(())
+}
+
+#[test]
+fn finds_the_next_answer_past_those_that_are_out(rt: HostRuntime) -> Result<(), Fail> {
+    let mut owed = OwedAnswers::new(rt.alloc());
+    for _ in 0..5000 {
+        owe(&mut owed)?;
+    }
+    for place in 0..5000 {
+        if place % 1250 != 17 {
+            owed.remove(place);
+        }
+    }
+    assert_eq!(rt; (owed.len(), owed.first()), (4, Some(17)));
+    assert_eq!(rt; (owed.next(0), owed.next(17)), (Some(17), Some(1267)));
+    assert_eq!(rt;
+        (owed.next(1267), owed.next(2517)),
+        (Some(2517), Some(3767))
+    );
+    assert_eq!(rt; owed.next(3767), None);
+    owe(&mut owed)?;
+    assert_eq!(rt;
+        (owed.next(3767), owed.next(4999), owed.next(5000)),
+        (Some(5000), Some(5000), None)
+    );
+    Ok(())
+}
+
+#[test]
+fn closes_many_calls_in_any_order(rt: HostRuntime) -> Result<(), Fail> {
+    for step in [1, 7, 1663, 4999] {
+        let mut calls = TheirCalls::new(rt.alloc());
+        for index in 0..5000 {
+            let _number = ask(&mut calls, index % 3)?;
+        }
+        for index in 0..5000 {
+            let number = in_steps(index, step) + 1;
+            assert_eq!(rt; calls.close(number).is_some(), true);
+            assert_eq!(rt; calls.get(number).is_none(), true);
+            assert_eq!(rt; calls.len(), 4999 - index);
+        }
+        assert_eq!(rt; calls.reach(&Id::Unsigned(1)), None);
+    }
+    Ok(())
+}
+
+#[test]
+fn reaches_the_requests_of_an_id_in_turn(rt: HostRuntime) -> Result<(), Fail> {
+    let mut calls = TheirCalls::new(rt.alloc());
+    for index in 0..300 {
+        let _number = ask(&mut calls, index % 3)?;
+    }
+    for number in 1..200 {
+        drop(calls.close(number));
+    }
+    assert_eq!(rt; calls.reach(&Id::Unsigned(0)), Some(202));
+    assert_eq!(rt; calls.reach(&Id::Unsigned(1)), Some(200));
+    assert_eq!(rt; calls.reach(&Id::Unsigned(2)), Some(201));
+    assert_eq!(rt; calls.reach(&Id::Unsigned(1)), Some(203));
+    assert_eq!(rt;
+        (
+            calls.get(200).map(|call| call.is_cancelled),
+            calls.get(206).map(|call| call.is_cancelled)
+        ),
+        (Some(true), Some(false))
+    );
+    assert_eq!(rt; calls.reach_up_to(&Id::Unsigned(1), 205), None);
+    assert_eq!(rt; calls.reach_up_to(&Id::Unsigned(1), 206), Some(206));
+    assert_eq!(rt; calls.came(), 300);
+    if calls.came() < 206 {
+        return Ok(());
+    }
+    calls.take_back(206);
+    assert_eq!(rt; (calls.len(), calls.reach(&Id::Unsigned(1))), (7, None));
+    assert_eq!(rt; calls.reach(&Id::Unsigned(2)), Some(204));
+    Ok(())
+}
+
+#[test]
+fn one_stays_open_while_many_pass(rt: HostRuntime) -> Result<(), Fail> {
+    let mut calls = TheirCalls::new(rt.alloc());
+    let mut owed = OwedAnswers::new(rt.alloc());
+    for index in 0..20000 {
+        let number = ask(&mut calls, index)?;
+        owe(&mut owed)?;
+        if index > 0 {
+            owed.remove(index);
+            assert_eq!(rt; calls.close(number).is_some(), true);
+        }
+    }
+    assert_eq!(rt; (calls.len(), owed.len(), owed.first()), (1, 1, Some(0)));
+    assert_eq!(rt; calls.reach(&Id::Unsigned(0)), Some(1));
     Ok(())
 }

@@ -4,17 +4,17 @@ ghost use Rattle.rpc_messages.specs.declared.id.Id.{Id};
 ghost use Rattle.open_calls.specs.Numbered.{at, without, up_to, changed_at, Ascending};
 
 use crate::numbers_by_id::NumbersById;
+use crate::row::Row;
 use crate::their_call::TheirCall;
 use rpc_messages::Id;
 use std::alloc::{AllocError, Global};
-use std::collections::BTreeMap;
 use std::marker::Model;
 
 /// The other side's calls that are open. They have the numbers 1, 2, .. in the order in which they came.
 #[derive(Drop)]
 pub struct TheirCalls {
     came: u64,
-    calls: BTreeMap<u64, TheirCall>,
+    calls: Row<TheirCall>,
     /// The numbers of the requests that no cancel has reached.
     by_id: NumbersById,
 }
@@ -25,10 +25,11 @@ impl Model for TheirCalls {
     ghost Value = { TheirState };
 
     ghost use Rattle.open_calls.specs.Inner.{IsTheirs};
+    ghost use Rattle.open_calls.specs.Rows.{row_entries};
 
-    ghost view = { λ a. record { came = a.came; calls = a.calls.entries } };
+    ghost view = { λ a. record { came = a.came; calls = row_entries a.calls } };
 
-    ghost invariant = { λ a. IsTheirs a.came a.calls.entries a.by_id };
+    ghost invariant = { λ a. IsTheirs a.came a.calls a.by_id };
 }
 
 impl TheirCalls {
@@ -39,7 +40,7 @@ impl TheirCalls {
     {
         TheirCalls {
             came: 0,
-            calls: BTreeMap::new(alloc),
+            calls: Row::new(alloc),
             by_id: NumbersById::new(alloc),
         }
     }
@@ -48,7 +49,7 @@ impl TheirCalls {
     pub fn len(&self) -> u64
         ensures { result ≡ length self.now.calls }
     {
-        self.calls.len() as u64
+        self.calls.len()
     }
 
     /// How many came. No call that is open has a greater number. Numbers ascend.
@@ -72,6 +73,7 @@ impl TheirCalls {
         ensures err { OnErr result (self.new ≡ self.old) }
     {
         let number = self.came + 1;
+        self.calls.make_room()?;
         note_id(&mut self.by_id, &id, number)?;
         let call = TheirCall {
             id,
@@ -79,17 +81,9 @@ impl TheirCalls {
             place,
             slot,
         };
-        match self.calls.insert(number, call) {
-            Ok(_) => {
-                self.came = number;
-                Ok(number)
-            }
-            Err(refused) => {
-                let (_, call) = refused.value;
-                forget_id(&mut self.by_id, &call.id, number);
-                Err(AllocError)
-            }
-        }
+        self.calls.push(number, call);
+        self.came = number;
+        Ok(number)
     }
 
     /// All calls with numbers above this one are as if they had never come.
@@ -119,7 +113,7 @@ impl TheirCalls {
     pub fn get(&self, number: u64) -> Option<&TheirCall>
         ensures { option_copied result ≡ at number self.now.calls }
     {
-        self.calls.get(&number)
+        self.calls.get(number)
     }
 
     /// The call with this number isn't open any more.
@@ -127,7 +121,7 @@ impl TheirCalls {
         ensures call { result ≡ at number self.old.calls }
         ensures state { self.new ≡ record self.old { calls = without number self.old.calls } }
     {
-        let call = match self.calls.remove(&number) {
+        let call = match self.calls.remove(number) {
             Some(call) => call,
             None => return None,
         };
@@ -146,11 +140,7 @@ impl TheirCalls {
             Some(number) => number,
             None => return None,
         };
-        let call = match self.calls.get_mut(&number) {
-            Some(call) => call,
-            None => return None,
-        };
-        call.is_cancelled = true;
+        self.calls.cancel(number);
         self.by_id.remove(id, number);
         Some(number)
     }
@@ -165,6 +155,25 @@ impl TheirCalls {
         match self.by_id.least(id) {
             Some(number) if number <= most => self.reach(id),
             _ => None,
+        }
+    }
+}
+
+impl Row<TheirCall> {
+    ghost use Rattle.open_calls.specs.Rows.{row_entries, IsRow};
+    ghost use Rattle.open_calls.specs.Theirs.{cancelled};
+
+    /// Cancels the call with this number, where it is open.
+    fn cancel(&mut self, number: u64)
+        requires { IsRow self.old }
+        ensures entries { row_entries self.new ≡
+            changed_at number cancelled (row_entries self.old) }
+        ensures row { IsRow self.new }
+    {
+        if let Some(index) = self.place(number) {
+            self.recent[index].1.is_cancelled = true;
+        } else if let Some(call) = self.older.get_mut(&number) {
+            call.is_cancelled = true;
         }
     }
 }

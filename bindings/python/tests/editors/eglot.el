@@ -22,7 +22,8 @@
 (let* ((file (expand-file-name "notes.txt" (getenv "ROOM")))
        (command (append (json-parse-string (getenv "SERVER")) nil)))
   (with-temp-file file (insert "Roses are red.\nViolets are are blue.\n"))
-  (setq eglot-workspace-configuration '(:words.label "times") eglot-sync-connect 20 eglot-autoshutdown nil)
+  (setq eglot-workspace-configuration '(:words.label "times") eglot-sync-connect 20
+        eglot-autoshutdown nil eglot-autoreconnect nil)
   (add-to-list 'eglot-server-programs (cons 'text-mode command))
   (with-current-buffer (find-file-noselect file)
     (text-mode)

@@ -33,7 +33,7 @@ local client = vim.lsp.get_client_by_id(id)
 vim.lsp.buf_attach_client(0, id)
 wait('diagnostics', function() return #vim.diagnostic.get(0) == 1 end)
 local found = vim.diagnostic.get(0)[1]
-if found.lnum ~= 1 or found.col ~= 12 or found.message ~= "'are' stands twice" then fail(vim.inspect(found)) end
+if found.lnum ~= 1 or found.col ~= 8 or found.message ~= "'are' stands twice" then fail(vim.inspect(found)) end
 
 local uri = vim.uri_from_bufnr(0)
 local function ask(method, params, answer)

@@ -17,7 +17,7 @@ use rpc_messages::Id;
 use std::alloc::{AllocError, Global};
 
 /// The method of a cancel (LSP 3.17, "Cancellation Support").
-const CANCEL: &str = "$/cancelRequest";
+pub(crate) const CANCEL: &str = "$/cancelRequest";
 
 /// Whether the member `jsonrpc` is exactly "2.0".
 pub(crate) fn is_version_2(value: &Value<'_>) -> bool

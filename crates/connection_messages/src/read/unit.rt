@@ -7,11 +7,12 @@ ghost use Rattle.json.specs.Value.{value_view, items_view};
 ghost use Rattle.connection_messages.specs.Reading.{entries_of, batch_of, value_unit, unit_of};
 ghost use Rattle.connection_messages.specs.declared.read.unit.TheConstants.{MOST_DEPTH};
 
+use super::compact::read_compact;
 use super::entry::{read_entries, read_entry};
 use crate::entry::Entry;
 use crate::unit::Unit;
 use json::{Scratch, Value};
-use json_texts::read_value;
+use json_texts::read_str;
 use json_values::Items;
 use lsp_frames::Frame;
 use std::alloc::{AllocError, Global};
@@ -73,9 +74,22 @@ impl UnitReader {
         ensures unit { IfOk result (λ u. u ≡ unit_of self.old false content.now) }
         ensures cancels { self.new ≡ self.old }
     {
+        let Ok(text) = simdutf8::compat::from_utf8(content) else {
+            return Ok(Unit::Unreadable);
+        };
+        match read_compact(self.alloc, self.cancels, text)? {
+            Some(unit) => Ok(unit),
+            None => self.read_tokens(text),
+        }
+    }
+
+    fn read_tokens(&mut self, text: &str) -> Result<Unit, AllocError>
+        ensures unit { IfOk result (λ u. u ≡ unit_of self.old false text.now) }
+        ensures cancels { self.new ≡ self.old }
+    {
         let mut scratch = self.take_scratch()?;
-        let unit = read_unit(self.alloc, self.cancels, content, &mut scratch);
-        if content.len() <= KEPT_ROOM {
+        let unit = read_unit(self.alloc, self.cancels, text, &mut scratch);
+        if text.len() <= KEPT_ROOM {
             self.scratch = Some(scratch);
         } else {
             drop(scratch);
@@ -96,12 +110,12 @@ impl UnitReader {
 fn read_unit(
     alloc: Global,
     cancels: bool,
-    content: &[u8],
+    text: &str,
     scratch: &mut Scratch,
 ) -> Result<Unit, AllocError>
-    ensures { IfOk result (λ u. u ≡ unit_of cancels false content.now) }
+    ensures { IfOk result (λ u. u ≡ unit_of cancels false text.now) }
 {
-    match read_value(alloc, content, MOST_DEPTH, scratch)? {
+    match read_str(alloc, text, MOST_DEPTH, scratch)? {
         Some(value) => unit_of_value(alloc, cancels, &value),
         None => Ok(Unit::Unreadable),
     }

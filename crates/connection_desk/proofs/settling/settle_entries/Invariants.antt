@@ -2,7 +2,7 @@ use Rattle.std.proofs.Common.{◌≡◌, ◌≤◌, ◌+◌, ◌++◌, length}
 use Rattle.std.specs.Vec.Iter.{into_iter_items}
 use Rattle.connection_history.specs.Stream.{calls_in}
 use Rattle.connection_states.specs.Steps.{own_after_all}
-use Rattle.connection_desk.specs.Inner.{untold_of, room_of, IsOpenEnded, told_along, calls_along}
+use Rattle.connection_desk.specs.Inner.{untold_of, room_of, IsOpenEnded, told_along, calls_along, counted_along}
 use Rattle.connection_desk.proofs.settling.settle_entries.Given as goal
 
 abbrev pub invariant-loop-entry : goal.invariant-loop-entry
@@ -15,5 +15,6 @@ invariant-loop-entry l =
       own : own_after_all rest l.own ≡ own_after_all l.fn.entries.items l.fn.own;
       calls : calls_along l.number rest l.theirs.calls ≡ calls_along l.came l.fn.entries.items l.fn.theirs.calls;
       untold : untold_of l.events ++ told_along l.number l.own l.theirs.calls rest ≡ untold_of l.fn.events ++ told_along l.came l.fn.own l.fn.theirs.calls l.fn.entries.items;
+      tally : counted_along l.number l.own l.theirs.calls rest l.tally ≡ counted_along l.came l.fn.own l.fn.theirs.calls l.fn.entries.items l.fn.tally;
       room : length (told_along l.number l.own l.theirs.calls rest) ≤ room_of l.events;
     }

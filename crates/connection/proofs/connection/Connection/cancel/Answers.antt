@@ -1,10 +1,8 @@
-use Rattle.std.proofs.Common.{◌≡◌, List, None, IfErr, OnOk, subst, ap, ◌∙◌}
+use Rattle.std.proofs.Common.{◌≡◌, None, OnOk, subst, ap, ◌∙◌}
 use Rattle.std.proofs.lemmas.Result.{on_ok_weaker, IfErr-weaker}
 use Rattle.rpc_messages.specs.declared.standard.Standard.TheVariants.{Cancelled}
 use Rattle.connection_messages.specs.declared.answer.Answer.TheVariants.{Standard}
-use Rattle.connection_history.specs.declared.event.Event.{Event}
-use Rattle.connection_history.specs.declared.refused.Refused.{Refused}
-use Rattle.connection_history.specs.History.{History, answered}
+use Rattle.connection_history.specs.History.{answered}
 use Rattle.connection_history.specs.Refusals.{refusal, after, cancel_of}
 use Rattle.connection_desk.specs.Desks.{answer_refused}
 use Rattle.connection.specs.Connections.{Connection, IsRefusal, StandsAfter}

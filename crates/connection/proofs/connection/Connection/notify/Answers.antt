@@ -1,4 +1,4 @@
-use Rattle.std.proofs.Common.{◌≡◌, ◌∷◌, List, subst, sym}
+use Rattle.std.proofs.Common.{◌∷◌, List, subst, sym}
 use Rattle.std.specs.Prelude.{OnOk}
 use Rattle.connection_history.specs.declared.event.Event.{Event}
 use Rattle.connection_history.specs.History.{History, noticed}

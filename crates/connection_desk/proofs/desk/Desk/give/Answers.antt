@@ -29,7 +29,7 @@ invariant_of-self c =
     desk_stays c.self.inside.order change c.let_out.new.owed.owed c.self.inside.is_over c.self.inside.events
     (slots_replaced c.args.place c.args.slot (Some c.args.text.items) c.self.inside.owed.owed c.self.invariant.have_slots)
     c.self.invariant.open_ended
-    (ap (λ (s : OwedState). s.owed) c.let_out.ensures ∙ ap (λ (s : OwedState). staying c.self.inside.order s.owed) c.replace-was.ensures.state)
+    (ap (λ (s : OwedState). s.owed) c.let_out.ensures.owed ∙ ap (λ (s : OwedState). staying c.self.inside.order s.owed) c.replace-was.ensures.state)
 
 pub invariant_of-self-in-Err-1 : goal.invariant_of-self-in-Err-1
 invariant_of-self-in-Err-1 c =
@@ -50,6 +50,6 @@ returns-in-Err-clause-err c =
     ∙ ap (λ (s : OwedState). state_of s.places (changed_at c.args.place (replaced c.args.slot was) s.owed)) c.replace-was.ensures.state
     ∙ ap (λ es. state_of d.owed.places es)
     (changed_back c.args.place c.args.slot (Some c.args.text.items) was d.owed.owed c.first-first.ensures.ascending c.replace-was.ensures.was) in
-    ap (λ s. desk_of d.cancels d.order d.own d.theirs s d.is_over d.events c.write_leaving.new.outbox) back
-    ∙ ap (λ o. desk_of d.cancels d.order d.own d.theirs d.owed d.is_over d.events o) c.in-Err.ensures.err
+    ap (λ s. desk_of d.cancels d.order d.own d.theirs s d.is_over d.events c.write_leaving.new.outbox d.tally) back
+    ∙ ap (λ o. desk_of d.cancels d.order d.own d.theirs d.owed d.is_over d.events o d.tally) c.in-Err.ensures.err
     ∙ c.self.view_is ∙ c.take_room-room.ensures.state

@@ -1,4 +1,4 @@
-use Rattle.std.proofs.Common.{◌≡◌, ◌+◌, ◌++◌, [], suc, length, List, Bool, ap, sym, subst, ◌∙◌, le_trans}
+use Rattle.std.proofs.Common.{◌≡◌, ◌+◌, ◌++◌, [], suc, length, List, Bool, ap, sym, subst, ◌∙◌, le_trans, arith}
 use Rattle.connection_history.specs.declared.event.Event.{Event}
 use Rattle.connection_history.specs.declared.order.Order.{Order}
 use Rattle.connection_history.specs.Stream.{entries_in, calls_in}
@@ -8,11 +8,14 @@ use Rattle.open_calls.specs.Owed.{OwedState, seen_slots}
 use Rattle.open_calls.specs.Theirs.{TheirState}
 use Rattle.open_calls.proofs.Theirs.{state_of}
 use Rattle.outbox.specs.Output.{Output}
-use Rattle.connection_states.specs.States.{is_batch, owed_slots}
+use Rattle.connection_states.specs.States.{State, is_batch, owed_slots}
 use Rattle.connection_states.specs.Steps.{leaving, staying, theirs_after_all, told_of_all, new_unit_slots, own_after_all}
-use Rattle.connection_desk.specs.Desks.{Desk, after_unit, with_texts, answer_texts}
-use Rattle.connection_desk.specs.Inner.{HaveSlots, added_calls, calls_along, told_along, untold_of}
-use Rattle.connection_desk.proofs.Admitted.{below_of, theirs_along, told_same}
+use Rattle.connection_desk.specs.Desks.{Desk, after_unit, with_texts, answer_texts, with_answers, with_counts}
+use Rattle.connection_states.specs.Tallies.{tally_in}
+use Rattle.connection_desk.specs.declared.tally.Tally.{Tally}
+use Rattle.connection_desk.specs.Inner.{HaveSlots, added_calls, calls_along, told_along, untold_of, counted_in}
+use Rattle.connection_desk.proofs.Admitted.{below_of, theirs_along, told_same, unit_counted}
+use Rattle.connection_desk.proofs.Counting.{IsFew}
 use Rattle.connection_desk.proofs.Owing.{have-append, have-owed, have-staying, none-leaving}
 use Rattle.connection_desk.proofs.Owing.{state_of as owed_state}
 use Rattle.connection_desk.proofs.Room.{told_most}
@@ -35,24 +38,29 @@ invariant_of-self-2 c =
       open_ended = λ _. c.settle.ensures.open;
     }
 
-abbrev desk_of : Bool → Order → Bool → OwnState → TheirState → OwedState → List Event → Output → Desk
-desk_of cancels order is_over own theirs owed untold out = record {
+abbrev state : OwnState → TheirState → OwedState → Bool → State
+state own theirs owed is_over = record { own = own; theirs = theirs; owed = owed; is_over = is_over }
+
+abbrev desk_of : Bool → Order → Bool → OwnState → TheirState → OwedState → List Event → Output → Tally → Desk
+desk_of cancels order is_over own theirs owed untold out tally = record {
   cancels = cancels;
   order = order;
   state = record { own = own; theirs = theirs; owed = owed; is_over = is_over };
   untold = untold;
   out = out;
+  tally = tally;
 }
 
-same-desk : (cancels : Bool) (order : Order) (is_over : Bool) (own1 own2 : OwnState) (theirs1 theirs2 : TheirState) (owed1 owed2 : OwedState) (untold1 untold2 : List Event) (out1 out2 : Output)
-    → own1 ≡ own2 → theirs1 ≡ theirs2 → owed1 ≡ owed2 → untold1 ≡ untold2 → out1 ≡ out2
-    → desk_of cancels order is_over own1 theirs1 owed1 untold1 out1 ≡ desk_of cancels order is_over own2 theirs2 owed2 untold2 out2
-same-desk cancels order is_over own1 own2 theirs1 theirs2 owed1 owed2 untold1 untold2 out1 out2 a b d e f =
-    ap (λ x. desk_of cancels order is_over x theirs1 owed1 untold1 out1) a
-    ∙ ap (λ x. desk_of cancels order is_over own2 x owed1 untold1 out1) b
-    ∙ ap (λ x. desk_of cancels order is_over own2 theirs2 x untold1 out1) d
-    ∙ ap (λ x. desk_of cancels order is_over own2 theirs2 owed2 x out1) e
-    ∙ ap (λ x. desk_of cancels order is_over own2 theirs2 owed2 untold2 x) f
+same-desk : (cancels : Bool) (order : Order) (is_over : Bool) (own1 own2 : OwnState) (theirs1 theirs2 : TheirState) (owed1 owed2 : OwedState) (untold1 untold2 : List Event) (out1 out2 : Output) (tally1 tally2 : Tally)
+    → own1 ≡ own2 → theirs1 ≡ theirs2 → owed1 ≡ owed2 → untold1 ≡ untold2 → out1 ≡ out2 → tally1 ≡ tally2
+    → desk_of cancels order is_over own1 theirs1 owed1 untold1 out1 tally1 ≡ desk_of cancels order is_over own2 theirs2 owed2 untold2 out2 tally2
+same-desk cancels order is_over own1 own2 theirs1 theirs2 owed1 owed2 untold1 untold2 out1 out2 tally1 tally2 a b d e f g =
+    ap (λ x. desk_of cancels order is_over x theirs1 owed1 untold1 out1 tally1) a
+    ∙ ap (λ x. desk_of cancels order is_over own2 x owed1 untold1 out1 tally1) b
+    ∙ ap (λ x. desk_of cancels order is_over own2 theirs2 x untold1 out1 tally1) d
+    ∙ ap (λ x. desk_of cancels order is_over own2 theirs2 owed2 x out1 tally1) e
+    ∙ ap (λ x. desk_of cancels order is_over own2 theirs2 owed2 untold2 x tally1) f
+    ∙ ap (λ x. desk_of cancels order is_over own2 theirs2 owed2 untold2 out2 x) g
 
 pub returns-clause-ok : goal.returns-clause-ok
 returns-clause-ok c =
@@ -76,14 +84,25 @@ returns-clause-ok c =
     let owing : d.owed.owed ++ owed_slots d.owed.places c.is_batch-is_batch.result (seen_slots c.in_ok-slots.slots.items) ≡ d.owed.owed ++ owed_slots d.owed.places (is_batch unit) (new_unit_slots unit) =
     ap (λ b. d.owed.owed ++ owed_slots d.owed.places b (seen_slots c.in_ok-slots.slots.items)) c.is_batch-is_batch.ensures
     ∙ ap (λ ss. d.owed.owed ++ owed_slots d.owed.places (is_batch unit) ss) c.in_ok-slots.ensures.slots in
+    let answers = length (leaving d.order (d.owed.owed ++ owed_slots d.owed.places (is_batch unit) (new_unit_slots unit))) in
+    let few : IsFew d.tally = record { requests = omega arith; invalid = omega arith; ignored = omega arith } in
+    let counted : c.settle.new.tally ≡ with_counts (tally_in d.order unit (state d.own d.theirs d.owed d.is_over)) d.tally =
+    c.settle.ensures.tally
+    ∙ ap (λ (s : TheirState). counted_in unit c.came-came.result d.own s.calls c.owe.new.tally) admitted
+    ∙ ap (λ m. counted_in unit m d.own (d.theirs.calls ++ added_calls d.owed.places 0 n es) c.owe.new.tally) c.came-came.ensures.came
+    ∙ ap (counted_in unit n d.own (d.theirs.calls ++ added_calls d.owed.places 0 n es))
+    (c.in_default.ensures.tally ∙ ap (λ owed. with_answers (length (leaving d.order owed)) d.tally) owing)
+    ∙ unit_counted d.owed.places n d.own d.theirs.calls unit answers d.tally under few (omega arith) in
     c.keep_room.ensures
     ∙ same-desk d.cancels d.order d.is_over c.settle.new.own (own_after_all es d.own) c.settle.new.theirs (theirs_after_all d.owed.places 0 es d.theirs)
     c.owe.new.owed (owed_state (d.owed.places + 1) (staying d.order (d.owed.owed ++ owed_slots d.owed.places (is_batch unit) (new_unit_slots unit))))
     (untold_of c.settle.new.events) (untold_of d.events ++ told_of_all d.own d.theirs es)
     c.owe.new.outbox (with_texts (answer_texts (leaving d.order (d.owed.owed ++ owed_slots d.owed.places (is_batch unit) (new_unit_slots unit)))) d.outbox)
+    c.settle.new.tally (with_counts (tally_in d.order unit (state d.own d.theirs d.owed d.is_over)) d.tally)
     c.settle.ensures.own
     theirs
     (c.in_default.ensures.owed ∙ ap (λ owed. owed_state (d.owed.places + 1) (staying d.order owed)) owing)
     (c.settle.ensures.untold ∙ ap (λ xs. xs ++ told_along c.came-came.result d.own c.admit.new.theirs.calls es) c.admit.ensures.untold ∙ ap (λ xs. untold_of d.events ++ xs) told)
     (c.in_default.ensures.outbox ∙ ap (λ owed. with_texts (answer_texts (leaving d.order owed)) d.outbox) owing)
+    counted
     ∙ ap (λ x. after_unit unit x) (c.self.view_is ∙ c.take_room-room.ensures.state)

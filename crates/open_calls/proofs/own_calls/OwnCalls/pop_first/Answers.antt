@@ -1,5 +1,4 @@
-use Rattle.std.proofs.Common.{◌≡◌, ◌∷◌, List, ◌∙◌, ap, sym, subst}
-use Rattle.open_calls.specs.declared.own_call.OwnCall.{OwnCall}
+use Rattle.std.proofs.Common.{◌≡◌, ◌∷◌, ◌∙◌, ap, sym, subst}
 use Rattle.open_calls.specs.Numbered.{without}
 use Rattle.open_calls.specs.Own.{OwnState}
 use Rattle.open_calls.proofs.Numbered.{without_first}

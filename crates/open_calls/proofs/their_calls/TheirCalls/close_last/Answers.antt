@@ -1,4 +1,5 @@
 use Rattle.std.proofs.Common.{◌≡◌, ◌-◌, suc, ◌∙◌, ap, subst, sym, arith}
+use Rattle.open_calls.specs.Rows.{row_entries}
 use Rattle.open_calls.specs.Numbered.{without, Below}
 use Rattle.open_calls.specs.Theirs.{TheirState}
 use Rattle.open_calls.proofs.Numbered.{below_without}
@@ -11,12 +12,12 @@ invariant_of-self c =
     let key = c.self.inside.came in
     let now = c.args.self.now.calls in
     let came : key ≡ c.args.self.now.came = ap (λ (s : TheirState). s.came) c.self.view_is in
-    let before : c.self.inside.calls.entries ≡ now = ap (λ (s : TheirState). s.calls) c.self.view_is in
-    let after : c.self-2.inside.calls.entries ≡ without key now = ap (λ (s : TheirState). s.calls) (c.self-2.view_is ∙ c.close.ensures.state) in
+    let before : row_entries c.self.inside.calls ≡ now = ap (λ (s : TheirState). s.calls) c.self.view_is in
+    let after : row_entries c.self-2.inside.calls ≡ without key now = ap (λ (s : TheirState). s.calls) (c.self-2.view_is ∙ c.close.ensures.state) in
     let last : key ≡ suc (key - 1) = omega (arith, c.requires) in
     record {
-      ascending = c.self-2.invariant.ascending;
-      numbered = subst (λ n. Below n c.self-2.inside.calls.entries) last (subst (λ fs. Below key fs) (sym after)
+      row = c.self-2.invariant.row;
+      numbered = subst (λ n. Below n (row_entries c.self-2.inside.calls)) last (subst (λ fs. Below key fs) (sym after)
           (below_without key now (subst (λ fs. Below (suc key) fs) before c.self.invariant.numbered)));
       by_id = c.self-2.invariant.by_id;
     }
@@ -25,7 +26,7 @@ pub returns : goal.returns
 returns c =
     let key = c.self.inside.came in
     let now = c.args.self.now.calls in
-    let before : c.self.inside.calls.entries ≡ now = ap (λ (s : TheirState). s.calls) c.self.view_is in
-    let after : c.self-2.inside.calls.entries ≡ without key now = ap (λ (s : TheirState). s.calls) (c.self-2.view_is ∙ c.close.ensures.state) in
+    let before : row_entries c.self.inside.calls ≡ now = ap (λ (s : TheirState). s.calls) c.self.view_is in
+    let after : row_entries c.self-2.inside.calls ≡ without key now = ap (λ (s : TheirState). s.calls) (c.self-2.view_is ∙ c.close.ensures.state) in
     through (λ s. state_of (s.came - 1) (without s.came s.calls)) _ _ c.args.self.now c.self.view_is
-    (same_calls (key - 1) c.self-2.inside.calls.entries (without key c.self.inside.calls.entries) (after ∙ ap (without key) (sym before)))
+    (same_calls (key - 1) (row_entries c.self-2.inside.calls) (without key (row_entries c.self.inside.calls)) (after ∙ ap (without key) (sym before)))

@@ -1,0 +1,115 @@
+"""The tables of a host, whose methods are its own code: loads in bulk and round trips, by `connection_bench host` and by the baseline's host, each
+on one thread; and how often each asks for memory for one small request."""
+import os
+import sys
+from typing import List
+
+from measures.behind import Behind
+from measures.contenders import BASELINE, TOP, Contender
+from measures.inputs import Entry, add, batch, frame, frames, hundreds, request
+from measures.loads import FIRST, Load, Round, added, load, numbers, result, text_of
+from measures.serving import Row, show_bulks, show_trips_of
+
+sys.path.insert(0, os.path.join(TOP, "checks"))
+
+from support import refusals  # noqa: E402 (it stands in checks/)
+
+# Requests for memory are counted of the second of so many requests.
+COUNTED = 1_000
+
+
+def ask(number: int, param: bytes = b'"x"') -> bytes:
+    return b'{"jsonrpc":"2.0","method":"ask","params":[%s],"id":%d}' % (param, number)
+
+
+def confirm(number: int, param: bytes = b'"x"') -> bytes:
+    """The call on behalf of a request. The first request makes none, so its key is one less than the request's id."""
+    return b'{"id":%d,"jsonrpc":"2.0","method":"confirm","params":[%s]}' % (number - 1, param)
+
+
+def reply(number: int, value: bytes = b"true") -> bytes:
+    return b'{"jsonrpc":"2.0","id":%d,"result":%s}' % (number - 1, value)
+
+
+def requests(count: int) -> Load:
+    return load([Round(frames(add, numbers(count)), count)], 1, [], [*map(added, numbers(count))])
+
+
+def array(entry: Entry, some: range) -> bytes:
+    return b"[" + b",".join(map(entry, some)) + b"]"
+
+
+def batches(count: int) -> Load:
+    """All requests at once, in batches of 100."""
+    hundred = [range(it.start + FIRST - 1, it.stop + FIRST - 1) for it in hundreds(count)]
+    sent = b"".join(batch(add, it) for it in hundred)
+    return load([Round(sent, len(hundred))], 1, [], [array(added, it) for it in hundred])
+
+
+def open_calls(count: int) -> Load:
+    """All requests at once; when all their calls are there, all replies, the last first. Each answer goes out at once."""
+    asked = Round(frames(ask, numbers(count)), count)
+    replied = Round(frames(reply, reversed(numbers(count))), count)
+    return load([asked, replied], 2, [*map(confirm, numbers(count))], [*map(result, reversed(numbers(count)))])
+
+
+def pings(count: int) -> Load:
+    return load([Round(frame(add(it)), 1) for it in numbers(count)], 1, [], [*map(added, numbers(count))])
+
+
+def calls_back(count: int) -> Load:
+    rounds = [Round(frame(it), 1) for number in numbers(count) for it in (ask(number), reply(number))]
+    return load(rounds, 2, [*map(confirm, numbers(count))], [*map(result, numbers(count))])
+
+
+def long_param(length: int) -> Load:
+    """One call back with a long param, which comes back in its reply."""
+    text = text_of(length)
+    rounds = [Round(frame(ask(FIRST, text)), 1), Round(frame(reply(FIRST, text)), 1)]
+    return load(rounds, 2, [confirm(FIRST, text)], [result(FIRST, text)])
+
+
+KEPT = "what came and what is said are texts of their own, and each call has a place until it is answered"
+TEXTS = "what came and what is said are texts of their own, each read and written compactly; the baseline's are one value"
+BULKS = (
+    Row("requests", requests, 200_000, KEPT),
+    Row("batches of 100", batches, 200_000, KEPT),
+    Row("open calls", open_calls, 20_000, KEPT),
+)
+TRIPS = (
+    Row("a request", pings, 5_000, KEPT),
+    Row("a call back", calls_back, 5_000, KEPT),
+    Row("a param of 8 MB", long_param, 8_000_000, TEXTS),
+)
+SMALL = {"a small request": add(1), "an unknown method": request(1), "a notification": b'{"jsonrpc":"2.0","method":"note"}'}
+
+
+def hosts(program: str) -> List[Contender]:
+    return [Contender("baseline", (BASELINE, "host")), Contender("ours", (program, "host"))]
+
+
+def requests_for_memory(host: Contender, entry: bytes) -> float:
+    """How often a host asks for memory for an entry, once it has taken many of them."""
+    made = []
+    for count in (COUNTED, 2 * COUNTED):
+        status, *_, number = refusals.counted([*host.words], frame(entry) * count)
+        if status:
+            sys.exit(f"bench/run: {host.label} ends with the status {status}")
+        made.append(number)
+    return (made[1] - made[0]) / COUNTED
+
+
+def memory_table(contenders: List[Contender]) -> None:
+    print(f"{'requests for memory':20} {'program':17} {'of each':>10}")
+    for name, entry in SMALL.items():
+        for host in contenders:
+            print(f"{name:20} {host.label:17} {requests_for_memory(host, entry):>10.2f}", flush=True)
+
+
+def table(program: str, small: int, runs: int, behind: Behind) -> None:
+    contenders = hosts(program)
+    show_bulks(BULKS, "sent at once", contenders, small, runs, behind)
+    print()
+    show_trips_of(TRIPS, "there and back", contenders, small, runs, behind)
+    print()
+    memory_table(contenders)

@@ -1,0 +1,151 @@
+//! The calls of `bullmyrtle.h`, as C has them. `checks/rust_crate.py` compares these declarations with the header.
+use std::ffi::c_void;
+
+pub const BM_INTERFACE: u32 = 1;
+
+pub const BM_OK: i32 = 0;
+pub const BM_NO_MEMORY: i32 = 1;
+pub const BM_NOT_OPEN: i32 = 2;
+pub const BM_NOT_WAITING: i32 = 3;
+pub const BM_OVER: i32 = 4;
+pub const BM_NOT_JSON: i32 = 5;
+pub const BM_NOT_TEXT: i32 = 6;
+pub const BM_SMALL: i32 = 7;
+pub const BM_SETTINGS: i32 = 8;
+pub const BM_EMPTY: i32 = 9;
+pub const BM_FULL: i32 = 10;
+
+pub const BM_FRAMES: u32 = 0;
+pub const BM_LINES: u32 = 1;
+pub const BM_CONTENTS: u32 = 2;
+
+pub const BM_AS_ANSWERED: u32 = 0;
+pub const BM_AS_CAME: u32 = 1;
+
+pub const BM_CLOSED: u32 = 0;
+pub const BM_READ_FAILED: u32 = 1;
+
+pub const BM_NONE: u32 = 0;
+pub const BM_CALL: u32 = 1;
+pub const BM_CANCELLED: u32 = 2;
+pub const BM_REPLIED: u32 = 3;
+pub const BM_UNANSWERED: u32 = 4;
+pub const BM_INPUT_OVER: u32 = 5;
+
+pub const BM_REQUEST: u32 = 1;
+pub const BM_ERROR: u32 = 1;
+
+pub const BM_OVER_CLEAN: u32 = 0;
+pub const BM_OVER_BAD_HEAD: u32 = 1;
+pub const BM_OVER_BAD_LENGTH: u32 = 2;
+pub const BM_OVER_TWO_LENGTHS: u32 = 3;
+pub const BM_OVER_TOO_LARGE: u32 = 4;
+pub const BM_OVER_NO_LENGTH: u32 = 5;
+pub const BM_OVER_HEAD_TOO_LONG: u32 = 6;
+pub const BM_OVER_TRUNCATED: u32 = 7;
+pub const BM_OVER_READ: u32 = 8;
+pub const BM_OVER_CALLS: u32 = 9;
+
+#[repr(C)]
+#[derive(Clone, Copy, Debug, Default)]
+pub struct bm_settings {
+    pub framing: u32,
+    pub order: u32,
+    pub takes_cancels: u32,
+    pub content: u32,
+    pub calls: u64,
+}
+
+/// A copy is the same connection.
+#[repr(C)]
+#[derive(Clone, Copy)]
+pub struct bm_connection {
+    pub at: *mut c_void,
+}
+
+#[repr(C)]
+#[derive(Clone, Copy, Debug, Default)]
+pub struct bm_event {
+    pub kind: u32,
+    pub flags: u32,
+    pub number: u64,
+    pub key: u64,
+    pub code: i64,
+    pub name_len: usize,
+    pub text_len: usize,
+    pub id_len: usize,
+}
+
+#[repr(C)]
+#[derive(Clone, Copy, Debug, Default)]
+pub struct bm_report {
+    pub calls: u64,
+    pub requests: u64,
+    pub open: u64,
+    pub waiting: u64,
+    pub own_calls: u64,
+    pub answers_written: u64,
+    pub unreadable: u64,
+    pub invalid: u64,
+    pub ignored: u64,
+}
+
+extern "C" {
+    pub fn bm_interface() -> u32;
+    pub fn bm_new(settings: *const bm_settings, at: *mut *mut c_void) -> i32;
+    pub fn bm_free(connection: bm_connection);
+    pub fn bm_feed(connection: *mut bm_connection, bytes: *const u8, length: usize) -> i32;
+    pub fn bm_end(connection: *mut bm_connection, how: u32) -> i32;
+    pub fn bm_next(connection: *mut bm_connection, event: *mut bm_event, room: *mut u8, length: usize) -> i32;
+    pub fn bm_next_all(
+        connection: *mut bm_connection,
+        room: *mut u8,
+        length: usize,
+        used: *mut usize,
+        count: *mut u32,
+    ) -> i32;
+    pub fn bm_call(
+        connection: *mut bm_connection,
+        number: u64,
+        method: *const u8,
+        method_length: usize,
+        params: *const u8,
+        params_length: usize,
+        key: *mut u64,
+    ) -> i32;
+    pub fn bm_call_batch(
+        connection: *mut bm_connection,
+        number: u64,
+        bytes: *const u8,
+        length: usize,
+        lengths: *const usize,
+        lengths_count: usize,
+        first: *mut u64,
+    ) -> i32;
+    pub fn bm_notify(
+        connection: *mut bm_connection,
+        method: *const u8,
+        method_length: usize,
+        params: *const u8,
+        params_length: usize,
+    ) -> i32;
+    pub fn bm_withdraw(connection: *mut bm_connection, key: u64) -> i32;
+    pub fn bm_answer(connection: *mut bm_connection, number: u64, result: *const u8, length: usize) -> i32;
+    pub fn bm_fail(
+        connection: *mut bm_connection,
+        number: u64,
+        code: i64,
+        message: *const u8,
+        message_length: usize,
+        data: *const u8,
+        data_length: usize,
+    ) -> i32;
+    pub fn bm_cancel(connection: *mut bm_connection, number: u64) -> i32;
+    pub fn bm_pending(connection: *mut bm_connection) -> usize;
+    pub fn bm_take(connection: *mut bm_connection, room: *mut u8, length: usize) -> usize;
+    pub fn bm_is_done(connection: *mut bm_connection) -> bool;
+    pub fn bm_counts(connection: *mut bm_connection, report: *mut bm_report);
+}
+
+#[cfg(test)]
+mod tests;

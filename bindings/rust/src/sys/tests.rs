@@ -1,0 +1,106 @@
+//! The declarations beside the header that lies with the library: constants, and how the structs lie.
+use super::*;
+use std::collections::BTreeMap;
+use std::mem::{align_of, size_of, size_of_val};
+
+/// A field's name, its place and its size.
+type Field = (String, usize, usize);
+
+fn header() -> String {
+    let text = std::fs::read_to_string(env!("BULLMYRTLE_HEADER")).expect("the header lies beside the library");
+    let mut bare = String::new();
+    let mut rest = text.as_str();
+    while let Some((code, comment)) = rest.split_once("/*") {
+        bare += code;
+        rest = comment.split_once("*/").expect("a comment ends").1;
+    }
+    bare + rest
+}
+
+/// The names of the header's enumerations, with their values.
+fn constants() -> BTreeMap<String, i64> {
+    let text = header();
+    let mut found = BTreeMap::new();
+    for body in text.split("enum {").skip(1) {
+        let mut next = 0;
+        for word in
+            body.split('}').next().expect("an enumeration").split(',').map(str::trim).filter(|it| !it.is_empty())
+        {
+            let (name, value) =
+                word.split_once(" = ").map_or((word, next), |it| (it.0, it.1.parse().expect("a number")));
+            found.insert(name.to_string(), value);
+            next = value + 1;
+        }
+    }
+    let version = text.lines().find_map(|it| it.strip_prefix("#define BM_INTERFACE ")).expect("the version");
+    found.insert("BM_INTERFACE".into(), version.parse().expect("a number"));
+    found
+}
+
+/// How C lays a struct of the header out, since each field is a number and lies at a multiple of its size.
+fn laid_out_in_c(name: &str) -> (Vec<Field>, usize) {
+    let text = header();
+    let body = text.split("typedef struct {").find(|it| it.contains(&format!("}} {name};"))).expect("the struct");
+    let (mut fields, mut end, mut widest) = (Vec::new(), 0_usize, 1);
+    for line in body.split('}').next().expect("its fields").split(';').map(str::trim).filter(|it| !it.is_empty()) {
+        let (kind, field) = line.split_once(' ').expect("a type and a name");
+        let size = match kind {
+            "uint32_t" => 4,
+            "uint64_t" | "int64_t" | "size_t" => 8,
+            _ => panic!("{kind}"),
+        };
+        let place = (end + size - 1) / size * size;
+        fields.push((field.to_string(), place, size));
+        end = place + size;
+        widest = widest.max(size);
+    }
+    (fields, (end + widest - 1) / widest * widest)
+}
+
+macro_rules! assert_laid_out {
+    ($kind:ident: $($field:ident)*) => {{
+        let it = $kind::default();
+        let start = std::ptr::addr_of!(it) as usize;
+        let fields = vec![$((
+            stringify!($field).to_string(),
+            std::ptr::addr_of!(it.$field) as usize - start,
+            size_of_val(&it.$field),
+        )),*];
+        assert_eq!((fields, size_of::<$kind>()), laid_out_in_c(stringify!($kind)));
+        assert_eq!(align_of::<$kind>(), 8);
+    }};
+}
+
+#[test]
+fn structs_lie_as_in_the_header() {
+    assert_laid_out!(bm_settings: framing order takes_cancels content calls);
+    assert_laid_out!(bm_event: kind flags number key code name_len text_len id_len);
+    assert_laid_out!(bm_report: calls requests open waiting own_calls answers_written unreadable invalid ignored);
+    assert_eq!(size_of::<bm_connection>(), size_of::<*mut c_void>());
+}
+
+macro_rules! named {
+    ($($name:ident)*) => { BTreeMap::from([$((stringify!($name).to_string(), i64::from($name))),*]) };
+}
+
+#[test]
+fn constants_are_those_of_the_header() {
+    let ours = named!(
+        BM_INTERFACE
+        BM_OK BM_NO_MEMORY BM_NOT_OPEN BM_NOT_WAITING BM_OVER BM_NOT_JSON BM_NOT_TEXT BM_SMALL BM_SETTINGS BM_EMPTY
+        BM_FULL
+        BM_FRAMES BM_LINES BM_CONTENTS
+        BM_AS_ANSWERED BM_AS_CAME
+        BM_CLOSED BM_READ_FAILED
+        BM_NONE BM_CALL BM_CANCELLED BM_REPLIED BM_UNANSWERED BM_INPUT_OVER
+        BM_REQUEST BM_ERROR
+        BM_OVER_CLEAN BM_OVER_BAD_HEAD BM_OVER_BAD_LENGTH BM_OVER_TWO_LENGTHS BM_OVER_TOO_LARGE BM_OVER_NO_LENGTH
+        BM_OVER_HEAD_TOO_LONG BM_OVER_TRUNCATED BM_OVER_READ BM_OVER_CALLS
+    );
+    assert_eq!(ours, constants());
+}
+
+#[test]
+fn the_library_has_the_interface_of_the_header() {
+    assert_eq!(unsafe { bm_interface() }, BM_INTERFACE);
+}

@@ -1,0 +1,113 @@
+"""usage: python3 checks/c_library_memory.py [--library FOLDER] [--cases N]      watches N random sessions, 150 where none are named
+
+What the C library does with memory. Two million calls come to a connection, and the most memory that is resident is the same as after the
+first 100,000; where a host closes no notification it is seen to grow. Under valgrind, where it is installed, rows, random sessions and all
+examples have no error and lose nothing. The same by AddressSanitizer, where clang has it."""
+import argparse
+import os
+import re
+import shutil
+import sys
+import tempfile
+from typing import Iterable
+
+from support import connection_fuzzing as fuzzing
+from support import connection_rows as rows
+from support import connection_script as script
+from support import hosts, playing_scripts, ran
+from support.c_programs import C99, EXAMPLES, PLAYER, PLAYER_NEEDS, SUPPORT, VALGRIND, build, default_library, is_whole, lacks_cjson, said, watched
+
+CALLS, FEW_CALLS = 2_000_000, 200_000
+# So many KiB more may be resident in the end, since the system counts pages by dozens: that is less than a byte a call. A host that forgets
+# to close notifications has to take so many more.
+FLAT, GROWN = 512, 2_000
+SESSIONS, FEW = 150, 25
+SANITIZED = ["clang", "-std=c99", "-D_POSIX_C_SOURCE=200809L", "-O1", "-g", "-fsanitize=address,undefined", "-fno-sanitize-recover=all"]
+
+
+def words_of(words: Iterable[str]) -> argparse.Namespace:
+    parser = argparse.ArgumentParser(usage=__doc__.partition("\n\n")[0].removeprefix("usage: "))
+    parser.add_argument("--library", default=default_library())
+    parser.add_argument("--cases", type=int, default=SESSIONS)
+    return parser.parse_args([*words])
+
+
+def check_steady(count: ran.Count, library: str, room: str) -> None:
+    program = build(count, library, room, f"{SUPPORT}/steady_memory.c", "static")
+    got = said([program, str(CALLS)])
+    early, late = map(int, got[1].split()) if got[0] == 0 else (0, 1 << 60)
+    print(f"{CALLS:,} calls: {early:,} KiB after the first {CALLS // 20:,}, {late:,} KiB in the end", flush=True)
+    count.check("memory stays where it is", 0 < early and late <= early + FLAT, f"{got}")
+    got = said([program, str(FEW_CALLS), "forget"])
+    early, late = map(int, got[1].split()) if got[0] == 0 else (0, 0)
+    count.check("a host that closes no notification grows", late > early + GROWN, f"{got}")
+
+
+def sessions(cases: int) -> list[rows.Row]:
+    """Random sessions."""
+    trials = [fuzzing.made(2, it)[0] for it in range(1, cases + 1)]
+    return playing_scripts.joined([rows.Row(it.name, it.actions, it.wanted) for it in trials])
+
+
+def check_examples(count: ran.Count, library: str, room: str, kind: str, watch: list[str], words: list[str]) -> None:
+    """The host, the client and the language server, built and watched in some way."""
+    host = [*watch, build(count, library, room, f"{EXAMPLES}/host.c", "static", words=words)]
+    client = [*watch, build(count, library, room, f"{EXAMPLES}/client.c", "static", words=words)]
+    got = said(host, hosts.HOST[0])
+    count.check(f"the host, {kind}", got == (0, hosts.HOST[1], b""), f"{got}"[-1500:])
+    for given, wanted in hosts.CLIENT:
+        got = said([*client, *given, *host])
+        count.check(f"the client, {kind}", got == (*wanted, b""), f"{got}"[-1500:])
+    if not lacks_cjson():
+        server = [*watch, build(count, library, room, f"{EXAMPLES}/language_server.c", "static", ["-lcjson"], words)]
+        for name, it in hosts.GREETER.items():
+            got = said(server, hosts.framed(*it.says))
+            count.check(f"the language server, {kind}: {name}", got == (it.status, hosts.framed(*it.answers), b""), f"{got}"[-1500:])
+
+
+def check_by_valgrind(count: ran.Count, library: str, room: str, cases: int) -> None:
+    if shutil.which("valgrind") is None:
+        print("SKIPPED: valgrind, which isn't here", flush=True)
+        return
+    player = build(count, library, room, PLAYER, "static", PLAYER_NEEDS)
+    playing_scripts.check(count, [*VALGRIND, player], "valgrind", playing_scripts.short_rows())
+    playing_scripts.check(count, [*VALGRIND, player], "valgrind", sessions(cases))
+    packer = build(count, library, room, f"{SUPPORT}/pack_events.c", "static", ["-std=c11"])
+    watched(count, "packed events", [packer], rows.EVENTS)
+    check_examples(count, library, room, "valgrind", VALGRIND, C99)
+    summary = said(["valgrind", "--leak-check=full", player], script.written(sessions(FEW)[0].actions).encode())[2].decode()
+    for line in re.findall(r"==\d+== +((?:total heap usage|ERROR SUMMARY|All heap blocks).*)", summary):
+        print(f"valgrind over {FEW} sessions, each cut twice: {line}", flush=True)
+
+
+def check_by_sanitizer(count: ran.Count, library: str, room: str, cases: int) -> None:
+    alone = b"int main(void) { return 0; }\n"
+    if shutil.which("clang") is None or said([*SANITIZED, "-x", "c", "-", "-o", f"{room}/alone"], alone)[0]:
+        print("SKIPPED: AddressSanitizer, which clang hasn't here (libclang-rt-14-dev)", flush=True)
+        return
+    player = build(count, library, room, PLAYER, "static", PLAYER_NEEDS, SANITIZED)
+    playing_scripts.check(count, [player], "AddressSanitizer", rows.all_rows())
+    playing_scripts.check(count, [player], "AddressSanitizer", sessions(cases))
+    for file, given, more in ((f"{SUPPORT}/pack_events.c", rows.EVENTS, ["-std=c11"]), (f"{SUPPORT}/bad_use.c", b"", [])):
+        got = said([build(count, library, room, file, "static", more, SANITIZED)], given)
+        count.check(f"{os.path.basename(file)}, AddressSanitizer", got[0] == 0 and not got[2], f"{got}"[-1500:])
+    check_examples(count, library, room, "AddressSanitizer", [], SANITIZED)
+
+
+def main(words: list[str]) -> None:
+    options, count = words_of(words), ran.Count()
+    library = os.path.abspath(options.library)
+    if ran.lacks("cc", "it compiles the hosts"):
+        count.end()
+    if not is_whole(library):
+        print(f"SKIPPED: there is no library in {library}: bin/build-library builds it", flush=True)
+        count.end()
+    for check in (check_by_valgrind, check_by_sanitizer):
+        with tempfile.TemporaryDirectory(prefix="c-library-") as room:
+            check(count, library, room, options.cases)
+    with tempfile.TemporaryDirectory(prefix="c-library-") as room:
+        check_steady(count, library, room)
+    count.end()
+
+
+main(sys.argv[1:])

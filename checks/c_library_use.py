@@ -1,0 +1,140 @@
+"""usage: python3 checks/c_library_use.py [--library FOLDER]
+
+The C library as hosts use it, rightly and wrongly. What is refused: each code for each call that gives it, with nothing changed by it, which a
+second connection shows that goes the same way without it; lengths of 0, rooms that are too small, texts that aren't UTF-8, impossible settings.
+Each request for memory is refused in turn, alone and with those behind it: the call has changed nothing, and made again it goes on, so that
+scripts and packed events give what they do otherwise. Eight threads with a connection each write the same bytes as one connection alone."""
+import argparse
+import os
+import re
+import shutil
+import sys
+import tempfile
+from collections import Counter
+from typing import Iterable
+
+from support import connection_fuzzing as fuzzing
+from support import connection_rows as rows
+from support import connection_script as script
+from support import playing_scripts, ran
+from support.c_programs import C99, PLAYER, PLAYER_NEEDS, SUPPORT, build, default_library, is_whole, said, watched
+
+# The calls that need memory.
+NEED_MEMORY = {
+    *("bm_new", "bm_feed", "bm_next", "bm_next_all", "bm_call", "bm_call_batch", "bm_notify", "bm_withdraw", "bm_answer", "bm_fail", "bm_cancel"),
+}
+# The calls by whose names requests are refused, as refuse_calls.c has them.
+WRAPPED = re.compile(r"__wrap_(\w+)\(")
+# The codes that hosts meet: all but BM_OK, BM_NO_MEMORY and BM_FULL.
+CODES = range(2, 10)
+WAYS = ("REFUSE_NTH", "REFUSE_FROM")
+# (a script's requests are few hundreds; those of packed events are so many that one in STEP is tried)
+MOST, STEP = 1_000_000, 997
+# So many random sessions are tried too.
+SESSIONS = 4
+# (the longest scripts are left out)
+LONGEST = 20_000
+THREADS, REQUESTS, WATCHED_REQUESTS = 8, 2_000, 50
+
+
+def words_of(words: Iterable[str]) -> argparse.Namespace:
+    parser = argparse.ArgumentParser(usage=__doc__.partition("\n\n")[0].removeprefix("usage: "))
+    parser.add_argument("--library", default=default_library())
+    return parser.parse_args([*words])
+
+
+def check_refusals(count: ran.Count, library: str, room: str) -> None:
+    for way in ("shared", "static"):
+        program = build(count, library, room, f"{SUPPORT}/bad_use.c", way)
+        got = said([program])
+        count.check(f"what hosts do wrong is refused, {way}", got[0] == 0 and not got[2], f"{got}")
+        told = dict(map(int, it) for it in re.findall(r"^code (\d+): (\d+) refusals$", got[1].decode(), re.M))
+        for code in CODES:
+            count.check(f"the code {code} is given, {way}", told.get(code, 0) > 0, f"{told}")
+    watched(count, "what hosts do wrong", [program])
+
+
+class Refusing:
+    """A program around whose calls of the library requests for memory are refused."""
+
+    def __init__(self, count: ran.Count, library: str, room: str, file: str, more: Iterable[str]):
+        self.count, self.runs = count, 0
+        # How often each call gave BM_NO_MEMORY, and how many requests were refused.
+        self.told = Counter[str]()
+        with open(f"{SUPPORT}/refuse_calls.c", encoding="ascii") as it:
+            names = sorted({*WRAPPED.findall(it.read())})
+        wraps = [f"-Wl,--wrap={it}" for it in names]
+        self.program = build(count, library, room, file, "static", [*more, *wraps], [*C99, f"{SUPPORT}/refuse_calls.c"])
+
+    def run(self, given: bytes, how: str, number: int) -> tuple[tuple[int, bytes, bytes], int]:
+        """A run's status and its two outputs, and how many requests were refused."""
+        with tempfile.TemporaryFile() as told:
+            env = {**os.environ, how: str(number), "REFUSE_TELL": str(told.fileno())}
+            got = said([self.program], given, env=env, pass_fds=[told.fileno()])
+            told.seek(0)
+            lines = Counter(told.read().decode().split())
+        self.runs += 1
+        self.told += lines
+        return got, lines["refused"]
+
+    def each(self, name: str, given: bytes, wanted: bytes, ways: Iterable[str] = WAYS, step: int = 1) -> None:
+        """Refuses each request in turn, until a run meets no refusal."""
+        for how in ways:
+            for number in range(1, MOST, step):
+                got, refused = self.run(given, how, number)
+                well = got == (0, wanted, b"")
+                if not well:
+                    self.count.check(f"{name}, {how} {number}", False, f"{got}"[:1500])
+                if not refused or not well:
+                    break
+            else:
+                self.count.check(f"{name}, {how}", False, "no run met no refusal")
+            self.count.check(f"{name}, {how}: made again, all goes on", well)
+
+
+def check_memory(count: ran.Count, library: str, room: str) -> None:
+    refusing = Refusing(count, library, room, PLAYER, PLAYER_NEEDS)
+    playing_scripts.check(count, [refusing.program], "nothing refused", rows.all_rows()[:3])
+    trials = [fuzzing.made(1, number)[0] for number in range(1, SESSIONS + 1)]
+    for it in [*rows.all_rows(), *(rows.Row(it.name, it.actions, it.wanted) for it in trials)]:
+        given, wanted = script.written(it.actions).encode(), "".join(f"{line}\n" for line in it.gives).encode()
+        if len(given) <= LONGEST:
+            refusing.each(it.name, given, wanted)
+    packing = Refusing(count, library, room, f"{SUPPORT}/pack_events.c", ["-std=c11", *PLAYER_NEEDS])
+    packing.each("packed events", rows.EVENTS, b"7 events\n", WAYS[:1], STEP)
+    runs, told = refusing.runs + packing.runs, refusing.told + packing.told
+    print(f"{runs:,} runs, each with another request for memory refused; {told.total() - told['refused']:,} calls gave BM_NO_MEMORY", flush=True)
+    for name in sorted(NEED_MEMORY):
+        count.check(f"{name} is refused memory, and goes on", told[name] > 0, f"{told}")
+    count.check("no other call is refused memory", {*told} == {*NEED_MEMORY, "refused"}, f"{told}")
+
+
+def check_threads(count: ran.Count, library: str, room: str) -> None:
+    for way in ("shared", "static"):
+        program = build(count, library, room, f"{SUPPORT}/many_threads.c", way, ["-pthread"])
+        alone, many = said([program, "1", str(REQUESTS)]), said([program, str(THREADS), str(REQUESTS)])
+        well = alone == many and many[0] == 0 and many[1].count(b"\n") == 3 * REQUESTS
+        count.check(f"{THREADS} threads write the same bytes, {way}", well, f"{many[0]}, {len(many[1])} bytes, {many[2]!r}")
+        other = said([program, str(THREADS), "20", "another byte"])
+        count.check(f"another byte is seen, {way}", other[0] == 1 and b"other bytes" in other[2], f"{other}")
+    watched(count, "threads", [program, str(THREADS), str(WATCHED_REQUESTS)])
+    if shutil.which("valgrind"):
+        got = said(["valgrind", "-q", "--tool=helgrind", "--error-exitcode=9", program, str(THREADS), str(WATCHED_REQUESTS)])
+        count.check("threads share nothing, by helgrind", got[0] == 0 and not got[2], f"{got}"[-1500:])
+
+
+def main(words: list[str]) -> None:
+    library, count = os.path.abspath(words_of(words).library), ran.Count()
+    if ran.lacks("cc", "it compiles the hosts"):
+        count.end()
+    if not is_whole(library):
+        print(f"SKIPPED: there is no library in {library}: bin/build-library builds it", flush=True)
+        count.end()
+    with tempfile.TemporaryDirectory(prefix="c-library-") as room:
+        check_refusals(count, library, room)
+        check_threads(count, library, room)
+        check_memory(count, library, room)
+    count.end()
+
+
+main(sys.argv[1:])

@@ -1,0 +1,362 @@
+/* What a host may do wrong and the library refuses: each code but BM_NO_MEMORY (refuse_calls.c) and BM_FULL (2^53
+ * calls are too many to make). A connection on which nothing is refused goes the same way beside the one that is
+ * tried: after each refusal both look alike, nothing that was passed has been written to, and in the end both told
+ * and wrote the same. */
+#include "bullmyrtle.h"
+
+#include <stdio.h>
+#include <stdlib.h>
+#include <string.h>
+
+#define TEXT(text) (const uint8_t *)(text), sizeof(text) - 1
+#define NONE (const uint8_t *)"", 0
+
+static unsigned long refusals[BM_FULL + 1];
+
+static void check(bool is_so, int line, const char *what)
+{
+    if (!is_so) {
+        fprintf(stderr, "bad_use.c, line %d: %s\n", line, what);
+        exit(1);
+    }
+}
+
+/* ---- two connections */
+
+static bm_connection tried, twin;
+
+/* Makes a call on both, which has to succeed. */
+#define BOTH(name, ...)                                                                                                \
+    do {                                                                                                               \
+        check(name(&tried, __VA_ARGS__) == BM_OK, __LINE__, #name);                                                    \
+        check(name(&twin, __VA_ARGS__) == BM_OK, __LINE__, #name);                                                     \
+    } while (0)
+
+static void look_alike(int line)
+{
+    bm_report one, two;
+    bm_counts(&tried, &one);
+    bm_counts(&twin, &two);
+    check(!memcmp(&one, &two, sizeof one), line, "a refused call has changed the counts");
+    check(bm_pending(&tried) == bm_pending(&twin), line, "a refused call has changed what is to be written");
+    check(bm_is_done(&tried) == bm_is_done(&twin), line, "a refused call has changed whether all is done");
+}
+
+static void refused(int32_t wanted, int32_t got, int line)
+{
+    if (got != wanted) {
+        fprintf(stderr, "bad_use.c, line %d: the code is %d, and not %d\n", line, got, wanted);
+        exit(1);
+    }
+    refusals[wanted]++;
+    look_alike(line);
+}
+
+/* Makes a call on the one that is tried, which has to be refused. */
+#define REFUSED(wanted, name, ...) refused(wanted, name(&tried, __VA_ARGS__), __LINE__)
+
+static void begin(uint32_t framing, uint32_t takes_cancels, uint32_t content)
+{
+    bm_settings settings = {.framing = framing, .takes_cancels = takes_cancels, .content = content};
+    check(bm_new(&settings, &tried.at) == BM_OK && bm_new(&settings, &twin.at) == BM_OK, __LINE__, "bm_new");
+}
+
+static size_t next(bm_connection *connection, bm_event *event, uint8_t *room, size_t size)
+{
+    check(bm_next(connection, event, room, size) == BM_OK, __LINE__, "bm_next");
+    return event->kind == BM_NONE ? 0 : event->name_len + event->text_len + event->id_len + 3;
+}
+
+/* Has both tell their next event, which has to be the same, and gives its kind. */
+static uint32_t next_of_both(void)
+{
+    static uint8_t ours[4096], its[4096];
+    bm_event one, two;
+    size_t length = next(&tried, &one, ours, sizeof ours);
+    check(next(&twin, &two, its, sizeof its) == length, __LINE__, "another event");
+    check(!memcmp(&one, &two, sizeof one) && !memcmp(ours, its, length), __LINE__, "another event");
+    return one.kind;
+}
+
+static void tell(uint32_t kind)
+{
+    check(next_of_both() == kind, __LINE__, "an event of another kind");
+}
+
+/* Takes what both have written, which has to be the same, and frees them. */
+static void end_both(void)
+{
+    static uint8_t ours[1 << 16], its[1 << 16];
+    while (next_of_both() != BM_NONE) {
+    }
+    size_t count;
+    while ((count = bm_take(&tried, ours, sizeof ours))) {
+        check(bm_take(&twin, its, sizeof its) == count, __LINE__, "another output");
+        check(!memcmp(ours, its, count), __LINE__, "another output");
+    }
+    check(!bm_take(&twin, its, sizeof its), __LINE__, "another output");
+    bm_free(tried);
+    bm_free(twin);
+}
+
+/* ---- what is refused */
+
+static void settings(void)
+{
+    static const bm_settings wrong[] = {
+        {.framing = 3},
+        {.framing = UINT32_MAX},
+        {.order = 2},
+        {.takes_cancels = 2},
+        {.content = (1 << 24) + 1},
+        {.content = UINT32_MAX},
+        {.framing = 3, .order = 2, .takes_cancels = 2, .content = UINT32_MAX, .calls = UINT64_MAX},
+    };
+    static char untouched;
+    for (size_t i = 0; i < sizeof wrong / sizeof *wrong; i++) {
+        void *at = &untouched;
+        check(bm_new(&wrong[i], &at) == BM_SETTINGS && at == &untouched, __LINE__, "bm_new");
+        refusals[BM_SETTINGS]++;
+    }
+    static const bm_settings right[] = {
+        {.content = 1 << 24, .calls = UINT64_MAX},
+        {.framing = BM_CONTENTS, .order = BM_AS_CAME, .takes_cancels = 1, .content = 1, .calls = 1},
+    };
+    for (size_t i = 0; i < sizeof right / sizeof *right; i++) {
+        bm_connection made;
+        check(bm_new(&right[i], &made.at) == BM_OK, __LINE__, "bm_new");
+        bm_free(made);
+    }
+}
+
+/* Bytes that aren't UTF-8: a byte alone, cut short, over-long, a surrogate, over U+10FFFF. */
+static const char *const not_texts[] = {"\xff", "a\xc3", "\xc0\x80", "\xed\xa0\x80", "\xf4\x90\x80\x80", "\x80"};
+enum { NOT_TEXTS = sizeof not_texts / sizeof *not_texts };
+/* Texts that aren't JSON, one of them since it isn't UTF-8. */
+static const char *const not_json[] = {" ", "{", "1 2", "nul", "\"", "01", "[1,]", "\"\xff\"", "\"\n\"", "{\"a\":1,}"};
+enum { NOT_JSON = sizeof not_json / sizeof *not_json };
+
+static const uint8_t *bytes_of(const char *text)
+{
+    return (const uint8_t *)text;
+}
+
+static void texts(void)
+{
+    uint64_t key = 77;
+    begin(BM_LINES, 1, 0);
+    BOTH(bm_feed, TEXT("{\"jsonrpc\":\"2.0\",\"method\":\"m\",\"params\":[1],\"id\":7}\n"));
+    tell(BM_CALL);
+    for (size_t i = 0; i < NOT_TEXTS; i++) {
+        const uint8_t *it = bytes_of(not_texts[i]);
+        size_t length = strlen(not_texts[i]);
+        REFUSED(BM_NOT_TEXT, bm_call, 1, it, length, NONE, &key);
+        REFUSED(BM_NOT_TEXT, bm_notify, it, length, NONE);
+        REFUSED(BM_NOT_TEXT, bm_fail, 1, 5, it, length, NONE);
+        REFUSED(BM_NOT_TEXT, bm_call_batch, 1, it, length, ((size_t[]){length, 0}), 2, &key);
+        /* of two faults it is the first */
+        REFUSED(BM_NOT_TEXT, bm_call, 1, it, length, TEXT("{"), &key);
+        REFUSED(BM_NOT_OPEN, bm_call, 2, it, length, NONE, &key);
+        REFUSED(BM_NOT_OPEN, bm_fail, 0, 5, it, length, TEXT("{"));
+    }
+    for (size_t i = 0; i < NOT_JSON; i++) {
+        const uint8_t *it = bytes_of(not_json[i]);
+        size_t length = strlen(not_json[i]);
+        REFUSED(BM_NOT_JSON, bm_call, 1, TEXT("m"), it, length, &key);
+        REFUSED(BM_NOT_JSON, bm_notify, TEXT("m"), it, length);
+        REFUSED(BM_NOT_JSON, bm_answer, 1, it, length);
+        REFUSED(BM_NOT_JSON, bm_fail, 1, 5, TEXT("m"), it, length);
+        REFUSED(BM_NOT_JSON, bm_call_batch, 1, it, length, ((size_t[]){0, length}), 2, &key);
+    }
+    /* params are an array or an object, and a request has an answer */
+    REFUSED(BM_NOT_JSON, bm_call, 1, TEXT("m"), TEXT("1"), &key);
+    REFUSED(BM_NOT_JSON, bm_notify, TEXT("m"), TEXT("null"));
+    REFUSED(BM_NOT_JSON, bm_answer, 1, NONE);
+    char deep[242];
+    memset(deep, '[', 121);
+    memset(deep + 121, ']', 121);
+    REFUSED(BM_NOT_JSON, bm_answer, 1, bytes_of(deep), 242);
+    check(key == 77, __LINE__, "a refused call has written a key");
+    BOTH(bm_answer, 1, bytes_of(deep) + 1, 240);
+    end_both();
+}
+
+static void numbers_and_keys(void)
+{
+    static const uint64_t wrong[] = {0, 3, UINT64_MAX};
+    uint64_t key = 77, ours, its;
+    begin(BM_LINES, 1, 0);
+    BOTH(bm_feed, TEXT("{\"jsonrpc\":\"2.0\",\"method\":\"m\",\"id\":7}\n{\"jsonrpc\":\"2.0\",\"method\":\"n\"}\n"));
+    tell(BM_CALL);
+    tell(BM_CALL);
+    for (size_t i = 0; i < sizeof wrong / sizeof *wrong; i++) {
+        REFUSED(BM_NOT_OPEN, bm_answer, wrong[i], TEXT("1"));
+        REFUSED(BM_NOT_OPEN, bm_answer, wrong[i], NONE);
+        REFUSED(BM_NOT_OPEN, bm_fail, wrong[i], 5, TEXT("m"), NONE);
+        REFUSED(BM_NOT_OPEN, bm_cancel, wrong[i]);
+        REFUSED(BM_NOT_WAITING, bm_withdraw, wrong[i]);
+    }
+    REFUSED(BM_NOT_OPEN, bm_call, 3, TEXT("m"), NONE, &key);
+    REFUSED(BM_NOT_OPEN, bm_call_batch, 3, NONE, (size_t[]){0}, 0, &key);
+    /* what is closed isn't open, and a key that is withdrawn doesn't wait */
+    BOTH(bm_answer, 2, NONE);
+    REFUSED(BM_NOT_OPEN, bm_answer, 2, NONE);
+    check(bm_call(&tried, 1, TEXT("ask"), NONE, &ours) == BM_OK && bm_call(&twin, 1, TEXT("ask"), NONE, &its) == BM_OK,
+          __LINE__, "bm_call");
+    check(ours == 1 && its == 1, __LINE__, "a key");
+    BOTH(bm_withdraw, 1);
+    REFUSED(BM_NOT_WAITING, bm_withdraw, 1);
+    BOTH(bm_cancel, 1);
+    REFUSED(BM_NOT_OPEN, bm_cancel, 1);
+    REFUSED(BM_NOT_OPEN, bm_call, 1, TEXT("ask"), NONE, &key);
+    check(key == 77, __LINE__, "a refused call has written a key");
+    end_both();
+    /* without cancels nothing is withdrawn */
+    begin(BM_LINES, 0, 0);
+    check(bm_call(&tried, 0, TEXT("a"), NONE, &key) == BM_OK && bm_call(&twin, 0, TEXT("a"), NONE, &key) == BM_OK,
+          __LINE__, "bm_call");
+    REFUSED(BM_NOT_WAITING, bm_withdraw, 1);
+    end_both();
+}
+
+static void batches(void)
+{
+    static const uint8_t bytes[] = "ab[1]";
+    uint64_t first = 77;
+    begin(BM_LINES, 1, 0);
+    REFUSED(BM_EMPTY, bm_call_batch, 0, NONE, (size_t[]){0}, 0, &first);
+    REFUSED(BM_SETTINGS, bm_call_batch, 0, bytes, 5, ((size_t[]){1, 0, 4}), 3, &first);
+    REFUSED(BM_SETTINGS, bm_call_batch, 0, bytes, 5, ((size_t[]){1, 0, 1, 2}), 4, &first);
+    REFUSED(BM_SETTINGS, bm_call_batch, 0, bytes, 5, ((size_t[]){1, 0, 1, 4}), 4, &first);
+    REFUSED(BM_SETTINGS, bm_call_batch, 0, bytes, 5, ((size_t[]){1, SIZE_MAX, 1, 4}), 4, &first);
+    REFUSED(BM_SETTINGS, bm_call_batch, 0, bytes, 5, ((size_t[]){SIZE_MAX, 6}), 2, &first);
+    REFUSED(BM_SETTINGS, bm_call_batch, 0, NONE, ((size_t[]){1, 0}), 2, &first);
+    REFUSED(BM_SETTINGS, bm_call_batch, 0, bytes, 5, (size_t[]){0}, 0, &first);
+    /* before all else */
+    REFUSED(BM_SETTINGS, bm_call_batch, 9, TEXT("\xff"), ((size_t[]){1}), 1, &first);
+    /* a method's fault comes before one of params, whichever call has it */
+    REFUSED(BM_NOT_TEXT, bm_call_batch, 0, TEXT("a5\xff"), ((size_t[]){1, 1, 1, 0}), 4, &first);
+    check(first == 77, __LINE__, "a refused call has written a key");
+    BOTH(bm_call_batch, 0, bytes, 5, ((size_t[]){1, 0, 1, 3}), 4, &first);
+    check(first == 1, __LINE__, "a key");
+    end_both();
+}
+
+/* Lengths of 0 that are right: a method and a message of no bytes, and a feed of none. */
+static void lengths_of_0(void)
+{
+    uint64_t key;
+    uint8_t room[8];
+    begin(BM_LINES, 1, 0);
+    BOTH(bm_feed, NONE);
+    tell(BM_NONE);
+    BOTH(bm_notify, NONE, NONE);
+    BOTH(bm_call, 0, NONE, NONE, &key);
+    BOTH(bm_call_batch, 0, NONE, ((size_t[]){0, 0}), 2, &key);
+    BOTH(bm_feed, TEXT("{\"jsonrpc\":\"2.0\",\"method\":\"\",\"id\":\"\"}\n"));
+    tell(BM_CALL);
+    BOTH(bm_fail, 1, 0, NONE, NONE);
+    check(bm_take(&tried, room, 0) == 0, __LINE__, "bm_take");
+    look_alike(__LINE__);
+    end_both();
+    /* a content of no bytes is one, which can't be read */
+    begin(BM_CONTENTS, 1, 0);
+    BOTH(bm_feed, NONE);
+    tell(BM_NONE);
+    static const char answer[] =
+        "{\"error\":{\"code\":-32700,\"message\":\"Parse error\"},\"id\":null,\"jsonrpc\":\"2.0\"}";
+    check(bm_pending(&tried) == sizeof answer - 1, __LINE__, "no answer to a content of no bytes");
+    /* and a text is taken whole or not at all */
+    for (size_t size = 0; size <= sizeof room; size++)
+        check(bm_take(&tried, room, size) == 0, __LINE__, "bm_take");
+    look_alike(__LINE__);
+    end_both();
+}
+
+/* Each room that is too small for an event is refused by both ways of asking, and nothing is written to it. */
+static void small_rooms(void)
+{
+    union {
+        uint64_t words[64];
+        uint8_t bytes[512];
+    } room;
+    bm_event event;
+    begin(BM_LINES, 1, 0);
+    BOTH(bm_feed, TEXT("{\"jsonrpc\":\"2.0\",\"method\":\"name\",\"params\":{\"a\":1},\"id\":\"x\"}\n"));
+    size_t needed = sizeof "name" + sizeof "{\"a\":1}" + sizeof "\"x\"";
+    for (size_t size = 0; size < needed; size++) {
+        memset(&room, 0xa5, sizeof room);
+        int32_t code = bm_next(&tried, &event, room.bytes, size);
+        check(event.kind == BM_CALL && event.flags == BM_REQUEST && event.number == 1, __LINE__, "the head");
+        check(event.name_len == 4 && event.text_len == 7 && event.id_len == 3, __LINE__, "the lengths");
+        for (size_t i = 0; i < sizeof room; i++)
+            check(room.bytes[i] == 0xa5, __LINE__, "a room that is too small has been written to");
+        /* (the content has come, on the one as on the other, once it was asked for) */
+        if (size == 0) {
+            bm_event same;
+            check(bm_next(&twin, &same, room.bytes, 0) == BM_SMALL, __LINE__, "bm_next");
+        }
+        refused(BM_SMALL, code, __LINE__);
+    }
+    for (size_t size = 0; size < sizeof event + needed; size++) {
+        size_t used = 0;
+        uint32_t count = 9;
+        memset(&room, 0xa5, sizeof room);
+        REFUSED(BM_SMALL, bm_next_all, room.bytes, size, &used, &count);
+        check(used == sizeof event + needed && count == 0, __LINE__, "what is needed");
+        for (size_t i = 0; i < sizeof room; i++)
+            check(room.bytes[i] == 0xa5, __LINE__, "a room that is too small has been written to");
+    }
+    tell(BM_CALL);
+    tell(BM_NONE);
+    end_both();
+}
+
+static void ends(void)
+{
+    uint64_t key = 77;
+    begin(BM_FRAMES, 1, 100);
+    REFUSED(BM_SETTINGS, bm_end, 2);
+    REFUSED(BM_SETTINGS, bm_end, UINT32_MAX);
+    BOTH(bm_feed, TEXT("Content-Length: 37\r\n\r\n{\"jsonrpc\":\"2.0\",\"method\":\"m\",\"id\":7}"));
+    BOTH(bm_end, BM_CLOSED);
+    REFUSED(BM_OVER, bm_end, BM_CLOSED);
+    REFUSED(BM_OVER, bm_end, BM_READ_FAILED);
+    REFUSED(BM_SETTINGS, bm_end, 7);
+    REFUSED(BM_OVER, bm_feed, TEXT("x"));
+    REFUSED(BM_OVER, bm_feed, NONE);
+    tell(BM_CALL);
+    tell(BM_INPUT_OVER);
+    REFUSED(BM_OVER, bm_call, 0, TEXT("m"), NONE, &key);
+    REFUSED(BM_OVER, bm_call, 1, TEXT("m"), NONE, &key);
+    REFUSED(BM_OVER, bm_call_batch, 1, TEXT("m"), ((size_t[]){1, 0}), 2, &key);
+    REFUSED(BM_OVER, bm_call_batch, 0, NONE, (size_t[]){0}, 0, &key);
+    REFUSED(BM_NOT_JSON, bm_call, 1, TEXT("m"), TEXT("1"), &key);
+    check(key == 77, __LINE__, "a refused call has written a key");
+    BOTH(bm_notify, TEXT("m"), NONE);
+    BOTH(bm_answer, 1, TEXT("1"));
+    end_both();
+    /* after a fault of the input bytes are taken and ignored, and it may be ended once */
+    begin(BM_FRAMES, 1, 100);
+    BOTH(bm_feed, TEXT("Content-Length: 101\r\n\r\n"));
+    tell(BM_INPUT_OVER);
+    BOTH(bm_feed, TEXT("Content-Length: 2\r\n\r\n{}"));
+    tell(BM_NONE);
+    BOTH(bm_end, BM_CLOSED);
+    REFUSED(BM_OVER, bm_end, BM_CLOSED);
+    end_both();
+}
+
+int main(void)
+{
+    settings();
+    texts();
+    numbers_and_keys();
+    batches();
+    lengths_of_0();
+    small_rooms();
+    ends();
+    for (int code = BM_NOT_OPEN; code < BM_FULL; code++)
+        printf("code %d: %lu refusals\n", code, refusals[code]);
+    return 0;
+}

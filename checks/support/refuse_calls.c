@@ -1,0 +1,309 @@
+/* Linked around the static library by --wrap, refuses the library's requests for memory: the one with the number
+ * REFUSE_NTH, counted from 1, or with REFUSE_FROM that one and those behind it, until a call gives BM_NO_MEMORY.
+ * That call has to have changed nothing. It is made again, and then has to go on as if no memory had been refused.
+ * A call that needs no memory may ask for none. The descriptor REFUSE_TELL gets a line for each refusal,
+ * `refused`, and one for each call that gives BM_NO_MEMORY, its name. */
+#include "bullmyrtle.h"
+
+#include <stdio.h>
+#include <stdlib.h>
+#include <string.h>
+#include <unistd.h>
+
+void *__real_malloc(size_t);
+void *__real_realloc(void *, size_t);
+int32_t __real_bm_new(const bm_settings *, void **);
+void __real_bm_free(bm_connection);
+int32_t __real_bm_feed(bm_connection *, const uint8_t *, size_t);
+int32_t __real_bm_end(bm_connection *, uint32_t);
+int32_t __real_bm_next(bm_connection *, bm_event *, uint8_t *, size_t);
+int32_t __real_bm_next_all(bm_connection *, uint8_t *, size_t, size_t *, uint32_t *);
+int32_t __real_bm_call(bm_connection *, uint64_t, const uint8_t *, size_t, const uint8_t *, size_t, uint64_t *);
+int32_t __real_bm_call_batch(bm_connection *, uint64_t, const uint8_t *, size_t, const size_t *, size_t, uint64_t *);
+int32_t __real_bm_notify(bm_connection *, const uint8_t *, size_t, const uint8_t *, size_t);
+int32_t __real_bm_withdraw(bm_connection *, uint64_t);
+int32_t __real_bm_answer(bm_connection *, uint64_t, const uint8_t *, size_t);
+int32_t __real_bm_fail(bm_connection *, uint64_t, int64_t, const uint8_t *, size_t, const uint8_t *, size_t);
+int32_t __real_bm_cancel(bm_connection *, uint64_t);
+size_t __real_bm_pending(bm_connection *);
+size_t __real_bm_take(bm_connection *, uint8_t *, size_t);
+bool __real_bm_is_done(bm_connection *);
+void __real_bm_counts(bm_connection *, bm_report *);
+
+static unsigned long nth, from, requests;
+static int tell = -1;
+/* Whether a call of the library is under way, and may be refused memory. */
+static bool is_inside, may_refuse;
+
+static void check(bool is_so, const char *call, const char *what)
+{
+    if (!is_so) {
+        fprintf(stderr, "%s: %s\n", call, what);
+        exit(4);
+    }
+}
+
+static unsigned long number(const char *name)
+{
+    const char *text = getenv(name);
+    return text ? strtoul(text, NULL, 10) : 0;
+}
+
+__attribute__((constructor)) static void begin(void)
+{
+    nth = number("REFUSE_NTH");
+    from = number("REFUSE_FROM");
+    if (getenv("REFUSE_TELL"))
+        tell = (int)number("REFUSE_TELL");
+}
+
+static void say(const char *line)
+{
+    if (tell >= 0 && write(tell, line, strlen(line)) != (ssize_t)strlen(line))
+        exit(5);
+}
+
+static bool is_refused(void)
+{
+    if (!is_inside)
+        return false;
+    requests++;
+    if (!may_refuse || (requests != nth && (!from || requests < from)))
+        return false;
+    say("refused\n");
+    return true;
+}
+
+void *__wrap_malloc(size_t size)
+{
+    return is_refused() ? NULL : __real_malloc(size);
+}
+
+void *__wrap_realloc(void *old, size_t size)
+{
+    return is_refused() ? NULL : __real_realloc(old, size);
+}
+
+/* What can be seen of a connection. */
+typedef struct {
+    bm_report report;
+    size_t pending;
+    bool is_done;
+} state;
+
+static state seen(bm_connection *connection)
+{
+    state made;
+    memset(&made, 0, sizeof made);
+    __real_bm_counts(connection, &made.report);
+    made.pending = __real_bm_pending(connection);
+    made.is_done = __real_bm_is_done(connection);
+    return made;
+}
+
+static bool has_changed(const state *before, bm_connection *connection)
+{
+    state after = seen(connection);
+    return memcmp(&before->report, &after.report, sizeof after.report) || before->pending != after.pending ||
+           before->is_done != after.is_done;
+}
+
+static int32_t ran(bool may, int32_t code)
+{
+    (void)may;
+    is_inside = false;
+    return code;
+}
+
+/* No more is refused from here on, but the request with its number. */
+static void refused_call(const char *line)
+{
+    say(line);
+    from = 0;
+}
+
+/* Evaluates a call with `is_inside` set. */
+#define INSIDE(may, call) (is_inside = true, may_refuse = (may), ran(may, (call)))
+
+/* Makes a call on a connection, and makes it again where it is refused memory; `kept` says whether what was passed to
+ * it to be written is as it was. */
+#define AGAIN(name, call, kept)                                                                                        \
+    state before = seen(connection);                                                                                   \
+    int32_t code = INSIDE(true, call);                                                                                 \
+    if (code == BM_NO_MEMORY) {                                                                                        \
+        check(!has_changed(&before, connection), name, "was refused memory, and has changed something");              \
+        check(kept, name, "was refused memory, and has written something");                                           \
+        refused_call(name "\n");                                                                                       \
+        code = INSIDE(false, call);                                                                                    \
+        check(code != BM_NO_MEMORY, name, "is still refused memory");                                                  \
+    }                                                                                                                  \
+    return code
+
+int32_t __wrap_bm_new(const bm_settings *settings, void **at)
+{
+    static char untouched;
+    void *made = &untouched;
+    int32_t code = INSIDE(true, __real_bm_new(settings, &made));
+    if (code == BM_NO_MEMORY) {
+        check(made == &untouched, "bm_new", "was refused memory, and has written something");
+        refused_call("bm_new\n");
+        code = INSIDE(false, __real_bm_new(settings, &made));
+        check(code != BM_NO_MEMORY, "bm_new", "is still refused memory");
+    }
+    if (code == BM_OK)
+        *at = made;
+    return code;
+}
+
+int32_t __wrap_bm_feed(bm_connection *connection, const uint8_t *bytes, size_t length)
+{
+    AGAIN("bm_feed", __real_bm_feed(connection, bytes, length), true);
+}
+
+int32_t __wrap_bm_call(bm_connection *connection, uint64_t number, const uint8_t *method, size_t method_length,
+                       const uint8_t *params, size_t params_length, uint64_t *key)
+{
+    uint64_t key_before = *key;
+    AGAIN("bm_call", __real_bm_call(connection, number, method, method_length, params, params_length, key),
+          *key == key_before);
+}
+
+int32_t __wrap_bm_call_batch(bm_connection *connection, uint64_t number, const uint8_t *bytes, size_t length,
+                             const size_t *lengths, size_t lengths_count, uint64_t *first)
+{
+    uint64_t first_before = *first;
+    AGAIN("bm_call_batch", __real_bm_call_batch(connection, number, bytes, length, lengths, lengths_count, first),
+          *first == first_before);
+}
+
+int32_t __wrap_bm_notify(bm_connection *connection, const uint8_t *method, size_t method_length, const uint8_t *params,
+                         size_t params_length)
+{
+    AGAIN("bm_notify", __real_bm_notify(connection, method, method_length, params, params_length), true);
+}
+
+int32_t __wrap_bm_withdraw(bm_connection *connection, uint64_t key)
+{
+    AGAIN("bm_withdraw", __real_bm_withdraw(connection, key), true);
+}
+
+int32_t __wrap_bm_answer(bm_connection *connection, uint64_t number, const uint8_t *result, size_t length)
+{
+    AGAIN("bm_answer", __real_bm_answer(connection, number, result, length), true);
+}
+
+int32_t __wrap_bm_fail(bm_connection *connection, uint64_t number, int64_t code_given, const uint8_t *message,
+                       size_t message_length, const uint8_t *data, size_t data_length)
+{
+    AGAIN("bm_fail", __real_bm_fail(connection, number, code_given, message, message_length, data, data_length), true);
+}
+
+int32_t __wrap_bm_cancel(bm_connection *connection, uint64_t number)
+{
+    AGAIN("bm_cancel", __real_bm_cancel(connection, number), true);
+}
+
+/* Of what is told: contents that have no event may have come before memory was refused, so counts may have grown. */
+static void check_told(const char *name, const state *before, bm_connection *connection, const uint8_t *room,
+                       const uint8_t *room_before, size_t length)
+{
+    state after = seen(connection);
+    check(after.pending >= before->pending, name, "was refused memory, and has hidden some of the output");
+    check(after.report.open >= before->report.open, name, "was refused memory, and has closed something");
+    check(!length || !memcmp(room, room_before, length), name, "was refused memory, and has written to the room");
+}
+
+static uint8_t *copied(const uint8_t *room, size_t length)
+{
+    uint8_t *made = __real_malloc(length ? length : 1);
+    check(made, "the copy of a room", "there is no memory");
+    if (length)
+        memcpy(made, room, length);
+    return made;
+}
+
+int32_t __wrap_bm_next(bm_connection *connection, bm_event *event, uint8_t *room, size_t length)
+{
+    memset(event, 0xa5, sizeof *event);
+    memset(room, 0xa5, length);
+    state before = seen(connection);
+    bm_event event_before = *event;
+    uint8_t *room_before = copied(room, length);
+    int32_t code = INSIDE(true, __real_bm_next(connection, event, room, length));
+    if (code == BM_NO_MEMORY) {
+        check_told("bm_next", &before, connection, room, room_before, length);
+        check(!memcmp(event, &event_before, sizeof *event), "bm_next", "was refused memory, and has written an event");
+        refused_call("bm_next\n");
+        code = INSIDE(false, __real_bm_next(connection, event, room, length));
+        check(code != BM_NO_MEMORY, "bm_next", "is still refused memory");
+    }
+    free(room_before);
+    return code;
+}
+
+int32_t __wrap_bm_next_all(bm_connection *connection, uint8_t *room, size_t length, size_t *used, uint32_t *count)
+{
+    memset(room, 0xa5, length);
+    state before = seen(connection);
+    size_t used_before = *used;
+    uint32_t count_before = *count;
+    uint8_t *room_before = copied(room, length);
+    int32_t code = INSIDE(true, __real_bm_next_all(connection, room, length, used, count));
+    if (code == BM_NO_MEMORY) {
+        check_told("bm_next_all", &before, connection, room, room_before, length);
+        check(*used == used_before && *count == count_before, "bm_next_all", "was refused memory, and has counted");
+        refused_call("bm_next_all\n");
+        code = INSIDE(false, __real_bm_next_all(connection, room, length, used, count));
+        check(code != BM_NO_MEMORY, "bm_next_all", "is still refused memory");
+    }
+    free(room_before);
+    return code;
+}
+
+/* Calls that need no memory. */
+#define WITHOUT(name, kind, call)                                                                                      \
+    unsigned long before = requests;                                                                                   \
+    is_inside = true;                                                                                                  \
+    may_refuse = true;                                                                                                 \
+    kind it = (call);                                                                                                  \
+    is_inside = false;                                                                                                 \
+    check(requests == before, name, "has asked for memory");                                                           \
+    return it
+
+int32_t __wrap_bm_end(bm_connection *connection, uint32_t how)
+{
+    WITHOUT("bm_end", int32_t, __real_bm_end(connection, how));
+}
+
+size_t __wrap_bm_pending(bm_connection *connection)
+{
+    WITHOUT("bm_pending", size_t, __real_bm_pending(connection));
+}
+
+size_t __wrap_bm_take(bm_connection *connection, uint8_t *room, size_t length)
+{
+    WITHOUT("bm_take", size_t, __real_bm_take(connection, room, length));
+}
+
+bool __wrap_bm_is_done(bm_connection *connection)
+{
+    WITHOUT("bm_is_done", bool, __real_bm_is_done(connection));
+}
+
+void __wrap_bm_counts(bm_connection *connection, bm_report *report)
+{
+    unsigned long before = requests;
+    is_inside = may_refuse = true;
+    __real_bm_counts(connection, report);
+    is_inside = false;
+    check(requests == before, "bm_counts", "has asked for memory");
+}
+
+void __wrap_bm_free(bm_connection connection)
+{
+    unsigned long before = requests;
+    is_inside = may_refuse = true;
+    __real_bm_free(connection);
+    is_inside = false;
+    check(requests == before, "bm_free", "has asked for memory");
+}

@@ -1,6 +1,0 @@
--- The answer that was read is the one that goes out.
-use Rattle.std.proofs.Common.{refl}
-use Rattle.bullmyrtle.proofs.outlet.Outlet.answer.Goals as goal
-
-pub returns : goal.returns
-returns c = (refl, (c.in_ok-answer.answer, c.in_ok-answer.ensures.ok, c.in_ok-answer-2.ensures.ok))

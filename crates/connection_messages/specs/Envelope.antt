@@ -1,0 +1,74 @@
+-- What the texts of an object's members say.
+use Rattle.std.specs.Prelude.{◌≡◌, ◌≤◌, ℕ, List, Option, Some, None, option_map, option_and_then, codes, Bool, true, ⊤}
+use Rattle.std.specs.Borrow.{Bor}
+use Rattle.json.specs.Json.{Json, array, object, Items, item, Members}
+use Rattle.json.specs.Find.{get, as_str}
+use Rattle.json.specs.Tree.{members_depth, HasNumbers, MembersHaveNumbers}
+use Rattle.json_texts.specs.Standing.{Stands}
+use Rattle.json_texts.specs.Texts.{json_text, value_of}
+use Rattle.rpc_messages.specs.declared.id.Id.{Id}
+use Rattle.connection_messages.specs.Reading.{is_version_2, call_id, call_params, call_in, entry_of, entries_of}
+use Rattle.connection_messages.specs.declared.call.Call.{Call}
+use Rattle.connection_messages.specs.declared.entry.Entry.{Entry}
+use Rattle.connection_messages.specs.declared.read.envelope.Envelope.{Envelope}
+use Rattle.connection_messages.specs.declared.read.unit.TheConstants.{MOST_DEPTH}
+
+-- the text is the member's, or both are absent
+abbrev pub IsMember : Option (Bor (List ℕ)) → Option Json → Type 0
+IsMember part member = option_map (λ s. s.now) part ≡ option_map json_text member
+
+-- the texts are those of the value's members
+pub record Names (e : Envelope) (j : Json) : Type 0 where
+  pub version : IsMember e.version (get (codes "jsonrpc") j)
+  pub id : IsMember e.id (get (codes "id") j)
+  pub method : IsMember e.method (get (codes "method") j)
+  pub params : IsMember e.params (get (codes "params") j)
+  pub result : IsMember e.result (get (codes "result") j)
+  pub error : IsMember e.error (get (codes "error") j)
+
+-- an object stands there, and the envelope is of its members
+pub record HasEnvelopeAt (levels : ℕ) (text : List ℕ) (from end : ℕ) (e : Envelope) : Type 0 where
+  pub members : Members
+  pub numbers : MembersHaveNumbers members
+  pub nests : members_depth members ≤ levels
+  pub stands : Stands text from (json_text (object members)) end
+  pub names : Names e (object members)
+
+-- the text is an object's, and the envelope is of its members
+pub record HasEnvelope (text : List ℕ) (e : Envelope) : Type 0 where
+  pub members : Members
+  pub is : value_of MOST_DEPTH text ≡ Some (object members)
+  pub numbers : MembersHaveNumbers members
+  pub names : Names e (object members)
+
+-- the text is an array's, and these are the entries of its elements
+pub record HasBatch (cancels : Bool) (text : List ℕ) (entries : List Entry) : Type 0 where
+  pub first : Json
+  pub rest : Items
+  pub is : value_of MOST_DEPTH text ≡ Some (array (item first rest))
+  pub are : entries ≡ entries_of cancels (item first rest)
+
+abbrev pub MemberHasNumbers : Option Json → Type 0
+MemberHasNumbers None = ⊤
+MemberHasNumbers (Some j) = HasNumbers j
+
+-- ---- what is read, for each value of which there are these texts
+
+abbrev pub GivesId : Option (Bor (List ℕ)) → Option Id → Type 0
+GivesId part id = (member : Option Json) → MemberHasNumbers member → IsMember part member → call_id member ≡ Some id
+
+abbrev pub GivesParams : Option (Bor (List ℕ)) → Option (List ℕ) → Type 0
+GivesParams part params = (member : Option Json) → MemberHasNumbers member → IsMember part member → call_params member ≡ Some params
+
+abbrev pub GivesVersion : Envelope → Type 0
+GivesVersion e = (j : Json) → HasNumbers j → Names e j → is_version_2 j ≡ true
+
+abbrev pub GivesCall : Envelope → List ℕ → Call → Type 0
+GivesCall e method call =
+    (j : Json) → HasNumbers j → Names e j → is_version_2 j ≡ true → option_and_then as_str (get (codes "method") j) ≡ Some method → call_in j ≡ Some call
+
+abbrev pub GivesEntry : Bool → Envelope → Entry → Type 0
+GivesEntry cancels e entry = (j : Json) → HasNumbers j → Names e j → entry ≡ entry_of cancels j
+
+abbrev pub GivesReply : Bool → Envelope → Entry → Type 0
+GivesReply cancels e entry = (j : Json) → HasNumbers j → Names e j → is_version_2 j ≡ true → get (codes "method") j ≡ None → entry ≡ entry_of cancels j

@@ -1,0 +1,219 @@
+//! Contents that are compact objects, read from the texts of their members. What isn't seen to be a call or a result is left
+//! to a reader of tokens.
+
+ghost use Rattle.std.specs.Prelude.{◌≡◌, Bool, IfOk, IfSome, IsTrue, false};
+ghost use Rattle.json.specs.Print.{quoted, escape};
+ghost use Rattle.connection_messages.specs.Envelope.{HasBatch, GivesId, GivesParams, GivesVersion, GivesCall, GivesEntry, GivesReply};
+ghost use Rattle.connection_messages.specs.Params.{is_structured};
+ghost use Rattle.connection_messages.specs.Reading.{unit_of};
+
+use super::call::CANCEL;
+use super::envelope::{Envelope, envelope_at, envelope_of};
+use super::number::unsigned;
+use super::unit::MOST_DEPTH;
+use crate::call::Call;
+use crate::entry::Entry;
+use crate::reply::Reply;
+use crate::unit::Unit;
+use json_texts::plain_end;
+use json_values::{Items, Text};
+use rpc_messages::Id;
+use std::alloc::{AllocError, Global};
+
+/// The unit of a content that is seen to be one compact call or result, or a batch of such.
+pub(crate) fn read_compact(
+    alloc: Global,
+    cancels: bool,
+    text: &str,
+) -> Result<Option<Unit>, AllocError>
+    ensures { IfOk result (λ u. IfSome u (λ unit. unit ≡ unit_of cancels false text.now)) }
+{
+    match text.as_bytes().first() {
+        Some(b'[') => read_batch(alloc, cancels, text),
+        _ => read_single(alloc, cancels, text),
+    }
+}
+
+fn read_single(alloc: Global, cancels: bool, text: &str) -> Result<Option<Unit>, AllocError>
+    ensures { IfOk result (λ u. IfSome u (λ unit. unit ≡ unit_of cancels false text.now)) }
+{
+    let Some(envelope) = envelope_of(text) else {
+        return Ok(None);
+    };
+    match read_envelope(alloc, cancels, &envelope)? {
+        Some(entry) => Ok(Some(Unit::Single(entry))),
+        None => Ok(None),
+    }
+}
+
+fn read_batch(alloc: Global, cancels: bool, text: &str) -> Result<Option<Unit>, AllocError>
+    ensures { IfOk result (λ u. IfSome u (λ unit. unit ≡ unit_of cancels false text.now)) }
+{
+    match read_entries(alloc, cancels, text)? {
+        Some(entries) => Ok(Some(Unit::Batch(Items::from(entries)))),
+        None => Ok(None),
+    }
+}
+
+fn read_entries(alloc: Global, cancels: bool, text: &str) -> Result<Option<Vec<Entry>>, AllocError>
+    ensures { IfOk result (λ e. IfSome e (λ entries. HasBatch cancels text.now entries.items)) }
+{
+    let bytes = text.as_bytes();
+    if bytes.is_empty() || bytes[0] != b'[' {
+        return Ok(None);
+    }
+    let mut entries = Vec::new(alloc);
+    let mut at = 1;
+    while at < bytes.len() {
+        let Some((envelope, end)) = envelope_at(text, at, MOST_DEPTH - 2) else {
+            drop(entries);
+            return Ok(None);
+        };
+        let Some(entry) = read_envelope(alloc, cancels, &envelope)? else {
+            drop(entries);
+            return Ok(None);
+        };
+        entries.push(entry)?;
+        if end == bytes.len() {
+            drop(entries);
+            return Ok(None);
+        }
+        let next = bytes[end];
+        at = end + 1;
+        if next == b']' && at == bytes.len() {
+            return Ok(Some(entries));
+        }
+        if next != b',' {
+            drop(entries);
+            return Ok(None);
+        }
+    }
+    drop(entries);
+    Ok(None)
+}
+
+fn read_envelope(
+    alloc: Global,
+    cancels: bool,
+    envelope: &Envelope<'_>,
+) -> Result<Option<Entry>, AllocError>
+    ensures { IfOk result (λ e. IfSome e (λ entry. GivesEntry cancels envelope.now entry)) }
+{
+    if !has_version_2(envelope) {
+        return Ok(None);
+    }
+    let Some(part) = envelope.method else {
+        return read_result(alloc, envelope);
+    };
+    let Some(method) = plain(part) else {
+        return Ok(None);
+    };
+    if cancels && method == CANCEL {
+        return Ok(None);
+    }
+    match read_call(alloc, envelope, method)? {
+        Some(call) => Ok(Some(Entry::Call(call))),
+        None => Ok(None),
+    }
+}
+
+fn has_version_2(envelope: &Envelope<'_>) -> bool
+    ensures { IsTrue result → GivesVersion envelope.now }
+{
+    match envelope.version {
+        Some(version) => version == "\"2.0\"",
+        None => false,
+    }
+}
+
+fn read_call(
+    alloc: Global,
+    envelope: &Envelope<'_>,
+    method: &str,
+) -> Result<Option<Call>, AllocError>
+    ensures call { IfOk result (λ c. IfSome c (λ call. GivesCall envelope.now method.now call)) }
+    ensures method { IfOk result (λ c. IfSome c (λ call. call.method ≡ method.now)) }
+{
+    let Some(params) = read_params(alloc, envelope.params)? else {
+        return Ok(None);
+    };
+    let Some(id) = read_id(alloc, envelope.id)? else {
+        drop(params);
+        return Ok(None);
+    };
+    Ok(Some(Call {
+        id,
+        method: Text::copy_of(alloc, method)?,
+        params,
+    }))
+}
+
+fn read_params(alloc: Global, part: Option<&str>) -> Result<Option<Option<Text>>, AllocError>
+    ensures { IfOk result (λ p. IfSome p (λ params. GivesParams part.entry params)) }
+{
+    let Some(part) = part else {
+        return Ok(Some(None));
+    };
+    if is_structured(part) {
+        return Ok(Some(Some(Text::copy_of(alloc, part)?)));
+    }
+    if part == "null" {
+        return Ok(Some(None));
+    }
+    Ok(None)
+}
+
+fn is_structured(part: &str) -> bool
+    ensures { result ≡ is_structured part.now }
+{
+    matches!(part.as_bytes().first(), Some(b'[' | b'{'))
+}
+
+fn read_id(alloc: Global, part: Option<&str>) -> Result<Option<Option<Id>>, AllocError>
+    ensures { IfOk result (λ i. IfSome i (λ id. GivesId part.entry id)) }
+{
+    let Some(part) = part else {
+        return Ok(Some(None));
+    };
+    if let Some(number) = unsigned(part) {
+        return Ok(Some(Some(Id::Unsigned(number))));
+    }
+    if part == "null" {
+        return Ok(Some(Some(Id::Null)));
+    }
+    match plain(part) {
+        Some(text) => Ok(Some(Some(Id::Text(Text::copy_of(alloc, text)?)))),
+        None => Ok(None),
+    }
+}
+
+/// A result of a call of ours.
+fn read_result(alloc: Global, envelope: &Envelope<'_>) -> Result<Option<Entry>, AllocError>
+    ensures { IfOk result (λ e. IfSome e (λ entry. (cancels : Bool) → GivesReply cancels envelope.now entry)) }
+{
+    let (Some(id), Some(result), None) = (envelope.id, envelope.result, envelope.error) else {
+        return Ok(None);
+    };
+    let Some(key) = unsigned(id) else {
+        return Ok(None);
+    };
+    if key == 0 {
+        return Ok(None);
+    }
+    let reply = Reply::Result(Text::copy_of(alloc, result)?);
+    Ok(Some(Entry::Reply { key, reply }))
+}
+
+/// The text of a string that has no escape.
+fn plain(part: &str) -> Option<&str>
+    ensures { IfSome result (λ text. part.now ≡ quoted text.now) }
+{
+    let text = part.strip_prefix('"')?.strip_suffix('"')?;
+    if is_plain(text) { Some(text) } else { None }
+}
+
+fn is_plain(text: &str) -> bool
+    ensures { IsTrue result → escape text.now ≡ text.now }
+{
+    plain_end(text.as_bytes(), 0) == text.len()
+}

@@ -1,0 +1,56 @@
+-- What a connection told is at hand.
+use Rattle.std.proofs.Common.{◌≡◌, ℕ, List, [], ◌∷◌, ◌++◌, Option, Some, None, Result, Ok, Err, IfOk, OnErr, IfSome, refl, sym, ap, subst}
+use Rattle.std.specs.declared.alloc.AllocError.{AllocError}
+use Rattle.connection_history.specs.declared.event.Event.{Event}
+use Rattle.connection_history.specs.History.{History}
+use Rattle.connection.specs.Connections.{Connection, StandsAfter, GoesOn, IsStill, HasGoneOn}
+use Rattle.host_calls.specs.declared.outlet.Outlet.{Outlet}
+use Rattle.event_rooms.specs.declared.shown.Shown.{Shown}
+use Rattle.event_rooms.specs.declared.shown.Shown.TheVariants.{To}
+use Rattle.event_rooms.specs.Shown.{IsShown}
+use Rattle.host_calls.specs.declared.asking.Packed.TheVariants.{Told}
+use Rattle.host_calls.specs.Retaining.{RetainsPieces}
+use Rattle.host_calls.specs.Outlets.{Tells, At, Fetched, Failed, Packs}
+
+abbrev pub Asked : Type 0
+Asked = Result (Option Event) AllocError
+
+-- what `next_event` says of an event, and of none
+abbrev pub SaysTold : Connection → Connection → Asked → Type 0
+SaysTold c d r = (history : History) (told : List Event) → StandsAfter c history told →
+    IfOk r (λ next. IfSome next (λ event. (now : History) × GoesOn c told history now × StandsAfter d now (told ++ event ∷ [])))
+
+abbrev pub SaysNone : Connection → Connection → Asked → Type 0
+SaysNone c d r = (history : History) (told : List Event) → StandsAfter c history told →
+    IfOk r (λ next. next ≡ None → (now : History) × GoesOn c told history now × StandsAfter d now told × IsStill d now told)
+
+of_ok : (c d : Connection) (next : Option Event) → SaysTold c d (Ok next) → SaysNone c d (Ok next) → Tells c d next
+of_ok c d None f g = λ history told stands. g history told stands refl
+of_ok c d (Some e) f g = f
+
+-- the event that waits is the next one
+pub waits : (a : Outlet) (e : Event) → a.next ≡ Some e → Fetched a (record a { next = Some e })
+waits a e h =
+    let P : Option Event → Type 0 = λ next. At next a (record a { next = Some e }) in
+    subst P (sym h) (ap (λ next. record a { next = next }) (sym h))
+
+-- else it is the connection's
+pub asked : (a : Outlet) (d : Connection) (r : Asked) → a.next ≡ None → RetainsPieces a.connection d → SaysTold a.connection d r → SaysNone a.connection d r
+    → IfOk r (λ next. Fetched a (record a { connection = d; next = next }))
+asked a d (Ok next) h kept f g =
+    let P : Option Event → Type 0 = λ n. At n a (record a { connection = d; next = next }) in
+    subst P (sym h) (kept, of_ok a.connection d next f g)
+asked a d (Err e) h kept f g = tt
+
+pub failed : (a : Outlet) (d : Connection) (left : Option Event) (r : Asked) → a.next ≡ None → left ≡ None → RetainsPieces a.connection d
+    → ((history : History) (told : List Event) → StandsAfter a.connection history told → OnErr r (HasGoneOn a.connection d history told))
+    → OnErr r (Failed a (record a { connection = d; next = left }))
+failed a d left (Ok next) h e kept f = tt
+failed a d left (Err it) h e kept f = (h, e, kept, f)
+
+-- the event that was fetched is handed over
+pub packs-told : (a b : Outlet) (next : Option Event) (e : Event) (r s : List ℕ) (used end : ℕ) (it : Shown)
+    → Fetched a (record b { next = next }) → b.next ≡ None → next ≡ Some e → IsShown e r s used it → it ≡ To end → Packs a b r s used (Told end)
+packs-told a b next e r s used end it fetched out is shown to =
+    let P : Shown → Type 0 = λ x. IsShown e r s used x in let here = subst P to shown in
+    (e, (record b { next = next }, fetched, is, ap (λ n. record b { next = n }) out), here.1, here.0)

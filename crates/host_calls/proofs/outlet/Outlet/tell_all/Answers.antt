@@ -1,0 +1,49 @@
+-- Where none was packed, the outlet is as it was, but for what it has fetched.
+use Rattle.std.proofs.Common.{◌≡◌, ◌+◌, ◌<◌, ℕ, List, length, subst, inl, inr, refl, arith}
+use Rattle.host_calls.specs.declared.outlet.Outlet.{Outlet}
+use Rattle.host_calls.specs.declared.asking.Packed.{Packed}
+use Rattle.host_calls.specs.declared.asking.Packed.TheVariants as packed
+use Rattle.host_calls.specs.Outlets.{Packs, HasPackedAll, IsStop}
+use Rattle.event_rooms.specs.Events.{bytes_of}
+use Rattle.event_rooms.specs.Rooms.{aligned}
+use Rattle.host_calls.proofs.Packed.{packed-zero}
+use Rattle.host_calls.proofs.outlet.Outlet.tell_all.Goals as goal
+
+Stopped : Outlet → Outlet → List ℕ → List ℕ → Packed → Type 0
+Stopped a b r s stopped = IsStop stopped × Packs a b r s 0 stopped
+
+at_once : (a b : Outlet) (r s : List ℕ) (stopped : Packed) (end n : ℕ) → HasPackedAll a b r s (stopped, end, n) → n ≡ 0 → IsStop stopped × Packs a b r s 0 stopped
+at_once a b r s stopped end n h z = elim h.3 [
+  | inl p ↦
+      let zero = packed-zero a h.0 r h.1 end n h.2 z in
+      let P : Outlet → Type 0 = λ x. IsStop stopped × Packs x b h.1 s end stopped in
+      let Q : List ℕ → Type 0 = λ x. IsStop stopped × Packs a b x s end stopped in
+      let R : ℕ → Type 0 = λ x. IsStop stopped × Packs a b r s x stopped in
+      subst R zero.2 (subst Q zero.1 (subst P zero.0 p))
+  | inr q ↦ let most : n ≡ 4294967295 = q.0 in absurd (omega (arith, most, z))
+]
+
+the_nothing : (stopped : Packed) → IsStop stopped → (stopped ≡ packed.Refused → ⊥) → ((n : ℕ) → stopped ≡ packed.TooLong n → ⊥) → stopped ≡ packed.Nothing
+the_nothing (packed.Told n) i f g = absurd i
+the_nothing packed.Nothing i f g = refl
+the_nothing packed.Refused i f g = absurd (f refl)
+the_nothing (packed.TooLong n) i f g = absurd (g n refl)
+
+lower : (n m : ℕ) → n < aligned 0 + m → n < m
+lower n m h = omega (arith, h)
+
+pub returns-in-TooLong : goal.returns-in-TooLong
+returns-in-TooLong c =
+    let all = c.pack_all-stopped in let a = c.args.self.now in let r = c.args.room.now in
+    let P : Packed → Type 0 = λ p. IsStop p × Packs a all.new.self r all.new.room 0 p in
+    let it = subst P c.in-TooLong.is (at_once a all.new.self r all.new.room all.result.0 all.result.1 all.result.2 all.ensures c.if-packed-eq0.true) in
+    let e = it.1.1 in
+    (it.1.0, (e.0, e.1, lower (length r) (length (bytes_of e.0)) e.3, e.2), it.1.2, refl)
+
+pub returns-in_default : goal.returns-in_default
+returns-in_default c =
+    let all = c.pack_all-stopped in let a = c.args.self.now in let r = c.args.room.now in (
+      all.result.0,
+      all.ensures,
+      λ z. the_nothing all.result.0 (at_once a all.new.self r all.new.room all.result.0 all.result.1 all.result.2 all.ensures z).0 c.in_default.not-Refused c.in_default.not-TooLong,
+    )

@@ -1,0 +1,96 @@
+-- What the host gets of the events that are told.
+use Rattle.std.specs.Prelude.{◌≡◌, ◌⊎◌, ℕ, ◌+◌, ◌<◌, ◌≤◌, List, [], ◌∷◌, ◌++◌, Option, Some, None, length}
+use Rattle.connection_history.specs.declared.event.Event.{Event}
+use Rattle.connection_history.specs.History.{History}
+use Rattle.connection.specs.Connections.{Connection, StandsAfter, GoesOn, IsStill, HasGoneOn}
+use Rattle.event_rooms.specs.declared.head.EventHead.{EventHead}
+use Rattle.event_rooms.specs.Events.{no_head, head_of, event_texts, bytes_of, needed}
+use Rattle.event_rooms.specs.Rooms.{written, aligned}
+use Rattle.host_calls.specs.Retaining.{RetainsPieces}
+use Rattle.host_calls.specs.declared.outlet.Outlet.{Outlet}
+use Rattle.host_calls.specs.declared.asking.Got.{Got}
+use Rattle.host_calls.specs.declared.asking.Got.TheVariants.{Done, Memory, Small}
+use Rattle.host_calls.specs.declared.asking.Packed.{Packed}
+use Rattle.host_calls.specs.declared.asking.Packed.TheVariants as packed
+
+-- ---- asking
+
+-- From c to d the connection goes on, and tells this.
+abbrev pub Tells : Connection → Connection → Option Event → Type 0
+Tells c d None = (history : History) (told : List Event) → StandsAfter c history told →
+    (now : History) × GoesOn c told history now × StandsAfter d now told × IsStill d now told
+Tells c d (Some e) = (history : History) (told : List Event) → StandsAfter c history told →
+    (now : History) × GoesOn c told history now × StandsAfter d now (told ++ e ∷ [])
+
+-- b is a with its next event at hand, where there is one
+abbrev pub At : Option Event → Outlet → Outlet → Type 0
+At (Some e) a b = b ≡ a
+At None a b = RetainsPieces a.connection b.connection × Tells a.connection b.connection b.next
+
+abbrev pub Fetched : Outlet → Outlet → Type 0
+Fetched a b = At a.next a b
+
+-- Memory was refused before an event was at hand: the connection may have gone on, and nothing was told.
+abbrev pub Failed : Outlet → Outlet → Type 0
+Failed a b = (a.next ≡ None) × (b.next ≡ None) × RetainsPieces a.connection b.connection ×
+    ((history : History) (told : List Event) → StandsAfter a.connection history told → HasGoneOn a.connection b.connection history told)
+
+-- Memory was refused, and the event, if it is at hand, waits.
+abbrev pub Kept : Outlet → Outlet → Type 0
+Kept a b = Failed a b ⊎ Fetched a b
+
+-- what the host gets of the event that is at hand: the head, and the room
+abbrev pub GetsOf : Option Event → EventHead → List ℕ → List ℕ → Type 0
+GetsOf None h r s = (h ≡ no_head) × (s ≡ r)
+GetsOf (Some e) h r s = (h ≡ head_of e) × (length (event_texts e) ≤ length r) × (s ≡ written r 0 (event_texts e))
+
+-- what it gets where the event doesn't fit
+abbrev pub LacksFor : Option Event → EventHead → List ℕ → List ℕ → Type 0
+LacksFor None h r s = ⊥
+LacksFor (Some e) h r s = (h ≡ head_of e) × (length r < length (event_texts e)) × (s ≡ r)
+
+abbrev pub Asked : Outlet → Outlet → EventHead → EventHead → List ℕ → List ℕ → Got → Type 0
+Asked a b h h' r r' Memory = Kept a b × (h' ≡ h) × (r' ≡ r)
+Asked a b h h' r r' Small = Fetched a b × LacksFor b.next h' r r'
+Asked a b h h' r r' Done = (m : Outlet) × Fetched a m × GetsOf m.next h' r r' × (b ≡ record m { next = None })
+
+-- a hands e over and is b
+abbrev pub Hands : Outlet → Event → Outlet → Type 0
+Hands a e b = (m : Outlet) × Fetched a m × (m.next ≡ Some e) × (b ≡ record m { next = None })
+
+-- a hands these over, one after the other, and is b
+abbrev pub HandsAll : Outlet → List Event → Outlet → Type 0
+HandsAll a [] b = b ≡ a
+HandsAll a (e ∷ es) b = (m : Outlet) × Hands a e m × HandsAll m es b
+
+-- the room and the end behind these events, which lie one behind the other at multiples of 8
+abbrev pub packs : List ℕ → ℕ → List Event → List ℕ × ℕ
+packs room end [] = (room, end)
+packs room end (e ∷ es) = packs (written room (aligned end) (bytes_of e)) (aligned end + length (bytes_of e)) es
+
+-- from a and an empty room r: what has been handed over so far
+abbrev pub HasPacked : Outlet → List ℕ → Outlet → List ℕ → ℕ → ℕ → Type 0
+HasPacked a r b s end n = (es : List Event) × (length es ≡ n) × HandsAll a es b × ((s, end) ≡ packs r 0 es)
+
+abbrev pub Packs : Outlet → Outlet → List ℕ → List ℕ → ℕ → Packed → Type 0
+Packs a b r s used (packed.Told end) = (e : Event) × Hands a e b × (s ≡ written r (aligned used) (bytes_of e)) × (end ≡ aligned used + length (bytes_of e))
+Packs a b r s used packed.Nothing = Fetched a b × (b.next ≡ None) × (s ≡ r)
+Packs a b r s used packed.Refused = Kept a b × (s ≡ r)
+Packs a b r s used (packed.TooLong n) = Fetched a b × ((e : Event) × (b.next ≡ Some e) × (n ≡ needed e) × (length r < aligned used + length (bytes_of e))) × (s ≡ r)
+
+-- it isn't that one more was packed
+abbrev pub IsStop : Packed → Type 0
+IsStop (packed.Told _) = ⊥
+IsStop packed.Nothing = Unit {0}
+IsStop packed.Refused = Unit {0}
+IsStop (packed.TooLong _) = Unit {0}
+
+-- the events that fitted were handed over, and then it stopped so; at the greatest count nothing is said of what comes next
+abbrev pub HasPackedAll : Outlet → Outlet → List ℕ → List ℕ → Packed × ℕ × ℕ → Type 0
+HasPackedAll a b r s (stopped, end, n) =
+    (m : Outlet) × (t : List ℕ) × HasPacked a r m t end n × ((IsStop stopped × Packs m b t s end stopped) ⊎ ((n ≡ 4294967295) × (b ≡ m) × (s ≡ t)))
+
+abbrev pub AskedAll : Outlet → Outlet → List ℕ → List ℕ → ℕ → ℕ → ℕ → ℕ → Got → Type 0
+AskedAll a b r s used used' count count' Memory = Kept a b × (s ≡ r) × (used' ≡ used) × (count' ≡ count)
+AskedAll a b r s used used' count count' Small = Fetched a b × ((e : Event) × (b.next ≡ Some e) × (length r < length (bytes_of e)) × (used' ≡ needed e)) × (s ≡ r) × (count' ≡ 0)
+AskedAll a b r s used used' count count' Done = (stopped : Packed) × HasPackedAll a b r s (stopped, used', count') × (count' ≡ 0 → stopped ≡ packed.Nothing)

@@ -1,0 +1,39 @@
+//! What is read goes in, and what is to be written comes out.
+
+ghost use Rattle.std.specs.Prelude.{◌≡◌, ◌++◌, ◌↔◌, List, None, IsTrue, length, drop};
+ghost use Rattle.connection_history.specs.declared.event.Event.{Event};
+ghost use Rattle.connection_history.specs.History.{History};
+ghost use Rattle.connection.specs.Connections.{IsDone, StandsAfter};
+ghost use Rattle.outbox.specs.Output.{given_of};
+ghost use Rattle.host_calls.specs.Feeding.{HasFed, taken};
+
+use crate::code::Why;
+use crate::outlet::Outlet;
+
+impl Outlet {
+    /// Feeds bytes of the input.
+    pub fn feed(&mut self, bytes: &[u8]) -> Result<(), Why>
+        ensures { HasFed self.old self.new bytes.now result }
+    {
+        self.connection.feed(bytes)?;
+        Ok(())
+    }
+
+    /// Moves the first of the bytes that are to be written.
+    pub fn take(&mut self, room: &mut [u8]) -> usize
+        ensures count { result ≡ length (given_of self.old.connection.desk.out (length room.old)) }
+        ensures moved { room.new ≡
+            given_of self.old.connection.desk.out (length room.old) ++ drop result room.old }
+        ensures left { self.new ≡ taken self.old (length room.old) }
+    {
+        self.connection.take(room)
+    }
+
+    /// Whether all is done, and no event waits here.
+    pub fn is_done(&self) -> bool
+        ensures { (history : History) (told : List Event) → StandsAfter self.now.connection history told →
+            (IsTrue result ↔ ((self.now.next ≡ None) × IsDone self.now.connection history told)) }
+    {
+        self.next.is_none() && self.connection.is_done()
+    }
+}

@@ -1,0 +1,203 @@
+//! Compact values, told apart from others without a look at their tokens.
+
+ghost use Rattle.std.specs.Prelude.{◌≡◌, ◌≤◌, ◌<◌, ◌+◌, ◌-◌, IfSome, IsTrue, length, get_or};
+ghost use Rattle.std.specs.Str.{IsUtf8};
+ghost use Rattle.json.specs.Print.{IsNumber, escape};
+ghost use Rattle.json_texts.specs.Texts.{IsJsonText};
+ghost use Rattle.json_texts.specs.Standing.{Stands, HasString, HasNumber, HasValue, HasItems, HasMembers, HasName, is_escape_letter};
+
+use crate::json_text::MOST_LEVELS;
+use crate::plain::plain_end;
+
+/// Whether the text is a `JsonText`. It may be one also where this isn't seen.
+pub(crate) fn is_compact(text: &str) -> bool
+    ensures { IsTrue result → IsJsonText text.now }
+{
+    match value_end(text.as_bytes(), 0, MOST_LEVELS) {
+        Some(end) => end == text.len(),
+        None => false,
+    }
+}
+
+/// The end of the compact value that begins there. There is none where it isn't compact, nests more than `levels` deep, or
+/// has an escape of four digits.
+#[cycle(value)]
+pub fn value_end(text: &[u8], from: usize, levels: usize) -> Option<usize>
+    requires { from ≤ length text.now }
+    ensures value { IfSome result (λ end. HasValue levels text.now from end) }
+    ensures bounds { IfSome result (λ end. (from < end) × (end ≤ length text.now)) }
+{
+    match byte_at(text, from) {
+        b'"' => string_end(text, from + 1),
+        b'[' => {
+            if levels == 0 {
+                return None;
+            }
+            items_end(text, from + 1, levels - 1)
+        }
+        b'{' => {
+            if levels == 0 {
+                return None;
+            }
+            members_end(text, from + 1, levels - 1)
+        }
+        b't' => word_end(text, from, b"true"),
+        b'f' => word_end(text, from, b"false"),
+        b'n' => word_end(text, from, b"null"),
+        _ => number_end(text, from),
+    }
+}
+
+#[cycle(value)]
+fn items_end(text: &[u8], from: usize, levels: usize) -> Option<usize>
+    requires { from ≤ length text.now }
+    ensures items { IfSome result (λ end. HasItems levels text.now from end) }
+    ensures bounds { IfSome result (λ end. (from < end) × (end ≤ length text.now)) }
+{
+    if byte_at(text, from) == b']' {
+        return Some(from + 1);
+    }
+    let mut at = from;
+    while at < text.len() {
+        let end = value_end(text, at, levels)?;
+        let next = byte_at(text, end);
+        if next == b']' {
+            return Some(end + 1);
+        }
+        if next != b',' {
+            return None;
+        }
+        at = end + 1;
+    }
+    None
+}
+
+#[cycle(value)]
+fn members_end(text: &[u8], from: usize, levels: usize) -> Option<usize>
+    requires { from ≤ length text.now }
+    ensures members { IfSome result (λ end. HasMembers levels text.now from end) }
+    ensures bounds { IfSome result (λ end. (from < end) × (end ≤ length text.now)) }
+{
+    if byte_at(text, from) == b'}' {
+        return Some(from + 1);
+    }
+    let mut at = from;
+    while at < text.len() {
+        let name_end = name_end(text, at)?;
+        let end = value_end(text, name_end, levels)?;
+        let next = byte_at(text, end);
+        if next == b'}' {
+            return Some(end + 1);
+        }
+        if next != b',' {
+            return None;
+        }
+        at = end + 1;
+    }
+    None
+}
+
+/// The end of the name of a member, with its colon.
+pub fn name_end(text: &[u8], from: usize) -> Option<usize>
+    requires { from ≤ length text.now }
+    ensures name { IfSome result (λ end. HasName text.now from end) }
+    ensures colon { IfSome result (λ end. get_or text.now (end - 1) 0 ≡ 58) }
+    ensures bounds { IfSome result (λ end. (from + 3 ≤ end) × (end ≤ length text.now)) }
+{
+    if byte_at(text, from) != b'"' {
+        return None;
+    }
+    let end = string_end(text, from + 1)?;
+    if byte_at(text, end) != b':' {
+        return None;
+    }
+    Some(end + 1)
+}
+
+/// The end of a string whose first quote stands before it.
+fn string_end(text: &[u8], from: usize) -> Option<usize>
+    requires { from ≤ length text.now }
+    ensures string { IfSome result (λ end. HasString text.now from end) }
+    ensures bounds { IfSome result (λ end. (from < end) × (end ≤ length text.now)) }
+{
+    let mut at = from;
+    while at < text.len() {
+        let stop = plain_end(text, at);
+        let byte = byte_at(text, stop);
+        if byte == b'"' {
+            return Some(stop + 1);
+        }
+        if byte != b'\\' {
+            return None;
+        }
+        if !is_short_escape(byte_at(text, stop + 1)) {
+            return None;
+        }
+        at = stop + 2;
+    }
+    None
+}
+
+/// Whether a backslash and this letter are the shortest escape of a byte.
+#[inline(always)]
+fn is_short_escape(letter: u8) -> bool
+    ensures { result ≡ is_escape_letter letter }
+{
+    (letter == b'"')
+        | (letter == b'\\')
+        | (letter == b'b')
+        | (letter == b'f')
+        | (letter == b'n')
+        | (letter == b'r')
+        | (letter == b't')
+}
+
+fn word_end(text: &[u8], from: usize, word: &[u8]) -> Option<usize>
+    requires { from ≤ length text.now }
+    ensures word { IfSome result (λ end. Stands text.now from word.now end) }
+    ensures bounds { IfSome result (λ end. end ≡ from + length word.now) }
+    ensures within { IfSome result (λ end. end ≤ length text.now) }
+{
+    if text[from..].starts_with(word) {
+        Some(from + word.len())
+    } else {
+        None
+    }
+}
+
+fn number_end(text: &[u8], from: usize) -> Option<usize>
+    requires { from ≤ length text.now }
+    ensures number { IfSome result (λ end. HasNumber text.now from end) }
+    ensures bounds { IfSome result (λ end. (from < end) × (end ≤ length text.now)) }
+{
+    let mut at = from;
+    while at < text.len() && is_of_number(text[at]) {
+        at += 1;
+    }
+    let number = unsafe { std::str::from_utf8_unchecked(&text[from..at]) };
+    if json::is_number(number) {
+        Some(at)
+    } else {
+        None
+    }
+}
+
+#[inline(always)]
+fn is_of_number(byte: u8) -> bool
+    ensures { IsTrue result → byte < 128 }
+{
+    (byte >= b'0') & (byte <= b'9')
+        | (byte == b'-')
+        | (byte == b'.')
+        | (byte == b'e')
+        | (byte == b'E')
+        | (byte == b'+')
+}
+
+/// The byte at a place, or 0 past the end.
+#[inline(always)]
+fn byte_at(text: &[u8], at: usize) -> u8
+    ensures { result ≡ get_or text.now at 0 }
+{
+    if at < text.len() { text[at] } else { 0 }
+}
