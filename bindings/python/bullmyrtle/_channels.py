@@ -162,6 +162,7 @@ class Descriptors(Channel):
 
     def _write_on(self, is_later: bool) -> None:
         if self._is_waiting and not is_later:
+            self._pause_where_much_waits()
             return
         left = 4 * _TAKEN
         while self._sink is not None:
@@ -206,6 +207,9 @@ class Descriptors(Channel):
                 self._loop.add_writer(self._sink, self._write_on, True)
             except OSError:
                 self._loop.call_soon(self._write_file)
+        self._pause_where_much_waits()
+
+    def _pause_where_much_waits(self) -> None:
         if self._pauses and not self._is_paused and self._session.pending > _WAITING:
             self._is_paused = True
             self._pause()

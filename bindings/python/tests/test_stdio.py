@@ -215,37 +215,48 @@ class Streams(Scripts):
         self.assertEqual(process.wait(30), 0)
 
     def test_reading_stops_while_much_is_to_be_written(self):
-        async def main():
-            server = Server()
-            server.method("much")(lambda params: "x" * 20_000)
-            given, theirs = os.pipe()
-            ours, taken = os.pipe()
-            serving = asyncio.ensure_future(server.serve_over(Descriptors(given, taken)))
-            await asyncio.sleep(0)
-            one, count, sent = frame(request(1, "much", ["y" * 200])), 1000, []
+        self.wait(self.slowly_read(), 60)
 
-            def write():
-                for _ in range(count):
-                    sent.append(os.write(theirs, one))
-                os.close(theirs)
+    def test_reading_stops_once_much_is_to_be_written(self):
+        async def fill(theirs, server):
+            # (more than the pipe takes, and not yet so much that reading stops)
+            os.write(theirs, frame(request(0, "much", [100_000])))
+            await self.until(lambda: server.session._channel._is_waiting)
+            self.assertFalse(server.session._channel._is_paused)
 
-            writing = threading.Thread(target=write, daemon=True)
-            writing.start()
-            await self.until(lambda: server.session._channel._is_paused)
-            await asyncio.sleep(0.2)
-            # (what it has taken in is bounded: by one read, and by what the pipe holds)
-            self.assertLess(len(sent), count)
-            loop, answers = asyncio.get_running_loop(), 0
-            while data := await loop.run_in_executor(None, os.read, ours, 1 << 20):
-                answers += data.count(b"Content-Length")
-                if answers >= count - 1 and serving.done():
-                    break
-            self.assertEqual(await serving, 0)
-            self.assertGreater(answers, count * 0.99)  # (a head may be cut in two)
-            writing.join()
-            os.close(ours)
+        self.wait(self.slowly_read(fill), 60)
 
-        self.wait(main(), 60)
+    async def slowly_read(self, before=None):
+        server = Server()
+        server.method("much")(lambda params: "x" * params[0])
+        given, theirs = os.pipe()
+        ours, taken = os.pipe()
+        serving = asyncio.ensure_future(server.serve_over(Descriptors(given, taken)))
+        await asyncio.sleep(0)
+        if before is not None:
+            await before(theirs, server)
+        one, count, sent = frame(request(1, "much", [20_000, "y" * 200])), 1000, []
+
+        def write():
+            for _ in range(count):
+                sent.append(os.write(theirs, one))
+            os.close(theirs)
+
+        writing = threading.Thread(target=write, daemon=True)
+        writing.start()
+        await self.until(lambda: server.session._channel._is_paused)
+        await asyncio.sleep(0.2)
+        # (what it has taken in is bounded: by one read, and by what the pipe holds)
+        self.assertLess(len(sent), count)
+        loop, answers = asyncio.get_running_loop(), 0
+        while data := await loop.run_in_executor(None, os.read, ours, 1 << 20):
+            answers += data.count(b"Content-Length")
+            if answers >= count - 1 and serving.done():
+                break
+        self.assertEqual(await serving, 0)
+        self.assertGreater(answers, count * 0.99)  # (a head may be cut in two)
+        writing.join()
+        os.close(ours)
 
 
 class Uncorrupted(Scripts):
