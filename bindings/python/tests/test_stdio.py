@@ -474,6 +474,9 @@ class Ends(Scripts):
             server.notify("began")
             server.call("nobody")
         """
+        # (a shell's background job ignores interrupts, and so would what it starts)
+        before = signal.signal(signal.SIGINT, signal.default_int_handler)
+        self.addCleanup(signal.signal, signal.SIGINT, before)
         for method in ("async", "spin", "plain", "thread", None):
             with self.subTest(method):
                 process = self.started(body)

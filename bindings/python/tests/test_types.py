@@ -2,6 +2,7 @@
 import ast
 import glob
 import os
+import shutil
 import subprocess
 import sys
 import tempfile
@@ -44,8 +45,11 @@ class Types(Case):
                             )
 
     def test_mypy(self):
+        # (this Python's, or the machine's)
         mypy = [sys.executable, "-m", "mypy"]
         if subprocess.run([*mypy, "--version"], capture_output=True, check=False).returncode:
+            mypy = ["mypy"]
+        if shutil.which(mypy[0]) is None:
             self.skipTest("mypy isn't there: no check of the package's types")
         with tempfile.TemporaryDirectory() as room:
             words = ["--strict", "--cache-dir", room, os.path.join(PACKAGE, "bullmyrtle")]
