@@ -1,6 +1,6 @@
 //! The threads of a server.
 
-ghost use Rattle.std.specs.Prelude.{◌≡◌, [], All, IfOk, IfErr, IfSome};
+ghost use Rattle.std.specs.Prelude.{◌≡◌, [], All, length, IfOk, IfErr, IfSome};
 ghost use Rattle.job_slots.specs.Seats.{IsWorkerOf};
 ghost use Rattle.rtrb.specs.Ring.{sent, SameProducer, SameConsumer};
 ghost use Rattle.rpc_peer.specs.Clerk.{IsNew};
@@ -22,33 +22,35 @@ use std::alloc::Global;
 use std::snapshot::Snapshot;
 use std::sync::Wait;
 use std::thread;
-use std::thread::{PromisedHandle, Scope, Threads};
+use std::thread::{JoinHandle, PromisedHandle, Scope, Threads};
 
-/// Starts a worker for each seat, and tells whether all were started.
+/// Starts a worker for each seat, and gives their handles. It gives None where there is no memory for these, or where a
+/// worker can't be started.
 fn hire<'s, E, J, R>(
     scope: &'s Scope<'s, E>,
     rt: &'s R,
+    alloc: Global,
     slots: &'s JobSlots<J>,
     bells: &'s Bells,
     yields: u32,
     seats: Vec<WorkerSeat<J>>,
-) -> bool
+) -> Option<Vec<JoinHandle<()>>>
 where
     J: Turns + Send + 's,
     R: Wait + Sync,
     requires { All (IsWorkerOf slots.now) seats.items }
+    ensures { IfSome result (λ workers. length workers.items ≡ length seats.items) }
 {
+    let mut workers = Vec::with_capacity(alloc, seats.len()).ok()?;
     for seat in seats {
         let turns = move ||
             requires { IsWorkerOf slots.now seat }
         {
             let _ = work(rt, slots, seat, bells, yields);
         };
-        if scope.spawn(turns).is_err() {
-            return false;
-        }
+        workers.push(scope.spawn(turns).ok()?).ok()?;
     }
-    true
+    Some(workers)
 }
 
 /// Starts the reader.
@@ -125,10 +127,10 @@ where
             ensures reads { IfOk result (λ done. Reads (S.gave source) (sent done.1)) }
             ensures refused { IfErr result (λ sink. sink ≡ clerk.entry.sink) }
         {
-            if !hire(scope, rt, slots, bells, yields, seats) {
+            let Some(_workers) = hire(scope, rt, alloc, slots, bells, yields, seats) else {
                 bells.stop();
                 return Err(clerk.into_sink());
-            }
+            };
             let Some(reader) = begin_reading(scope, rt, alloc, source, ring, bells, yields) else {
                 bells.stop();
                 return Err(clerk.into_sink());
