@@ -107,7 +107,13 @@ fn owe(
         owed.skip();
         return Ok(());
     }
+    let is_lacking = slots.is_lacking();
     open(owed, slots)?;
+    if is_lacking {
+        // It ensures that the count is of 64 bits.
+        let _answers = tally.answers;
+        return Ok(());
+    }
     match write_leaving(order, owed, place, outbox, room) {
         Ok(()) => {
             let_out(order, owed, place, tally);

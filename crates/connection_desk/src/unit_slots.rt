@@ -1,4 +1,4 @@
-ghost use Rattle.std.specs.Prelude.{◌≡◌, ◌==◌, length};
+ghost use Rattle.std.specs.Prelude.{◌≡◌, ◌==◌, ◌∷◌, [], true, None, length};
 
 /// The slots of a unit's answer, each with its text where it is known already. Those of a unit that is no batch take no
 /// memory.
@@ -20,6 +20,16 @@ impl UnitSlots {
             UnitSlots::Nothing => true,
             UnitSlots::One(_) => false,
             UnitSlots::Several(slots) => slots.is_empty(),
+        }
+    }
+
+    /// Whether there is one slot, and no text in it.
+    pub fn is_lacking(&self) -> bool
+        ensures { result ≡ true → slots_in self.now ≡ None ∷ [] }
+    {
+        match self {
+            UnitSlots::One(slot) => slot.is_none(),
+            UnitSlots::Nothing | UnitSlots::Several(_) => false,
         }
     }
 }
