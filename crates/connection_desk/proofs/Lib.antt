@@ -1,4 +1,5 @@
 pub mod Admitted
+pub mod Alone
 pub mod Answered
 pub mod Counting
 pub mod GivenSlots

@@ -1,5 +1,6 @@
 -- What goes out and what stays of the answers that are owed.
-use Rattle.std.proofs.Common.{◌≡◌, ℕ, ◌<◌, not, Bool, true, false, cond, List, [], ◌∷◌, ◌++◌, length, Option, refl, ap, ◌∙◌, arith, append-nil}
+use Rattle.std.proofs.Common.{◌≡◌, ℕ, ◌<◌, not, Bool, true, false, cond, List, [], ◌∷◌, ◌++◌, length, Option, None, refl, ap, ◌∙◌, arith, append-nil}
+use Rattle.std.proofs.lemmas.List.Elements.{filter-append}
 use Rattle.std.specs.List.{filter}
 use Rattle.connection_history.specs.declared.order.Order.{Order}
 use Rattle.connection_history.specs.declared.order.Order.TheVariants.{AsAnswered, AsCame}
@@ -93,3 +94,27 @@ empty_of (x ∷ xs) is = absurd (omega arith)
 
 pub owed-none : (order : Order) (place : ℕ) (batch : Bool) (es : List (ℕ × OwedUnit)) → leaving order es ≡ [] → staying order (es ++ owed_slots place batch []) ≡ es
 owed-none order place batch es none = ap (λ fs. staying order fs) (append-nil es) ∙ all-staying order es none
+
+-- ---- a unit with one answer that isn't known yet
+
+front_behind_step : (b : Bool) (e : ℕ × OwedUnit) (front more : List (ℕ × OwedUnit)) → cond b (e ∷ front) [] ≡ [] → cond b (e ∷ more) [] ≡ []
+front_behind_step true e front more none = absurd (cc)
+front_behind_step false e front more none = refl
+
+front_behind : (es fs : List (ℕ × OwedUnit)) → complete_front es ≡ [] → complete_front fs ≡ [] → complete_front (es ++ fs) ≡ []
+front_behind [] fs none more = more
+front_behind (e ∷ es) fs none more = front_behind_step (is_complete e.1) e (complete_front es) (complete_front (es ++ fs)) none
+
+none_behind : (order : Order) (es fs : List (ℕ × OwedUnit)) → leaving order es ≡ [] → leaving order fs ≡ [] → leaving order (es ++ fs) ≡ []
+none_behind AsAnswered es fs none more =
+    filter-append (λ e. is_complete e.1) es fs ∙ ap (λ gs. gs ++ leaving AsAnswered fs) none ∙ more
+none_behind AsCame es fs none more = front_behind es fs none more
+
+none_lacking : (order : Order) (place : ℕ) (batch : Bool) → leaving order (owed_slots place batch (None ∷ [])) ≡ []
+none_lacking AsAnswered place batch = refl
+none_lacking AsCame place batch = refl
+
+pub lacking-stays : (order : Order) (place : ℕ) (batch : Bool) (slots : List (Option (List ℕ))) (es : List (ℕ × OwedUnit)) → leaving order es ≡ [] → slots ≡ None ∷ []
+    → leaving order (es ++ owed_slots place batch slots) ≡ []
+lacking-stays order place batch slots es none is =
+    ap (λ ss. leaving order (es ++ owed_slots place batch ss)) is ∙ none_behind order es (owed_slots place batch (None ∷ [])) none (none_lacking order place batch)

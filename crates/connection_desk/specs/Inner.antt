@@ -17,12 +17,14 @@ use Rattle.open_calls.specs.declared.their_call.TheirCall.{TheirCall}
 use Rattle.open_calls.specs.Own.{OwnState}
 use Rattle.open_calls.specs.Theirs.{TheirState, new_call, is_reached, cancelled}
 use Rattle.open_calls.specs.Numbered.{at, up_to, without}
-use Rattle.open_calls.specs.Owed.{OwedUnit, unit_text}
+use Rattle.open_calls.specs.Owed.{OwedUnit, seen_slot, seen_slots, unit_text}
 use Rattle.connection_history.specs.declared.order.Order.TheVariants.{AsAnswered, AsCame}
-use Rattle.connection_states.specs.States.{slot_count}
+use Rattle.connection_states.specs.States.{owed_slots, slot_count}
 use Rattle.connection_states.specs.Steps.{leaving, is_complete, reached_numbers, own_after}
 use Rattle.connection_desk.specs.declared.events.Events.{Events}
 use Rattle.connection_desk.specs.declared.tally.Tally.{Tally}
+use Rattle.connection_desk.specs.declared.unit_slots.UnitSlots.{UnitSlots}
+use Rattle.connection_desk.specs.declared.unit_slots.UnitSlots.TheVariants.{Nothing, One, Several}
 
 -- the last event, where the input is over
 abbrev pub over_event : Option Close → List Event
@@ -76,6 +78,24 @@ pub record IsDesk (order : Order) (owed : List (ℕ × OwedUnit)) (is_over : Boo
   pub settled : leaving order owed ≡ []
   pub have_slots : HaveSlots owed
   pub open_ended : is_over ≡ false → IsOpenEnded events
+
+-- ---- the answers of a unit that comes
+
+-- its slots, as a list
+abbrev pub slots_in : UnitSlots → List (Option (List ℕ))
+slots_in Nothing = []
+slots_in (One slot) = seen_slot slot ∷ []
+slots_in (Several slots) = seen_slots slots.items
+
+-- whether they are those of a batch
+abbrev pub are_several : UnitSlots → Bool
+are_several Nothing = false
+are_several (One slot) = false
+are_several (Several slots) = true
+
+-- what the unit at this place is owed
+abbrev pub owed_in : ℕ → UnitSlots → List (ℕ × OwedUnit)
+owed_in place slots = owed_slots place (are_several slots) (slots_in slots)
 
 -- ---- a unit's calls are open before its entries do anything
 

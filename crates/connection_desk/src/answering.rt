@@ -1,13 +1,16 @@
 //! Calls of the other side are answered.
 
-ghost use Rattle.std.specs.Prelude.{◌≡◌, ◌++◌, ◌∷◌, [], map, None, IfErr, OnOk, OnErr};
+ghost use Rattle.std.specs.Prelude.{◌≡◌, ◌++◌, ◌∷◌, [], true, map, None, IfOk, IfErr, OnOk, OnErr};
+ghost use Rattle.connection_desk.specs.Alone.{GoesAlone, IsAlone};
 
 use crate::desk::Desk;
 use crate::leaving::{let_out, write_leaving};
-use connection_history::Refused;
+use connection_history::{Order, Refused};
 use connection_messages::{Answer, write_answer, write_withdrawal};
+use open_calls::{Owed, OwedAnswers};
 use rpc_messages::Standard;
-use std::alloc::AllocError;
+use std::alloc::{AllocError, Global};
+use std::mem;
 
 /// Room for the text of an answer, which most fit in.
 const ANSWER_ROOM: usize = 128;
@@ -30,10 +33,11 @@ impl Desk {
             return Err(Refused::NotOpen);
         };
         if let Some(id) = &call.id {
-            let mut text = Vec::with_capacity(self.alloc, ANSWER_ROOM)?;
+            let goes = goes_alone(self.order, &self.owed, call.place, call.slot);
+            let mut text = answer_room(self.alloc, &mut self.room, goes)?;
             write_answer(self.alloc, &mut text, id, answer)?;
             let (place, slot) = (call.place, call.slot);
-            self.give(place, slot, text)?;
+            self.give(place, slot, goes, text)?;
         }
         drop(self.theirs.close(number));
         self.own.end_caller(number);
@@ -89,9 +93,44 @@ impl Desk {
         Ok(())
     }
 
-    /// Gives a slot of an answer its text, and writes the answers that can go out then. `first` says that the places
-    /// ascend, so what stood in the slot can be put back.
-    fn give(&mut self, place: u64, slot: u64, text: Vec<u8>) -> Result<(), AllocError>
+    /// Gives a slot of an answer its text, and writes the answers that can go out then.
+    fn give(
+        &mut self,
+        place: u64,
+        slot: u64,
+        goes_alone: bool,
+        text: Vec<u8>,
+    ) -> Result<(), AllocError>
+        requires { goes_alone ≡ true →
+            GoesAlone self.old.order place slot self.old.state.owed.owed }
+        ensures ok { OnOk result (self.new ≡ after_given place slot text.items self.old) }
+        ensures err { OnErr result (self.new ≡ self.old) }
+    {
+        if goes_alone {
+            self.give_alone(place, text)
+        } else {
+            self.give_slot(place, slot, text)
+        }
+    }
+
+    /// Writes an answer that goes out by itself, and keeps its room. `first` says that the places ascend, so no other unit
+    /// has this one.
+    fn give_alone(&mut self, place: u64, text: Vec<u8>) -> Result<(), AllocError>
+        requires { GoesAlone self.old.order place 0 self.old.state.owed.owed }
+        ensures ok { OnOk result (self.new ≡ after_given place 0 text.items self.old) }
+        ensures err { OnErr result (self.new ≡ self.old) }
+    {
+        let _first = self.owed.first();
+        self.outbox.put(text.as_slice())?;
+        self.owed.remove(place);
+        self.tally.add_answers(1);
+        self.keep_room(text);
+        Ok(())
+    }
+
+    /// Puts the text into its slot, and writes what can go out then. `first` says that the places ascend, so what stood in
+    /// the slot can be put back.
+    fn give_slot(&mut self, place: u64, slot: u64, text: Vec<u8>) -> Result<(), AllocError>
         ensures ok { OnOk result (self.new ≡ after_given place slot text.items self.old) }
         ensures err { OnErr result (self.new ≡ self.old) }
     {
@@ -111,4 +150,36 @@ impl Desk {
             }
         }
     }
+}
+
+/// Whether the answer in this slot goes out by itself, as soon as it is given.
+fn goes_alone(order: Order, owed: &OwedAnswers, place: u64, slot: u64) -> bool
+    ensures { result ≡ true → GoesAlone order place slot owed.now.owed }
+{
+    if order != Order::AsAnswered || slot != 0 {
+        return false;
+    }
+    match owed.get(place) {
+        Some(unit) => is_alone(unit),
+        None => false,
+    }
+}
+
+/// Whether the unit is no batch, and has one answer.
+fn is_alone(unit: &Owed) -> bool
+    ensures { result ≡ true → IsAlone unit.now }
+{
+    !unit.is_batch() && unit.len() == 1
+}
+
+/// Room for the text of an answer. One that goes out by itself is copied at once, so the desk's own room serves.
+fn answer_room(alloc: Global, room: &mut Vec<u8>, goes_alone: bool) -> Result<Vec<u8>, AllocError>
+    ensures { IfOk result (λ text. text.items ≡ []) }
+{
+    if !goes_alone {
+        return Vec::with_capacity(alloc, ANSWER_ROOM);
+    }
+    let mut text = mem::replace(room, Vec::new(alloc));
+    text.clear();
+    Ok(text)
 }

@@ -8,25 +8,25 @@ ghost use Rattle.connection_messages.specs.Texts.{answer_text};
 ghost use Rattle.connection_history.specs.Stream.{call_in, calls_in, entries_in};
 ghost use Rattle.open_calls.specs.Owed.{seen_slots};
 ghost use Rattle.open_calls.specs.Theirs.{new_call};
-ghost use Rattle.connection_states.specs.States.{owed_slots, is_batch as is_batch_unit};
+ghost use Rattle.connection_states.specs.States.{is_batch};
 ghost use Rattle.connection_states.specs.Steps.{leaving, staying, new_call_slots, new_slots, new_unit_slots};
 ghost use Rattle.connection_desk.specs.Desks.{answer_texts, with_answers, with_texts};
-ghost use Rattle.connection_desk.specs.Inner.{HaveSlots, IsLonger, IsOpenEnded, added_call, added_calls, has_cancel as has_cancel_in, most_events as most_events_in, room_of, untold_of};
+ghost use Rattle.connection_desk.specs.Inner.{HaveSlots, IsLonger, IsOpenEnded, added_call, added_calls, are_several, has_cancel as has_cancel_in, most_events as most_events_in, owed_in, room_of, slots_in, untold_of};
 
 use crate::desk::Desk;
 use crate::events::Events;
 use crate::leaving::{let_out, write_leaving};
 use crate::settling::settle;
 use crate::tally::Tally;
+use crate::unit_slots::UnitSlots;
 use connection_history::Order;
 use connection_messages::{Answer, Entry, Unit, write_answer};
 use open_calls::{OwedAnswers, TheirCalls};
 use outbox::Outbox;
 use rpc_messages::{Id, Standard};
 use std::alloc::{AllocError, Global};
-use std::slice;
 
-/// The answers of a unit: a slot for each, with its text where it is known already.
+/// The slots of a batch.
 type Slots = Vec<Option<Vec<u8>>>;
 
 impl Desk {
@@ -42,7 +42,6 @@ impl Desk {
         let mut room = self.take_room();
         // It ensures that these counts are of 64 bits.
         let _tally = self.tally;
-        let is_batch = is_batch(&unit);
         let came = self.theirs.came();
         let place = self.owed.places();
         let slots = admit(self.alloc, &mut self.theirs, &mut self.events, place, &unit)?;
@@ -52,7 +51,6 @@ impl Desk {
             &mut self.outbox,
             &mut room,
             &mut self.tally,
-            is_batch,
             slots,
         ) {
             self.theirs.take_back(came);
@@ -71,15 +69,6 @@ impl Desk {
     }
 }
 
-fn is_batch(unit: &Unit) -> bool
-    ensures { result ≡ is_batch_unit unit.now }
-{
-    match unit {
-        Unit::Batch(_) => true,
-        Unit::Unreadable | Unit::Single(_) => false,
-    }
-}
-
 /// A unit is owed these answers, and those that can go out do.
 fn owe(
     order: Order,
@@ -87,23 +76,22 @@ fn owe(
     outbox: &mut Outbox,
     room: &mut Vec<u8>,
     tally: &mut Tally,
-    is_batch: bool,
-    slots: Slots,
+    slots: UnitSlots,
 ) -> Result<(), AllocError>
     requires settled { leaving order owed.old.owed ≡ [] }
     requires slots { HaveSlots owed.old.owed }
     ensures owed { OnOk result (owed.new ≡ record {
       places = owed.old.places + 1;
       owed = staying order
-          (owed.old.owed ++ owed_slots owed.old.places is_batch (seen_slots slots.items));
+          (owed.old.owed ++ owed_in owed.old.places slots);
     }) }
     ensures outbox { OnOk result (outbox.new ≡ with_texts
         (answer_texts (leaving order
-        (owed.old.owed ++ owed_slots owed.old.places is_batch (seen_slots slots.items))))
+        (owed.old.owed ++ owed_in owed.old.places slots)))
         outbox.old) }
     ensures tally { OnOk result (tally.new ≡ with_answers
         (length (leaving order
-        (owed.old.owed ++ owed_slots owed.old.places is_batch (seen_slots slots.items))))
+        (owed.old.owed ++ owed_in owed.old.places slots)))
         tally.old) }
     ensures owed_err { OnErr result (owed.new ≡ owed.old) }
     ensures outbox_err { OnErr result (outbox.new ≡ outbox.old) }
@@ -119,7 +107,13 @@ fn owe(
         owed.skip();
         return Ok(());
     }
-    owed.open_unit(is_batch, slots)?;
+    let is_lacking = slots.is_lacking();
+    open(owed, slots)?;
+    if is_lacking {
+        // It ensures that the count is of 64 bits.
+        let _answers = tally.answers;
+        return Ok(());
+    }
     match write_leaving(order, owed, place, outbox, room) {
         Ok(()) => {
             let_out(order, owed, place, tally);
@@ -132,6 +126,23 @@ fn owe(
     }
 }
 
+/// The unit at the next place is owed these answers. There are some.
+fn open(owed: &mut OwedAnswers, slots: UnitSlots) -> Result<(), AllocError>
+    requires places { owed.old.places < 2 ^ 64 - 1 }
+    requires some { 0 < length (slots_in slots) }
+    ensures ok { OnOk result (owed.new ≡ record {
+      places = owed.old.places + 1;
+      owed = owed.old.owed ++ owed_in owed.old.places slots;
+    }) }
+    ensures err { OnErr result (owed.new ≡ owed.old) }
+{
+    match slots {
+        UnitSlots::Nothing => Ok(()),
+        UnitSlots::One(slot) => owed.open_single(slot),
+        UnitSlots::Several(slots) => owed.open_unit(true, slots),
+    }
+}
+
 /// All else of a unit that needs memory: its calls are open, and there is room for its events. Answers the slots of its
 /// answer.
 fn admit(
@@ -140,9 +151,10 @@ fn admit(
     events: &mut Events,
     place: u64,
     unit: &Unit,
-) -> Result<Slots, AllocError>
+) -> Result<UnitSlots, AllocError>
     requires { theirs.old.came + length (calls_in (entries_in unit.now)) < 2 ^ 64 }
-    ensures slots { IfOk result (λ slots. seen_slots slots.items ≡ new_unit_slots unit.now) }
+    ensures slots { IfOk result (λ slots. slots_in slots ≡ new_unit_slots unit.now) }
+    ensures batch { IfOk result (λ slots. are_several slots ≡ is_batch unit.now) }
     ensures theirs { OnOk result (theirs.new ≡ record {
       came = theirs.old.came + length (calls_in (entries_in unit.now));
       calls = theirs.old.calls ++ added_calls place 0 theirs.old.came (entries_in unit.now);
@@ -171,9 +183,10 @@ fn admit_all(
     events: &mut Events,
     place: u64,
     unit: &Unit,
-) -> Result<Slots, AllocError>
+) -> Result<UnitSlots, AllocError>
     requires { theirs.old.came + length (calls_in (entries_in unit.now)) < 2 ^ 64 }
-    ensures slots { IfOk result (λ slots. seen_slots slots.items ≡ new_unit_slots unit.now) }
+    ensures slots { IfOk result (λ slots. slots_in slots ≡ new_unit_slots unit.now) }
+    ensures batch { IfOk result (λ slots. are_several slots ≡ is_batch unit.now) }
     ensures theirs { OnOk result (theirs.new ≡ record {
       came = theirs.old.came + length (calls_in (entries_in unit.now));
       calls = theirs.old.calls ++ added_calls place 0 theirs.old.came (entries_in unit.now);
@@ -233,9 +246,10 @@ fn admit_unit(
     theirs: &mut TheirCalls,
     place: u64,
     unit: &Unit,
-) -> Result<Slots, AllocError>
+) -> Result<UnitSlots, AllocError>
     requires { theirs.old.came + length (calls_in (entries_in unit.now)) < 2 ^ 64 }
-    ensures slots { IfOk result (λ slots. seen_slots slots.items ≡ new_unit_slots unit.now) }
+    ensures slots { IfOk result (λ slots. slots_in slots ≡ new_unit_slots unit.now) }
+    ensures batch { IfOk result (λ slots. are_several slots ≡ is_batch unit.now) }
     ensures theirs { OnOk result (theirs.new ≡ record {
       came = theirs.old.came + length (calls_in (entries_in unit.now));
       calls = theirs.old.calls ++ added_calls place 0 theirs.old.came (entries_in unit.now);
@@ -244,12 +258,54 @@ fn admit_unit(
 {
     match unit {
         Unit::Unreadable => {
-            let mut slots = Vec::new(alloc);
-            slots.push(Some(error_text(alloc, Standard::ParseError)?))?;
-            Ok(slots)
+            let text = error_text(alloc, Standard::ParseError)?;
+            Ok(UnitSlots::One(Some(text)))
         }
-        Unit::Single(entry) => admit_entries(alloc, theirs, place, slice::from_ref(entry)),
-        Unit::Batch(entries) => admit_entries(alloc, theirs, place, entries.as_slice()),
+        Unit::Single(entry) => admit_single(alloc, theirs, place, entry),
+        Unit::Batch(entries) => {
+            let slots = admit_entries(alloc, theirs, place, entries.as_slice())?;
+            Ok(UnitSlots::Several(slots))
+        }
+    }
+}
+
+/// Opens the call of an entry that is a unit by itself, and answers its slots.
+fn admit_single(
+    alloc: Global,
+    theirs: &mut TheirCalls,
+    place: u64,
+    entry: &Entry,
+) -> Result<UnitSlots, AllocError>
+    requires { theirs.old.came + length (call_in entry.now) < 2 ^ 64 }
+    ensures slots { IfOk result (λ slots. slots_in slots ≡ new_slots entry.now) }
+    ensures batch { IfOk result (λ slots. are_several slots ≡ false) }
+    ensures theirs { OnOk result (theirs.new ≡ record {
+      came = theirs.old.came + length (call_in entry.now);
+      calls = theirs.old.calls ++ added_call place 0 theirs.old.came entry.now;
+    }) }
+    ensures longer { IsLonger theirs.old theirs.new }
+{
+    match entry {
+        Entry::Call(call) => {
+            theirs.add(call.id.clone()?, place, 0)?;
+            Ok(call_slots(&call.id))
+        }
+        Entry::Invalid => {
+            let text = error_text(alloc, Standard::InvalidRequest)?;
+            Ok(UnitSlots::One(Some(text)))
+        }
+        Entry::Cancel(_) | Entry::Reply { .. } | Entry::Stray => Ok(UnitSlots::Nothing),
+    }
+}
+
+/// The slots of a call that is a unit by itself.
+fn call_slots(id: &Option<Id>) -> UnitSlots
+    ensures slots { slots_in result ≡ new_call_slots id.now }
+    ensures batch { are_several result ≡ false }
+{
+    match id {
+        Some(_) => UnitSlots::One(None),
+        None => UnitSlots::Nothing,
     }
 }
 

@@ -11,6 +11,7 @@ mod leaving;
 mod saying;
 mod settling;
 mod tally;
+mod unit_slots;
 
 pub use desk::Desk;
 pub use tally::Tally;

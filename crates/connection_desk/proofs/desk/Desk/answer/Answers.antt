@@ -4,7 +4,7 @@ use Rattle.connection_states.specs.Steps.{leaving}
 use Rattle.open_calls.specs.Numbered.{at}
 use Rattle.open_calls.specs.Own.{without_caller}
 use Rattle.open_calls.proofs.Own.{state_of}
-use Rattle.connection_desk.specs.Desks.{Desk}
+use Rattle.connection_desk.specs.Desks.{Desk, after_given}
 use Rattle.connection_desk.proofs.Answered.{closed, not_refused, request_answered, notice_answered}
 use Rattle.connection_desk.proofs.Seen.{desk_of}
 use Rattle.connection_desk.proofs.desk.Desk.answer.Goals as goal
@@ -30,8 +30,9 @@ returns-clause-ok c =
       | in-Some-id+in_ok-text+in_ok-write_answer+in_ok-give w ↦ (
         not_refused n begun.state call there,
         is_closed ∙ ap (closed n) (w.self-is ∙ w.in_ok-give.ensures.ok)
+            ∙ ap (λ d. closed n (after_given call.place call.slot w.write_answer.new.bytes.items d)) c.self.view_is
             ∙ request_answered n begun call w.in-Some-id.id w.write_answer.new.bytes.items c.args.answer.now there w.in-Some-id.is
-            (w.in_ok-write_answer.ensures ∙ ap (λ t. t ++ answer_text w.in-Some-id.id c.args.answer.now) w.in_ok-text.ensures.items),
+            (w.in_ok-write_answer.ensures ∙ ap (λ t. t ++ answer_text w.in-Some-id.id c.args.answer.now) w.in_ok-text.ensures),
       )
       | in_default-id w ↦ (
         not_refused n begun.state call there,

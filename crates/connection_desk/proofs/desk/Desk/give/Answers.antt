@@ -1,55 +1,12 @@
-use Rattle.std.proofs.Common.{◌≡◌, Some, sym, ap, subst, ◌∙◌}
-use Rattle.connection_states.specs.Steps.{staying}
-use Rattle.open_calls.specs.Numbered.{changed_at}
-use Rattle.open_calls.specs.Owed.{OwedState, seen_slot, replaced}
-use Rattle.open_calls.proofs.OwedLemmas.{state_of}
-use Rattle.connection_desk.specs.Inner.{HaveSlots, OnlyAt, IsDesk}
-use Rattle.connection_desk.proofs.GivenSlots.{slots_replaced, only_changed, desk_stays, changed_back}
-use Rattle.connection_desk.proofs.Seen.{desk_of}
+use Rattle.std.proofs.Common.{refl, sym, ap}
+use Rattle.connection_desk.specs.Desks.{after_given}
+use Rattle.connection_desk.proofs.OwedLists.{ok_to}
 use Rattle.connection_desk.proofs.desk.Desk.give.Goals as goal
 
-pub write_leaving-requires-clause-slots : goal.write_leaving-requires-clause-slots
-write_leaving-requires-clause-slots c =
-    subst (λ (s : OwedState). HaveSlots s.owed) (sym c.replace-was.ensures.state)
-    (slots_replaced c.args.place c.args.slot (Some c.args.text.items) c.self.inside.owed.owed c.self.invariant.have_slots)
+pub give_alone-requires : goal.give_alone-requires
+give_alone-requires c = let goes = c.requires c.if-goes_alone.true in record { at_once = goes.at_once; first = refl; alone = goes.alone }
 
-pub write_leaving-requires-clause-only : goal.write_leaving-requires-clause-only
-write_leaving-requires-clause-only c =
-    subst (λ (s : OwedState). OnlyAt c.self.inside.order c.args.place s.owed) (sym c.replace-was.ensures.state)
-    (only_changed c.self.inside.order c.args.place (replaced c.args.slot (Some c.args.text.items)) c.self.inside.owed.owed c.self.invariant.settled)
-
-pub let_out-requires : goal.let_out-requires
-let_out-requires c =
-    subst (λ (s : OwedState). OnlyAt c.self.inside.order c.args.place s.owed) (sym c.replace-was.ensures.state)
-    (only_changed c.self.inside.order c.args.place (replaced c.args.slot (Some c.args.text.items)) c.self.inside.owed.owed c.self.invariant.settled)
-
-pub invariant_of-self : goal.invariant_of-self
-invariant_of-self c =
-    let change = changed_at c.args.place (replaced c.args.slot (Some c.args.text.items)) c.self.inside.owed.owed in
-    desk_stays c.self.inside.order change c.let_out.new.owed.owed c.self.inside.is_over c.self.inside.events
-    (slots_replaced c.args.place c.args.slot (Some c.args.text.items) c.self.inside.owed.owed c.self.invariant.have_slots)
-    c.self.invariant.open_ended
-    (ap (λ (s : OwedState). s.owed) c.let_out.ensures.owed ∙ ap (λ (s : OwedState). staying c.self.inside.order s.owed) c.replace-was.ensures.state)
-
-pub invariant_of-self-in-Err-1 : goal.invariant_of-self-in-Err-1
-invariant_of-self-in-Err-1 c =
-    let was = seen_slot c.replace-was.result in
-    let back : c.replace.new.self ≡ c.self.inside.owed =
-    c.replace.ensures.state
-    ∙ ap (λ (s : OwedState). state_of s.places (changed_at c.args.place (replaced c.args.slot was) s.owed)) c.replace-was.ensures.state
-    ∙ ap (λ es. state_of c.self.inside.owed.places es)
-    (changed_back c.args.place c.args.slot (Some c.args.text.items) was c.self.inside.owed.owed c.first-first.ensures.ascending c.replace-was.ensures.was) in
-    subst (λ (s : OwedState). IsDesk c.self.inside.order s.owed c.self.inside.is_over c.self.inside.events) (sym back) c.self.invariant
-
-pub returns-in-Err-clause-err : goal.returns-in-Err-clause-err
-returns-in-Err-clause-err c =
-    let was = seen_slot c.replace-was.result in
-    let d = c.self.inside in
-    let back : c.replace.new.self ≡ d.owed =
-    c.replace.ensures.state
-    ∙ ap (λ (s : OwedState). state_of s.places (changed_at c.args.place (replaced c.args.slot was) s.owed)) c.replace-was.ensures.state
-    ∙ ap (λ es. state_of d.owed.places es)
-    (changed_back c.args.place c.args.slot (Some c.args.text.items) was d.owed.owed c.first-first.ensures.ascending c.replace-was.ensures.was) in
-    ap (λ s. desk_of d.cancels d.order d.own d.theirs s d.is_over d.events c.write_leaving.new.outbox d.tally) back
-    ∙ ap (λ o. desk_of d.cancels d.order d.own d.theirs d.owed d.is_over d.events o d.tally) c.in-Err.ensures.err
-    ∙ c.self.view_is ∙ c.take_room-room.ensures.state
+pub returns-then-goes_alone-clause-ok : goal.returns-then-goes_alone-clause-ok
+returns-then-goes_alone-clause-ok c =
+    let goes = c.requires c.if-goes_alone.true in
+    ok_to c.give_alone.result _ _ _ (ap (λ slot. after_given c.args.place slot c.args.text.items c.args.self.now) (sym goes.first)) c.give_alone.ensures.ok

@@ -4,7 +4,7 @@ use Rattle.connection_history.specs.declared.order.Order.{Order}
 use Rattle.connection_history.specs.Stream.{entries_in, calls_in}
 use Rattle.open_calls.specs.Numbered.{Below}
 use Rattle.open_calls.specs.Own.{OwnState}
-use Rattle.open_calls.specs.Owed.{OwedState, seen_slots}
+use Rattle.open_calls.specs.Owed.{OwedState}
 use Rattle.open_calls.specs.Theirs.{TheirState}
 use Rattle.open_calls.proofs.Theirs.{state_of}
 use Rattle.outbox.specs.Output.{Output}
@@ -13,7 +13,7 @@ use Rattle.connection_states.specs.Steps.{leaving, staying, theirs_after_all, to
 use Rattle.connection_desk.specs.Desks.{Desk, after_unit, with_texts, answer_texts, with_answers, with_counts}
 use Rattle.connection_states.specs.Tallies.{tally_in}
 use Rattle.connection_desk.specs.declared.tally.Tally.{Tally}
-use Rattle.connection_desk.specs.Inner.{HaveSlots, added_calls, calls_along, told_along, untold_of, counted_in}
+use Rattle.connection_desk.specs.Inner.{HaveSlots, added_calls, are_several, calls_along, told_along, untold_of, counted_in, owed_in, slots_in}
 use Rattle.connection_desk.proofs.Admitted.{below_of, theirs_along, told_same, unit_counted}
 use Rattle.connection_desk.proofs.Counting.{IsFew}
 use Rattle.connection_desk.proofs.Owing.{have-append, have-owed, have-staying, none-leaving}
@@ -29,12 +29,13 @@ pub invariant_of-self-2 : goal.invariant_of-self-2
 invariant_of-self-2 c =
     let order = c.self.inside.order in
     let was = c.self.inside.owed in
-    let new = owed_slots was.places c.is_batch-is_batch.result (seen_slots c.in_ok-slots.slots.items) in
+    let slots = c.in_ok-slots.slots in
+    let new = owed_in was.places slots in
     record {
       settled = subst (λ (s : OwedState). leaving order s.owed ≡ []) (sym c.in_default.ensures.owed) (none-leaving order (was.owed ++ new));
       have_slots = subst (λ (s : OwedState). HaveSlots s.owed) (sym c.in_default.ensures.owed)
           (have-staying order (was.owed ++ new)
-          (have-append was.owed new c.self.invariant.have_slots (have-owed was.places c.is_batch-is_batch.result (seen_slots c.in_ok-slots.slots.items))));
+          (have-append was.owed new c.self.invariant.have_slots (have-owed was.places (are_several slots) (slots_in slots))));
       open_ended = λ _. c.settle.ensures.open;
     }
 
@@ -81,8 +82,9 @@ returns-clause-ok c =
     ap (λ (s : TheirState). told_along c.came-came.result d.own s.calls es) admitted
     ∙ ap (λ m. told_along m d.own (d.theirs.calls ++ added_calls d.owed.places 0 n es) es) c.came-came.ensures.came
     ∙ told_same d.owed.places n d.own d.theirs.calls es under in
-    let owing : d.owed.owed ++ owed_slots d.owed.places c.is_batch-is_batch.result (seen_slots c.in_ok-slots.slots.items) ≡ d.owed.owed ++ owed_slots d.owed.places (is_batch unit) (new_unit_slots unit) =
-    ap (λ b. d.owed.owed ++ owed_slots d.owed.places b (seen_slots c.in_ok-slots.slots.items)) c.is_batch-is_batch.ensures
+    let slots = c.in_ok-slots.slots in
+    let owing : d.owed.owed ++ owed_in d.owed.places slots ≡ d.owed.owed ++ owed_slots d.owed.places (is_batch unit) (new_unit_slots unit) =
+    ap (λ b. d.owed.owed ++ owed_slots d.owed.places b (slots_in slots)) c.in_ok-slots.ensures.batch
     ∙ ap (λ ss. d.owed.owed ++ owed_slots d.owed.places (is_batch unit) ss) c.in_ok-slots.ensures.slots in
     let answers = length (leaving d.order (d.owed.owed ++ owed_slots d.owed.places (is_batch unit) (new_unit_slots unit))) in
     let few : IsFew d.tally = record { requests = omega arith; invalid = omega arith; ignored = omega arith } in

@@ -1,0 +1,35 @@
+ghost use Rattle.std.specs.Prelude.{◌≡◌, ◌==◌, ◌∷◌, [], true, None, length};
+
+/// The slots of a unit's answer, each with its text where it is known already. Those of a unit that is no batch take no
+/// memory.
+#[derive(Drop)]
+pub enum UnitSlots {
+    Nothing,
+    One(Option<Vec<u8>>),
+    /// Of a batch.
+    Several(Vec<Option<Vec<u8>>>),
+}
+
+impl UnitSlots {
+    ghost use Rattle.connection_desk.specs.Inner.{slots_in};
+
+    pub fn is_empty(&self) -> bool
+        ensures { result ≡ (length (slots_in self.now) == 0) }
+    {
+        match self {
+            UnitSlots::Nothing => true,
+            UnitSlots::One(_) => false,
+            UnitSlots::Several(slots) => slots.is_empty(),
+        }
+    }
+
+    /// Whether there is one slot, and no text in it.
+    pub fn is_lacking(&self) -> bool
+        ensures { result ≡ true → slots_in self.now ≡ None ∷ [] }
+    {
+        match self {
+            UnitSlots::One(slot) => slot.is_none(),
+            UnitSlots::Nothing | UnitSlots::Several(_) => false,
+        }
+    }
+}
