@@ -35,9 +35,11 @@ of_both s framing order =
 abbrev pub chosen : Settings → Option Chosen
 chosen s = option_and_then (λ framing. option_and_then (of_both s framing) (order_of s.order)) (framing_of s.framing)
 
--- nothing has happened yet
+-- nothing was fed, the input hasn't ended, and nothing has happened yet
 abbrev pub IsFresh : Settings → Outlet → Type 0
-IsFresh s o = (chosen s ≡ Some o.connection.settings) × (o.next ≡ None) × StandsAfter o.connection [] []
+IsFresh s o =
+    (chosen s ≡ Some o.connection.settings) × (o.next ≡ None) × (o.connection.stream.pieces ≡ []) × (o.connection.stream.ended ≡ None)
+    × StandsAfter o.connection [] []
 
 -- BM_SETTINGS where there are no such settings, and else BM_OK or BM_NO_MEMORY
 abbrev pub IsMade : Settings → ℤ → Type 0

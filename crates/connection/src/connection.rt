@@ -1,4 +1,4 @@
-ghost use Rattle.std.specs.Prelude.{◌≡◌, [], ◌+◌};
+ghost use Rattle.std.specs.Prelude.{◌≡◌, [], ◌+◌, None};
 
 use crate::settings::Settings;
 use connection_desk::Desk;
@@ -30,9 +30,11 @@ impl Model for Connection {
 impl Connection {
     ghost use Rattle.connection.specs.Connections.{StandsAfter};
 
-    /// A connection where nothing has happened. Takes no memory.
+    /// A connection where nothing has happened, and to which nothing was fed. Takes no memory.
     pub fn new(alloc: Global, settings: Settings) -> Connection
         ensures settings { result.settings ≡ settings }
+        ensures pieces { result.stream.pieces ≡ [] }
+        ensures ended { result.stream.ended ≡ None }
         ensures stands { StandsAfter result [] [] }
     {
         let cancels = settings.takes_cancels();

@@ -17,10 +17,12 @@ pub struct Outlet {
 }
 
 impl Outlet {
-    /// With a connection where nothing has happened.
+    /// With a connection where nothing has happened, and to which nothing was fed.
     pub fn new(alloc: Global, settings: Settings) -> Outlet
         ensures settings { result.connection.settings ≡ settings }
         ensures none { result.next ≡ None }
+        ensures pieces { result.connection.stream.pieces ≡ [] }
+        ensures ended { result.connection.stream.ended ≡ None }
         ensures stands { StandsAfter result.connection [] [] }
     {
         Outlet {
