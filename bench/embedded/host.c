@@ -3,7 +3,7 @@
  * with the reply. */
 #include "bullmyrtle.h"
 
-#include <inttypes.h>
+#include <stdint.h>
 #include <stdio.h>
 #include <stdlib.h>
 #include <string.h>
@@ -62,16 +62,28 @@ static bool sum_of(const char *text, int64_t *sum)
     return true;
 }
 
+/* Writes a number's digits at the end of the room, and says where they begin; printf would take a tenth of a request. */
+static uint8_t *digits(int64_t value, uint8_t *end)
+{
+    uint64_t left = value < 0 ? 0 - (uint64_t)value : (uint64_t)value;
+    do
+        *--end = (uint8_t)('0' + left % 10);
+    while ((left /= 10) > 0);
+    if (value < 0)
+        *--end = '-';
+    return end;
+}
+
 static void add(uint64_t number, const char *params)
 {
     int64_t sum;
-    char result[32];
+    uint8_t result[24], *end = result + sizeof result;
     if (!sum_of(params, &sum)) {
         refuse(number, -32602, TEXT("Invalid params"));
         return;
     }
-    int length = snprintf(result, sizeof result, "%" PRId64, sum);
-    check(bm_answer(&connection, number, (const uint8_t *)result, (size_t)length));
+    const uint8_t *first = digits(sum, end);
+    check(bm_answer(&connection, number, first, (size_t)(end - first)));
 }
 
 static void ask(uint64_t number, const uint8_t *params, size_t length)
