@@ -168,20 +168,14 @@ count.check("finished requests leave no memory behind", many - few < 4_000_000, 
 IDLE, PINGS = 3, 100
 
 
-def share_used(it):
-    """The share of a processor that a peer with nothing to do uses."""
-    before = it.seconds_used()
-    time.sleep(IDLE)
-    return (it.seconds_used() - before) / IDLE
-
-
 def idle(workers):
     with Client([*table, "--workers", workers]) as it:
         it.send(UNKNOWN)
         it.receive()
         time.sleep(0.3)
-        # (on a busy machine the workers may still be starting in the first of the three times)
-        used = min(share_used(it) for _ in range(3))
+        before = it.seconds_used()
+        time.sleep(IDLE)
+        used = (it.seconds_used() - before) / IDLE
         count.check(f"{workers} workers with nothing to do", used < 0.01, f"{used:.1%} of a processor")
         pauses = []
         for number in range(PINGS):
