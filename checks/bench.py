@@ -20,7 +20,7 @@ ROWS = [
     *("single requests", "batches of 100", "one param of 8 MB"),
     *("adds", "adds in batches", "calls back", "the same in batches"),
     *("unknown methods", "open calls", "a request", "one after 5 ms", "a call back"),
-    *("a reply of 8 MB", "a param of 8 MB"),
+    *("8 MB, unknown method", "a reply of 8 MB", "a param of 8 MB"),
 ]
 # The same of the table of reading and writing alone.
 ROWS_READ = ("single requests", "batches of 100", "one param of 8 MB")

@@ -6,8 +6,8 @@ from typing import List
 
 from measures.behind import Behind
 from measures.contenders import BASELINE, TOP, Contender
-from measures.inputs import Entry, add, batch, frame, frames, hundreds, request
-from measures.loads import FIRST, Load, Round, added, load, numbers, result, text_of
+from measures.inputs import add, frame, frames, request
+from measures.loads import FIRST, Load, Round, added, batches, load, numbers, result, text_of
 from measures.serving import Row, show_bulks, show_trips_of
 
 sys.path.insert(0, os.path.join(TOP, "checks"))
@@ -33,17 +33,6 @@ def reply(number: int, value: bytes = b"true") -> bytes:
 
 def requests(count: int) -> Load:
     return load([Round(frames(add, numbers(count)), count)], 1, [], [*map(added, numbers(count))])
-
-
-def array(entry: Entry, some: range) -> bytes:
-    return b"[" + b",".join(map(entry, some)) + b"]"
-
-
-def batches(count: int) -> Load:
-    """All requests at once, in batches of 100."""
-    hundred = [range(it.start + FIRST - 1, it.stop + FIRST - 1) for it in hundreds(count)]
-    sent = b"".join(batch(add, it) for it in hundred)
-    return load([Round(sent, len(hundred))], 1, [], [array(added, it) for it in hundred])
 
 
 def open_calls(count: int) -> Load:

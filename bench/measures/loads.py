@@ -4,7 +4,7 @@ The first request of each load isn't timed, so that the server's start isn't. So
 from FIRST on; the id of each is its number, and its call is therefore that of the same number."""
 from typing import List, NamedTuple
 
-from measures.inputs import Entry, add, ask, frame, frames, reply, request
+from measures.inputs import Entry, add, ask, batch, frame, frames, hundreds, reply, request
 
 FIRST = 2
 
@@ -64,6 +64,17 @@ def adds(count: int) -> Load:
     return bulk(count, add, added)
 
 
+def array(entry: Entry, some: range) -> bytes:
+    return b"[" + b",".join(map(entry, some)) + b"]"
+
+
+def batches(count: int) -> Load:
+    """All requests at once, in batches of 100."""
+    hundred = [range(it.start + FIRST - 1, it.stop + FIRST - 1) for it in hundreds(count)]
+    sent = b"".join(batch(add, it) for it in hundred)
+    return load([Round(sent, len(hundred))], 1, [], [array(added, it) for it in hundred])
+
+
 def open_calls(count: int) -> Load:
     """All requests at once; when all their calls are there, all replies, the last first."""
     asked = Round(frames(ask, numbers(count)), count)
@@ -95,6 +106,12 @@ def long_reply(length: int) -> Load:
     text = text_of(length)
     rounds = [Round(frame(ask(FIRST)), 1), Round(frame(reply(FIRST, text)), 1)]
     return load(rounds, 2, [confirm(FIRST)], [result(FIRST, text)])
+
+
+def long_unknown(length: int) -> Load:
+    """One request with a long param to a method that there isn't."""
+    request_of = b'{"jsonrpc":"2.0","method":"nope","params":[%s],"id":%d}' % (text_of(length), FIRST)
+    return load([Round(frame(request_of), 1)], 1, [], [not_found(FIRST)])
 
 
 def long_param(length: int) -> Load:

@@ -26,6 +26,7 @@ HAND_OVERS = "a request goes through three threads, and through the clerk's twic
 BULKS = (
     Row("unknown methods", loads.unknown, 200_000, "each piece goes from the reader's thread to the clerk's, and each request to the desk and the session"),
     Row("adds", loads.adds, 200_000, STEPS),
+    Row("adds in batches", loads.batches, 200_000, STEPS),
     Row("open calls", loads.open_calls, 20_000, STEPS),
 )
 TRIPS = (
@@ -34,6 +35,7 @@ TRIPS = (
     Row("a call back", loads.calls_back, 5_000, HAND_OVERS),
 )
 LONG = (
+    Row("8 MB, unknown method", loads.long_unknown, 8_000_000, SCRATCH),
     Row("a reply of 8 MB", loads.long_reply, 8_000_000, SCRATCH),
     Row("a param of 8 MB", loads.long_param, 8_000_000, f"{SCRATCH}; and a method's call takes copies of the param"),
 )

@@ -8,8 +8,8 @@ use Rattle.rpc_messages.specs.declared.id.Id.{Id}
 use Rattle.rpc_messages.specs.declared.reply.Reply.{Reply}
 use Rattle.answer_desk.specs.declared.kept.Kept.{Kept}
 use Rattle.answer_desk.specs.declared.kept.Kept.TheVariants.{Open, Answered}
-use Rattle.answer_desk.specs.declared.due.Due.{Due}
-use Rattle.answer_desk.specs.declared.due.Due.TheVariants.{ParseError, InvalidRequest, Nothing, Answer}
+use Rattle.answer_desk.specs.declared.waiting_unit.Due.{Due}
+use Rattle.answer_desk.specs.declared.waiting_unit.Due.TheVariants.{ParseError, InvalidRequest, Nothing, Answer}
 use Rattle.answer_desk.specs.declared.waiting_unit.WaitingUnit.{WaitingUnit}
 use Rattle.answer_desk.specs.Places.{call_part}
 use Rattle.answer_desk.specs.State.{with_end}

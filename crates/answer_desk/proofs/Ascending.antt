@@ -2,8 +2,8 @@
 use Rattle.std.proofs.Common.{◌≡◌, ℕ, ◌+◌, ◌<◌, ◌≤◌, List, [], ◌∷◌, ◌++◌, map, refl, ap, arith, true, rules, nat_le, Option}
 use Rattle.std.specs.Cmp.Derive.{both_true}
 use Rattle.answer_desk.specs.declared.kept.Kept.{Kept}
-use Rattle.answer_desk.specs.declared.due.Due.{Due}
-use Rattle.answer_desk.specs.declared.due.Due.TheVariants.{ParseError, InvalidRequest, Nothing, Answer}
+use Rattle.answer_desk.specs.declared.waiting_unit.Due.{Due}
+use Rattle.answer_desk.specs.declared.waiting_unit.Due.TheVariants.{ParseError, InvalidRequest, Nothing, Answer}
 use Rattle.answer_desk.specs.declared.waiting_unit.WaitingUnit.{WaitingUnit}
 use Rattle.answer_desk.specs.Seen.{kept_at, part_of, request_part, waiting_of}
 use Rattle.answer_desk.specs.Inner.Units.{ascends, requests_in, requests_of}

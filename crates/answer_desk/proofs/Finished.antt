@@ -1,5 +1,5 @@
 -- Finished parts and whole units, one after another.
-use Rattle.std.proofs.Common.{◌≡◌, ◌==◌, ℕ, suc, zero, ◌<◌, List, [], ◌∷◌, ◌++◌, length, get_or, map, take, drop, refl, ap, sym, ◌∙◌, arith, Bool, true, false, ◌&&◌, rules, IsTrue, true≢false}
+use Rattle.std.proofs.Common.{◌≡◌, ◌==◌, ℕ, suc, zero, ◌<◌, ◌≤◌, List, [], ◌∷◌, ◌++◌, length, get_or, map, take, drop, refl, ap, sym, ◌∙◌, arith, Bool, true, false, ◌&&◌, rules, IsTrue, true≢false}
 use Rattle.std.proofs.lemmas.List.{append_assoc, append-nil}
 use Rattle.std.specs.List.{list_all}
 use Rattle.answer_desk.specs.Waiting.{Waiting, is_whole, is_finished, whole_front, behind_front}
@@ -85,3 +85,24 @@ none_wait f [] len is_empty long is = (λ empty. refl, λ none. is ∙ rw (← l
 none_wait f (x ∷ xs) len is_empty long is =
     let some : is_empty ≡ false = is ∙ rw (← long) (suc_not_zero (length xs)) in
     (λ empty. absurd (true≢false (sym empty ∙ some)), λ none. cc)
+
+-- the first unit that waits isn't whole, so nothing is due
+
+pub none_due : {X : Type 0} (waiting : X → Waiting) (units : List X) (unit : X) → 0 < length units → unit ≡ get_or units 0 unit → is_whole (waiting unit) ≡ false
+    → (whole_front (map waiting units) ≡ []) × (behind_front (map waiting units) ≡ map waiting units)
+none_due waiting [] unit some read broken = absurd (omega arith)
+none_due waiting (u ∷ us) unit some read broken =
+    let at : is_whole (waiting u) ≡ false = rw read at broken in
+    (rw at refl, rw at refl)
+
+pub some_wait : {X Y : Type 0} (f : X → Y) (xs : List X) (P : Type 0) → 0 < length xs → map f xs ≡ [] → P
+some_wait f [] P some none = absurd (omega arith)
+some_wait f (x ∷ xs) P some none = cc
+
+pub nothing_waits : {X Y : Type 0} (f : X → Y) (xs : List X) → length xs ≤ 0 → map f xs ≡ []
+nothing_waits f [] none = refl
+nothing_waits f (x ∷ xs) none = absurd (omega arith)
+
+pub none_seen : (units : List Waiting) → units ≡ [] → (whole_front units ≡ []) × (behind_front units ≡ units)
+none_seen [] is = (refl, refl)
+none_seen (u ∷ us) is = cc

@@ -1,14 +1,12 @@
 -- One place of the window, as contracts see it.
 use Rattle.std.proofs.Common.{◌≡◌, ℕ, suc, zero, ◌-◌, ◌<◌, ◌≤◌, List, [], ◌∷◌, length, get_or, set, map, refl, ap, sym, ◌∙◌, Option, Some, None}
 use Rattle.std.proofs.lemmas.List.{length-map, map-set, get_or_read}
-use Rattle.std.specs.Global.{Box, Global}
-use Rattle.std.specs.declared.collections.BinaryHeap.{BinaryHeap}
-use Rattle.std.specs.declared.cmp.Reverse.{Reverse}
+use Rattle.std.specs.Global.{Box}
 use Rattle.rpc_messages.specs.declared.id.Id.{Id}
 use Rattle.rpc_messages.specs.declared.reply.Reply.{Reply}
 use Rattle.answer_desk.specs.declared.kept.Kept.{Kept}
 use Rattle.answer_desk.specs.declared.kept.Kept.TheVariants.{Open, Answered}
-use Rattle.answer_desk.specs.declared.number.Number.{Number}
+use Rattle.answer_desk.specs.declared.open_call.OpenCall.{OpenCall}
 use Rattle.answer_desk.specs.declared.requests_by_id.RequestsById.{RequestsById}
 use Rattle.answer_desk.specs.Seen.{kept_at}
 use Rattle.answer_desk.specs.Inner.Kept.{kept_in, with_change}
@@ -32,15 +30,15 @@ pub place-held : (was : Option (Box Kept)) (box : Box Kept) (value kept : Kept) 
 place-held was box value kept is opened held = ap kept_in is ∙ ap Some (sym opened ∙ held)
 
 -- a change of what it holds, where that is open, and where it isn't
-pub held-changed : (change : Number → Number) (was : Option (Box Kept)) (box : Box Kept) (value now : Kept) (n : Number) → was ≡ Some box → value ≡ box.value → value ≡ Open n
+pub held-changed : (change : OpenCall → OpenCall) (was : Option (Box Kept)) (box : Box Kept) (value now : Kept) (n : OpenCall) → was ≡ Some box → value ≡ box.value → value ≡ Open n
     → now ≡ Open (change n) → Some now ≡ with_change change (kept_in was)
 held-changed change was box value now n is opened held changed = ap Some changed ∙ sym (ap (with_change change) (place-held was box value (Open n) is opened held))
 
-pub answer-unchanged : (change : Number → Number) (was : Option (Box Kept)) (box : Box Kept) (value : Kept) (id : Id) (reply : Reply) → was ≡ Some box → value ≡ box.value
+pub answer-unchanged : (change : OpenCall → OpenCall) (was : Option (Box Kept)) (box : Box Kept) (value : Kept) (id : Id) (reply : Reply) → was ≡ Some box → value ≡ box.value
     → value ≡ Answered id reply → Some value ≡ with_change change (kept_in was)
 answer-unchanged change was box value id reply is opened held = ap Some held ∙ sym (ap (with_change change) (place-held was box value (Answered id reply) is opened held))
 
-pub none-unchanged : (change : Number → Number) (was : Option (Box Kept)) → was ≡ None → kept_in was ≡ with_change change (kept_in was)
+pub none-unchanged : (change : OpenCall → OpenCall) (was : Option (Box Kept)) → was ≡ None → kept_in was ≡ with_change change (kept_in was)
 none-unchanged change was is = rw is refl
 
 pub place-set : (items : List (Option (Box Kept))) (i : ℕ) (now : Option (Box Kept)) (kept : Option Kept) → kept_in now ≡ kept
@@ -56,14 +54,14 @@ place-changed f first number i items numbers was now reached place below read is
     ∙ all-changed f first number i (map kept_in items) numbers (kept_in was) reached place (place-below items i below) (place-read items i was read) seen
 
 -- a change of a number that no cancel can see
-pub place-unseen : (change : Number → Number) → ((n : Number) → (change n).id ≡ n.id) → ((n : Number) → (change n).mark ≡ n.mark)
-    → (first i : ℕ) (items : List (Option (Box Kept))) (was now : Option (Box Kept)) (requests : RequestsById) (heap : BinaryHeap (Reverse ℕ) Global)
+pub place-unseen : (change : OpenCall → OpenCall) → ((n : OpenCall) → (change n).id ≡ n.id) → ((n : OpenCall) → (change n).is_marked ≡ n.is_marked)
+    → (first i : ℕ) (items : List (Option (Box Kept))) (was now : Option (Box Kept)) (requests : RequestsById) (recent : ℕ)
     → i < length items → was ≡ get_or items i was → kept_in now ≡ with_change change (kept_in was)
-    → IsWindow first (map kept_in items) × IsIndexed (all_numbers first (map kept_in items)) requests heap
-    → IsWindow first (map kept_in (set items i now)) × IsIndexed (all_numbers first (map kept_in (set items i now))) requests heap
-place-unseen change ids marks first i items was now requests heap below read is inv =
+    → IsWindow first (map kept_in items) × IsIndexed (all_numbers first (map kept_in items)) requests recent
+    → IsWindow first (map kept_in (set items i now)) × IsIndexed (all_numbers first (map kept_in (set items i now))) requests recent
+place-unseen change ids marks first i items was now requests recent below read is inv =
     rw (place-set items i now (with_change change (kept_in was)) is) (
       IsWindow-changed change first i (map kept_in items) (kept_in was) (place-below items i below) (place-read items i was read) inv.0,
-      IsIndexed-unseen_at first i (map kept_in items) (kept_in was) (with_change change (kept_in was)) requests heap (place-below items i below) (place-read items i was read)
+      IsIndexed-unseen_at first i (map kept_in items) (kept_in was) (with_change change (kept_in was)) requests recent (place-below items i below) (place-read items i was read)
           (IsUnseen-changed change ids marks (kept_in was)) inv.1,
     )

@@ -1,21 +1,21 @@
 -- What each call leaves of the numbers and of their slots.
-use Rattle.std.proofs.Common.{◌≡◌, ◌≢◌, ◌==◌, ℕ, suc, zero, ◌-◌, ◌<◌, ◌≤◌, List, [], ◌∷◌, ◌++◌, get_or, set, map, take, drop, refl, ap, sym, ◌∙◌, arith, Bool, true, false, true≢false, if◌then◌else◌, is_some, Option, Some, None, slice_get}
+use Rattle.std.proofs.Common.{◌≡◌, ◌≢◌, ◌==◌, ℕ, suc, zero, ◌-◌, ◌<◌, ◌≤◌, ◌&&◌, ◌||◌, not, List, [], ◌∷◌, ◌++◌, get_or, set, map, take, drop, refl, ap, sym, ◌∙◌, arith, Bool, true, false, true≢false, if◌then◌else◌, is_some, Option, Some, None, slice_get}
 use Rattle.std.specs.Option.{option_map, option_and_then}
 use Rattle.std.proofs.lemmas.List.{get_or-set_other, length-set}
 use Rattle.rpc_messages.specs.declared.id.Id.{Id}
 use Rattle.rpc_messages.specs.declared.reply.Reply.{Reply}
-use Rattle.answer_desk.specs.declared.mark.Mark.TheVariants.{Told}
-use Rattle.answer_desk.specs.declared.number.Number.{Number}
-use Rattle.answer_desk.specs.declared.put.Put.{Put}
-use Rattle.answer_desk.specs.declared.put.Put.TheVariants.{Unknown, Second, Kept}
-use Rattle.answer_desk.specs.declared.slot.Slot.{Slot}
-use Rattle.answer_desk.specs.declared.slot.Slot.TheVariants.{Held, Given}
-use Rattle.answer_desk.specs.State.{State, number_at, numbers_with, slot_of, with_slot, put_of, with_reply, reply_of, without_reply, number_marked, with_marks, with_told, with_end, next_number}
+use Rattle.rpc_messages.specs.Ids.{has_id}
+use Rattle.answer_desk.specs.declared.open_call.OpenCall.{OpenCall}
+use Rattle.answer_desk.specs.declared.replies.Put.{Put}
+use Rattle.answer_desk.specs.declared.replies.Put.TheVariants.{Unknown, Second, Kept}
+use Rattle.answer_desk.specs.declared.replies.Slot.{Slot}
+use Rattle.answer_desk.specs.declared.replies.Slot.TheVariants.{Held, Given}
+use Rattle.answer_desk.specs.State.{State, number_at, numbers_with, slot_of, with_slot, put_of, with_reply, reply_of, without_reply, marked, is_in_reach, IsLowestInReach, with_reached, number_marked, with_marks, with_end, next_number}
 use Rattle.answer_desk.specs.Replies.{slot_at, put_into, is_kept, given_by}
 
 -- a change of one number is seen there, and nowhere else
 
-number-changed : (numbers : List (Option Number)) (n : ℕ) (change : Number → Number) → get_or (numbers_with numbers n change) n None ≡ option_map change (get_or numbers n None)
+number-changed : (numbers : List (Option OpenCall)) (n : ℕ) (change : OpenCall → OpenCall) → get_or (numbers_with numbers n change) n None ≡ option_map change (get_or numbers n None)
 number-changed [] n change = refl
 number-changed (o ∷ os) zero change = refl
 number-changed (o ∷ os) (suc n) change = number-changed os n change
@@ -30,12 +30,12 @@ with_reply-kept : (s : State) (n turn : ℕ) (reply : Reply) → put_of s n turn
 with_reply-kept s n turn reply kept = kept_if (is_kept (put_of s n turn)) s (with_slot s n turn (Held reply)) (ap is_kept kept)
 
 pub number-kept : (s : State) (n turn : ℕ) (reply : Reply) → put_of s n turn ≡ Kept
-    → number_at (with_reply s n turn reply) n ≡ option_map (λ (m : Number). record m { replies = set m.replies (turn - 1) (Held reply) }) (number_at s n)
+    → number_at (with_reply s n turn reply) n ≡ option_map (λ (m : OpenCall). record m { replies = set m.replies (turn - 1) (Held reply) }) (number_at s n)
 number-kept s n turn reply kept =
-    ap (λ t. number_at t n) (with_reply-kept s n turn reply kept) ∙ number-changed s.numbers n (λ (m : Number). record m { replies = set m.replies (turn - 1) (Held reply) })
+    ap (λ t. number_at t n) (with_reply-kept s n turn reply kept) ∙ number-changed s.numbers n (λ (m : OpenCall). record m { replies = set m.replies (turn - 1) (Held reply) })
 
 number-apart_if : (hit : Bool) (s : State) (n turn k : ℕ) (slot : Slot) → k ≢ n → number_at (if hit then with_slot s n turn slot else s) k ≡ number_at s k
-number-apart_if true s n turn k slot apart = get_or-set_other s.numbers n k (option_map (λ (m : Number). record m { replies = set m.replies (turn - 1) slot }) (get_or s.numbers n None)) None apart
+number-apart_if true s n turn k slot apart = get_or-set_other s.numbers n k (option_map (λ (m : OpenCall). record m { replies = set m.replies (turn - 1) slot }) (get_or s.numbers n None)) None apart
 number-apart_if false s n turn k slot apart = refl
 
 pub number-apart : (s : State) (n turn k : ℕ) (reply : Reply) → k ≢ n → number_at (with_reply s n turn reply) k ≡ number_at s k
@@ -77,9 +77,9 @@ slot-kept_at : (here : Option Slot) (slots : List Slot) (turn : ℕ) (slot : Slo
 slot-kept_at None slots turn slot is kept = cc
 slot-kept_at (Some was) slots turn slot is kept = slot_at-set slots turn was slot is
 
-slot-kept_in : (here : Option Number) (closed : Bool) (turn : ℕ) (slot : Slot)
-    → (if closed then Unknown else put_into (option_and_then (λ (n : Number). slot_at n.replies turn) here)) ≡ Kept
-    → option_and_then (λ (n : Number). slot_at n.replies turn) (option_map (λ (m : Number). record m { replies = set m.replies (turn - 1) slot }) here) ≡ Some slot
+slot-kept_in : (here : Option OpenCall) (closed : Bool) (turn : ℕ) (slot : Slot)
+    → (if closed then Unknown else put_into (option_and_then (λ (n : OpenCall). slot_at n.replies turn) here)) ≡ Kept
+    → option_and_then (λ (n : OpenCall). slot_at n.replies turn) (option_map (λ (m : OpenCall). record m { replies = set m.replies (turn - 1) slot }) here) ≡ Some slot
 slot-kept_in None true turn slot kept = cc
 slot-kept_in None false turn slot kept = cc
 slot-kept_in (Some m) true turn slot kept = cc
@@ -87,7 +87,7 @@ slot-kept_in (Some m) false turn slot kept = slot-kept_at (slot_at m.replies tur
 
 pub slot-kept : (s : State) (n turn : ℕ) (reply : Reply) → put_of s n turn ≡ Kept → slot_of (with_reply s n turn reply) n turn ≡ Some (Held reply)
 slot-kept s n turn reply kept =
-    ap (option_and_then (λ (m : Number). slot_at m.replies turn)) (number-kept s n turn reply kept)
+    ap (option_and_then (λ (m : OpenCall). slot_at m.replies turn)) (number-kept s n turn reply kept)
     ∙ slot-kept_in (number_at s n) s.is_closed turn (Held reply) kept
 
 -- and every other slot
@@ -106,17 +106,17 @@ turn_above : (slots : List Slot) (turn : ℕ) → put_into (slot_at slots turn) 
 turn_above slots zero kept = cc
 turn_above slots (suc turn) kept = omega arith
 
-slot-other_in : (here : Option Number) (closed : Bool) (turn t : ℕ) (slot : Slot) → t ≢ turn
-    → (if closed then Unknown else put_into (option_and_then (λ (n : Number). slot_at n.replies turn) here)) ≡ Kept
-    → option_and_then (λ (n : Number). slot_at n.replies t) (option_map (λ (m : Number). record m { replies = set m.replies (turn - 1) slot }) here)
-    ≡ option_and_then (λ (n : Number). slot_at n.replies t) here
+slot-other_in : (here : Option OpenCall) (closed : Bool) (turn t : ℕ) (slot : Slot) → t ≢ turn
+    → (if closed then Unknown else put_into (option_and_then (λ (n : OpenCall). slot_at n.replies turn) here)) ≡ Kept
+    → option_and_then (λ (n : OpenCall). slot_at n.replies t) (option_map (λ (m : OpenCall). record m { replies = set m.replies (turn - 1) slot }) here)
+    ≡ option_and_then (λ (n : OpenCall). slot_at n.replies t) here
 slot-other_in None closed turn t slot apart kept = refl
 slot-other_in (Some m) true turn t slot apart kept = cc
 slot-other_in (Some m) false turn t slot apart kept = slot_at-other m.replies turn t slot (turn_above m.replies turn kept) apart
 
 slot-other_by : (put : Put) (s : State) (n turn t : ℕ) (reply : Reply) → put_of s n turn ≡ put → t ≢ turn → slot_of (with_reply s n turn reply) n t ≡ slot_of s n t
 slot-other_by Kept s n turn t reply is apart =
-    ap (option_and_then (λ (m : Number). slot_at m.replies t)) (number-kept s n turn reply is) ∙ slot-other_in (number_at s n) s.is_closed turn t (Held reply) apart is
+    ap (option_and_then (λ (m : OpenCall). slot_at m.replies t)) (number-kept s n turn reply is) ∙ slot-other_in (number_at s n) s.is_closed turn t (Held reply) apart is
 slot-other_by Unknown s n turn t reply is apart = ap (λ r. slot_of r n t) (reply-not_kept s n turn reply (ap is_kept is))
 slot-other_by Second s n turn t reply is apart = ap (λ r. slot_of r n t) (reply-not_kept s n turn reply (ap is_kept is))
 
@@ -135,9 +135,9 @@ without_reply-given : (s : State) (n turn : ℕ) (reply : Reply) → reply_of s 
 without_reply-given s n turn reply given = kept_if (is_some (reply_of s n turn)) s (with_slot s n turn Given) (ap is_some given)
 
 number-given : (s : State) (n turn : ℕ) (reply : Reply) → reply_of s n turn ≡ Some reply
-    → number_at (without_reply s n turn) n ≡ option_map (λ (m : Number). record m { replies = set m.replies (turn - 1) Given }) (number_at s n)
+    → number_at (without_reply s n turn) n ≡ option_map (λ (m : OpenCall). record m { replies = set m.replies (turn - 1) Given }) (number_at s n)
 number-given s n turn reply given =
-    ap (λ t. number_at t n) (without_reply-given s n turn reply given) ∙ number-changed s.numbers n (λ (m : Number). record m { replies = set m.replies (turn - 1) Given })
+    ap (λ t. number_at t n) (without_reply-given s n turn reply given) ∙ number-changed s.numbers n (λ (m : OpenCall). record m { replies = set m.replies (turn - 1) Given })
 
 pub number-not_taken : (s : State) (n turn k : ℕ) → k ≢ n → number_at (without_reply s n turn) k ≡ number_at s k
 number-not_taken s n turn k apart = number-apart_if (is_some (reply_of s n turn)) s n turn k Given apart
@@ -147,47 +147,88 @@ slot-given_at : (here : Option Slot) (closed : Bool) (slots : List Slot) (turn :
 slot-given_at None closed slots turn slot reply is given = cc
 slot-given_at (Some was) closed slots turn slot reply is given = slot_at-set slots turn was slot is
 
-slot-given_in : (here : Option Number) (closed : Bool) (turn : ℕ) (slot : Slot) (reply : Reply)
-    → given_by closed (option_and_then (λ (n : Number). slot_at n.replies turn) here) ≡ Some reply
-    → option_and_then (λ (n : Number). slot_at n.replies turn) (option_map (λ (m : Number). record m { replies = set m.replies (turn - 1) slot }) here) ≡ Some slot
+slot-given_in : (here : Option OpenCall) (closed : Bool) (turn : ℕ) (slot : Slot) (reply : Reply)
+    → given_by closed (option_and_then (λ (n : OpenCall). slot_at n.replies turn) here) ≡ Some reply
+    → option_and_then (λ (n : OpenCall). slot_at n.replies turn) (option_map (λ (m : OpenCall). record m { replies = set m.replies (turn - 1) slot }) here) ≡ Some slot
 slot-given_in None closed turn slot reply given = cc
 slot-given_in (Some m) closed turn slot reply given = slot-given_at (slot_at m.replies turn) closed m.replies turn slot reply refl given
 
 pub slot-given : (s : State) (n turn : ℕ) (reply : Reply) → reply_of s n turn ≡ Some reply → slot_of (without_reply s n turn) n turn ≡ Some Given
 slot-given s n turn reply given =
-    ap (option_and_then (λ (m : Number). slot_at m.replies turn)) (number-given s n turn reply given)
+    ap (option_and_then (λ (m : OpenCall). slot_at m.replies turn)) (number-given s n turn reply given)
     ∙ slot-given_in (number_at s n) s.is_closed turn Given reply given
 
 given_above : (closed : Bool) (slots : List Slot) (turn : ℕ) (reply : Reply) → given_by closed (slot_at slots turn) ≡ Some reply → 0 < turn
 given_above closed slots zero reply given = cc
 given_above closed slots (suc turn) reply given = omega arith
 
-slot-not_taken_in : (here : Option Number) (closed : Bool) (turn t : ℕ) (slot : Slot) (reply : Reply) → t ≢ turn
-    → given_by closed (option_and_then (λ (n : Number). slot_at n.replies turn) here) ≡ Some reply
-    → option_and_then (λ (n : Number). slot_at n.replies t) (option_map (λ (m : Number). record m { replies = set m.replies (turn - 1) slot }) here)
-    ≡ option_and_then (λ (n : Number). slot_at n.replies t) here
+slot-not_taken_in : (here : Option OpenCall) (closed : Bool) (turn t : ℕ) (slot : Slot) (reply : Reply) → t ≢ turn
+    → given_by closed (option_and_then (λ (n : OpenCall). slot_at n.replies turn) here) ≡ Some reply
+    → option_and_then (λ (n : OpenCall). slot_at n.replies t) (option_map (λ (m : OpenCall). record m { replies = set m.replies (turn - 1) slot }) here)
+    ≡ option_and_then (λ (n : OpenCall). slot_at n.replies t) here
 slot-not_taken_in None closed turn t slot reply apart given = refl
 slot-not_taken_in (Some m) closed turn t slot reply apart given = slot_at-other m.replies turn t slot (given_above closed m.replies turn reply given) apart
 
 slot-not_taken_by : (given : Option Reply) (s : State) (n turn t : ℕ) → reply_of s n turn ≡ given → t ≢ turn → slot_of (without_reply s n turn) n t ≡ slot_of s n t
 slot-not_taken_by None s n turn t is apart = ap (λ r. slot_of r n t) (reply-not_given s n turn is)
 slot-not_taken_by (Some reply) s n turn t is apart =
-    ap (option_and_then (λ (m : Number). slot_at m.replies t)) (number-given s n turn reply is) ∙ slot-not_taken_in (number_at s n) s.is_closed turn t Given reply apart is
+    ap (option_and_then (λ (m : OpenCall). slot_at m.replies t)) (number-given s n turn reply is) ∙ slot-not_taken_in (number_at s n) s.is_closed turn t Given reply apart is
 
 pub slot-not_taken : (s : State) (n turn t : ℕ) → t ≢ turn → slot_of (without_reply s n turn) n t ≡ slot_of s n t
 slot-not_taken s n turn t apart = slot-not_taken_by (reply_of s n turn) s n turn t refl apart
 
--- a mark that is told
+-- one step of a cancel
 
-pub number-told : (s : State) (n : ℕ) → number_at (with_told s (Some n)) n ≡ option_map (λ (m : Number). record m { mark = Told }) (number_at s n)
-number-told s n = number-changed s.numbers n (λ (m : Number). record m { mark = Told })
+pub number-reached : (s : State) (n : ℕ) → number_at (with_reached s (Some n)) n ≡ option_map marked (number_at s n)
+number-reached s n = number-changed s.numbers n marked
 
-pub number-not_told : (s : State) (n k : ℕ) → k ≢ n → number_at (with_told s (Some n)) k ≡ number_at s k
-number-not_told s n k apart = get_or-set_other s.numbers n k (option_map (λ (m : Number). record m { mark = Told }) (get_or s.numbers n None)) None apart
+pub number-not_reached : (s : State) (n k : ℕ) → k ≢ n → number_at (with_reached s (Some n)) k ≡ number_at s k
+number-not_reached s n k apart = get_or-set_other s.numbers n k (option_map marked (get_or s.numbers n None)) None apart
+
+left_if : (has was : Bool) → (has && not was) ≡ false → (was || has) ≡ was
+left_if has true is = refl
+left_if true false is = absurd (true≢false is)
+left_if false false is = refl
+
+mark_if : (has was : Bool) → (has && not was) ≡ true → true ≡ (was || has)
+mark_if has true is = refl
+mark_if true false is = refl
+mark_if false false is = sym is
+
+marked-left : (o : Option OpenCall) (id : Id) → is_in_reach id o ≡ false → option_map (number_marked id) o ≡ o
+marked-left None id is = refl
+marked-left (Some n) id is = ap (λ b. Some (record n { is_marked = b })) (left_if (has_id id n.id) n.is_marked is)
+
+marked-again : (o : Option OpenCall) (id : Id) → is_in_reach id o ≡ true → option_map (number_marked id) (option_map marked o) ≡ option_map (number_marked id) o
+marked-again None id is = refl
+marked-again (Some n) id is = ap (λ b. Some (record n { is_marked = b })) (mark_if (has_id id n.id) n.is_marked is)
+
+abbrev marks_below : Id → ℕ → List (Option OpenCall) → List (Option OpenCall)
+marks_below id before numbers = map (option_map (number_marked id)) (take before numbers) ++ drop before numbers
+
+marks-none : (id : Id) (before : ℕ) (numbers : List (Option OpenCall)) → ((k : ℕ) → k < before → is_in_reach id (get_or numbers k None) ≡ false)
+    → marks_below id before numbers ≡ numbers
+marks-none id zero numbers none = refl
+marks-none id (suc before) [] none = refl
+marks-none id (suc before) (o ∷ os) none =
+    rw (marked-left o id (none zero (omega arith)), marks-none id before os (λ k below. none (suc k) (omega arith))) refl
+
+marks-one : (id : Id) (before n : ℕ) (numbers : List (Option OpenCall)) → n < before → is_in_reach id (get_or numbers n None) ≡ true
+    → marks_below id before (numbers_with numbers n marked) ≡ marks_below id before numbers
+marks-one id zero n numbers below hit = absurd (omega arith)
+marks-one id (suc before) n [] below hit = refl
+marks-one id (suc before) zero (o ∷ os) below hit = ap (λ o'. o' ∷ marks_below id before os) (marked-again o id hit)
+marks-one id (suc before) (suc n) (o ∷ os) below hit = ap (λ os'. option_map (number_marked id) o ∷ os') (marks-one id before n os (omega arith) hit)
+
+pub marks-step : (s : State) (id : Id) (before n : ℕ) → IsLowestInReach s id before (Some n) → with_marks (with_reached s (Some n)) id before ≡ with_marks s id before
+marks-step s id before n lowest = ap (λ numbers. let t : State = record s { numbers = numbers } in t) (marks-one id before n s.numbers lowest.0 lowest.1)
+
+pub marks-last : (s : State) (id : Id) (before : ℕ) → IsLowestInReach s id before None → with_marks s id before ≡ s
+marks-last s id before none = ap (λ numbers. let t : State = record s { numbers = numbers } in t) (marks-none id before s.numbers none)
 
 -- an end
 
-closed_at : (numbers : List (Option Number)) (n : ℕ) → get_or (set numbers n None) n None ≡ None
+closed_at : (numbers : List (Option OpenCall)) (n : ℕ) → get_or (set numbers n None) n None ≡ None
 closed_at [] n = refl
 closed_at (o ∷ os) zero = refl
 closed_at (o ∷ os) (suc n) = closed_at os n
@@ -203,14 +244,14 @@ next-ended s n reply = length-set s.numbers n None
 
 -- the numbers below a cancel and from it on
 
-marked_below : (id : Id) (before : ℕ) (numbers : List (Option Number)) (k : ℕ) → k < before
+marked_below : (id : Id) (before : ℕ) (numbers : List (Option OpenCall)) (k : ℕ) → k < before
     → get_or (map (option_map (number_marked id)) (take before numbers) ++ drop before numbers) k None ≡ option_map (number_marked id) (get_or numbers k None)
 marked_below id zero numbers k below = absurd (omega arith)
 marked_below id (suc before) [] k below = refl
 marked_below id (suc before) (o ∷ os) zero below = refl
 marked_below id (suc before) (o ∷ os) (suc k) below = marked_below id before os k (omega arith)
 
-marked_from : (id : Id) (before : ℕ) (numbers : List (Option Number)) (k : ℕ) → before ≤ k
+marked_from : (id : Id) (before : ℕ) (numbers : List (Option OpenCall)) (k : ℕ) → before ≤ k
     → get_or (map (option_map (number_marked id)) (take before numbers) ++ drop before numbers) k None ≡ get_or numbers k None
 marked_from id zero numbers k from = refl
 marked_from id (suc before) [] k from = refl

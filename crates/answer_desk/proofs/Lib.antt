@@ -9,7 +9,6 @@ pub mod Listed
 pub mod Marks
 pub mod Opening
 pub mod OutOfReach
-pub mod Popped
 pub mod Reached
 pub mod Texts
 pub mod Views

@@ -1,22 +1,21 @@
 -- What a desk shows once a unit was opened.
-use Rattle.std.proofs.Common.{◌≡◌, ◌==◌, ℕ, suc, zero, ◌+◌, List, [], ◌∷◌, ◌++◌, length, map, refl, ap, sym, ◌∙◌, arith, add-zero, Bool, true, false, Option, Some, None, rules, Result, Ok, Err, OnErr}
+use Rattle.std.proofs.Common.{◌≡◌, ◌==◌, ℕ, suc, ◌+◌, List, [], ◌∷◌, ◌++◌, length, map, refl, ap, sym, ◌∙◌, arith, add-zero, Bool, true, Option, Some, None, rules, Result, Ok, Err, OnErr}
 use Rattle.std.proofs.lemmas.List.{append_assoc, append-nil, map-append, length-append, length-map, get_or_append_left, get_or_at}
 use Rattle.std.specs.Cmp.Derive.{both_true}
 use Rattle.rpc_messages.specs.declared.id.Id.{Id}
 use Rattle.answer_desk.specs.declared.kept.Kept.{Kept}
 use Rattle.answer_desk.specs.declared.kept.Kept.TheVariants.{Open}
-use Rattle.answer_desk.specs.declared.place.Place.{Place}
-use Rattle.answer_desk.specs.declared.place.Place.TheVariants.{Unreadable, Invalid, Silent, Numbered}
-use Rattle.answer_desk.specs.declared.due.Due.{Due}
-use Rattle.answer_desk.specs.declared.due.Due.TheVariants.{ParseError, InvalidRequest, Nothing}
+use Rattle.answer_desk.specs.declared.shape.Place.{Place}
+use Rattle.answer_desk.specs.declared.shape.Place.TheVariants.{Unreadable, Invalid, Silent, Numbered}
+use Rattle.answer_desk.specs.declared.waiting_unit.Due.{Due}
+use Rattle.answer_desk.specs.declared.waiting_unit.Due.TheVariants.{ParseError, InvalidRequest, Nothing}
 use Rattle.answer_desk.specs.declared.shape.Shape.{Shape}
 use Rattle.answer_desk.specs.declared.waiting_unit.WaitingUnit.{WaitingUnit}
 use Rattle.answer_desk.specs.Places.{call_part, new_number, new_numbers, new_parts}
 use Rattle.answer_desk.specs.State.{with_unit}
 use Rattle.answer_desk.specs.Waiting.{Waiting, Part, unreadable, invalid, silent}
-use Rattle.answer_desk.specs.Seen.{kept_at, open_number, request_part, part_of, waiting_of}
+use Rattle.answer_desk.specs.Seen.{open_number, request_part, part_of, waiting_of}
 use Rattle.answer_desk.specs.Inner.Arrivals.{calls_of, due_of_call, dues_of}
-use Rattle.answer_desk.specs.Inner.Kept.{is_new_at}
 use Rattle.answer_desk.specs.Inner.Numbers.{begins_kept}
 use Rattle.answer_desk.specs.Inner.Units.{requests_in, requests_of, ascends, front_finished}
 use Rattle.answer_desk.proofs.Ascending.{SameRequests, units-same, ascends-append, ascends-from, le_to}
@@ -38,14 +37,6 @@ kept-new (Unreadable ∷ places) = kept-new places
 kept-new (Invalid ∷ places) = kept-new places
 kept-new (Silent ∷ places) = kept-new places
 kept-new (Numbered id most ∷ places) = refl
-
-pub unmarked-new : (places : List Place) (k : ℕ) → is_new_at (kept_at (calls_of places) k) ≡ false
-unmarked-new [] k = refl
-unmarked-new (Unreadable ∷ places) k = unmarked-new places k
-unmarked-new (Invalid ∷ places) k = unmarked-new places k
-unmarked-new (Silent ∷ places) k = unmarked-new places k
-unmarked-new (Numbered id most ∷ places) zero = refl
-unmarked-new (Numbered id most ∷ places) (suc k) = unmarked-new places k
 
 -- the new parts
 

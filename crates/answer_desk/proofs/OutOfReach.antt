@@ -1,16 +1,13 @@
 -- A number that no cancel reaches stays so.
-use Rattle.std.proofs.Common.{◌≡◌, ℕ, suc, zero, ◌<◌, List, [], ◌∷◌, ◌++◌, length, set, refl, sym, ◌∙◌, arith, true, false, true≢false, if◌then◌else◌, Option, Some, None, IfSome, IfNone}
+use Rattle.std.proofs.Common.{◌≡◌, ℕ, suc, zero, ◌<◌, List, [], ◌∷◌, ◌++◌, length, set, refl, sym, ◌∙◌, arith, true≢false, Option, Some, None, IfSome, IfNone}
 use Rattle.rpc_messages.specs.declared.id.Id.{Id}
 use Rattle.rpc_messages.specs.declared.reply.Reply.{Reply}
 use Rattle.answer_desk.specs.declared.kept.Kept.{Kept}
 use Rattle.answer_desk.specs.declared.kept.Kept.TheVariants.{Open, Answered}
-use Rattle.answer_desk.specs.declared.mark.Mark.{Mark}
-use Rattle.answer_desk.specs.declared.mark.Mark.TheVariants.{Unmarked, New, Told}
-use Rattle.answer_desk.specs.declared.number.Number.{Number}
-use Rattle.answer_desk.specs.State.{is_unmarked, is_new}
+use Rattle.answer_desk.specs.declared.open_call.OpenCall.{OpenCall}
 use Rattle.answer_desk.specs.Seen.{kept_at}
-use Rattle.answer_desk.specs.Inner.Kept.{with_change, is_new_at, with_answer, kept_answer, without_answer, marked_as}
-use Rattle.answer_desk.specs.Inner.Numbers.{with_marks_below, IsLowestNew}
+use Rattle.answer_desk.specs.Inner.Kept.{with_change, with_reach, with_answer, kept_answer, without_answer}
+use Rattle.answer_desk.specs.Inner.Numbers.{with_marks_below, IsLowestReached}
 use Rattle.answer_desk.specs.Inner.Requests.{IsOutOfReach}
 use Rattle.answer_desk.specs.Inner.Units.{without_answers}
 use Rattle.answer_desk.proofs.Marks.{unreached-left}
@@ -25,7 +22,7 @@ opening-set [] n entry keeps out = out
 opening-set (e ∷ es) zero entry keeps out = keeps out
 opening-set (e ∷ es) (suc n) entry keeps out = out
 
-pub IsOutOfReach-changed : (change : Number → Number) → ((n : Number) → (change n).id ≡ n.id) → ((n : Number) → (change n).mark ≡ n.mark) → (entry : Option Kept)
+pub IsOutOfReach-changed : (change : OpenCall → OpenCall) → ((n : OpenCall) → (change n).id ≡ n.id) → ((n : OpenCall) → (change n).is_marked ≡ n.is_marked) → (entry : Option Kept)
     → IsOutOfReach entry → IsOutOfReach (with_change change entry)
 IsOutOfReach-changed change ids marks (Some (Open n)) out = record {
   unmarked = rw (marks n) out.unmarked;
@@ -65,25 +62,16 @@ opening-left id zero entries out = refl
 opening-left id (suc before) [] out = refl
 opening-left id (suc before) (e ∷ es) out = unreached-left e id (out.unreached id)
 
--- and it is never newly marked
+-- and no step of one reaches it
 
-unmarked_not_new : (mark : Mark) → (if is_unmarked mark then false else true) ≡ false → is_new mark ≡ false
-unmarked_not_new Unmarked is = refl
-unmarked_not_new New is = absurd (true≢false is)
-unmarked_not_new Told is = refl
+pub opening-above : (entries : List (Option Kept)) (id : Id) (before : ℕ) (result : Option ℕ) → IsLowestReached id before entries result → IsOutOfReach (kept_at entries 0)
+    → IfSome result (λ n. 0 < n)
+opening-above entries id before None lowest out = tt
+opening-above entries id before (Some zero) lowest out = absurd (true≢false (sym lowest.1 ∙ out.unreached id))
+opening-above entries id before (Some (suc n)) lowest out = omega arith
 
-not_new-out : (entry : Option Kept) → IsOutOfReach entry → is_new_at entry ≡ false
-not_new-out (Some (Open n)) out = unmarked_not_new n.mark out.unmarked
-not_new-out (Some (Answered id reply)) out = refl
-not_new-out None out = refl
-
-pub opening-above : (entries : List (Option Kept)) (result : Option ℕ) → IsLowestNew entries result → IsOutOfReach (kept_at entries 0) → IfSome result (λ n. 0 < n)
-opening-above entries None lowest out = tt
-opening-above entries (Some zero) lowest out = absurd (true≢false (sym lowest.0 ∙ not_new-out (kept_at entries 0) out))
-opening-above entries (Some (suc n)) lowest out = omega arith
-
-pub opening-told : (was now : List (Option Kept)) (result : Option ℕ) → IsLowestNew was result
-    → IfNone result (now ≡ was) → IfSome result (λ n. now ≡ set was n (marked_as Told (kept_at was n))) → IsOutOfReach (kept_at was 0) → IsOutOfReach (kept_at now 0)
-opening-told was now None lowest none some out = rw none out
-opening-told was now (Some n) lowest none some out =
-    rw some (opening-set was n (marked_as Told (kept_at was n)) (λ here. absurd (true≢false (sym lowest.0 ∙ not_new-out (kept_at was n) here))) out)
+pub opening-reached : (was now : List (Option Kept)) (id : Id) (before : ℕ) (result : Option ℕ) → IsLowestReached id before was result
+    → IfNone result (now ≡ was) → IfSome result (λ n. now ≡ set was n (with_reach (kept_at was n))) → IsOutOfReach (kept_at was 0) → IsOutOfReach (kept_at now 0)
+opening-reached was now id before None lowest none some out = rw none out
+opening-reached was now id before (Some n) lowest none some out =
+    rw some (opening-set was n (with_reach (kept_at was n)) (λ here. absurd (true≢false (sym lowest.1 ∙ here.unreached id))) out)

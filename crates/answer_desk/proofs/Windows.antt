@@ -1,15 +1,12 @@
 -- The entries of all numbers and those of the window.
 use Rattle.std.proofs.Common.{◌≡◌, ℕ, suc, zero, ◌+◌, ◌-◌, ◌<◌, ◌≤◌, List, [], ◌∷◌, ◌++◌, length, get_or, set, drop, replicate, refl, ap, sym, ◌∙◌, arith, Bool, true, false, if◌then◌else◌, is_some, Option, Some, None}
 use Rattle.std.proofs.lemmas.List.{get_or-append_right, get_or_past, set-append_right, set-get_or, length-append, length-replicate, length-set, get_or_read}
-use Rattle.answer_desk.specs.declared.mark.Mark.TheVariants.{Told}
 use Rattle.answer_desk.specs.declared.kept.Kept.{Kept}
 use Rattle.answer_desk.specs.declared.kept.Kept.TheVariants.{Open, Answered}
-use Rattle.answer_desk.specs.declared.number.Number.{Number}
-use Rattle.rpc_messages.specs.declared.id.Id.{Id}
-use Rattle.rpc_messages.specs.declared.reply.Reply.{Reply}
+use Rattle.answer_desk.specs.declared.open_call.OpenCall.{OpenCall}
 use Rattle.answer_desk.specs.Seen.{kept_at}
-use Rattle.answer_desk.specs.Inner.Kept.{is_new_at, with_change, with_answer, kept_answer, marked_as}
-use Rattle.answer_desk.specs.Inner.Numbers.{all_numbers, begins_kept, IsWindow, NoNewBelow}
+use Rattle.answer_desk.specs.Inner.Kept.{with_change}
+use Rattle.answer_desk.specs.Inner.Numbers.{all_numbers, begins_kept, IsWindow}
 
 pub length-all : (first : ℕ) (window : List (Option Kept)) → length (all_numbers first window) ≡ first + length window
 length-all first window = simp (length-append, length-replicate)
@@ -62,28 +59,19 @@ all-changed f first number i window entries was reached place below read seen =
     set-inside first number window (f was) reached ∙ ap (λ j. all_numbers first (set window j (f was))) (sym place) in
     rw (← seen, found) (sym written)
 
--- which numbers are newly marked is as before
-pub is_new-set : (entries : List (Option Kept)) (n k : ℕ) (entry : Option Kept) → is_new_at entry ≡ is_new_at (kept_at entries n)
-    → is_new_at (kept_at (set entries n entry) k) ≡ is_new_at (kept_at entries k)
-is_new-set [] n k entry same = refl
-is_new-set (e ∷ es) zero zero entry same = same
-is_new-set (e ∷ es) zero (suc k) entry same = refl
-is_new-set (e ∷ es) (suc n) zero entry same = refl
-is_new-set (e ∷ es) (suc n) (suc k) entry same = is_new-set es n k entry same
-
 pub begins_kept-same : (window : List (Option Kept)) (i : ℕ) (entry : Option Kept) → i < length window → is_some entry ≡ is_some (kept_at window i)
     → begins_kept (set window i entry) ≡ begins_kept window
 begins_kept-same [] i entry below same = refl
 begins_kept-same (e ∷ es) zero entry below same = same
 begins_kept-same (e ∷ es) (suc i) entry below same = refl
 
-is_kept-changed : (change : Number → Number) (entry : Option Kept) → is_some (with_change change entry) ≡ is_some entry
+is_kept-changed : (change : OpenCall → OpenCall) (entry : Option Kept) → is_some (with_change change entry) ≡ is_some entry
 is_kept-changed change (Some (Open n)) = refl
 is_kept-changed change (Some (Answered id reply)) = refl
 is_kept-changed change None = refl
 
 -- a change of one open number
-pub IsWindow-changed : (change : Number → Number) (first i : ℕ) (window : List (Option Kept)) (was : Option Kept) → i < length window → was ≡ get_or window i was
+pub IsWindow-changed : (change : OpenCall → OpenCall) (first i : ℕ) (window : List (Option Kept)) (was : Option Kept) → i < length window → was ≡ get_or window i was
     → IsWindow first window → IsWindow first (set window i (with_change change was))
 IsWindow-changed change first i window was below read inv =
     let there : was ≡ kept_at window i = get_or_read window i was below read None in
@@ -96,18 +84,6 @@ IsWindow-changed change first i window was below read inv =
       trimmed = begins_kept-same window i entry below kept_same ∙ inv.trimmed;
     }
 
-no_new_in : (entries : List (Option Kept)) → NoNewBelow (length entries) entries → (k : ℕ) → is_new_at (kept_at entries k) ≡ false
-no_new_in [] none k = refl
-no_new_in (e ∷ es) none zero = none zero (omega arith)
-no_new_in (e ∷ es) none (suc k) = no_new_in es (λ j below. none (suc j) (omega arith)) k
-
--- new entries that aren't newly marked leave the numbers that are
-pub is_new-append : (entries new : List (Option Kept)) → NoNewBelow (length new) new → (k : ℕ)
-    → is_new_at (kept_at (entries ++ new) k) ≡ is_new_at (kept_at entries k)
-is_new-append [] new none k = no_new_in new none k
-is_new-append (e ∷ es) new none zero = refl
-is_new-append (e ∷ es) new none (suc k) = is_new-append es new none k
-
 pub IsWindow-appended : (done : Bool) (first : ℕ) (window new : List (Option Kept))
     → first + length window + length new ≤ 1000001 → begins_kept new ≡ true
     → IsWindow first window → IsWindow first (if done then window ++ new else window)
@@ -119,21 +95,6 @@ IsWindow-appended true first window new room keeps inv =
       some_given = let some : 0 < first + length window = inv.some_given in rw long (omega arith);
       trimmed = begins_kept-append window new inv.trimmed keeps;
     }
-
-pub told_not_new : (entry : Option Kept) → is_new_at (marked_as Told entry) ≡ false
-told_not_new (Some (Open n)) = refl
-told_not_new (Some (Answered id reply)) = refl
-told_not_new None = refl
-
-answer_not_new : (reply : Reply) (id : Option Id) → is_new_at (kept_answer reply id) ≡ false
-answer_not_new reply None = refl
-answer_not_new reply (Some id) = refl
-
--- what a finished or a forgotten number leaves isn't newly marked
-pub answered_not_new : (reply : Reply) (entry : Option Kept) → is_new_at (with_answer reply entry) ≡ false
-answered_not_new reply (Some (Open n)) = answer_not_new reply n.id
-answered_not_new reply (Some (Answered id old)) = refl
-answered_not_new reply None = refl
 
 -- an entry gave way to another, and then the window was trimmed
 pub IsWindow-trimmed : (first first' i : ℕ) (window window' : List (Option Kept)) (entry : Option Kept) → begins_kept window' ≡ true

@@ -1,19 +1,18 @@
 -- The numbers and the waiting entries of a unit that arrives.
-use Rattle.std.specs.Prelude.{ℕ, ◌+◌, List, [], ◌∷◌, Option, Some, None, replicate}
+use Rattle.std.specs.Prelude.{ℕ, ◌+◌, List, [], ◌∷◌, Option, Some, None, false, replicate}
 use Rattle.rpc_messages.specs.declared.id.Id.{Id}
-use Rattle.answer_desk.specs.declared.place.Place.{Place}
-use Rattle.answer_desk.specs.declared.place.Place.TheVariants.{Unreadable, Invalid, Silent, Numbered}
-use Rattle.answer_desk.specs.declared.mark.Mark.TheVariants.{Unmarked}
-use Rattle.answer_desk.specs.declared.number.Number.{Number}
-use Rattle.answer_desk.specs.declared.slot.Slot.TheVariants.{Empty}
+use Rattle.answer_desk.specs.declared.shape.Place.{Place}
+use Rattle.answer_desk.specs.declared.shape.Place.TheVariants.{Unreadable, Invalid, Silent, Numbered}
+use Rattle.answer_desk.specs.declared.open_call.OpenCall.{OpenCall}
+use Rattle.answer_desk.specs.declared.replies.Slot.TheVariants.{Empty}
 use Rattle.answer_desk.specs.Waiting.{Part, unreadable, invalid, silent, request}
 
 -- a call as it arrives: unmarked, with an empty slot for each of its turns
-abbrev pub new_number : Option Id → ℕ → Number
-new_number id most = record { id = id; mark = Unmarked; replies = replicate most Empty }
+abbrev pub new_number : Option Id → ℕ → OpenCall
+new_number id most = record { id = id; is_marked = false; replies = replicate most Empty }
 
 -- the calls among the places, in their order
-abbrev pub new_numbers : List Place → List (Option Number)
+abbrev pub new_numbers : List Place → List (Option OpenCall)
 new_numbers [] = []
 new_numbers (Unreadable ∷ places) = new_numbers places
 new_numbers (Invalid ∷ places) = new_numbers places

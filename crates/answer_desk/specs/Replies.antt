@@ -3,10 +3,10 @@ use Rattle.std.specs.Prelude.{ℕ, ◌-◌, ◌==◌, List, Option, Some, None, 
 use Rattle.rpc_messages.specs.declared.reply.Reply.{Reply}
 use Rattle.rpc_messages.specs.declared.reply.Reply.TheVariants.{Standard}
 use Rattle.rpc_messages.specs.declared.standard.Standard.TheVariants.{NoReply}
-use Rattle.answer_desk.specs.declared.put.Put.{Put}
-use Rattle.answer_desk.specs.declared.put.Put.TheVariants.{Unknown, Second, Kept}
-use Rattle.answer_desk.specs.declared.slot.Slot.{Slot}
-use Rattle.answer_desk.specs.declared.slot.Slot.TheVariants.{Empty, Held, Given}
+use Rattle.answer_desk.specs.declared.replies.Put.{Put}
+use Rattle.answer_desk.specs.declared.replies.Put.TheVariants.{Unknown, Second, Kept}
+use Rattle.answer_desk.specs.declared.replies.Slot.{Slot}
+use Rattle.answer_desk.specs.declared.replies.Slot.TheVariants.{Empty, Held, Given}
 
 -- the slot of a turn; there is none for turn 0, nor past the last
 abbrev pub slot_at : List Slot → ℕ → Option Slot

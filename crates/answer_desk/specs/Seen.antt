@@ -1,16 +1,16 @@
 -- How a desk's view shows what it keeps of numbers, and the units that wait.
 use Rattle.std.specs.Prelude.{ℕ, List, Option, Some, None, map, slice_index_or}
-use Rattle.answer_desk.specs.declared.due.Due.{Due}
-use Rattle.answer_desk.specs.declared.due.Due.TheVariants.{ParseError, InvalidRequest, Nothing, Answer}
+use Rattle.answer_desk.specs.declared.waiting_unit.Due.{Due}
+use Rattle.answer_desk.specs.declared.waiting_unit.Due.TheVariants.{ParseError, InvalidRequest, Nothing, Answer}
 use Rattle.answer_desk.specs.declared.kept.Kept.{Kept}
 use Rattle.answer_desk.specs.declared.kept.Kept.TheVariants.{Open, Answered}
-use Rattle.answer_desk.specs.declared.number.Number.{Number}
+use Rattle.answer_desk.specs.declared.open_call.OpenCall.{OpenCall}
 use Rattle.answer_desk.specs.declared.waiting_unit.WaitingUnit.{WaitingUnit}
 use Rattle.answer_desk.specs.Places.{call_part}
 use Rattle.answer_desk.specs.Waiting.{Part, unreadable, invalid, silent, request, Waiting}
 
 -- what is kept of a number that is open
-abbrev pub open_number : Option Kept → Option Number
+abbrev pub open_number : Option Kept → Option OpenCall
 open_number (Some (Open number)) = Some number
 open_number (Some (Answered id reply)) = None
 open_number None = None

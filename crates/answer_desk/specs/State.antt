@@ -1,17 +1,15 @@
 -- What a desk keeps, and what each call makes of it.
-use Rattle.std.specs.Prelude.{◌≡◌, ◌<◌, MatchOption, ℕ, ◌-◌, ◌++◌, ◌&&◌, List, [], ◌∷◌, Option, Some, None, Bool, true, false, if◌then◌else◌, is_some, length, map, take, drop, slice_set, slice_index_or}
+use Rattle.std.specs.Prelude.{◌≡◌, ◌<◌, MatchOption, ℕ, ◌-◌, ◌++◌, ◌&&◌, ◌||◌, not, List, [], ◌∷◌, Option, Some, None, Bool, true, false, if◌then◌else◌, is_some, length, map, take, drop, slice_set, slice_index_or}
 use Rattle.std.specs.Option.{option_map, option_and_then}
 use Rattle.std.specs.List.{filter_map}
 use Rattle.rpc_messages.specs.declared.id.Id.{Id}
 use Rattle.rpc_messages.specs.declared.reply.Reply.{Reply}
-use Rattle.answer_desk.specs.declared.mark.Mark.{Mark}
-use Rattle.answer_desk.specs.declared.mark.Mark.TheVariants.{Unmarked, New, Told}
-use Rattle.answer_desk.specs.declared.number.Number.{Number}
-use Rattle.answer_desk.specs.declared.put.Put.{Put}
-use Rattle.answer_desk.specs.declared.put.Put.TheVariants.{Unknown}
+use Rattle.answer_desk.specs.declared.open_call.OpenCall.{OpenCall}
+use Rattle.answer_desk.specs.declared.replies.Put.{Put}
+use Rattle.answer_desk.specs.declared.replies.Put.TheVariants.{Unknown}
 use Rattle.answer_desk.specs.declared.shape.Shape.{Shape}
-use Rattle.answer_desk.specs.declared.slot.Slot.{Slot}
-use Rattle.answer_desk.specs.declared.slot.Slot.TheVariants.{Held, Given}
+use Rattle.answer_desk.specs.declared.replies.Slot.{Slot}
+use Rattle.answer_desk.specs.declared.replies.Slot.TheVariants.{Held, Given}
 use Rattle.rpc_messages.specs.Ids.{has_id}
 use Rattle.answer_desk.specs.Places.{new_number, new_numbers, new_parts}
 use Rattle.answer_desk.specs.Replies.{slot_at, put_into, is_kept, given_by}
@@ -20,7 +18,7 @@ use Rattle.answer_desk.specs.Waiting.{Waiting, unit_text, whole_front, behind_fr
 -- Each number from 0 on that was given, with what is kept of it while it is open; whether the board is closed; the units
 -- that aren't released, in order of arrival. The next number is the length of the list.
 pub record State : Type 0 where
-  pub numbers : List (Option Number)
+  pub numbers : List (Option OpenCall)
   pub is_closed : Bool
   pub units : List Waiting
 
@@ -36,14 +34,14 @@ abbrev pub next_number : State → ℕ
 next_number s = length s.numbers
 
 -- what is kept of a number; nothing where it isn't open
-abbrev pub number_at : State → ℕ → Option Number
+abbrev pub number_at : State → ℕ → Option OpenCall
 number_at s number = slice_index_or s.numbers number None
 
 abbrev pub is_open : State → ℕ → Bool
 is_open s number = is_some (number_at s number)
 
 -- a change of one number
-abbrev pub numbers_with : List (Option Number) → ℕ → (Number → Number) → List (Option Number)
+abbrev pub numbers_with : List (Option OpenCall) → ℕ → (OpenCall → OpenCall) → List (Option OpenCall)
 numbers_with numbers number change = slice_set numbers number (option_map change (slice_index_or numbers number None))
 
 -- once a unit of this shape was opened
@@ -56,11 +54,11 @@ with_unit s shape = record {
 
 -- the slot of an open number's turn
 abbrev pub slot_of : State → ℕ → ℕ → Option Slot
-slot_of s number turn = option_and_then (λ (n : Number). slot_at n.replies turn) (number_at s number)
+slot_of s number turn = option_and_then (λ (n : OpenCall). slot_at n.replies turn) (number_at s number)
 
 abbrev pub with_slot : State → ℕ → ℕ → Slot → State
 with_slot s number turn slot = record s {
-  numbers = numbers_with s.numbers number (λ (n : Number). record n { replies = slice_set n.replies (turn - 1) slot });
+  numbers = numbers_with s.numbers number (λ (n : OpenCall). record n { replies = slice_set n.replies (turn - 1) slot });
 }
 
 -- what `put_reply` answers, and what it leaves
@@ -77,45 +75,40 @@ reply_of s number turn = given_by s.is_closed (slot_of s number turn)
 abbrev pub without_reply : State → ℕ → ℕ → State
 without_reply s number turn = if is_some (reply_of s number turn) then with_slot s number turn Given else s
 
-abbrev pub is_unmarked : Mark → Bool
-is_unmarked Unmarked = true
-is_unmarked New = false
-is_unmarked Told = false
+-- a number once a cancel has reached it
+abbrev pub marked : OpenCall → OpenCall
+marked n = record n { is_marked = true }
 
-abbrev pub is_new : Mark → Bool
-is_new Unmarked = false
-is_new New = true
-is_new Told = false
+abbrev pub is_marked_number : Option OpenCall → Bool
+is_marked_number None = false
+is_marked_number (Some n) = n.is_marked
 
--- a number once a cancel of this id has reached it
-abbrev pub number_marked : Id → Number → Number
-number_marked id n = if has_id id n.id && is_unmarked n.mark then record n { mark = New } else n
+-- a cancel of this id would mark the number: it is an open request with that id, and no cancel has reached it
+abbrev pub is_in_reach : Id → Option OpenCall → Bool
+is_in_reach id None = false
+is_in_reach id (Some n) = has_id id n.id && not n.is_marked
+
+abbrev pub NoneInReachBelow : State → Id → ℕ → Type 0
+NoneInReachBelow s id bound = (k : ℕ) → k < bound → is_in_reach id (number_at s k) ≡ false
+
+-- what `reach` gives: the lowest number below the cancel's own that the cancel would mark; and what it leaves
+abbrev pub IsLowestInReach : State → Id → ℕ → Option ℕ → Type 0
+IsLowestInReach s id before result =
+    MatchOption result (NoneInReachBelow s id before)
+    (λ number. (number < before) × (is_in_reach id (number_at s number) ≡ true) × NoneInReachBelow s id number)
+
+abbrev pub with_reached : State → Option ℕ → State
+with_reached s None = s
+with_reached s (Some number) = record s { numbers = numbers_with s.numbers number marked }
+
+-- once a cancel of this id, whose own number is `before`, has marked all that it reaches
+abbrev pub number_marked : Id → OpenCall → OpenCall
+number_marked id n = record n { is_marked = n.is_marked || has_id id n.id }
 
 abbrev pub with_marks : State → Id → ℕ → State
 with_marks s id before = record s {
   numbers = map (option_map (number_marked id)) (take before s.numbers) ++ drop before s.numbers;
 }
-
-abbrev pub is_marked_number : Option Number → Bool
-is_marked_number None = false
-is_marked_number (Some n) = if is_unmarked n.mark then false else true
-
-abbrev pub is_newly_marked : Option Number → Bool
-is_newly_marked None = false
-is_newly_marked (Some n) = is_new n.mark
-
-abbrev pub NoneNewlyMarkedBelow : State → ℕ → Type 0
-NoneNewlyMarkedBelow s bound = (k : ℕ) → k < bound → is_newly_marked (number_at s k) ≡ false
-
--- what `take_marked` gives: the lowest open number that is newly marked
-abbrev pub IsLowestNewlyMarked : State → Option ℕ → Type 0
-IsLowestNewlyMarked s result =
-    MatchOption result ((k : ℕ) → is_newly_marked (number_at s k) ≡ false)
-    (λ number. (is_newly_marked (number_at s number) ≡ true) × NoneNewlyMarkedBelow s number)
-
-abbrev pub with_told : State → Option ℕ → State
-with_told s None = s
-with_told s (Some number) = record s { numbers = numbers_with s.numbers number (λ (n : Number). record n { mark = Told }) }
 
 abbrev pub with_board_closed : State → State
 with_board_closed s = record s { is_closed = true }

@@ -1,15 +1,15 @@
-ghost use Rattle.std.specs.Prelude.{◌≡◌, ◌≤◌, ◌==◌, ◌↔◌, [], IfOk, length, map, take, option_map, Bool, true, Some, None, if◌then◌else◌};
+ghost use Rattle.std.specs.Prelude.{◌≡◌, ◌≤◌, ◌==◌, ◌↔◌, [], IfOk, length, map, take, option_map, option_to_list, Bool, true, Some, None, if◌then◌else◌, false};
 ghost use Rattle.std.specs.List.{filter_map, list_all};
-ghost use Rattle.rpc_messages.specs.Dues.{answer_seen};
+ghost use Rattle.rpc_messages.specs.Dues.{answer_seen, unit_text as text_of_answers};
 ghost use Rattle.answer_desk.specs.Seen.{part_of, waiting_of};
 ghost use Rattle.answer_desk.specs.Waiting.{part_answer, unit_text, is_finished};
 
-use crate::due::Due;
 use crate::kept::Kept;
 use crate::numbers::Numbers;
-use crate::waiting_unit::WaitingUnit;
-use rpc_messages::{Answer, Standard, put_unit_answer};
+use crate::waiting_unit::{Due, WaitingUnit};
+use rpc_messages::{Answer, Kind, Standard, put_unit_answer};
 use std::alloc::{AllocError, Global};
+use std::slice;
 
 /// The room that is made at once for each answer of a unit, in bytes. A long id, result or error takes more.
 const ROOM: usize = 64;
@@ -25,12 +25,49 @@ pub(crate) fn put_text(
     ensures { IfOk result (λ some. unit_text (waiting_of numbers.now unit.now) ≡
         (if some then Some text.new.items else None)) }
 {
-    let answers = answers_of(alloc, numbers, unit.dues.as_slice())?;
+    match unit.dues.as_slice() {
+        [due] => put_answer(alloc, text, numbers, unit.kind, *due),
+        dues => put_answers(alloc, text, numbers, unit.kind, dues),
+    }
+}
+
+/// The same for a unit of one entry. It makes no list.
+fn put_answer(
+    alloc: Global,
+    text: &mut Vec<u8>,
+    numbers: &Numbers,
+    kind: Kind,
+    due: Due,
+) -> Result<bool, AllocError>
+    requires { text.old.items ≡ [] }
+    ensures { IfOk result (λ some. text_of_answers kind
+        (option_to_list (part_answer (part_of numbers.now due))) ≡
+        (if some then Some text.new.items else None)) }
+{
+    match answer_of(numbers, due) {
+        Some(answer) => put_unit_answer(alloc, text, kind, slice::from_ref(&answer)),
+        None => Ok(false),
+    }
+}
+
+fn put_answers(
+    alloc: Global,
+    text: &mut Vec<u8>,
+    numbers: &Numbers,
+    kind: Kind,
+    dues: &[Due],
+) -> Result<bool, AllocError>
+    requires { text.old.items ≡ [] }
+    ensures { IfOk result (λ some. text_of_answers kind
+        (filter_map part_answer (map (part_of numbers.now) dues.now)) ≡
+        (if some then Some text.new.items else None)) }
+{
+    let answers = answers_of(alloc, numbers, dues)?;
     if answers.is_empty() {
         return Ok(false);
     }
     text.reserve(answers.len().saturating_add(1).saturating_mul(ROOM))?;
-    put_unit_answer(alloc, text, unit.kind, answers.as_slice())
+    put_unit_answer(alloc, text, kind, answers.as_slice())
 }
 
 /// The answers of a unit's entries, in their order.
@@ -90,6 +127,16 @@ pub(crate) fn count_finished(numbers: &Numbers, dues: &[Due], from: usize) -> us
         }
     }
     dues.len()
+}
+
+/// Whether all of these may be finished, where all before `from` are known to be: it looks at one.
+pub(crate) fn may_be_finished(numbers: &Numbers, dues: &[Due], from: usize) -> bool
+    ensures { result ≡ false → list_all is_finished (map (part_of numbers.now) dues.now) ≡ false }
+{
+    match dues.get(from) {
+        Some(due) => is_part_finished(numbers, *due),
+        None => true,
+    }
 }
 
 fn is_part_finished(numbers: &Numbers, due: Due) -> bool

@@ -1,15 +1,16 @@
-ghost use Rattle.std.specs.Prelude.{◌≡◌, ◌+◌, ◌≤◌, ◌++◌, [], ◌∷◌, IfOk, OnOk, length, map};
+ghost use Rattle.std.specs.Prelude.{◌≡◌, ◌+◌, ◌≤◌, ◌++◌, [], ◌∷◌, IfOk, OnOk, OnErr, length, map};
 ghost use Rattle.rpc_messages.specs.declared.key.TheConstants.{MOST_NUMBERS};
 ghost use Rattle.answer_desk.specs.Inner.Kept.{kept_in};
 ghost use Rattle.answer_desk.specs.Inner.Arrivals.{calls_of_place, calls_of, due_of_place, dues_of};
 
-use crate::due::Due;
 use crate::kept::Kept;
-use crate::place::Place;
+use crate::numbers::Numbers;
+use crate::shape::Place;
+use crate::waiting_unit::Due;
 use std::alloc::{AllocError, Global};
 use std::collections::VecDeque;
 
-/// What a unit that arrives brings: what is kept for each of its calls, and what is due to each of its entries.
+/// What a batch that arrives brings: what is kept for each of its calls, and what is due to each of its entries.
 #[derive(Drop)]
 pub struct Arrival {
     pub calls: Vec<Option<Box<Kept>>>,
@@ -35,7 +36,27 @@ impl Arrival {
     }
 }
 
-fn due_of(number: u32, place: &Place) -> Due
+/// Gives the call of a place, where it is one, the next number.
+pub(crate) fn append_place(
+    alloc: Global,
+    numbers: &mut Numbers,
+    place: Place,
+) -> Result<(), AllocError>
+    requires { length numbers.old + length (calls_of_place place) ≤ MOST_NUMBERS + 1 }
+    ensures ok { OnOk result (numbers.new ≡ numbers.old ++ calls_of_place place) }
+    ensures err { OnErr result (numbers.new ≡ numbers.old) }
+{
+    match place {
+        Place::Numbered { id, most } => {
+            let call = numbers.block(alloc, id, most)?;
+            numbers.push(call)
+        }
+        Place::Unreadable | Place::Invalid | Place::Silent => Ok(()),
+    }
+}
+
+/// What is due to the entry of a place, whose call has this number.
+pub(crate) fn due_of(number: u32, place: &Place) -> Due
     ensures { result ≡ due_of_place number place.now }
 {
     match place {

@@ -1,20 +1,22 @@
-ghost use Rattle.std.specs.Prelude.{◌≡◌, ◌+◌, ◌<◌, ◌++◌, ◌≤◌, ◌↔◌, [], IsTrue, IfOk, IfSome, OnOk, OnErr, flat_map, length, map, drop, is_some, true, false};
+ghost use Rattle.std.specs.Prelude.{◌≡◌, ◌+◌, ◌<◌, ◌++◌, ◌≤◌, ◌↔◌, [], ◌∷◌, IsTrue, IfOk, IfSome, OnOk, OnErr, flat_map, length, map, drop, is_some, true, false};
 ghost use Rattle.lsp_frames.specs.Frames.{written};
 ghost use Rattle.rpc_messages.specs.declared.key.TheConstants.{MOST_NUMBERS};
+ghost use Rattle.rpc_messages.specs.declared.kind.Kind.TheVariants.{Single};
 ghost use Rattle.answer_desk.specs.Seen.{kept_at, open_number, waiting_of};
 ghost use Rattle.answer_desk.specs.Waiting.{behind_front};
 ghost use Rattle.answer_desk.specs.Inner.Requests.{IsOutOfReach};
 ghost use Rattle.answer_desk.specs.Inner.Units.{ascends, requests_of, front_finished};
 
-use crate::arrival::Arrival;
-use crate::front::{Front, drop_front, put_frames, texts_of};
+use crate::answers::may_be_finished;
+use crate::arrival::{Arrival, append_place, due_of};
+use crate::front::{Front, drop_front, let_go_of_large, put_frames, texts_of};
 use crate::numbers::Numbers;
-use crate::put::Put;
 use crate::queue::shrink_queue;
-use crate::shape::Shape;
-use crate::waiting_unit::WaitingUnit;
+use crate::replies::Put;
+use crate::shape::{Place, Shape};
+use crate::waiting_unit::{Dues, WaitingUnit};
 use json_values::Items;
-use rpc_messages::{Id, Reply};
+use rpc_messages::{Id, Kind, Reply};
 use std::alloc::{AllocError, Global};
 use std::collections::VecDeque;
 
@@ -27,6 +29,8 @@ pub struct Desk {
     alloc: Global,
     numbers: Numbers,
     units: VecDeque<WaitingUnit>,
+    /// Each answer is made here, before it is framed.
+    text: Vec<u8>,
     /// How many parts of the first unit are known to be finished.
     finished_parts: usize,
     is_closed: bool,
@@ -43,18 +47,20 @@ impl Drop for Desk {
             alloc: _,
             numbers,
             units,
+            text,
             finished_parts: _,
             is_closed: _,
         } = self;
         drop(numbers);
         drop(units);
+        drop(text);
     }
 }
 
 impl Desk {
     ghost use Rattle.answer_desk.specs.Desk.{view};
     ghost use Rattle.answer_desk.specs.Places.{new_numbers};
-    ghost use Rattle.answer_desk.specs.State.{new_state, opening_state, next_number, is_open, number_at, is_marked_number, with_unit, put_of, with_reply, reply_of, without_reply, with_marks, IsLowestNewlyMarked, with_told, with_board_closed, with_end, front_texts, without_front};
+    ghost use Rattle.answer_desk.specs.State.{new_state, opening_state, next_number, is_open, number_at, is_marked_number, with_unit, put_of, with_reply, reply_of, without_reply, IsLowestInReach, with_reached, with_marks, with_board_closed, with_end, front_texts, without_front};
 
     /// No number is open, and the first call takes the number 1. Takes no memory.
     pub fn new(alloc: Global) -> Desk
@@ -83,6 +89,7 @@ impl Desk {
             alloc,
             numbers,
             units: VecDeque::new(alloc),
+            text: Vec::new(alloc),
             finished_parts: 0,
             is_closed: false,
         }
@@ -104,7 +111,7 @@ impl Desk {
 
     /// Gives the next numbers to the calls of a unit that arrives, in their order; the answer is the first of these
     /// numbers, or the next free one where the unit has no call. Makes the room for the replies to the calls of each
-    /// number, for its mark and for its answer. The numbers stay at most 1,000,000. A single unit has one place; a batch
+    /// number and for its answer. The numbers stay at most 1,000,000. A single unit has one place; a batch
     /// has at least one, and none that is unreadable.
     pub fn open_unit(&mut self, shape: Shape) -> Result<u32, AllocError>
         requires { next_number (view self.old) + length (new_numbers shape.places)
@@ -120,7 +127,27 @@ impl Desk {
         self.numbers.append(calls)?;
         self.units.push_back_reserved(WaitingUnit {
             kind,
-            dues: Items::from(dues),
+            dues: Dues::list(dues),
+        });
+        Ok(number)
+    }
+
+    /// The same for a single entry. It makes no list.
+    pub fn open_single(&mut self, place: Place) -> Result<u32, AllocError>
+        requires { next_number (view self.old) + length (new_numbers (place ∷ []))
+            ≤ MOST_NUMBERS + 1 }
+        ensures number { IfOk result (λ number. number ≡ next_number (view self.old)) }
+        ensures ok { OnOk result (view self.new ≡
+            with_unit (view self.old) (record { kind = Single; places = place ∷ [] })) }
+        ensures err { OnErr result (view self.new ≡ view self.old) }
+    {
+        let number = self.numbers.next();
+        let due = due_of(number, &place);
+        self.units.reserve(1)?;
+        append_place(self.alloc, &mut self.numbers, place)?;
+        self.units.push_back_reserved(WaitingUnit {
+            kind: Kind::Single,
+            dues: Dues::one(due),
         });
         Ok(number)
     }
@@ -137,8 +164,17 @@ impl Desk {
         self.numbers.put_reply(number, turn, reply)
     }
 
-    /// A cancel of this id marks the open requests of that id whose numbers are below `before` (LSP 3.17, cancellation
-    /// support). Takes no memory.
+    /// One step of a cancel of this id (LSP 3.17, cancellation support): it marks the lowest open request of that id that no
+    /// cancel has reached and whose number is below `before`, and gives its number. Takes no memory.
+    pub fn reach(&mut self, id: &Id, before: u32) -> Option<u32>
+        ensures lowest { IsLowestInReach (view self.old) id.now before result }
+        ensures after { view self.new ≡ with_reached (view self.old) result }
+        ensures opening { IfSome result (λ number. 0 < number) }
+    {
+        self.numbers.reach(id, before)
+    }
+
+    /// All steps of a cancel: it marks the open requests of that id whose numbers are below `before`. Takes no memory.
     pub fn mark(&mut self, id: &Id, before: u32)
         ensures after { view self.new ≡ with_marks (view self.old) id.now before }
         ensures opening { number_at (view self.new) 0 ≡ number_at (view self.old) 0 }
@@ -152,18 +188,9 @@ impl Desk {
         ensures opening { number ≡ 0 → result ≡ false }
     {
         match self.numbers.open_number(number) {
-            Some(call) => call.is_marked(),
+            Some(call) => call.is_marked,
             None => false,
         }
-    }
-
-    /// The lowest open number that was marked and not yet given by this call. Takes no memory.
-    pub fn take_marked(&mut self) -> Option<u32>
-        ensures lowest { IsLowestNewlyMarked (view self.old) result }
-        ensures after { view self.new ≡ with_told (view self.old) result }
-        ensures opening { IfSome result (λ number. 0 < number) }
-    {
-        self.numbers.take_marked()
     }
 
     /// No further reply comes. Takes no memory.
@@ -207,6 +234,21 @@ impl Desk {
         self.numbers.finish(number, reply);
     }
 
+    /// Whether `release` may have something to do: false only where the first unit that waits isn't whole, or none waits.
+    /// One step, whatever waits.
+    pub fn has_due(&self) -> bool
+        ensures none { result ≡ false → (front_texts (view self.now) ≡ [])
+            × (without_front (view self.now) ≡ view self.now) }
+        ensures empty { (view self.now).units ≡ [] → result ≡ false }
+    {
+        match self.units.front() {
+            Some(unit) => {
+                may_be_finished(&self.numbers, unit.dues.as_slice(), self.finished_parts)
+            }
+            None => false,
+        }
+    }
+
     /// The answers of the longest front of units all of whose requests are finished, in order of arrival (JSON-RPC 2.0,
     /// section 6: a batch is answered with one array, and with nothing where no entry has an answer).
     pub fn release(&mut self) -> Result<Items<Items<u8>>, AllocError>
@@ -231,7 +273,15 @@ impl Desk {
         ensures bytes_err { OnErr result (bytes.new.items ≡ bytes.old.items) }
     {
         let front = Front::find(&self.numbers, &self.units, self.finished_parts);
-        let count = put_frames(self.alloc, bytes, &self.numbers, &self.units, front.count)?;
+        let text = &mut self.text;
+        let count = put_frames(
+            self.alloc,
+            bytes,
+            text,
+            &self.numbers,
+            &self.units,
+            front.count,
+        )?;
         self.drop_front(front);
         Ok(count)
     }
@@ -248,5 +298,6 @@ impl Desk {
         self.finished_parts = front.finished_parts;
         self.numbers.shrink();
         shrink_queue(&mut self.units);
+        let_go_of_large(self.alloc, &mut self.text);
     }
 }

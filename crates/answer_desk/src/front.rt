@@ -8,13 +8,16 @@ ghost use Rattle.answer_desk.specs.Inner.Requests.{IsOutOfReach};
 ghost use Rattle.answer_desk.specs.Inner.Units.{ascends, front_finished, requests_in, requests_of, without_answers};
 
 use crate::answers::{count_finished, put_text};
-use crate::due::Due;
 use crate::numbers::Numbers;
-use crate::waiting_unit::WaitingUnit;
+use crate::waiting_unit::{Due, WaitingUnit};
 use json_values::Items;
 use lsp_frames::put_frame;
 use std::alloc::{AllocError, Global};
 use std::collections::VecDeque;
+use std::mem;
+
+/// So many bytes of a text that serves again are kept.
+const MOST_KEPT: usize = 64 * 1024;
 
 /// The longest front of whole units: how many they are, and how many parts of the unit behind them are finished.
 #[derive(Clone, Copy)]
@@ -89,10 +92,11 @@ fn push_text(
     Ok(())
 }
 
-/// Puts these texts behind the bytes, each in a frame, and tells how many they are.
+/// Puts these texts behind the bytes, each in a frame, and tells how many they are. Each is made in the same text.
 pub(crate) fn put_frames(
     alloc: Global,
     bytes: &mut Vec<u8>,
+    text: &mut Vec<u8>,
     numbers: &Numbers,
     units: &VecDeque<WaitingUnit>,
     count: usize,
@@ -105,11 +109,10 @@ pub(crate) fn put_frames(
     ensures err { OnErr result (bytes.new.items ≡ bytes.old.items) }
 {
     let before = bytes.len();
-    let mut text = Vec::new(alloc);
     let mut answers = 0;
     for index in 0..count {
         text.clear();
-        match put_unit_frame(alloc, bytes, &mut text, numbers, &units[index]) {
+        match put_unit_frame(alloc, bytes, text, numbers, &units[index]) {
             Ok(more) => answers += more,
             Err(refused) => {
                 bytes.truncate(before);
@@ -144,6 +147,13 @@ fn put_unit_frame(
     Ok(1)
 }
 
+/// Lets go of a text that has grown large.
+pub(crate) fn let_go_of_large(alloc: Global, text: &mut Vec<u8>) {
+    if text.capacity() > MOST_KEPT {
+        drop(mem::replace(text, Vec::new(alloc)));
+    }
+}
+
 /// Lets go of the first units, and of their answers.
 pub(crate) fn drop_front(numbers: &mut Numbers, units: &mut VecDeque<WaitingUnit>, count: usize)
     requires { ascends 0 (length numbers.old) (requests_of units.old.items) ≡ true }
@@ -157,6 +167,7 @@ pub(crate) fn drop_front(numbers: &mut Numbers, units: &mut VecDeque<WaitingUnit
     for _unit in 0..count {
         if let Some(unit) = units.pop_front() {
             forget_answers(numbers, unit.dues.as_slice());
+            drop(unit);
         }
     }
 }

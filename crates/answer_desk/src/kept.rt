@@ -1,6 +1,6 @@
 ghost use Rattle.std.specs.Prelude.{◌≡◌, IfOk, Some};
 
-use crate::number::Number;
+use crate::open_call::OpenCall;
 use rpc_messages::{Id, Reply};
 use std::alloc::{AllocError, Global};
 use std::mem;
@@ -8,7 +8,7 @@ use std::mem;
 /// What stands for a number that is open or answered. It stands on the heap, with the room for its answer.
 #[derive(Drop)]
 pub enum Kept {
-    Open(Number),
+    Open(OpenCall),
     /// A finished request whose unit isn't released yet.
     Answered { id: Id, reply: Reply },
 }
@@ -22,7 +22,7 @@ impl Kept {
     pub fn open(alloc: Global, id: Option<Id>, most: u32) -> Result<Box<Kept>, AllocError>
         ensures { IfOk result (λ kept. kept.value ≡ Open (new_number id most)) }
     {
-        let number = Number::new(alloc, id, most)?;
+        let number = OpenCall::new(alloc, id, most)?;
         Ok(Box::new(alloc, Kept::Open(number))?)
     }
 

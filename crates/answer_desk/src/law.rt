@@ -5,18 +5,17 @@ ghost use Rattle.std.specs.Prelude.{◌≡◌, ◌≢◌, ◌-◌, ◌<◌, ◌�
 ghost use Rattle.std.specs.Option.{option_map};
 ghost use Rattle.rpc_messages.specs.declared.id.Id.{Id};
 ghost use Rattle.rpc_messages.specs.declared.reply.Reply.{Reply};
-ghost use Rattle.answer_desk.specs.declared.mark.Mark.TheVariants.{Told};
-ghost use Rattle.answer_desk.specs.declared.number.Number.{Number};
-ghost use Rattle.answer_desk.specs.declared.put.Put.TheVariants.{Kept};
-ghost use Rattle.answer_desk.specs.declared.slot.Slot.TheVariants.{Held, Given};
+ghost use Rattle.answer_desk.specs.declared.open_call.OpenCall.{OpenCall};
+ghost use Rattle.answer_desk.specs.declared.replies.Put.TheVariants.{Kept};
+ghost use Rattle.answer_desk.specs.declared.replies.Slot.TheVariants.{Held, Given};
 ghost use Rattle.answer_desk.specs.Replies.{is_kept};
-ghost use Rattle.answer_desk.specs.State.{State, next_number, number_at, slot_of, put_of, with_reply, reply_of, without_reply, number_marked, with_marks, with_told, with_end};
+ghost use Rattle.answer_desk.specs.State.{State, next_number, number_at, slot_of, put_of, with_reply, reply_of, without_reply, marked, IsLowestInReach, with_reached, number_marked, with_marks, with_end};
 
 /// A reply that is kept changes its own number alone, and one that isn't kept changes nothing.
 pub fn reply_changes_its_own_number()
     ensures here { (s : State) (n turn : ℕ) (reply : Reply) → put_of s n turn ≡ Kept →
         number_at (with_reply s n turn reply) n ≡
-        option_map (λ (m : Number).
+        option_map (λ (m : OpenCall).
         record m { replies = slice_set m.replies (turn - 1) (Held reply) }) (number_at s n) }
     ensures another { (s : State) (n turn k : ℕ) (reply : Reply) → k ≢ n →
         number_at (with_reply s n turn reply) k ≡ number_at s k }
@@ -52,12 +51,16 @@ pub fn cancel_reaches_numbers_below_it()
         number_at (with_marks s id before) k ≡ number_at s k }
 {}
 
-/// A mark that is told changes in its own number, and no other number changes.
-pub fn telling_changes_one_mark()
-    ensures here { (s : State) (n : ℕ) → number_at (with_told s (Some n)) n ≡
-        option_map (λ (m : Number). record m { mark = Told }) (number_at s n) }
+/// One step of a cancel marks one number, and all steps together are what the cancel marks.
+pub fn reach_marks_one_number()
+    ensures here { (s : State) (n : ℕ) →
+        number_at (with_reached s (Some n)) n ≡ option_map marked (number_at s n) }
     ensures another { (s : State) (n k : ℕ) → k ≢ n →
-        number_at (with_told s (Some n)) k ≡ number_at s k }
+        number_at (with_reached s (Some n)) k ≡ number_at s k }
+    ensures step { (s : State) (id : Id) (before n : ℕ) → IsLowestInReach s id before (Some n) →
+        with_marks (with_reached s (Some n)) id before ≡ with_marks s id before }
+    ensures last { (s : State) (id : Id) (before : ℕ) → IsLowestInReach s id before None →
+        with_marks s id before ≡ s }
 {}
 
 /// An end closes its own number alone, and gives no number.

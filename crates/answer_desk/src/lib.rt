@@ -5,28 +5,22 @@
 mod answers;
 mod arrival;
 mod desk;
-mod due;
 mod front;
 mod kept;
 mod law;
-mod mark;
-mod number;
 mod numbers;
-mod place;
-mod put;
+mod open_call;
 mod queue;
 mod replies;
 mod requests_by_id;
 mod shape;
-mod slot;
 mod waiting_unit;
 
 pub use desk::Desk;
 pub use law::{
-    cancel_reaches_numbers_below_it, end_closes_its_own_number, reply_changes_its_own_number,
-    reply_fills_its_own_slot, taken_reply_leaves_its_slot_given, telling_changes_one_mark,
+    cancel_reaches_numbers_below_it, end_closes_its_own_number, reach_marks_one_number,
+    reply_changes_its_own_number, reply_fills_its_own_slot, taken_reply_leaves_its_slot_given,
 };
-pub use place::Place;
-pub use put::Put;
+pub use replies::Put;
 pub use rpc_messages::Kind;
-pub use shape::Shape;
+pub use shape::{Place, Shape};

@@ -1,29 +1,31 @@
-ghost use Rattle.std.specs.Prelude.{◌≡◌, ◌+◌, ◌-◌, ◌<◌, ◌≤◌, ◌++◌, [], ◌∷◌, OnOk, OnErr, Some, None, MatchOption, SomeIff, IfOk, IfSome, IfNone, true, length, map, slice_set};
+ghost use Rattle.std.specs.Prelude.{◌≡◌, ◌+◌, ◌-◌, ◌<◌, ◌≤◌, ◌++◌, ◌&&◌, nat_lt, [], ◌∷◌, OnOk, OnErr, Some, None, MatchOption, SomeIff, IfOk, IfSome, IfNone, true, false, length, map, slice_set};
 ghost use Rattle.std.specs.VecDeque.{deque_len};
-ghost use Rattle.std.specs.BinaryHeap.{IsHeap, KeepsHeap, heap_items, heap_len, heap_capacity};
-ghost use Rattle.std.specs.List.Sorted.{IsPermutation};
 ghost use Rattle.rpc_messages.specs.declared.key.TheConstants.{MOST_NUMBERS};
 ghost use Rattle.answer_desk.specs.declared.kept.Kept.TheVariants.{Open};
-ghost use Rattle.answer_desk.specs.declared.mark.Mark.TheVariants.{Told};
+ghost use Rattle.rpc_messages.specs.declared.id.Id.{Id};
 ghost use Rattle.answer_desk.specs.Places.{new_number};
 ghost use Rattle.answer_desk.specs.Replies.{put_into, given_by};
 ghost use Rattle.answer_desk.specs.Seen.{kept_at, open_number};
-ghost use Rattle.answer_desk.specs.Inner.Kept.{kept_in, slot_in, with_put, with_taken, with_mark, marked_as, is_new_at, with_answer, without_answer};
-ghost use Rattle.answer_desk.specs.Inner.Numbers.{all_numbers, begins_kept, with_marks_below, lowest_first, IsLowestNew, IsMarkedFirst, NoNewBelow, NoneReachedBelow, HoldsNew};
-ghost use Rattle.answer_desk.specs.Inner.Requests.{is_reached_by};
+ghost use Rattle.answer_desk.specs.Inner.Kept.{kept_in, slot_in, with_put, with_taken, with_reach, with_answer, without_answer};
+ghost use Rattle.answer_desk.specs.Inner.Requests.{is_reached_by, is_listed, IsWithMore, IsWithout, IsUnchanged};
+ghost use Rattle.answer_desk.specs.Inner.Numbers.{all_numbers, begins_kept, with_marks_below, IsIndexed, IsLowestReached, IsFirstReached, IsFirstReachedFrom};
 
 use crate::kept::Kept;
-use crate::mark::Mark;
-use crate::number::Number;
-use crate::put::Put;
+use crate::open_call::OpenCall;
 use crate::queue::shrink_queue;
-use crate::requests_by_id::RequestsById;
-use rpc_messages::{Id, Reply};
+use crate::replies::Put;
+use crate::requests_by_id::{RequestsById, is_reached_by};
+use rpc_messages::{Id, Reply, Standard};
 use std::alloc::{AllocError, Global};
-use std::cmp::Reverse;
-use std::collections::{BinaryHeap, VecDeque};
+use std::collections::VecDeque;
 use std::marker::Model;
-use std::mem;
+use std::{mem, slice};
+
+/// So many last numbers stand in no index: a cancel looks at each of them.
+const RECENT: u32 = 128;
+
+/// So many blocks of numbers that are over are kept at most.
+const SPARE: usize = 256;
 
 /// What stands for each number, seen by contracts as a list from number 0 on, with nothing for a number that is over. Only
 /// a window of them is kept: it begins at the first number that is open or whose answer waits for its release.
@@ -31,11 +33,11 @@ use std::mem;
 pub struct Numbers {
     first: u32,
     window: VecDeque<Option<Box<Kept>>>,
-    /// The open requests that no cancel has reached.
-    in_reach: RequestsById,
-    /// The numbers that cancels have newly marked, lowest first, with room for all that are in reach. A number that was
-    /// finished since may still stand here.
-    new_marks: BinaryHeap<Reverse<u32>>,
+    /// The open requests before the number `recent` that no cancel has reached. Those from it on are found in the window.
+    earlier: RequestsById,
+    recent: u32,
+    /// Blocks of numbers that are over, which serve again.
+    spare: Vec<Box<Kept>>,
 }
 
 impl Model for Numbers {
@@ -53,7 +55,7 @@ impl Model for Numbers {
     ghost view = { λ n. all_numbers n.first (map kept_in n.window.items) };
 
     ghost invariant = { λ n. IsWindow n.first (map kept_in n.window.items)
-        × IsIndexed (all_numbers n.first (map kept_in n.window.items)) n.in_reach n.new_marks };
+        × IsIndexed (all_numbers n.first (map kept_in n.window.items)) n.earlier n.recent };
 }
 
 impl Numbers {
@@ -64,8 +66,9 @@ impl Numbers {
         Numbers {
             first: 1,
             window: VecDeque::new(alloc),
-            in_reach: RequestsById::new(alloc),
-            new_marks: BinaryHeap::new(alloc),
+            earlier: RequestsById::new(alloc),
+            recent: 0,
+            spare: Vec::new(alloc),
         }
     }
 
@@ -78,8 +81,9 @@ impl Numbers {
         Ok(Numbers {
             first: 0,
             window,
-            in_reach: RequestsById::new(alloc),
-            new_marks: BinaryHeap::new(alloc),
+            earlier: RequestsById::new(alloc),
+            recent: 0,
+            spare: Vec::new(alloc),
         })
     }
 
@@ -92,18 +96,62 @@ impl Numbers {
         self.first + self.window.len() as u32
     }
 
+    /// A block for a call as it arrives: one that has served before, where there is one.
+    pub fn block(
+        &mut self,
+        alloc: Global,
+        id: Option<Id>,
+        most: u32,
+    ) -> Result<Box<Kept>, AllocError>
+        ensures kept { IfOk result (λ kept. kept.value ≡ Open (new_number id most)) }
+        ensures same { self.new ≡ self.old }
+    {
+        let number = OpenCall::new(alloc, id, most)?;
+        match self.spare.pop() {
+            Some(mut kept) => {
+                *kept = Kept::Open(number);
+                Ok(kept)
+            }
+            None => Ok(Box::new(alloc, Kept::Open(number))?),
+        }
+    }
+
+    /// One new number.
+    pub fn push(&mut self, call: Box<Kept>) -> Result<(), AllocError>
+        requires room { length self.old ≤ MOST_NUMBERS }
+        ensures ok { OnOk result (self.new ≡ self.old ++ Some (call.value) ∷ []) }
+        ensures err { OnErr result (self.new ≡ self.old) }
+    {
+        let number = self.first + self.window.len() as u32;
+        make_room(&mut self.spare)?;
+        self.window.reserve(1)?;
+        let end = (number + 1).saturating_sub(RECENT);
+        index(
+            &mut self.earlier,
+            &mut self.recent,
+            self.first,
+            &self.window,
+            end,
+        )?;
+        self.window.push_back_reserved(Some(call));
+        Ok(())
+    }
+
     /// New numbers, all of them kept.
     pub fn append(&mut self, calls: Vec<Option<Box<Kept>>>) -> Result<(), AllocError>
         requires room { length self.old + length calls.items ≤ MOST_NUMBERS + 1 }
         requires kept { begins_kept (map kept_in calls.items) ≡ true }
-        requires unmarked { NoNewBelow (length calls.items) (map kept_in calls.items) }
         ensures ok { OnOk result (self.new ≡ self.old ++ map kept_in calls.items) }
         ensures err { OnErr result (self.new ≡ self.old) }
     {
-        let number = self.first + self.window.len() as u32;
         self.window.reserve(calls.len())?;
-        self.new_marks.reserve(self.in_reach.len() + calls.len())?;
-        self.in_reach.add_all(number, calls.as_slice())?;
+        index_with(
+            &mut self.earlier,
+            &mut self.recent,
+            self.first,
+            &self.window,
+            calls.as_slice(),
+        )?;
         self.window.append(&mut VecDeque::from_vec(calls))
     }
 
@@ -120,7 +168,7 @@ impl Numbers {
     }
 
     /// What is kept of a number that is open.
-    pub fn open_number(&self, number: u32) -> Option<&Number>
+    pub fn open_number(&self, number: u32) -> Option<&OpenCall>
         ensures { MatchOption result (open_number (kept_at self.now number) ≡ None) (λ n.
             open_number (kept_at self.now number) ≡ Some n.now) }
     {
@@ -173,38 +221,34 @@ impl Numbers {
     pub fn mark(&mut self, id: &Id, before: u32)
         ensures { self.new ≡ with_marks_below id.now before self.old }
     {
-        while self.mark_lowest(id, before).is_some() {}
+        while self.reach(id, before).is_some() {}
     }
 
     /// Marks the lowest request of this id that no cancel has reached, if it is below `before`.
-    fn mark_lowest(&mut self, id: &Id, before: u32) -> Option<u32>
-        ensures none { IfNone result (
-            (self.new ≡ self.old) × NoneReachedBelow id.now before self.old) }
+    pub fn reach(&mut self, id: &Id, before: u32) -> Option<u32>
+        ensures lowest { IsLowestReached id.now before self.old result }
+        ensures none { IfNone result (self.new ≡ self.old) }
         ensures some { IfSome result (λ n.
-            (n < before) × (is_reached_by id.now (kept_at self.old n) ≡ true)
-            × (self.new ≡ slice_set self.old n (with_mark id.now (kept_at self.old n)))) }
+            self.new ≡ slice_set self.old n (with_reach (kept_at self.old n))) }
     {
-        let number = self.in_reach.lowest(id)?;
+        let number = self.lowest(id)?;
         if number >= before {
             return None;
         }
         let index = index_of(self.first, self.window.len(), number)?;
-        self.in_reach.remove(id, number);
-        push_reserved(&mut self.new_marks, number);
-        set_mark(&mut self.window[index], Mark::New);
+        self.earlier.remove(id, number);
+        set_mark(&mut self.window[index]);
         Some(number)
     }
 
-    /// The lowest number that is newly marked, once.
-    pub fn take_marked(&mut self) -> Option<u32>
-        ensures lowest { IsLowestNew self.old result }
-        ensures none { IfNone result (self.new ≡ self.old) }
-        ensures some { IfSome result (λ n.
-            self.new ≡ slice_set self.old n (marked_as Told (kept_at self.old n))) }
+    /// The lowest request of this id that no cancel has reached.
+    fn lowest(&self, id: &Id) -> Option<u32>
+        ensures { IsFirstReached id.now self.now result }
     {
-        let index = pop_marked(&mut self.new_marks, self.first, &self.window)?;
-        set_mark(&mut self.window[index], Mark::Told);
-        Some(self.first + index as u32)
+        match self.earlier.lowest(id) {
+            Some(number) => Some(number),
+            None => find_recent(self.first, &self.window, self.recent, id),
+        }
     }
 
     /// The end of an open number: a request keeps its answer.
@@ -214,8 +258,8 @@ impl Numbers {
     {
         match index_of(self.first, self.window.len(), number) {
             Some(index) => {
-                self.in_reach.remove_kept(number, &self.window[index]);
-                answer(&mut self.window[index], reply);
+                remove_earlier(&mut self.earlier, self.recent, number, &self.window[index]);
+                answer(&mut self.window[index], reply, &mut self.spare);
                 trim(&mut self.first, &mut self.window);
             }
             None => drop(reply),
@@ -230,7 +274,7 @@ impl Numbers {
             return;
         }
         if let Some(index) = index_of(self.first, self.window.len(), number) {
-            drop(mem::replace(&mut self.window[index], None));
+            give_up(&mut self.window[index], &mut self.spare);
             trim(&mut self.first, &mut self.window);
         }
     }
@@ -240,7 +284,6 @@ impl Numbers {
         ensures { self.new ≡ self.old }
     {
         shrink_queue(&mut self.window);
-        shrink_heap(&mut self.new_marks, self.in_reach.len());
     }
 }
 
@@ -251,19 +294,115 @@ fn index_of(first: u32, len: usize, number: u32) -> Option<usize>
     if index < len { Some(index) } else { None }
 }
 
-/// What cancels have done to a number, where it is open.
-fn set_mark(kept: &mut Option<Box<Kept>>, mark: Mark)
-    ensures { kept_in kept.new ≡ marked_as mark (kept_in kept.old) }
+/// Puts the numbers before `end` into the index.
+fn index(
+    earlier: &mut RequestsById,
+    recent: &mut u32,
+    first: u32,
+    window: &VecDeque<Option<Box<Kept>>>,
+    end: u32,
+) -> Result<(), AllocError>
+    requires end { end ≤ first + deque_len window.now }
+    requires few { first + deque_len window.now ≤ MOST_NUMBERS + 1 }
+    requires indexed { IsIndexed (all_numbers first (map kept_in window.now.items)) earlier.old recent.old }
+    ensures indexed { IsIndexed (all_numbers first (map kept_in window.now.items)) earlier.new recent.new }
+    ensures end { OnOk result (end ≤ recent.new) }
+{
+    while *recent < end {
+        add_number(earlier, first, window, *recent)?;
+        *recent += 1;
+    }
+    Ok(())
+}
+
+/// Puts the numbers into the index that aren't recent any more once these calls have come. Of more calls than may be
+/// recent all go there.
+fn index_with(
+    earlier: &mut RequestsById,
+    recent: &mut u32,
+    first: u32,
+    window: &VecDeque<Option<Box<Kept>>>,
+    calls: &[Option<Box<Kept>>],
+) -> Result<(), AllocError>
+    requires room { first + deque_len window.now + length calls.now ≤ MOST_NUMBERS + 1 }
+    requires indexed { IsIndexed (all_numbers first (map kept_in window.now.items)) earlier.old recent.old }
+    ensures ok { OnOk result (IsIndexed (all_numbers first (map kept_in window.now.items)
+        ++ map kept_in calls.now) earlier.new recent.new) }
+    ensures err { OnErr result (IsIndexed (all_numbers first (map kept_in window.now.items))
+        earlier.new recent.new) }
+{
+    let number = first + window.len() as u32;
+    if calls.len() <= RECENT as usize {
+        let end = (number + calls.len() as u32).saturating_sub(RECENT);
+        return index(earlier, recent, first, window, end);
+    }
+    index(earlier, recent, first, window, number)?;
+    earlier.add_all(number, calls)?;
+    *recent = number + calls.len() as u32;
+    Ok(())
+}
+
+/// Puts a number into the index, where it is a request that a cancel can reach.
+fn add_number(
+    earlier: &mut RequestsById,
+    first: u32,
+    window: &VecDeque<Option<Box<Kept>>>,
+    number: u32,
+) -> Result<(), AllocError>
+    requires few { first + deque_len window.now ≤ MOST_NUMBERS + 1 }
+    requires fresh { (id : Id) → is_listed earlier.old id number ≡ false }
+    ensures ok { OnOk result (IsWithMore earlier.new earlier.old number
+        (kept_at (all_numbers first (map kept_in window.now.items)) number)) }
+    ensures err { OnErr result (IsUnchanged earlier.new earlier.old) }
+{
+    match index_of(first, window.len(), number) {
+        Some(index) => earlier.add_kept(number, &window[index]),
+        None => Ok(()),
+    }
+}
+
+/// Takes a number out of the index, where it is before the recent ones and a cancel can reach it.
+fn remove_earlier(earlier: &mut RequestsById, recent: u32, number: u32, place: &Option<Box<Kept>>)
+    ensures { ((id : Id) → is_listed earlier.old id number ≡
+        (nat_lt number recent && is_reached_by id (kept_in place.now))) →
+        IsWithout earlier.new earlier.old number }
+{
+    if number < recent {
+        earlier.remove_kept(number, place);
+    }
+}
+
+/// The lowest request of this id from the number `recent` on that no cancel has reached.
+fn find_recent(
+    first: u32,
+    window: &VecDeque<Option<Box<Kept>>>,
+    recent: u32,
+    id: &Id,
+) -> Option<u32>
+    requires { first + deque_len window.now ≤ MOST_NUMBERS + 1 }
+    ensures { IsFirstReachedFrom recent id.now (all_numbers first (map kept_in window.now.items)) result }
+{
+    for index in recent.saturating_sub(first) as usize..window.len() {
+        if is_reached_by(&window[index], id) {
+            return Some(first + index as u32);
+        }
+    }
+    None
+}
+
+/// A cancel has reached a number, where it is open.
+fn set_mark(kept: &mut Option<Box<Kept>>)
+    ensures { kept_in kept.new ≡ with_reach (kept_in kept.old) }
 {
     if let Some(kept) = kept {
         if let Kept::Open(call) = &mut **kept {
-            call.mark = mark;
+            call.is_marked = true;
         }
     }
 }
 
 /// The end of an open number: a request keeps its answer.
-fn answer(place: &mut Option<Box<Kept>>, reply: Reply)
+fn answer(place: &mut Option<Box<Kept>>, reply: Reply, spare: &mut Vec<Box<Kept>>)
     ensures { kept_in place.new ≡ with_answer reply (kept_in place.old) }
 {
     let is_kept = match place {
@@ -274,62 +413,42 @@ fn answer(place: &mut Option<Box<Kept>>, reply: Reply)
         }
     };
     if !is_kept {
-        drop(mem::replace(place, None));
+        give_up(place, spare);
     }
 }
 
-/// Puts a number into a heap that has room for it.
-fn push_reserved(heap: &mut BinaryHeap<Reverse<u32>>, number: u32)
-    requires { heap_len heap.old < heap_capacity heap.old }
-    ensures items { IsPermutation
-        (record { 0 = number } ∷ heap_items heap.old) (heap_items heap.new) }
-    ensures ordered { KeepsHeap lowest_first (heap_items heap.old) (heap_items heap.new) }
-    ensures len { heap_len heap.new ≡ heap_len heap.old + 1 }
-    ensures capacity { heap_capacity heap.old ≤ heap_capacity heap.new }
+/// Lets go of what stands for a number that is over. Its block serves again, where there is room for it.
+fn give_up(place: &mut Option<Box<Kept>>, spare: &mut Vec<Box<Kept>>)
+    ensures { place.new ≡ None }
 {
-    drop(heap.push(Reverse(number)));
+    if let Some(kept) = mem::replace(place, None) {
+        keep_block(spare, kept);
+    }
 }
 
-/// Takes out the lowest number that is newly marked, and those below it that were finished since; its place in the window.
-fn pop_marked(
-    new_marks: &mut BinaryHeap<Reverse<u32>>,
-    first: u32,
-    window: &VecDeque<Option<Box<Kept>>>,
-) -> Option<usize>
-    requires room { first + deque_len window.now ≤ MOST_NUMBERS + 1 }
-    requires marked { HoldsNew (all_numbers first (map kept_in window.now.items))
-        (heap_items new_marks.old) }
-    requires ordered { IsHeap lowest_first (heap_items new_marks.old) }
-    ensures lowest { IsMarkedFirst first (map kept_in window.now.items)
-        (heap_items new_marks.new) result }
-    ensures inside { IfSome result (λ i. i < deque_len window.now) }
-    ensures ordered { IsHeap lowest_first (heap_items new_marks.new) }
-    ensures len { heap_len new_marks.new ≤ heap_len new_marks.old }
-    ensures capacity { heap_capacity new_marks.new ≡ heap_capacity new_marks.old }
-{
-    while let Some(Reverse(number)) = new_marks.pop() {
-        match index_of(first, window.len(), number) {
-            Some(index) => {
-                if is_newly_marked(&window[index]) {
-                    return Some(index);
-                }
-            }
-            None => {}
-        }
+/// Keeps a block without what it held, where there is room for it.
+fn keep_block(spare: &mut Vec<Box<Kept>>, mut kept: Box<Kept>) {
+    if spare.len() < spare.capacity() {
+        let reply = Reply::Standard(Standard::NoReply);
+        drop(mem::replace(
+            &mut *kept,
+            Kept::Answered {
+                id: Id::Null,
+                reply,
+            },
+        ));
+        spare.push_reserved(kept);
+    } else {
+        drop(kept);
     }
-    None
 }
 
-fn is_newly_marked(place: &Option<Box<Kept>>) -> bool
-    ensures { result ≡ is_new_at (kept_in place.now) }
-{
-    match place {
-        Some(kept) => match &**kept {
-            Kept::Open(call) => call.mark == Mark::New,
-            Kept::Answered { .. } => false,
-        },
-        None => false,
+/// Makes the room for the blocks that serve again, once.
+fn make_room(spare: &mut Vec<Box<Kept>>) -> Result<(), AllocError> {
+    if spare.capacity() == 0 {
+        spare.reserve_exact(SPARE)?;
     }
+    Ok(())
 }
 
 /// Lets go of the places at the front in which nothing is kept.
@@ -352,18 +471,5 @@ fn begins_kept(window: &VecDeque<Option<Box<Kept>>>) -> bool
     match window.front() {
         Some(place) => place.is_some(),
         None => true,
-    }
-}
-
-/// Gives memory back once a heap uses less than a quarter of it. Room stays for so many numbers more.
-fn shrink_heap(heap: &mut BinaryHeap<Reverse<u32>>, more: usize)
-    requires { heap_len heap.old + more ≤ heap_capacity heap.old }
-    ensures items { heap_items heap.new ≡ heap_items heap.old }
-    ensures len { heap_len heap.new ≡ heap_len heap.old }
-    ensures room { heap_len heap.new + more ≤ heap_capacity heap.new }
-{
-    let used = heap.len() + more;
-    if used < heap.capacity() / 4 {
-        heap.shrink_to(used.saturating_mul(2));
     }
 }

@@ -1,14 +1,34 @@
 ghost use Rattle.std.specs.Prelude.{◌≡◌, IfOk, replicate, is_some, option_copied};
-ghost use Rattle.answer_desk.specs.declared.slot.Slot.TheVariants.{Empty};
+ghost use Rattle.answer_desk.specs.declared.replies.Slot.TheVariants.{Empty};
 ghost use Rattle.answer_desk.specs.Replies.{slot_at, put_into, given_by};
 ghost use Rattle.answer_desk.specs.Inner.Kept.{slots_with, slots_without};
 
-use crate::put::Put;
-use crate::slot::Slot;
 use rpc_messages::{Reply, Standard};
 use std::alloc::{AllocError, Global};
 use std::marker::Model;
 use std::mem;
+
+/// The room for the reply of one turn.
+#[derive(Drop)]
+pub enum Slot {
+    /// No reply has come.
+    Empty,
+    /// The first reply, which nobody has taken yet.
+    Held(Reply),
+    /// The reply was taken.
+    Given,
+}
+
+/// What became of a reply that was put on the board.
+#[derive(Clone, Copy, Debug, PartialEq, Eq)]
+pub enum Put {
+    /// Nobody can hear it: the board is closed, the number isn't open or has no such turn.
+    Unknown,
+    /// It isn't the first reply of its turn.
+    Second,
+    /// It is the first reply of its turn, and is kept.
+    Kept,
+}
 
 /// The replies to the calls of one number, with room for each of its turns, seen by contracts as the list of its slots.
 #[derive(Drop)]
@@ -20,7 +40,7 @@ impl Model for Replies {
     ghost use Rattle.std.specs.Prelude.{List};
     ghost use Rattle.std.specs.Coded.{codes};
     ghost use Rattle.json_values.specs.Codes.{coded_data};
-    ghost use Rattle.answer_desk.specs.declared.slot.Slot.{Slot};
+    ghost use Rattle.answer_desk.specs.declared.replies.Slot.{Slot};
 
     ghost Value = { List Slot };
 

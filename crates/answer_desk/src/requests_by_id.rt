@@ -1,6 +1,6 @@
 ghost use Rattle.std.specs.Prelude.{◌≡◌, ◌+◌, ◌-◌, ◌<◌, ◌≤◌, ◌==◌, ◌&&◌, true, false, if◌then◌else◌, length, map, take, OnOk, OnErr, option_copied};
 ghost use Rattle.answer_desk.specs.Inner.Kept.{kept_in};
-ghost use Rattle.answer_desk.specs.Inner.Requests.{id_in_reach_of};
+ghost use Rattle.answer_desk.specs.Inner.Requests.{id_in_reach_of, is_reached_by};
 ghost use Rattle.rpc_messages.specs.declared.id.Id.{Id};
 ghost use Rattle.rpc_messages.specs.declared.key.TheConstants.{MOST_NUMBERS};
 ghost use Rattle.rpc_messages.specs.Ids.{same_id};
@@ -15,29 +15,19 @@ use std::collections::{BTreeMap, BTreeSet};
 pub struct RequestsById {
     alloc: Global,
     numbers: BTreeMap<Id, BTreeSet<u32>>,
-    /// How many numbers there are.
-    len: usize,
 }
 
 impl RequestsById {
     ghost use Rattle.std.specs.Prelude.{ℕ};
-    ghost use Rattle.answer_desk.specs.Inner.Requests.{is_reached_by, in_reach, is_listed, IsLowestListed, IsUnchanged, IsWithAdded, IsWithout};
+    ghost use Rattle.answer_desk.specs.Inner.Requests.{is_reached_by, is_listed, IsLowestListed, IsUnchanged, IsWithAdded, IsWithMore, IsWithout};
 
     pub fn new(alloc: Global) -> RequestsById
-        ensures none { (id : Id) (k : ℕ) → is_listed result id k ≡ false }
-        ensures len { result.len ≡ 0 }
+        ensures { (id : Id) (k : ℕ) → is_listed result id k ≡ false }
     {
         RequestsById {
             alloc,
             numbers: BTreeMap::new(alloc),
-            len: 0,
         }
-    }
-
-    pub fn len(&self) -> usize
-        ensures { result ≡ self.now.len }
-    {
-        self.len
     }
 
     /// The lowest number of this id.
@@ -49,15 +39,12 @@ impl RequestsById {
 
     /// Takes a number of this id out.
     pub fn remove(&mut self, id: &Id, number: u32)
-        ensures listed { (q : Id) (k : ℕ) → is_listed self.new q k ≡
+        ensures { (q : Id) (k : ℕ) → is_listed self.new q k ≡
             (if same_id id.now q && (number == k) then false else is_listed self.old q k) }
-        ensures len { self.new.len ≡
-            self.old.len - (if is_listed self.old id.now number then 1 else 0) }
     {
         match self.numbers.get_mut(id) {
             Some(numbers) => {
-                let is_removed = numbers.remove(&number);
-                self.len = self.len.saturating_sub(is_removed as usize);
+                numbers.remove(&number);
                 if !numbers.is_empty() {
                     return;
                 }
@@ -70,8 +57,7 @@ impl RequestsById {
     /// Takes this number out, where it is one that a cancel can reach.
     pub fn remove_kept(&mut self, number: u32, place: &Option<Box<Kept>>)
         ensures { ((id : Id) → is_listed self.old id number ≡
-            is_reached_by id (kept_in place.now)) →
-            IsWithout self.new self.old number (kept_in place.now) }
+            is_reached_by id (kept_in place.now)) → IsWithout self.new self.old number }
     {
         match id_in_reach(place) {
             Some(id) => self.remove(id, number),
@@ -82,7 +68,6 @@ impl RequestsById {
     /// Adds the requests among these calls that a cancel can reach. The calls have the numbers from `number` on.
     pub fn add_all(&mut self, number: u32, calls: &[Option<Box<Kept>>]) -> Result<(), AllocError>
         requires room { number + length calls.now ≤ MOST_NUMBERS + 1 }
-        requires few { self.old.len + length calls.now ≤ MOST_NUMBERS + 1 }
         requires fresh { (id : Id) (k : ℕ) → number ≤ k → is_listed self.old id k ≡ false }
         ensures ok { OnOk result (IsWithAdded self.new self.old number (map kept_in calls.now)) }
         ensures err { OnErr result (IsUnchanged self.new self.old) }
@@ -99,13 +84,10 @@ impl RequestsById {
         Ok(())
     }
 
-    fn add_kept(&mut self, number: u32, place: &Option<Box<Kept>>) -> Result<(), AllocError>
-        requires few { self.old.len ≤ MOST_NUMBERS }
-        requires fresh { (id : Id) → is_listed self.old id number ≡ false }
-        ensures listed { OnOk result ((id : Id) (k : ℕ) → is_listed self.new id k ≡
-            (if number == k then is_reached_by id (kept_in place.now)
-            else is_listed self.old id k)) }
-        ensures len { OnOk result (self.new.len ≡ self.old.len + in_reach (kept_in place.now)) }
+    /// Adds this number, where it is one that a cancel can reach.
+    pub fn add_kept(&mut self, number: u32, place: &Option<Box<Kept>>) -> Result<(), AllocError>
+        requires { (id : Id) → is_listed self.old id number ≡ false }
+        ensures ok { OnOk result (IsWithMore self.new self.old number (kept_in place.now)) }
         ensures err { OnErr result (IsUnchanged self.new self.old) }
     {
         match id_in_reach(place) {
@@ -115,16 +97,13 @@ impl RequestsById {
     }
 
     fn add(&mut self, id: &Id, number: u32) -> Result<(), AllocError>
-        requires few { self.old.len ≤ MOST_NUMBERS }
         ensures listed { OnOk result ((q : Id) (k : ℕ) → is_listed self.new q k ≡
             (if same_id id.now q && (number == k) then true else is_listed self.old q k)) }
-        ensures len { OnOk result (self.new.len ≡ self.old.len + 1) }
         ensures err { OnErr result (IsUnchanged self.new self.old) }
     {
         match self.numbers.get_mut(id) {
             Some(others) => {
                 others.insert(number)?;
-                self.len += 1;
                 Ok(())
             }
             None => self.add_first(id, number),
@@ -133,17 +112,14 @@ impl RequestsById {
 
     /// Adds a number of an id that has none.
     fn add_first(&mut self, id: &Id, number: u32) -> Result<(), AllocError>
-        requires few { self.old.len ≤ MOST_NUMBERS }
-        requires none { (k : ℕ) → is_listed self.old id.now k ≡ false }
+        requires { (k : ℕ) → is_listed self.old id.now k ≡ false }
         ensures listed { OnOk result ((q : Id) (k : ℕ) → is_listed self.new q k ≡
             (if same_id id.now q && (number == k) then true else is_listed self.old q k)) }
-        ensures len { OnOk result (self.new.len ≡ self.old.len + 1) }
         ensures err { OnErr result (IsUnchanged self.new self.old) }
     {
         let mut numbers = BTreeSet::new(self.alloc);
         numbers.insert(number)?;
         self.numbers.insert(id.clone()?, numbers)?;
-        self.len += 1;
         Ok(())
     }
 
@@ -161,6 +137,16 @@ impl RequestsById {
             left -= 1;
             self.remove_kept(number + left as u32, &calls[left]);
         }
+    }
+}
+
+/// Whether this is an open request of that id that no cancel has reached.
+pub(crate) fn is_reached_by(place: &Option<Box<Kept>>, id: &Id) -> bool
+    ensures { result ≡ is_reached_by id.now (kept_in place.now) }
+{
+    match id_in_reach(place) {
+        Some(own) => own == id,
+        None => false,
     }
 }
 

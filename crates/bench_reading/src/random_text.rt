@@ -8,7 +8,20 @@ use std::alloc::Global;
 const MOST_STEPS: u32 = 100_000;
 
 const TEXTS: &[&str] = &[
-    "%m%_", "%m%_", "%m%_", "%m%_", "%m%_", "%v%_", "[%l]%_", "[%l]%_",
+    "%m%_", "%m%_", "%m%_", "%m%_", "%m%_", "%v%_", "[%l]%_", "[%l]%_", "%c", "%c", "%c", "[%c]",
+    "[%c,%c]", "[%c,%m]",
+];
+
+/// Messages with no blank, as most senders write them.
+const COMPACT: &[&str] = &[
+    r#"{"jsonrpc":"2.0","id":%i,"method":%f,"params":%v}"#,
+    r#"{"jsonrpc":"2.0","method":%f,"params":%v,"id":%i}"#,
+    r#"{"jsonrpc":"2.0","method":%f,"params":%v}"#,
+    r#"{"jsonrpc":"2.0","method":"$/cancelRequest","params":{"id":%i}}"#,
+    r#"{"jsonrpc":%2,"id":"1.1","result":%v}"#,
+    r#"{"jsonrpc":%2,"id":"12.34","error":%x}"#,
+    r#"{"jsonrpc":"2.0","id":%i,"method":%f,"id":%i,"params":%v,"x":%v}"#,
+    r#"{"method":%f}"#,
 ];
 
 const LISTS: &[&str] = &["", "%m", "%m,%m", "%m,%m,%m"];
@@ -168,6 +181,7 @@ fn put_ahead(ahead: &mut Vec<u8>, form: &str) -> Result<(), Failure> {
 /// The forms of a rule.
 fn forms(rule: Option<u8>) -> &'static [&'static str] {
     match rule {
+        Some(b'c') => COMPACT,
         Some(b'l') => LISTS,
         Some(b'm') => MESSAGES,
         Some(b'e') => MEMBERS,

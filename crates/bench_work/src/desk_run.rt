@@ -172,8 +172,7 @@ fn finish_in_reverse(desk: &mut Desk, before: u32, last: u32) -> Result<usize, F
 fn cancel_all(desk: &mut Desk, units: u32) -> Result<usize, Failure> {
     let mut released = 0usize;
     for number in 1..=units {
-        desk.mark(&id_of(number), units.saturating_add(1));
-        if let Some(reached) = desk.take_marked() {
+        if let Some(reached) = desk.reach(&id_of(number), units.saturating_add(1)) {
             finish(desk, reached, Reply::Standard(Standard::Cancelled));
         }
         released = released.saturating_add(release(desk)?);

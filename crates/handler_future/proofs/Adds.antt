@@ -1,5 +1,5 @@
 -- What steps add to the messages.
-use Rattle.std.proofs.Common.{◌≡◌, ◌<◌, List, [], ◌∷◌, ◌++◌, length, map, append-nil, append_assoc, refl, ap, sym, ◌∙◌, subst, arith, Result, Ok, Err}
+use Rattle.std.proofs.Common.{◌≡◌, List, [], ◌∷◌, ◌++◌, length, map, append-nil, append_assoc, refl, ap, sym, ◌∙◌, subst, arith, Result, Ok, Err}
 use Rattle.std.proofs.lemmas.List.{map-append}
 use Rattle.std.proofs.lemmas.List.FromFn.{length-range_with_len}
 use Rattle.std.specs.declared.alloc.AllocError.{AllocError}
@@ -17,7 +17,7 @@ use Rattle.handler_future.specs.Inner.Course.{Seen, after_act, after_replies, af
 use Rattle.handler_future.specs.Evaluation.{replies_from}
 use Rattle.handler_future.specs.ReplyValues.{value_of_replies}
 use Rattle.handler_future.specs.Inner.Running.{Extends}
-use Rattle.handler_future.specs.State.{AddsNotices, AddsCalls}
+use Rattle.handler_future.specs.State.{AddsNotices}
 use Rattle.handler_future.proofs.Asks.{asked, asks, act-within}
 
 pub none_added : (ms : List Message) → AddsNotices ms ms []

@@ -1,5 +1,6 @@
 -- A handler may go to another thread, since each of its parts may.
 use denote.Param.Send.{IsSend, IsSync, sendable, view_send, recorded_send, struct_send}
+use denote.Param.SendFields.{declared_send}
 use denote.Struct.Declared.{shape}
 use Rattle.std.proofs.Crossing as std
 use Rattle.std.proofs.MapsCrossing as maps
@@ -20,10 +21,13 @@ use Rattle.method_steps.proofs.step.Step.TheSendSync as step
 use Rattle.method_steps.proofs.step.OnError.TheSendSync as on_error
 use Rattle.method_steps.specs.contracts.step.ListedCall as ListedCall
 use Rattle.method_steps.specs.contracts.template.Template as Template
-use Rattle.method_steps.specs.contracts.registers.Registers as Registers
+use Rattle.method_steps.specs.contracts.frame.Frame as Frame
+use Rattle.method_steps.specs.contracts.frame.Row as Row
+use Rattle.method_steps.specs.contracts.name.Name as Name
 use Rattle.json_values.proofs.items.Items.TheSendSync as items
 use Rattle.handler_future.proofs.course.CourseOf.TheSendSync as course
 use Rattle.handler_future.specs.contracts.message.Message as Message
+use Rattle.handler_future.specs.contracts.run.Run as Run
 use Rattle.handler_future.specs.contracts.handler.Handler.{the_row}
 use Rattle.handler_future.specs.contracts.handler.Handler.TheInside as inside
 
@@ -97,11 +101,17 @@ listed_send = search (known, template_send) depth 12
 listed_sync : IsSync ListedCall.the_row
 listed_sync = search (known, template_sync) depth 12
 
-registers_send : IsSend Registers.the_row
-registers_send = search (known, json_send) depth 12
+name_send : IsSend Name.the_row
+name_send = search known depth 12
 
-fields_send : IsSend inside.the_row
-fields_send = recorded_send inside.the_field.row _ _ inside.the_type.to_one (struct_send (shape inside.the_type) (
+row_send : IsSend Row.the_row
+row_send = search (known, json_send, name_send) depth 12
+
+frame_send : IsSend Frame.the_row
+frame_send = search (known, row_send) depth 12
+
+run_send : IsSend Run.the_row
+run_send = declared_send Run.the_type (
   search known depth 12,
   (
     search known depth 12,
@@ -109,10 +119,16 @@ fields_send = recorded_send inside.the_field.row _ _ inside.the_type.to_one (str
       search (known, call_send, call_sync) depth 12,
       (
         search (known, step.the_send, step.the_sync, items.the_send, items.the_sync, template_send, template_sync, listed_send, listed_sync) depth 12,
-        (search (known, course.the_field_send, registers_send, message_send, reply_send) depth 12, (search known depth 12, tt)),
+        (search (known, course.the_field_send, frame_send, message_send, reply_send) depth 12, (search known depth 12, tt)),
       ),
     ),
   ),
+)
+
+fields_send : IsSend inside.the_row
+fields_send = recorded_send inside.the_field.row _ _ inside.the_type.to_one (struct_send (shape inside.the_type) (
+  search (known, run_send) depth 12,
+  tt,
 ))
 
 pub handler_send : IsSend the_row

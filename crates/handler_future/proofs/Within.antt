@@ -1,5 +1,5 @@
 -- The turns of an evaluation's messages.
-use Rattle.std.proofs.Common.{◌≡◌, ℕ, zero, suc, ◌+◌, ◌≤◌, ◌<◌, List, [], ◌∷◌, ◌++◌, length, refl, ap, sym, ◌∙◌, subst, arith, Result, Ok, Err}
+use Rattle.std.proofs.Common.{◌≡◌, ℕ, zero, suc, ◌+◌, ◌≤◌, List, [], ◌∷◌, length, refl, ap, sym, arith, Result, Ok, Err}
 use Rattle.std.specs.Prelude.{All}
 use Rattle.std.proofs.lemmas.List.Sums.{sum_by-cons}
 use Rattle.std.proofs.lemmas.List.Elements.{All-nil, All-cons, All-head, All-tail}
@@ -8,7 +8,6 @@ use Rattle.rpc_messages.specs.declared.reply.Reply.{Reply}
 use Rattle.method_steps.specs.Steps.{Step, KeepsLimits, AreWithinLimits, calls_in, calls_of}
 use Rattle.handler_future.specs.declared.act.Act.{Act}
 use Rattle.handler_future.specs.declared.act.Act.TheVariants as act
-use Rattle.handler_future.specs.declared.message.Message.{Message}
 use Rattle.handler_future.specs.declared.message.Message.TheVariants as message
 use Rattle.handler_future.specs.Act.{act_of}
 use Rattle.handler_future.specs.Evaluation.{Replies, Onward, Program, evaluation, eval, carried, after_replies, replies_from, first_registers}

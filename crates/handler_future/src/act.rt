@@ -1,14 +1,21 @@
 //! What a step does with the registers as they stand, its replies left aside.
 
-ghost use Rattle.std.specs.Prelude.{◌≡◌, ◌+ℤ◌, IfOk, Ok, None, if◌then◌else◌};
-ghost use Rattle.handler_future.specs.Act.{act_of, act_or_error, template_value, sum_of, number_of, integer_in, are_alike, outgoing_of, array_or_object, outgoings_of, calls_for_each, act_of_calls};
-ghost use Rattle.handler_future.specs.Inner.Fault.{Gives};
+ghost use Rattle.std.specs.Prelude.{◌≡◌, ◌+ℤ◌, IfOk, IfSome, IfNone, Ok, None, ok_or, if◌then◌else◌};
+ghost use Rattle.std.specs.Str.{bytes_eq};
+ghost use Rattle.serde_json.specs.Data.{Data};
+ghost use Rattle.serde_json.specs.Written.{compact_text};
+ghost use Rattle.method_steps.specs.Frame.{with_lent};
+ghost use Rattle.method_steps.specs.Value.{i64_in};
+ghost use Rattle.handler_future.specs.Act.{act_of, act_or_error, template_value, sum_of, number_of, are_alike, outgoing_of, array_or_object, outgoings_of, calls_for_each, act_of_calls};
+ghost use Rattle.handler_future.specs.Inner.Fault.{Gives, IsStepFault};
 ghost use Rattle.handler_future.specs.Results.{and_then};
 
 use crate::each::calls_for_each;
 use crate::fault::StepFault;
 use json_values::{Items, Json, JsonArray, Text};
-use method_steps::{FillFault, ListedCall, Registers, Step, Template, fill};
+use method_steps::{
+    FillFault, Frame, ListedCall, Step, Template, fill_integer, fill_lent, lend_whole, take_whole,
+};
 use rpc_messages::{ErrorValue, Outgoing, Reply, Standard};
 use std::alloc::{AllocError, Global};
 
@@ -30,34 +37,51 @@ pub(crate) enum Act {
 }
 
 /// What the step does. A fault of the step ends the method.
-pub(crate) fn decide(alloc: Global, step: &Step, registers: &Registers) -> Result<Act, AllocError>
-    ensures { IfOk result (λ act. act ≡ act_of registers.now step.now) }
+pub(crate) fn decide(
+    alloc: Global,
+    step: &Step,
+    frame: &Frame,
+    lent: &Json,
+) -> Result<Act, AllocError>
+    ensures { IfOk result (λ act. act ≡ act_of (with_lent lent.now frame.now) step.now) }
 {
-    match try_decide(alloc, step, registers) {
+    match try_decide(alloc, step, frame, lent) {
         Ok(act) => Ok(act),
         Err(StepFault::Ended(standard)) => Ok(Act::End(Reply::Standard(standard))),
         Err(StepFault::Memory) => Err(AllocError),
     }
 }
 
-fn try_decide(alloc: Global, step: &Step, registers: &Registers) -> Result<Act, StepFault>
-    ensures { Gives (act_or_error registers.now step.now) result }
+/// What the step answers, where that is the whole of a register: it is taken out.
+pub(crate) fn whole_answer(step: &Step, frame: &mut Frame) -> Option<Json>
+    ensures some { IfSome result (λ value. (lent : Data)
+        → act_of (with_lent lent frame.old) step.now ≡ Act.End (Reply.Done value)) }
+    ensures none { IfNone result (frame.new ≡ frame.old) }
 {
     match step {
-        Step::Set { value, .. } => template_value(alloc, value, registers).map(Act::Put),
-        Step::Add { left, right, .. } => sum(alloc, left, right, registers).map(Act::Put),
-        Step::Skip { left, right, count } => skip(alloc, left, right, *count, registers),
+        Step::Answer { value } => take_whole(value, frame),
+        _ => None,
+    }
+}
+
+fn try_decide(alloc: Global, step: &Step, frame: &Frame, lent: &Json) -> Result<Act, StepFault>
+    ensures { Gives (act_or_error (with_lent lent.now frame.now) step.now) result }
+{
+    match step {
+        Step::Set { value, .. } => template_value(alloc, value, frame, lent).map(Act::Put),
+        Step::Add { left, right, .. } => sum(alloc, left, right, frame, lent).map(Act::Put),
+        Step::Skip { left, right, count } => skip(alloc, left, right, *count, frame, lent),
         Step::Call { method, params, .. } => {
-            outgoing(alloc, method, params, registers).map(Act::Call)
+            outgoing(alloc, method, params, frame, lent).map(Act::Call)
         }
         Step::Calls { list, .. } => {
-            all_outgoing(alloc, list.as_slice(), registers).map(Act::Calls)
+            all_outgoing(alloc, list.as_slice(), frame, lent).map(Act::Calls)
         }
-        Step::Each { over, method, .. } => act_for_each(alloc, over, method, registers),
+        Step::Each { over, method, .. } => act_for_each(alloc, over, method, frame, lent),
         Step::Notify { method, params } => {
-            outgoing(alloc, method, params, registers).map(Act::Notify)
+            outgoing(alloc, method, params, frame, lent).map(Act::Notify)
         }
-        Step::Answer { value } => answer(alloc, value, registers),
+        Step::Answer { value } => answer(alloc, value, frame, lent),
         Step::Fail { code, message } => failure(*code, message),
     }
 }
@@ -68,12 +92,13 @@ fn skip(
     left: &Template,
     right: &Template,
     count: u32,
-    registers: &Registers,
+    frame: &Frame,
+    lent: &Json,
 ) -> Result<Act, StepFault>
-    ensures { Gives (and_then (are_alike registers.now left.now right.now)
+    ensures { Gives (and_then (are_alike (with_lent lent.now frame.now) left.now right.now)
         (λ alike. Ok (Act.Skip (if alike then count else 0)))) result }
 {
-    if are_alike(alloc, left, right, registers)? {
+    if are_alike(alloc, left, right, frame, lent)? {
         Ok(Act::Skip(count))
     } else {
         Ok(Act::Skip(0))
@@ -85,23 +110,28 @@ fn act_for_each(
     alloc: Global,
     over: &Template,
     method: &Text,
-    registers: &Registers,
+    frame: &Frame,
+    lent: &Json,
 ) -> Result<Act, StepFault>
-    ensures { Gives (and_then (template_value registers.now over.now) (λ over.
+    ensures { Gives (and_then (template_value (with_lent lent.now frame.now) over.now) (λ over.
         and_then (calls_for_each method.now over) (λ calls. Ok (act_of_calls calls)))) result }
 {
-    let over = template_value(alloc, over, registers)?;
+    if let Some(over) = lend_whole(over, frame, lent) {
+        let calls = calls_for_each(alloc, method, over)?;
+        return Ok(act_of_calls(alloc, calls));
+    }
+    let over = template_value(alloc, over, frame, lent)?;
     let calls = calls_for_each(alloc, method, &over);
     drop(over);
     Ok(act_of_calls(alloc, calls?))
 }
 
 /// Ends the method with the template's value.
-fn answer(alloc: Global, value: &Template, registers: &Registers) -> Result<Act, StepFault>
-    ensures { Gives (and_then (template_value registers.now value.now)
+fn answer(alloc: Global, value: &Template, frame: &Frame, lent: &Json) -> Result<Act, StepFault>
+    ensures { Gives (and_then (template_value (with_lent lent.now frame.now) value.now)
         (λ value. Ok (Act.End (Reply.Done value)))) result }
 {
-    let value = template_value(alloc, value, registers)?;
+    let value = template_value(alloc, value, frame, lent)?;
     Ok(Act::End(Reply::Done(value)))
 }
 
@@ -121,15 +151,25 @@ fn failure(code: i64, message: &Text) -> Result<Act, StepFault>
 fn template_value(
     alloc: Global,
     template: &Template,
-    registers: &Registers,
+    frame: &Frame,
+    lent: &Json,
 ) -> Result<Json, StepFault>
-    ensures { Gives (template_value registers.now template.now) result }
+    ensures { Gives (template_value (with_lent lent.now frame.now) template.now) result }
 {
-    match fill(alloc, template, registers) {
+    match fill_lent(alloc, template, frame, lent) {
         Ok(value) => Ok(value),
-        Err(FillFault::Params) => Err(StepFault::Ended(Standard::InvalidParams)),
-        Err(FillFault::Missing) => Err(StepFault::Ended(Standard::InternalError)),
-        Err(FillFault::Memory) => Err(StepFault::Memory),
+        Err(fault) => Err(step_fault(fault)),
+    }
+}
+
+/// What a template without a value does to the method.
+fn step_fault(fault: FillFault) -> StepFault
+    ensures { IsStepFault fault result }
+{
+    match fault {
+        FillFault::Params => StepFault::Ended(Standard::InvalidParams),
+        FillFault::Missing => StepFault::Ended(Standard::InternalError),
+        FillFault::Memory => StepFault::Memory,
     }
 }
 
@@ -138,25 +178,41 @@ fn sum(
     alloc: Global,
     left: &Template,
     right: &Template,
-    registers: &Registers,
+    frame: &Frame,
+    lent: &Json,
 ) -> Result<Json, StepFault>
-    ensures { Gives (sum_of registers.now left.now right.now) result }
+    ensures { Gives (sum_of (with_lent lent.now frame.now) left.now right.now) result }
 {
-    let left = template_value(alloc, left, registers)?;
-    let right = template_value(alloc, right, registers)?;
-    let sum = sum_of_values(&left, &right);
-    drop(left);
-    drop(right);
-    sum
+    let left = whole(alloc, left, frame, lent)?;
+    let right = whole(alloc, right, frame, lent)?;
+    sum_of_both(left, right)
 }
 
-fn sum_of_values(left: &Json, right: &Json) -> Result<Json, StepFault>
-    ensures { Gives (and_then (integer_in left.now) (λ left.
-        and_then (integer_in right.now) (λ right. number_of (left +ℤ right)))) result }
+/// The template's value, where it is a whole number of i64.
+fn whole(
+    alloc: Global,
+    template: &Template,
+    frame: &Frame,
+    lent: &Json,
+) -> Result<Option<i64>, StepFault>
+    ensures { Gives (and_then (template_value (with_lent lent.now frame.now) template.now)
+        (λ value. Ok (i64_in value))) result }
 {
-    let left = integer(left)?;
-    let right = integer(right)?;
-    sum_in_range(left, right)
+    match fill_integer(alloc, template, frame, lent) {
+        Ok(integer) => Ok(integer),
+        Err(fault) => Err(step_fault(fault)),
+    }
+}
+
+/// The sum where both are there; else the caller's fault.
+fn sum_of_both(left: Option<i64>, right: Option<i64>) -> Result<Json, StepFault>
+    ensures { Gives (and_then (ok_or left Standard.InvalidParams) (λ left.
+        and_then (ok_or right Standard.InvalidParams) (λ right. number_of (left +ℤ right)))) result }
+{
+    match (left, right) {
+        (Some(left), Some(right)) => sum_in_range(left, right),
+        _ => Err(StepFault::Ended(Standard::InvalidParams)),
+    }
 }
 
 fn sum_in_range(left: i64, right: i64) -> Result<Json, StepFault>
@@ -168,28 +224,41 @@ fn sum_in_range(left: i64, right: i64) -> Result<Json, StepFault>
     }
 }
 
-fn integer(value: &Json) -> Result<i64, StepFault>
-    ensures { Gives (integer_in value.now) result }
-{
-    match value.as_value().as_i64() {
-        Some(integer) => Ok(integer),
-        None => Err(StepFault::Ended(Standard::InvalidParams)),
-    }
-}
-
 /// Whether the templates' values have the same text.
 fn are_alike(
     alloc: Global,
     left: &Template,
     right: &Template,
-    registers: &Registers,
+    frame: &Frame,
+    lent: &Json,
 ) -> Result<bool, StepFault>
-    ensures { Gives (are_alike registers.now left.now right.now) result }
+    ensures { Gives (are_alike (with_lent lent.now frame.now) left.now right.now) result }
 {
-    let left = template_value(alloc, left, registers)?;
-    let right = template_value(alloc, right, registers)?;
-    let alike = left.has_text_of(alloc, &right);
+    if let Some(left) = lend_whole(left, frame, lent) {
+        return is_like(alloc, left, right, frame, lent);
+    }
+    let left = template_value(alloc, left, frame, lent)?;
+    let alike = is_like(alloc, &left, right, frame, lent);
     drop(left);
+    alike
+}
+
+/// Whether the value has the same text as the template's.
+fn is_like(
+    alloc: Global,
+    left: &Json,
+    right: &Template,
+    frame: &Frame,
+    lent: &Json,
+) -> Result<bool, StepFault>
+    ensures { Gives (and_then (template_value (with_lent lent.now frame.now) right.now)
+        (λ right. Ok (bytes_eq (compact_text left.now) (compact_text right)))) result }
+{
+    if let Some(right) = lend_whole(right, frame, lent) {
+        return Ok(left.has_text_of(alloc, right)?);
+    }
+    let right = template_value(alloc, right, frame, lent)?;
+    let alike = left.has_text_of(alloc, &right);
     drop(right);
     Ok(alike?)
 }
@@ -199,12 +268,13 @@ fn outgoing(
     alloc: Global,
     method: &Text,
     params: &Option<Template>,
-    registers: &Registers,
+    frame: &Frame,
+    lent: &Json,
 ) -> Result<Outgoing, StepFault>
-    ensures { Gives (outgoing_of registers.now method.now params.now) result }
+    ensures { Gives (outgoing_of (with_lent lent.now frame.now) method.now params.now) result }
 {
     let params = match params {
-        Some(params) => Some(array_or_object(template_value(alloc, params, registers)?)?),
+        Some(params) => Some(array_or_object(template_value(alloc, params, frame, lent)?)?),
         None => None,
     };
     Ok(Outgoing {
@@ -228,13 +298,14 @@ fn array_or_object(value: Json) -> Result<Json, StepFault>
 fn all_outgoing(
     alloc: Global,
     list: &[ListedCall],
-    registers: &Registers,
+    frame: &Frame,
+    lent: &Json,
 ) -> Result<Items<Outgoing>, StepFault>
-    ensures { Gives (outgoings_of registers.now list.now) result }
+    ensures { Gives (outgoings_of (with_lent lent.now frame.now) list.now) result }
 {
     let mut calls = Vec::with_capacity(alloc, list.len())?;
     for listed in list {
-        let call = outgoing(alloc, &listed.method, &listed.params, registers)?;
+        let call = outgoing(alloc, &listed.method, &listed.params, frame, lent)?;
         calls.push_reserved(call);
     }
     Ok(Items::from(calls))

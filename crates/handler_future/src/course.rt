@@ -3,20 +3,22 @@
 ghost use Rattle.std.specs.Prelude.{◌≡◌, ◌≢◌, ◌+◌, ◌≤◌, ◌<◌, ◌++◌, [], length, OnOk, OnErr, IfOk, vec_len, vec_capacity};
 ghost use Rattle.std.specs.List.{range_with_len};
 ghost use Rattle.rpc_messages.specs.declared.key.TheConstants.{MOST_TURNS};
+ghost use Rattle.serde_json.specs.Data.{Data};
+ghost use Rattle.method_steps.specs.Frame.{with_lent};
 ghost use Rattle.method_steps.specs.declared.limits.TheConstants.{MOST_STEPS};
 ghost use Rattle.method_steps.specs.Steps.{AreWithinLimits, KeepsLimits, calls_in};
 ghost use Rattle.handler_future.specs.Act.{act_of};
-ghost use Rattle.handler_future.specs.Inner.Course.{seen, with_value, with_notice, asking, after_act, after_replies, HasRoom};
+ghost use Rattle.handler_future.specs.Inner.Course.{seen, without_registers, with_value, with_notice, asking, after_act, after_replies, HasRoom};
 ghost use Rattle.handler_future.specs.ReplyValues.{register_of};
 ghost use Rattle.handler_future.specs.Evaluation.{Program};
 ghost use Rattle.handler_future.specs.Inner.Running.{Stays, Extends, IsReady, IsRunnable, HasRoomToWait};
 ghost use Rattle.handler_future.specs.Inner.Standing.{StandsBefore, IsUnderWay, Leads, Begins};
 
-use crate::act::{Act, decide};
+use crate::act::{Act, decide, whole_answer};
 use crate::message::Message;
 use crate::reply_values::value_of_replies;
 use json_values::Json;
-use method_steps::{Registers, Step};
+use method_steps::{Frame, Step};
 use rpc_messages::{Outgoing, Reply};
 use std::alloc::{AllocError, Global};
 
@@ -38,7 +40,7 @@ pub(crate) struct CourseOf<R, M, H> {
     pub(crate) heard: H,
 }
 
-pub(crate) type Course = CourseOf<Registers, Vec<Message>, Vec<(u32, Reply)>>;
+pub(crate) type Course = CourseOf<Frame, Vec<Message>, Vec<(u32, Reply)>>;
 
 /// What a course has come to.
 #[derive(Drop)]
@@ -48,46 +50,52 @@ pub(crate) enum Progress {
     Ended(Reply),
 }
 
-/// Goes on until the method waits for replies or ends. It waits for none as it begins.
+/// Goes on until the method waits for replies or ends. It waits for none as it begins. The params of its call are lent.
 pub(crate) fn proceed(
     alloc: Global,
     steps: &[Step],
     course: &mut Course,
+    lent: &Json,
 ) -> Result<Progress, AllocError>
     requires limits { AreWithinLimits steps.now }
-    requires ready { IsReady steps.now (seen course.old) }
+    requires ready { IsReady steps.now (seen lent.now course.old) }
     ensures leads { IfOk result (λ progress. (program : Program) → program.steps ≡ steps.now
-        → IsUnderWay program (seen course.old) → Leads program (seen course.new) progress) }
+        → IsUnderWay program (seen lent.now course.old) → Leads program (seen lent.now course.new) progress) }
     ensures halts { IfOk result (λ progress. progress ≢ Progress.Going) }
     ensures err { OnErr result ((program : Program) → program.steps ≡ steps.now
-        → IsUnderWay program (seen course.old) → Begins program (seen course.new)) }
-    ensures stays { Stays (seen course.old) (seen course.new) }
-    ensures adds { Extends result (seen course.old) (seen course.new) }
+        → IsUnderWay program (seen lent.now course.old) → Begins program (seen lent.now course.new)) }
+    ensures stays { Stays (seen lent.now course.old) (seen lent.now course.new) }
+    ensures adds { Extends result (seen lent.now course.old) (seen lent.now course.new) }
     ensures room { IfOk result (λ progress. HasRoomToWait progress course.new) }
 {
     if course.asked == 0 {
-        return run(alloc, steps, course);
+        return run(alloc, steps, course, lent);
     }
     match take_replies(alloc, &steps[course.place], course)? {
-        Progress::Going => run(alloc, steps, course),
+        Progress::Going => run(alloc, steps, course, lent),
         halt => Ok(halt),
     }
 }
 
-fn run(alloc: Global, steps: &[Step], course: &mut Course) -> Result<Progress, AllocError>
+fn run(
+    alloc: Global,
+    steps: &[Step],
+    course: &mut Course,
+    lent: &Json,
+) -> Result<Progress, AllocError>
     requires limits { AreWithinLimits steps.now }
-    requires ready { IsRunnable steps.now (seen course.old) }
+    requires ready { IsRunnable steps.now (seen lent.now course.old) }
     ensures leads { IfOk result (λ progress. (program : Program) → program.steps ≡ steps.now
-        → StandsBefore program (seen course.old) → Leads program (seen course.new) progress) }
+        → StandsBefore program (seen lent.now course.old) → Leads program (seen lent.now course.new) progress) }
     ensures halts { IfOk result (λ progress. progress ≢ Progress.Going) }
     ensures err { OnErr result ((program : Program) → program.steps ≡ steps.now
-        → StandsBefore program (seen course.old) → Begins program (seen course.new)) }
-    ensures stays { Stays (seen course.old) (seen course.new) }
-    ensures adds { Extends result (seen course.old) (seen course.new) }
+        → StandsBefore program (seen lent.now course.old) → Begins program (seen lent.now course.new)) }
+    ensures stays { Stays (seen lent.now course.old) (seen lent.now course.new) }
+    ensures adds { Extends result (seen lent.now course.old) (seen lent.now course.new) }
     ensures room { IfOk result (λ progress. HasRoomToWait progress course.new) }
 {
     'steps: while course.place < steps.len() {
-        match follow(alloc, &steps[course.place], course)? {
+        match follow(alloc, &steps[course.place], course, lent)? {
             Progress::Going => {}
             halt => return Ok(halt),
         }
@@ -96,19 +104,48 @@ fn run(alloc: Global, steps: &[Step], course: &mut Course) -> Result<Progress, A
 }
 
 /// Does the step at the course's place.
-fn follow(alloc: Global, step: &Step, course: &mut Course) -> Result<Progress, AllocError>
+fn follow(
+    alloc: Global,
+    step: &Step,
+    course: &mut Course,
+    lent: &Json,
+) -> Result<Progress, AllocError>
     requires limits { KeepsLimits step.now }
     requires place { course.old.place < MOST_STEPS }
     requires turns { course.old.turn + calls_in step.now ≤ MOST_TURNS + 1 }
     requires no_waits { course.old.waits.items ≡ [] }
-    ensures course { OnOk result (seen course.new
-        ≡ (after_act step.now (seen course.old) (act_of course.old.registers step.now)).0) }
+    ensures course { OnOk result (seen lent.now course.new
+        ≡ (after_act step.now (seen lent.now course.old) (act_of (with_lent lent.now course.old.registers) step.now)).0) }
     ensures progress { IfOk result (λ progress. progress
-        ≡ (after_act step.now (seen course.old) (act_of course.old.registers step.now)).1) }
-    ensures err { OnErr result (seen course.new ≡ seen course.old) }
+        ≡ (after_act step.now (seen lent.now course.old) (act_of (with_lent lent.now course.old.registers) step.now)).1) }
+    ensures err { OnErr result (seen lent.now course.new ≡ seen lent.now course.old) }
     ensures room { IfOk result (λ progress. HasRoomToWait progress course.new) }
 {
-    match decide(alloc, step, &course.registers)? {
+    match whole_answer(step, &mut course.registers) {
+        Some(value) => Ok(end(course, Reply::Done(value))),
+        None => carry_out(alloc, step, course, lent),
+    }
+}
+
+/// Does the step at the course's place, as its act says.
+fn carry_out(
+    alloc: Global,
+    step: &Step,
+    course: &mut Course,
+    lent: &Json,
+) -> Result<Progress, AllocError>
+    requires limits { KeepsLimits step.now }
+    requires place { course.old.place < MOST_STEPS }
+    requires turns { course.old.turn + calls_in step.now ≤ MOST_TURNS + 1 }
+    requires no_waits { course.old.waits.items ≡ [] }
+    ensures course { OnOk result (seen lent.now course.new
+        ≡ (after_act step.now (seen lent.now course.old) (act_of (with_lent lent.now course.old.registers) step.now)).0) }
+    ensures progress { IfOk result (λ progress. progress
+        ≡ (after_act step.now (seen lent.now course.old) (act_of (with_lent lent.now course.old.registers) step.now)).1) }
+    ensures err { OnErr result (seen lent.now course.new ≡ seen lent.now course.old) }
+    ensures room { IfOk result (λ progress. HasRoomToWait progress course.new) }
+{
+    match decide(alloc, step, &course.registers, lent)? {
         Act::Put(value) => put(course, step, value),
         Act::Skip(count) => {
             course.place += 1 + count as usize;
@@ -120,15 +157,24 @@ fn follow(alloc: Global, step: &Step, course: &mut Course) -> Result<Progress, A
             let count = calls.len() as u32;
             ask(course, Message::Calls(course.turn, calls), count)
         }
-        Act::End(reply) => Ok(Progress::Ended(reply)),
+        Act::End(reply) => Ok(end(course, reply)),
     }
+}
+
+/// Ends the method, which needs its registers no more.
+fn end(course: &mut Course, reply: Reply) -> Progress
+    ensures course { (lent : Data) → seen lent course.new ≡ without_registers (seen lent course.old) }
+    ensures progress { result ≡ Progress.Ended reply }
+{
+    course.registers.clear();
+    Progress::Ended(reply)
 }
 
 fn put(course: &mut Course, step: &Step, value: Json) -> Result<Progress, AllocError>
     requires { course.old.place < MOST_STEPS }
-    ensures course { OnOk result (seen course.new ≡ with_value step.now value (seen course.old)) }
+    ensures course { OnOk result ((lent : Data) → seen lent course.new ≡ with_value step.now value (seen lent course.old)) }
     ensures progress { IfOk result (λ progress. progress ≡ Progress.Going) }
-    ensures err { OnErr result (seen course.new ≡ seen course.old) }
+    ensures err { OnErr result ((lent : Data) → seen lent course.new ≡ seen lent course.old) }
 {
     course.registers.set(register_of(step), value)?;
     course.place += 1;
@@ -137,10 +183,10 @@ fn put(course: &mut Course, step: &Step, value: Json) -> Result<Progress, AllocE
 
 fn notify(course: &mut Course, outgoing: Outgoing) -> Result<Progress, AllocError>
     requires { course.old.place < MOST_STEPS }
-    ensures course { OnOk result (seen course.new ≡
-        with_notice (Message.Notice outgoing) (seen course.old)) }
+    ensures course { OnOk result ((lent : Data) → seen lent course.new ≡
+        with_notice (Message.Notice outgoing) (seen lent course.old)) }
     ensures progress { IfOk result (λ progress. progress ≡ Progress.Going) }
-    ensures err { OnErr result (seen course.new ≡ seen course.old) }
+    ensures err { OnErr result ((lent : Data) → seen lent course.new ≡ seen lent course.old) }
 {
     course.messages.push(Message::Notice(outgoing))?;
     course.place += 1;
@@ -151,9 +197,9 @@ fn notify(course: &mut Course, outgoing: Outgoing) -> Result<Progress, AllocErro
 fn ask(course: &mut Course, message: Message, calls: u32) -> Result<Progress, AllocError>
     requires turns { course.old.turn + calls ≤ MOST_TURNS + 1 }
     requires no_waits { course.old.waits.items ≡ [] }
-    ensures course { OnOk result (seen course.new ≡ asking message calls (seen course.old)) }
+    ensures course { OnOk result ((lent : Data) → seen lent course.new ≡ asking message calls (seen lent course.old)) }
     ensures progress { IfOk result (λ progress. progress ≡ Progress.Waiting) }
-    ensures err { OnErr result (seen course.new ≡ seen course.old) }
+    ensures err { OnErr result ((lent : Data) → seen lent course.new ≡ seen lent course.old) }
     ensures room { OnOk result (HasRoom course.new) }
 {
     if let Err(refused) = make_room(course, calls) {
@@ -169,7 +215,7 @@ fn ask(course: &mut Course, message: Message, calls: u32) -> Result<Progress, Al
 
 /// Makes room for so many turns to await, and for their replies.
 fn make_room(course: &mut Course, calls: u32) -> Result<(), AllocError>
-    ensures same { seen course.new ≡ seen course.old }
+    ensures same { (lent : Data) → seen lent course.new ≡ seen lent course.old }
     ensures heard { OnOk result
         (vec_len course.new.heard + calls ≤ vec_capacity course.new.heard) }
     ensures waits { OnOk result
@@ -196,10 +242,10 @@ fn take_replies(alloc: Global, step: &Step, course: &mut Course) -> Result<Progr
     requires turns { course.old.turn + course.old.asked ≤ MOST_TURNS + 1 }
     requires asked { 0 < course.old.asked }
     requires heard { course.old.heard_before ≤ length course.old.heard.items }
-    ensures course { OnOk result (seen course.new ≡ (after_replies step.now (seen course.old)).0) }
-    ensures progress { IfOk result (λ progress.
-        progress ≡ (after_replies step.now (seen course.old)).1) }
-    ensures err { OnErr result (seen course.new ≡ seen course.old) }
+    ensures course { OnOk result ((lent : Data) → seen lent course.new ≡ (after_replies step.now (seen lent course.old)).0) }
+    ensures progress { IfOk result (λ progress. (lent : Data) →
+        progress ≡ (after_replies step.now (seen lent course.old)).1) }
+    ensures err { OnErr result ((lent : Data) → seen lent course.new ≡ seen lent course.old) }
 {
     let heard = &course.heard.as_slice()[course.heard_before..];
     match value_of_replies(alloc, step, heard, course.turn, course.asked)? {

@@ -1,49 +1,36 @@
-ghost use Rattle.std.specs.Prelude.{◌≡◌, ◌≢◌, ◌≤◌, ◌<◌, ◌==◌, length, All, not, IfOk, IfErr, OnOk, OnErr, is_ok};
+ghost use Rattle.std.specs.Prelude.{◌≡◌, ◌≢◌, ◌≤◌, ◌<◌, ◌==◌, [], length, All, IfOk, IfErr, OnOk, OnErr, is_ok, unwrap_or};
 ghost use Rattle.std.specs.Arc.{arc_value};
-ghost use Rattle.std.specs.List.{filter, list_any};
+ghost use Rattle.std.specs.List.{list_any};
+ghost use Rattle.rpc_messages.specs.declared.params.Params.TheVariants as Params;
 ghost use Rattle.rpc_messages.specs.declared.key.TheConstants.{MOST_NUMBERS};
 ghost use Rattle.method_steps.specs.declared.limits.TheConstants.{MOST_CALLS};
-ghost use Rattle.method_steps.specs.Steps.{AreWithinLimits, shared_steps, calls_of};
+ghost use Rattle.method_steps.specs.Steps.{AreWithinLimits, shared_steps, steps_at, calls_of};
 ghost use Rattle.handler_future.specs.Front.{HasTurnsUpTo, unheard, last_turns};
 ghost use Rattle.handler_future.specs.Inner.Handler.{params_in};
-ghost use Rattle.handler_future.specs.State.{new_state, opening_state, program_at, params_data, with_heard, IsPoll};
+ghost use Rattle.handler_future.specs.State.{new_state, opening_state, program_at, with_heard, IsPoll};
 
-use crate::course::{Course, Progress, proceed};
+use crate::course::Course;
 use crate::message::Message;
 use crate::outcome::{NotWaiting, Outcome};
 use crate::phase::Phase;
-use json_values::Json;
-use method_steps::{Registers, Step, Table};
-use rpc_messages::{Call, Params, Reply};
+use crate::room::Room;
+use crate::run::{Run, clear, hear, poll, restart};
+use method_steps::{Frame, Step, Table};
+use rpc_messages::{Call, Reply};
 use std::alloc::{AllocError, Global};
 use std::marker::Model;
 use std::sync::Arc;
 
-/// The run of one method.
+/// The run of one method. It is one pointer, so that who passes it on moves no more than that.
 pub struct Handler {
-    alloc: Global,
-    number: u32,
-    /// The call that it runs for; none for an opening.
-    call: Option<Arc<Call>>,
-    steps: Arc<Vec<Step>>,
-    course: Course,
-    phase: Phase,
+    run: Box<Run>,
 }
 
 // Written out, so that whoever drops one makes a call, and knows nothing of what is in it.
 impl Drop for Handler {
     fn drop(self) {
-        let Handler {
-            alloc: _,
-            number: _,
-            call,
-            steps,
-            course,
-            phase: _,
-        } = self;
-        drop(call);
-        drop(steps);
-        drop(course);
+        let Handler { run } = self;
+        drop(run);
     }
 }
 
@@ -79,12 +66,8 @@ impl Handler {
         ensures { IfOk result (λ handler. handler
             ≡ new_state number (program_at table.now.methods method call)) }
     {
-        let steps = match table.steps(method) {
-            Some(steps) => Arc::try_clone(steps)?,
-            None => Arc::new(alloc, Vec::new(alloc))?,
-        };
-        let params = params_of(&call)?;
-        Handler::before_polls(alloc, number, Some(call), steps, params)
+        let steps = steps_of(alloc, table, method)?;
+        Handler::before_polls(alloc, number, Some(call), steps)
     }
 
     /// The handler of the table's opening, where it has one. Its number is 0; no call runs it, so its register `params` is null.
@@ -94,28 +77,26 @@ impl Handler {
         match table.opening_steps() {
             Some(steps) => {
                 let steps = Arc::try_clone(steps)?;
-                let handler = Handler::before_polls(alloc, 0, None, steps, Json::null())?;
+                let handler = Handler::before_polls(alloc, 0, None, steps)?;
                 Ok(Some(handler))
             }
             None => Ok(None),
         }
     }
 
-    /// A handler of the steps, with `params` as its only register.
+    /// A handler of the steps, for a call or for none.
     fn before_polls(
         alloc: Global,
         number: u32,
         call: Option<Arc<Call>>,
         steps: Arc<Vec<Step>>,
-        params: Json,
     ) -> Result<Handler, AllocError>
-        requires limits { AreWithinLimits (shared_steps steps) }
-        requires params { params ≡ params_in call }
-        ensures { IfOk result (λ handler. handler
-            ≡ new_state number (record { steps = shared_steps steps; params = params })) }
+        requires { AreWithinLimits (shared_steps steps) }
+        ensures { IfOk result (λ handler. handler ≡ new_state number
+            (record { steps = shared_steps steps; params = params_in call })) }
     {
-        let registers = Registers::new(alloc, params)?;
-        Ok(Handler {
+        let registers = Frame::new(alloc)?;
+        let run = Run {
             alloc,
             number,
             call,
@@ -131,38 +112,51 @@ impl Handler {
                 heard: Vec::new(alloc),
             },
             phase: Phase::UnderWay,
+        };
+        Ok(Handler {
+            run: Box::new(alloc, run)?,
         })
+    }
+
+    /// The same as `new`, in the room of a handler that is over.
+    pub fn in_room(
+        room: Room,
+        table: &Table,
+        method: u32,
+        number: u32,
+        call: Arc<Call>,
+    ) -> Result<Handler, AllocError>
+        requires method { method < length table.now.methods }
+        requires number { (1 ≤ number) × (number ≤ MOST_NUMBERS) }
+        requires params { (arc_value call).params ≢ Params.Fractional }
+        ensures { IfOk result (λ handler. handler
+            ≡ new_state number (program_at table.now.methods method call)) }
+    {
+        let Room { mut run } = room;
+        let steps = steps_of(run.alloc, table, method)?;
+        restart(&mut run, number, call, steps)?;
+        Ok(Handler { run })
+    }
+
+    /// The room of a handler that is over. All else that it held is let go, its call too.
+    pub fn into_room(self) -> Room {
+        let Handler { mut run } = self;
+        clear(&mut run);
+        Room { run }
     }
 
     /// The number of its call; 0 for an opening.
     pub fn number(&self) -> u32
         ensures { result ≡ self.now.number }
     {
-        self.number
+        self.run.number
     }
 
     /// A poll: runs steps until the method ends or waits for a reply, which is `None`.
     pub fn advance(&mut self) -> Option<Outcome>
         ensures { IsPoll self.old self.new result }
     {
-        let Phase::UnderWay = self.phase else {
-            return Some(Outcome::Failed);
-        };
-        if !self.course.waits.is_empty() {
-            return None;
-        }
-        match proceed(self.alloc, self.steps.as_slice(), &mut self.course) {
-            Ok(Progress::Ended(reply)) => {
-                self.phase = Phase::Answered;
-                Some(Outcome::Answer(reply))
-            }
-            Ok(Progress::Waiting) => None,
-            Ok(Progress::Going) => unreachable!(),
-            Err(AllocError) => {
-                self.phase = Phase::Failed;
-                Some(Outcome::Failed)
-            }
-        }
+        poll(&mut self.run)
     }
 
     /// The turns awaited and not heard, ascending.
@@ -172,7 +166,7 @@ impl Handler {
         ensures within { All (λ turn.
             (1 ≤ turn) × (turn ≤ calls_of self.now.program.steps)) result.now }
     {
-        self.course.waits.as_slice()
+        self.run.course.waits.as_slice()
     }
 
     /// Takes the reply to an awaited call; one to any other call is given back. Takes no memory.
@@ -183,12 +177,7 @@ impl Handler {
         ensures err { OnErr result (self.new ≡ self.old) }
         ensures waits { self.new.waits ≡ unheard self.new.heard (last_turns self.new.messages) }
     {
-        if !self.course.waits.as_slice().contains(&turn) {
-            return Err(NotWaiting { reply });
-        }
-        drop_turn(&mut self.course.waits, turn);
-        self.course.heard.push_reserved((turn, reply));
-        Ok(())
+        hear(&mut self.run, turn, reply)
     }
 
     /// All made so far.
@@ -197,29 +186,25 @@ impl Handler {
         ensures turns { All (HasTurnsUpTo (calls_of self.now.program.steps)) result.now }
         ensures few { calls_of self.now.program.steps ≤ MOST_CALLS }
     {
-        self.course.messages.as_slice()
+        self.run.course.messages.as_slice()
     }
 
     /// All heard so far.
     pub fn heard(&self) -> &[(u32, Reply)]
         ensures { result.now ≡ self.now.heard }
     {
-        self.course.heard.as_slice()
+        self.run.course.heard.as_slice()
     }
 }
 
-/// The value of the register `params`: null where they are omitted.
-fn params_of(call: &Call) -> Result<Json, AllocError>
-    ensures { IfOk result (λ params. params ≡ params_data call.now.params) }
+/// The steps of the table's method, shared.
+fn steps_of(alloc: Global, table: &Table, method: u32) -> Result<Arc<Vec<Step>>, AllocError>
+    ensures steps { IfOk result (λ steps.
+        shared_steps steps ≡ unwrap_or (steps_at table.now.methods method) []) }
+    ensures limits { IfOk result (λ steps. AreWithinLimits (shared_steps steps)) }
 {
-    match &call.params {
-        Params::Whole(params) => params.clone(),
-        Params::Omitted | Params::Fractional => Ok(Json::null()),
+    match table.steps(method) {
+        Some(steps) => Arc::try_clone(steps),
+        None => Ok(Arc::new(alloc, Vec::new(alloc))?),
     }
-}
-
-fn drop_turn(waits: &mut Vec<u32>, turn: u32)
-    ensures { waits.new.items ≡ filter (λ wait. not (wait == turn)) waits.old.items }
-{
-    waits.retain(|wait| *wait != turn);
 }

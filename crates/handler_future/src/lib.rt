@@ -14,6 +14,8 @@ mod outcome;
 mod phase;
 mod rehearsal;
 mod reply_values;
+mod room;
+mod run;
 
 pub use awaiting::Awaiting;
 pub use handler::Handler;
@@ -24,3 +26,4 @@ pub use law::{
 pub use message::Message;
 pub use outcome::{NotWaiting, Outcome};
 pub use rehearsal::Rehearsal;
+pub use room::Room;

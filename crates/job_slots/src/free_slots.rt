@@ -32,6 +32,24 @@ impl FreeSlots {
         }
     }
 
+    /// The least slot from this one on that isn't free, of 128.
+    pub(crate) fn next_in_use(self, from: u32) -> Option<u32>
+        ensures { MatchOption result
+            ((k : ℕ) → from ≤ k → k < MOST_SLOTS → bit_at self.bits k ≡ 1)
+            (λ slot. (from ≤ slot) × (slot < MOST_SLOTS) × (bit_at self.bits slot ≡ 0)
+            × ((k : ℕ) → from ≤ k → k < slot → bit_at self.bits k ≡ 1)) }
+    {
+        if from >= 128 {
+            return None;
+        }
+        let in_use = !self.bits >> from;
+        if in_use == 0 {
+            None
+        } else {
+            Some(from + in_use.trailing_zeros())
+        }
+    }
+
     pub(crate) fn has(self, slot: u32) -> bool
         requires { slot < MOST_SLOTS }
         ensures { IsTrue result ↔ (bit_at self.bits slot ≡ 1) }

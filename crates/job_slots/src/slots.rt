@@ -1,9 +1,9 @@
 //! The slots, and all that is done with them.
-ghost use Rattle.std.specs.Prelude.{◌≡◌, ℕ, ◌+◌, ◌-◌, ◌<◌, ◌≤◌, [], ◌∷◌, ◌++◌, Some, None, IsOk, IfOk, IfErr, OnErr, IfSome, OnSome, IfNone, IsTrue, position, replicate, slice_set};
+ghost use Rattle.std.specs.Prelude.{◌≡◌, ℕ, ◌+◌, ◌-◌, ◌<◌, ◌≤◌, [], ◌∷◌, ◌++◌, Some, None, IsOk, IfOk, IfErr, OnErr, IfSome, OnSome, IfNone, IsTrue, position, replicate, slice_get, slice_set};
 ghost use Rattle.job_slots.specs.declared.limits.TheConstants.{MOST_SLOTS};
 ghost use Rattle.job_slots.specs.declared.view.Look.TheVariants.{Free, In};
 ghost use Rattle.job_slots.specs.declared.worker.Ran.TheVariants.{One, Nothing};
-ghost use Rattle.job_slots.specs.Looks.{is_free, HasTurned};
+ghost use Rattle.job_slots.specs.Looks.{is_free, HasJob, HasTurned};
 
 use crate::clerk::ClerkSeat;
 use crate::closing::gather;
@@ -118,6 +118,26 @@ impl<J: Turns> JobSlots<J> {
             }
         }
         Ran::Nothing
+    }
+
+    /// The least slot from this one on that is in use: the clerk put a job in there, and hasn't taken it home.
+    pub fn next_in_use(&self, clerk: &ClerkSeat<J>, from: u32) -> Option<u32>
+        requires { IsClerkOf self.now clerk.now }
+        ensures within { IfSome result (λ slot. (from ≤ slot) × (slot < MOST_SLOTS)) }
+        ensures in_use { IfSome result (HasJob (looks_of clerk.now)) }
+
+        ensures passed { IfSome result (λ slot. (k : ℕ) → from ≤ k → k < slot →
+            slice_get (looks_of clerk.now) k ≡ Some Free) }
+        ensures none { IfNone result ((k : ℕ) → from ≤ k → k < slot_count self.now →
+            slice_get (looks_of clerk.now) k ≡ Some Free) }
+    {
+        let Some(slot) = clerk.free.next_in_use(from) else {
+            return None;
+        };
+        if slot >= self.count {
+            return None;
+        }
+        Some(slot)
     }
 
     /// Whether the job of a slot that is in use lies there turned, by a look: then `collect` gives it. A caller that asks

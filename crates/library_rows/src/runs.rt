@@ -180,6 +180,16 @@ fn handler(alloc: Global, table: &Table, call: &Arc<Call>) -> Result<Handler, Fa
     Ok(Handler::new(alloc, table, method, 1, Arc::try_clone(call)?)?)
 }
 
+/// A handler of the call, in the room of another.
+fn in_room_of(table: &Table, other: Handler, call: &Arc<Call>) -> Result<Handler, Fail> {
+    let method = table.find(call.method.as_str()).ok_or("no such method")?;
+    if method >= table.len() || matches!(&call.params, Params::Fractional) {
+        return Err("no such call".into());
+    }
+    let room = other.into_room();
+    Ok(Handler::in_room(room, table, method, 1, Arc::try_clone(call)?)?)
+}
+
 /// Handler 1 of the method that a content calls.
 fn called(alloc: Global, table: &Table, content: &str) -> Result<Handler, Fail> {
     let call = call(alloc, content)?;
@@ -419,6 +429,42 @@ fn is_told_in_each_order(
     Ok(true)
 }
 
+/// Whether handlers of the call tell what the lines say in each order, each in the room of the one before.
+fn is_told_in_one_room(
+    alloc: Global,
+    table: &Table,
+    call: &Arc<Call>,
+    replies: &[(u32, Reply)],
+    lines: &str,
+) -> Result<bool, Fail> {
+    let mut other = handler(alloc, table, call)?;
+    for order in ORDERS {
+        let mut handler = in_room_of(table, other, call)?;
+        if !is_told_in(alloc, &mut handler, call.id.as_ref(), replies, order, lines)? {
+            drop(handler);
+            return Ok(false);
+        }
+        other = handler;
+    }
+    let is_first = other.number() == 1;
+    drop(other);
+    Ok(is_first)
+}
+
+/// Whether new handlers of the call tell what the lines say, and so do those in the room of others.
+fn is_call_told(
+    alloc: Global,
+    table: &Table,
+    call: &Arc<Call>,
+    replies: &[(u32, Reply)],
+    lines: &str,
+) -> Result<bool, Fail> {
+    Ok(
+        is_told_in_each_order(alloc, table, Some(call), replies, lines)?
+            && is_told_in_one_room(alloc, table, call, replies, lines)?,
+    )
+}
+
 /// Whether a content, which is a call or the word for the opening, comes to what its lines say.
 fn is_told(
     alloc: Global,
@@ -431,7 +477,7 @@ fn is_told(
         return is_told_in_each_order(alloc, table, None, replies, lines);
     }
     let call = call(alloc, content)?;
-    let is_told = is_told_in_each_order(alloc, table, Some(&call), replies, lines);
+    let is_told = is_call_told(alloc, table, &call, replies, lines);
     drop(call);
     is_told
 }

@@ -11,7 +11,7 @@ use Rattle.lsp_frames.specs.Lines.{no_fields, line_meaning}
 use Rattle.lsp_frames.specs.Heads.{Ends, Breaks, Unended, head_from, head_at}
 use Rattle.lsp_frames.specs.Frames.{Whole, content_front, HasNoLf}
 use Rattle.lsp_frames.specs.Inner.Partials as inner
-use Rattle.lsp_frames.specs.Inner.Partials.{read_at, read_on, HasNoFrame, IsUnderWay, measure}
+use Rattle.lsp_frames.specs.Inner.Partials.{read_at, read_on, HasNoFrame, IsShort, IsUnderWay, measure}
 use Rattle.lsp_frames.specs.declared.frame.FrameFault.{FrameFault}
 use Rattle.lsp_frames.specs.declared.frame.FrameFault.TheVariants.{HeadTooLong}
 use Rattle.lsp_frames.specs.declared.line.Fields.{Fields}
@@ -163,3 +163,10 @@ content_completes limit stage n foreign held piece whole last rest had e u h k l
     let front : content_front n foreign (held ++ piece) ≡ Whole (frame_of whole foreign) rest =
     content_ends n foreign held piece within (omega arith) ∙ ap (λ (xs : List ℕ). Whole (frame_of xs foreign) (drop (n - length held) piece)) text ∙ ap (Whole (frame_of whole foreign)) left in
     subst P (sym e) (smaller, (front, nothing_read limit rest))
+
+-- no bytes
+
+pub none_taken : (limit : ℕ) (stage : Stage) (held : List ℕ) → IsUnderWay stage held → IsShort stage held [] → IsUnderWay stage held × HasNoFrame (read_at stage held) × (read_at stage held ≡ read_on limit (read_at stage held) [])
+none_taken limit (stages.Head place) held way short = (way, tt, sym (head_from-nil limit place.fields held place.room))
+none_taken limit (stages.Content n foreign) held way short = (way, omega (arith, short), ap (Ends n foreign) (sym (append-nil held)))
+none_taken limit (stages.Ended fault) held way short = (tt, tt, refl)

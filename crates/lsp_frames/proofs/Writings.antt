@@ -1,5 +1,5 @@
 -- A written frame is read back.
-use Rattle.std.proofs.Common.{◌≡◌, ℕ, ◌+◌, ◌<◌, ◌≤◌, ◌^◌, Bool, true, false, cond, ltb, leb, List, [], ◌∷◌, ◌++◌, length, reverse, Some, None, Ok, refl, ap, sym, ◌∙◌, arith, append-nil, append_assoc, length-append, position, codes, decimal, lit<}
+use Rattle.std.proofs.Common.{◌≡◌, ℕ, ◌+◌, ◌<◌, ◌≤◌, ◌^◌, Bool, true, false, cond, ltb, leb, List, [], ◌∷◌, ◌++◌, length, take, drop, reverse, Some, None, Ok, refl, ap, sym, ◌∙◌, arith, append-nil, append_assoc, length-append, length-take, take-append-drop, drop-drop, position, codes, decimal, lit<}
 use Rattle.std.proofs.lemmas.Grind.{common_steps, reverse_onto}
 use Rattle.std.proofs.lemmas.List.{reverse-reverse}
 use Rattle.std.proofs.lemmas.List.Folds.{list_all-append}
@@ -10,7 +10,10 @@ use Rattle.std.specs.Str.Parse.{AllDigits, digits_value}
 use Rattle.lsp_frames.specs.Fields.{is_blank, is_colon, is_value_byte, without_leading_blanks, without_trailing_blanks, without_outer_blanks, field_at, field_of, is_named, length_of}
 use Rattle.lsp_frames.specs.Lines.{no_fields, with_length, fields_with, fields_after}
 use Rattle.lsp_frames.specs.Frames.{head_text, HasForm, written}
+use Rattle.lsp_frames.specs.Heads.{Ends, head_from, head_at}
+use Rattle.lsp_frames.specs.declared.line.Fields.{Fields}
 use Rattle.lsp_frames.proofs.Choices.{both, all_of}
+use Rattle.lsp_frames.proofs.Walks.{walk_head}
 
 -- digits
 
@@ -73,12 +76,43 @@ with_length_is limit n h =
     let low : ltb limit n ≡ false = grind (arith, common_steps) in
     rw low
 
-judged_is : (limit n : ℕ) (ds : List ℕ) → n ≤ limit → list_all is_ascii_digit ds ≡ true → 0 < length ds → length ds ≤ 10 → digits_value 10 ds ≡ n → fields_after limit no_fields (codes "Content-Length: " ++ ds) ≡ Ok (record { content_length = Some n; foreign = false })
+pub judged_is : (limit n : ℕ) (ds : List ℕ) → n ≤ limit → list_all is_ascii_digit ds ≡ true → 0 < length ds → length ds ≤ 10 → digits_value 10 ds ≡ n → fields_after limit no_fields (codes "Content-Length: " ++ ds) ≡ Ok (record { content_length = Some n; foreign = false })
 unfolding fields_after is_named
 judged_is limit n ds h digits some short value =
     ap (fields_with limit no_fields) (field_is ds digits)
     ∙ ap (with_length limit no_fields) (length_is ds n digits some short value)
     ∙ with_length_is limit n h
+
+-- its head, whatever follows
+
+pub head_is : (limit n : ℕ) (ds more : List ℕ) → n ≤ limit → list_all is_ascii_digit ds ≡ true → 0 < length ds → length ds ≤ 10 → digits_value 10 ds ≡ n
+    → head_at limit (codes "Content-Length: " ++ (ds ++ (codes "\r\n\r\n" ++ more))) ≡ Ends n false more
+unfolding head_at
+head_is limit n ds more h digits some short value =
+    let line : List ℕ = codes "Content-Length: " ++ ds in
+    let fields : Fields = record { content_length = Some n; foreign = false } in
+    let text : head_text ((codes "Content-Length: " ++ ds) ∷ []) ≡ (codes "Content-Length: " ++ ds) ++ codes "\r\n\r\n" =
+    ap (λ (xs : List ℕ). xs ++ codes "\r\n") (append-nil ((codes "Content-Length: " ++ ds) ++ codes "\r\n")) ∙ append_assoc (codes "Content-Length: " ++ ds) (codes "\r\n") (codes "\r\n") in
+    let size : length (codes "Content-Length: " ++ ds) ≡ 16 + length ds = length-append (codes "Content-Length: ") ds in
+    let all : length (head_text ((codes "Content-Length: " ++ ds) ∷ [])) ≡ 16 + length ds + 4 =
+    ap length text ∙ length-append (codes "Content-Length: " ++ ds) (codes "\r\n\r\n") ∙ ap (λ (m : ℕ). m + 4) size in
+    let whole : codes "Content-Length: " ++ (ds ++ (codes "\r\n\r\n" ++ more)) ≡ head_text ((codes "Content-Length: " ++ ds) ∷ []) ++ more =
+    sym (append_assoc (codes "Content-Length: ") ds (codes "\r\n\r\n" ++ more)) ∙ sym (append_assoc (codes "Content-Length: " ++ ds) (codes "\r\n\r\n") more)
+    ∙ ap (λ (xs : List ℕ). xs ++ more) (sym text) in
+    ap (head_from limit no_fields [] 4096) whole
+    ∙ walk_head limit n false no_fields ((codes "Content-Length: " ++ ds) ∷ []) 4096 more (fields, judged_is limit n ds h digits some short value, refl) (omega arith)
+
+-- bytes that begin with a usual head: the words, k digits, and CR LF CR LF
+pub usual_is : (limit n k : ℕ) (bytes value : List ℕ) → value ≡ drop 16 bytes → bytes ≡ codes "Content-Length: " ++ drop 16 bytes → drop k value ≡ codes "\r\n\r\n" ++ drop 4 (drop k value)
+    → n ≤ limit → list_all is_ascii_digit (take k value) ≡ true → 0 < k → k ≤ 8 → k ≤ length value → digits_value 10 (take k value) ≡ n → head_at limit bytes ≡ Ends n false (drop (16 + k + 4) bytes)
+usual_is limit n k bytes value is first last h digits some few within number =
+    let ds : List ℕ = take k value in
+    let more : List ℕ = drop 4 (drop k value) in
+    let size : length (take k value) ≡ k = omega (arith, length-take k value) in
+    let whole : bytes ≡ codes "Content-Length: " ++ (ds ++ (codes "\r\n\r\n" ++ more)) =
+    first ∙ ap (λ (xs : List ℕ). codes "Content-Length: " ++ xs) (sym is ∙ sym (take-append-drop k value) ∙ ap (λ (xs : List ℕ). ds ++ xs) last) in
+    let behind : more ≡ drop (16 + k + 4) bytes = ap (λ (xs : List ℕ). drop 4 (drop k xs)) is ∙ ap (drop 4) (drop-drop k 16 bytes) ∙ drop-drop 4 (16 + k) bytes in
+    ap (head_at limit) whole ∙ head_is limit n ds more h digits (omega (arith, size)) (omega (arith, size)) number ∙ ap (Ends n false) behind
 
 pub written_form : (limit : ℕ) (content : List ℕ) → length content ≤ limit → limit ≤ 16777216 → HasForm limit (written content) (record { content = content; foreign = false })
 written_form limit content h k =

@@ -15,6 +15,7 @@ mod mem_sink;
 mod mem_source;
 mod partial;
 mod std_device;
+mod usual_head;
 mod writing;
 
 pub use decoder::Decoder;

@@ -1,14 +1,15 @@
 //! What has come of the frame under way, and what a piece adds to it.
 
-ghost use Rattle.std.specs.Prelude.{◌≡◌, ◌==◌, ◌<◌, ◌++◌, ◌∷◌, ℕ, List, [], None, length, position, take, IfOk, IfSome, OnErr, OnOk};
+ghost use Rattle.std.specs.Prelude.{◌≡◌, ◌==◌, ◌<◌, ◌++◌, ◌∷◌, ℕ, List, [], None, length, position, take, IfOk, IfSome, IsTrue, OnErr, OnOk};
 ghost use Rattle.lsp_frames.specs.Heads.{head_from};
 ghost use Rattle.lsp_frames.specs.Decoding.{end_known};
-ghost use Rattle.lsp_frames.specs.Inner.Partials.{Cuts, Gives, HasKept, IsFront, IsPartial, IsSame, IsShort, IsUnderWay, Takes, TakesAll, frames_of, known_read, read_at, read_of, read_on};
+ghost use Rattle.lsp_frames.specs.Inner.Partials.{Cuts, Gives, HasKept, IsFront, IsPartial, IsSame, IsShort, IsUnderWay, Takes, TakesAll, first_place, frames_of, known_read, read_at, read_of, read_on};
 
 use crate::field::place_of;
 use crate::frame::{End, Frame, FrameFault};
 use crate::limits::LONGEST_HEAD;
 use crate::line::{Fields, Line, line_meaning};
+use crate::usual_head::usual_head;
 use json_values::Items;
 use std::alloc::{AllocError, Global};
 use std::mem;
@@ -61,6 +62,13 @@ impl Place {
         fields: Fields::NONE,
         room: LONGEST_HEAD,
     };
+
+    /// Whether no byte of the head has been read.
+    fn is_first(self) -> bool
+        ensures { IsTrue result → self ≡ first_place }
+    {
+        self.room == LONGEST_HEAD && self.fields.content_length.is_none() && !self.fields.foreign
+    }
 
     /// What comes behind a line of a head, given all of it before its LF. The room is that before the LF.
     fn behind_line(self, limit: u32, text: &[u8]) -> Stage
@@ -169,6 +177,9 @@ impl Partial {
         ensures ok { (limit : ℕ) → OnOk result (TakesAll limit self.old self.new bytes.now) }
         ensures err { OnErr result (HasKept self.old self.new) }
     {
+        if bytes.is_empty() {
+            return Ok(());
+        }
         match self.stage {
             Stage::Ended(_) => {}
             Stage::Head(place) => {
@@ -213,6 +224,13 @@ impl Partial {
         ensures err { OnErr result (HasKept self.old self.new) }
     {
         let mut frames = Vec::new(alloc);
+        if let Stage::Head(_) = self.stage
+            && self.held.is_empty()
+        {
+            let partial = cut(alloc, limit, self.stage, &mut frames, piece)?;
+            *self = partial;
+            return Ok(frames);
+        }
         match self.take_front(alloc, limit, piece)? {
             Taken::All => Ok(frames),
             Taken::Front(next, behind) => match self.stage {
@@ -288,19 +306,10 @@ fn whole_front(limit: u32, stage: Stage, bytes: &[u8]) -> Option<Front<'_>>
 {
     match stage {
         Stage::Ended(_) => None,
-        Stage::Head(Place { fields, room }) => {
-            let end = line_end(bytes, room)?;
-            let before_lf = Place {
-                fields,
-                room: room - end,
-            };
-            let whole = &bytes[..end];
-            Some(Front {
-                whole,
-                next: before_lf.behind_line(limit, whole),
-                behind: &bytes[end + 1..],
-            })
-        }
+        Stage::Head(place) => match head_front(limit, place, bytes) {
+            Some(front) => Some(front),
+            None => line_front(limit, place, bytes),
+        },
         Stage::Content(size, _) => {
             if bytes.len() < size as usize {
                 return None;
@@ -313,6 +322,42 @@ fn whole_front(limit: u32, stage: Stage, bytes: &[u8]) -> Option<Front<'_>>
             })
         }
     }
+}
+
+/// The whole head that begins with the bytes, if it is a usual one.
+fn head_front(limit: u32, place: Place, bytes: &[u8]) -> Option<Front<'_>>
+    ensures { IfSome result (λ front. IsFront limit (Stage.Head place) bytes.now front) }
+{
+    if !place.is_first() {
+        return None;
+    }
+    let (size, end) = usual_head(limit, bytes)?;
+    let (whole, behind) = bytes.split_at(end);
+    Some(Front {
+        whole,
+        next: Stage::Content(size, false),
+        behind,
+    })
+}
+
+/// The line that begins with the bytes, if it is whole among them.
+fn line_front(limit: u32, place: Place, bytes: &[u8]) -> Option<Front<'_>>
+    requires { 0 < place.room }
+    ensures some { IfSome result (λ front. IsFront limit (Stage.Head place) bytes.now front) }
+    ensures none { result ≡ None → IsShort (Stage.Head place) [] bytes.now }
+{
+    let Place { fields, room } = place;
+    let end = line_end(bytes, room)?;
+    let before_lf = Place {
+        fields,
+        room: room - end,
+    };
+    let whole = &bytes[..end];
+    Some(Front {
+        whole,
+        next: before_lf.behind_line(limit, whole),
+        behind: &bytes[end + 1..],
+    })
 }
 
 /// Puts the frame of a whole content behind the others. A line makes none.

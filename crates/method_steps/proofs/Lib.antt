@@ -8,5 +8,5 @@ pub mod MadeTemplates
 pub mod MethodsOf
 pub mod Opening
 pub mod PlacesOf
-pub mod Views
+pub mod Rows
 pub mod Within

@@ -1,6 +1,7 @@
 pub mod Fault
 pub mod Fields
 pub mod Form
+pub mod Frame
 pub mod Inner
 pub mod Judged
 pub mod Limits

@@ -1,8 +1,8 @@
 -- The value of a template under registers.
-use Rattle.std.specs.Prelude.{ℕ, List, codes, Option, Some, None, option_and_then, Result, Ok, Err, if◌then◌else◌}
+use Rattle.std.specs.Prelude.{ℕ, List, codes, Option, Some, None, option_and_then, Result, Ok, Err, ℤ, if◌then◌else◌}
 use Rattle.std.specs.Str.{bytes_eq}
 use Rattle.serde_json.specs.Data.{Data, array, object, Items, no_items, item, Members, no_members, member}
-use Rattle.serde_json.specs.Find.{get_member, pointer}
+use Rattle.serde_json.specs.Find.{get_member, pointer, as_number, as_i64}
 use Rattle.method_steps.specs.declared.filling.FillFault.{FillFault}
 use Rattle.method_steps.specs.declared.filling.FillFault.TheVariants.{Params, Missing}
 use Rattle.method_steps.specs.Shape.{Shape, plain, place, list, members, Shapes, no_shapes, shape, Parts, no_parts, part}
@@ -40,3 +40,7 @@ abbrev mutual
   pub members_of : Members → Parts → Result Members FillFault
   members_of registers no_parts = Ok no_members
   members_of registers (part name t ms) = with_both (member name) (value_of registers t) (members_of registers ms)
+
+-- the whole number of i64 that the value is
+abbrev pub i64_in : Data → Option ℤ
+i64_in d = option_and_then as_i64 (as_number d)

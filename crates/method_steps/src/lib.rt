@@ -3,8 +3,10 @@
 
 mod fault;
 mod filling;
+mod frame;
 mod law;
 mod limits;
+mod name;
 mod read;
 mod registers;
 mod step;
@@ -12,7 +14,8 @@ mod table;
 mod template;
 
 pub use fault::{FaultKind, TableFault};
-pub use filling::{FillFault, fill};
+pub use filling::{FillFault, fill, fill_integer, fill_lent, lend_whole, take_whole};
+pub use frame::Frame;
 pub use law::{
     limits_of_tables_in_figures, text_without_faults_is_a_table, told_fault_is_the_first_shown,
 };

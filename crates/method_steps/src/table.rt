@@ -27,6 +27,8 @@ use toml::Value;
 pub(crate) struct Method {
     pub(crate) name: Text,
     pub(crate) steps: Arc<Vec<Step>>,
+    /// How many calls a run of it makes at most.
+    pub(crate) calls: u32,
 }
 
 /// The methods of a server and its opening, the steps that run as it starts. Seen by contracts as the opening's steps and the
@@ -198,8 +200,8 @@ impl Table {
         ensures number { result ≡ calls_at self.now.methods method }
         ensures few { result ≤ MOST_CALLS }
     {
-        match self.steps(method) {
-            Some(steps) => calls_of(steps.as_slice()),
+        match self.methods.get(method as usize) {
+            Some(method) => method.calls,
             None => 0,
         }
     }
@@ -224,7 +226,7 @@ fn document_of(alloc: Global, bytes: &[u8]) -> Result<toml::Table, TableFault>
 }
 
 /// The calls of the steps of a method.
-fn calls_of(steps: &[Step]) -> u32
+pub(crate) fn calls_of(steps: &[Step]) -> u32
     requires { AreWithinLimits steps.now }
     ensures { result ≡ calls_of steps.now }
 {

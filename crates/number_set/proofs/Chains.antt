@@ -1,7 +1,12 @@
--- Levels as they are put one above the other, and marks as they are gathered.
-use Rattle.std.proofs.Common.{◌≡◌, ℕ, zero, suc, ◌+◌, ◌-◌, ◌<◌, ◌≤◌, List, [], ◌∷◌, ◌++◌, Bool, true, false, length, map, refl, ap, ◌∙◌, arith, append_assoc}
-use Rattle.number_set.specs.Levels.{pair_sums, total, AreSums, AreMarks, IsChain, lowest, is_one, mark_count}
+-- Levels as they are put one above the other, and a set of no numbers.
+use Rattle.std.proofs.Common.{◌≡◌, ℕ, zero, suc, ◌+◌, ◌<◌, ◌≤◌, List, [], ◌∷◌, ◌*◌, ◌++◌, Bool, false, length, map, take, drop, replicate, refl, sym, ap, ◌∙◌, arith}
+use Rattle.std.proofs.lemmas.List.{length-replicate}
+use Rattle.number_set.specs.declared.limits.TheConstants.{LARGEST_END}
+use Rattle.number_set.specs.Levels.{pair_sums, total, AreSums, IsChain, lowest}
 use Rattle.number_set.specs.Numbers.{Marked, is_in, marks_from}
+use Rattle.number_set.specs.Words.{word_marks, marks_of, count_set, AreOut, AreWords}
+use Rattle.number_set.proofs.Bits.{zero-word, none-out}
+use Rattle.number_set.proofs.Sets.{length-marks_of}
 
 pub shorter : (xs : List ℕ) → 1 < length xs → length (pair_sums xs) < length xs
 shorter [] h = absurd (omega (arith, h))
@@ -32,39 +37,58 @@ pub mapped_push : {X : Type 0} (f : X → List ℕ) (xs : List X) (x : X) → ma
 mapped_push f [] x = refl
 mapped_push f (y ∷ xs) x = ap (λ ys. f y ∷ ys) (mapped_push f xs x)
 
--- ---- marks
-
-pub are_marks : (bs : List Bool) → AreMarks (map mark_count bs)
-are_marks [] = tt
-are_marks (true ∷ bs) = (omega arith, are_marks bs)
-are_marks (false ∷ bs) = (omega arith, are_marks bs)
-
-pub marks_back : (bs : List Bool) → map is_one (map mark_count bs) ≡ bs
-marks_back [] = refl
-marks_back (true ∷ bs) = ap (λ cs. true ∷ cs) (marks_back bs)
-marks_back (false ∷ bs) = ap (λ cs. false ∷ cs) (marks_back bs)
-
-pub length-mark_counts : (bs : List Bool) → length (map mark_count bs) ≡ length bs
-length-mark_counts [] = refl
-length-mark_counts (b ∷ bs) = omega (arith, length-mark_counts bs)
+-- ---- a set of none
 
 pub length-marks_from : (s : Marked) (n count : ℕ) → length (marks_from s n count) ≡ count
 length-marks_from s n zero = refl
 length-marks_from s n (suc count) = omega (arith, length-marks_from s (suc n) count)
 
-pub total-push : (xs : List ℕ) (x : ℕ) → total (xs ++ x ∷ []) ≡ total xs + x
-total-push [] x = omega arith
-total-push (y ∷ xs) x = omega (arith, total-push xs x)
+pub marks_next : (s : Marked) (n count : ℕ) → marks_from s n (suc count) ≡ marks_from s n count ++ is_in s (n + count) ∷ []
+marks_next s n zero = let e : n + 0 ≡ n = omega arith in rw e refl
+marks_next s n (suc count) =
+    let e : n + suc count ≡ suc n + count = omega arith in rw e (ap (λ ms. is_in s n ∷ ms) (marks_next s (suc n) count))
 
-pub marks_next : (s : Marked) (n end : ℕ) → n < end → marks_from s n (end - n) ≡ is_in s n ∷ marks_from s (suc n) (end - suc n)
-marks_next s n end h = ap (marks_from s n) (left n end h)
+all-out : (count : ℕ) → AreOut (marks_of (replicate count 0))
+all-out zero = tt
+all-out (suc count) = both (word_marks 0) (marks_of (replicate count 0)) zero-word (all-out count)
   where
-    left : (n end : ℕ) → n < end → end - n ≡ suc (end - suc n)
-    left n end h = omega (arith, h)
+    both : (xs ys : List Bool) → AreOut xs → AreOut ys → AreOut (xs ++ ys)
+    both [] ys a b = b
+    both (x ∷ xs) ys a b = (a.0, both xs ys a.1 b)
 
-pub gathered : (xs ms all : List ℕ) (x : ℕ) → xs ++ x ∷ ms ≡ all → (xs ++ x ∷ []) ++ ms ≡ all
-gathered xs ms all x h = append_assoc xs (x ∷ []) ms ∙ h
+out-behind : (n : ℕ) (bs : List Bool) → AreOut bs → AreOut (drop n bs)
+out-behind zero bs out = out
+out-behind (suc n) [] out = tt
+out-behind (suc n) (b ∷ bs) out = out-behind n bs out.1
 
-pub mark-small : (b : Bool) → mark_count b ≤ 1
-mark-small true = omega arith
-mark-small false = omega arith
+out-front : (n : ℕ) (bs : List Bool) → AreOut bs → n ≤ length bs → take n bs ≡ replicate n false
+out-front zero bs out h = refl
+out-front (suc n) [] out h = absurd (omega (arith, h))
+out-front (suc n) (b ∷ bs) out h = rw out.0 (ap (λ ms. false ∷ ms) (out-front n bs out.1 (omega (arith, h))))
+
+counts-none : (count : ℕ) → map count_set (replicate count 0) ≡ replicate count 0
+counts-none zero = refl
+counts-none (suc count) = let none : count_set 0 ≡ 0 = ap length (none-out 0 (word_marks 0) zero-word) in rw (none, counts-none count) refl
+
+pub total-none : (count : ℕ) → total (replicate count 0) ≡ 0
+total-none zero = refl
+total-none (suc count) = omega (arith, total-none count)
+
+-- words without a bit that is set, and counts over them
+pub of-none : (first room count : ℕ) (levels : List (List ℕ)) → first + room ≤ LARGEST_END → room ≤ 64 * count → count ≤ LARGEST_END
+    → AreSums levels → lowest levels ≡ replicate count 0
+    → AreWords first room 0 (replicate count 0) levels × (take room (marks_of (replicate count 0)) ≡ replicate room false)
+of-none first room count levels end enough few sums is =
+    let zeros : List ℕ = replicate count 0 in
+    let long : length zeros ≡ count = length-replicate count 0 in (
+      record {
+        end = end;
+        enough = omega (arith, enough, long);
+        few = omega (arith, few, long);
+        others = out-behind room (marks_of (replicate count 0)) (all-out count);
+        sums = sums;
+        counts = is ∙ sym (counts-none count);
+        counted = sym (ap total is ∙ total-none count);
+      },
+      out-front room (marks_of (replicate count 0)) (all-out count) (omega (arith, enough, length-marks_of (replicate count 0), long)),
+    )

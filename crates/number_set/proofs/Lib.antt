@@ -3,3 +3,5 @@ mod Ranks
 mod Sets
 mod Along
 mod Chains
+mod Bits
+mod Gathered

@@ -1,10 +1,12 @@
 -- The mark that is found is the one that so many stand before.
-use Rattle.std.proofs.Common.{◌≡◌, ℕ, zero, suc, ◌+◌, ◌-◌, ◌*◌, ◌<◌, ◌≤◌, List, [], ◌∷◌, Bool, true, false, length, map, take, Some, None, slice_get, slice_index, nat_lt, add-one, refl, sym, ap, ◌∙◌, arith}
+use Rattle.std.proofs.Common.{◌≡◌, ℕ, zero, suc, ◌+◌, ◌-◌, ◌*◌, ◌<◌, ◌≤◌, List, [], ◌∷◌, ◌++◌, Bool, true, false, length, map, take, Some, None, option_map, slice_get, slice_index, nat_lt, add-one, refl, sym, ap, subst, ◌∙◌, arith, true≢false}
 use Rattle.number_set.specs.declared.levels.Found.{Found}
-use Rattle.number_set.specs.Levels.{pair_sums, total, AreSums, go_down, found_below, HasWay, AreMarks, AreLevels, lowest, is_one}
+use Rattle.number_set.specs.Levels.{pair_sums, total, AreSums, go_down, found_below, HasWay}
 use Rattle.number_set.specs.Numbers.{numbers_from}
+use Rattle.number_set.specs.Words.{word_marks, marks_of, count_set, AreWords}
+use Rattle.number_set.proofs.Bits.{length-word_marks}
 use Rattle.number_set.proofs.Sums.{total-pair_sums}
-use Rattle.number_set.proofs.Sets.{length-numbers}
+use Rattle.number_set.proofs.Sets.{numbers-append, same-count, counts-length, count-in-word, numbers-in-room, len-is}
 
 -- a place such that so many stand before it and what is left, which the count there is above
 pub record IsFound (counts : List ℕ) (before : ℕ) (found : Found) : Type 0 where
@@ -83,41 +85,82 @@ found_is counts (above ∷ levels) before sums less =
     let is : IsFound (pair_sums counts) before found = rw (sym sums.0) up.0 in
     (stepped counts before found is (nat_lt found.left (slice_index counts (2 * found.place))) refl, (below_within found.place counts is.within, up.1))
 
--- the number of a mark that so many stand before
-pub ranked : (n : ℕ) (counts : List ℕ) (before : ℕ) (found : Found) → AreMarks counts → IsFound counts before found
-    → slice_get (numbers_from n (map is_one counts)) before ≡ Some (n + found.place)
-ranked n counts before found small is = ranked_at n counts before found.place small is.within (omega (arith, is.before_it, is.left, at-most n counts found.place small)) (omega (arith, is.left))
+shifted : (n m i r : ℕ) (bs : List Bool) → slice_get (numbers_from m bs) i ≡ Some r → slice_get (numbers_from (n + m) bs) i ≡ Some (n + r)
+shifted n m i r [] is = absurd (true≢false (none_some is))
   where
-    at-most : (n : ℕ) (counts : List ℕ) (p : ℕ) → AreMarks counts → slice_index counts p ≤ 1
-    at-most n [] p small = omega arith
-    at-most n (x ∷ xs) zero small = small.0
-    at-most n (x ∷ xs) (suc p) small = at-most n xs p small.1
+    none_some : {x : ℕ} → None ≡ Some x → true ≡ false
+    none_some p = cc
+shifted n m zero r (true ∷ bs) is = ap (option_map (λ k. n + k)) is
+shifted n m (suc i) r (true ∷ bs) is = let e : suc (n + m) ≡ n + suc m = omega arith in rw e (shifted n (suc m) i r bs is)
+shifted n m i r (false ∷ bs) is = let e : suc (n + m) ≡ n + suc m = omega arith in rw e (shifted n (suc m) i r bs is)
 
-    ranked_at : (n : ℕ) (counts : List ℕ) (before p : ℕ) → AreMarks counts → p < length counts → total (take p counts) ≡ before
-        → 0 < slice_index counts p → slice_get (numbers_from n (map is_one counts)) before ≡ Some (n + p)
-    ranked_at n [] before p small within is one = absurd (omega (arith, within))
-    ranked_at n (zero ∷ xs) before zero small within is one = absurd (omega (arith, one))
-    ranked_at n (suc x ∷ xs) before zero small within is one = rw (sym is) (ap Some (omega arith))
-    ranked_at n (zero ∷ xs) before (suc p) small within is one = ranked_at (suc n) xs before p small.1 (omega (arith, within)) (omega (arith, is)) one ∙ ap Some (omega arith)
-    ranked_at n (suc x ∷ xs) zero (suc p) small within is one = absurd (omega (arith, is))
-    ranked_at n (suc x ∷ xs) (suc before) (suc p) small within is one =
-        ranked_at (suc n) xs before p small.1 (omega (arith, within)) (omega (arith, is, small.0)) one ∙ ap Some (omega arith)
+from-front : (i r : ℕ) (xs ys : List ℕ) → slice_get xs i ≡ Some r → slice_get (xs ++ ys) i ≡ Some r
+from-front i r [] ys is = absurd (true≢false (none_some is))
+  where
+    none_some : {x : ℕ} → None ≡ Some x → true ≡ false
+    none_some p = cc
+from-front zero r (x ∷ xs) ys is = is
+from-front (suc i) r (x ∷ xs) ys is = from-front i r xs ys is
+
+behind-front : (i r : ℕ) (xs ys : List ℕ) → slice_get ys i ≡ Some r → slice_get (xs ++ ys) (length xs + i) ≡ Some r
+behind-front i r [] ys is = let e : 0 + i ≡ i = omega arith in rw e is
+behind-front i r (x ∷ xs) ys is = let e : suc (length xs) + i ≡ suc (length xs + i) = omega arith in rw e (behind-front i r xs ys is)
+
+-- the number of a bit of a word before which so many stand
+pub ranked : (n : ℕ) (ws : List ℕ) (before bit : ℕ) (found : Found) → IsFound (map count_set ws) before found
+    → slice_get (numbers_from 0 (word_marks (slice_index ws found.place))) found.left ≡ Some bit
+    → slice_get (numbers_from n (marks_of ws)) before ≡ Some (n + 64 * found.place + bit)
+ranked n ws before bit found is here = at n ws before found.place found.left bit (omega (arith, is.within, counts-length ws)) is.before_it here
+  where
+    at : (n : ℕ) (ws : List ℕ) (before k left bit : ℕ) → k < length ws → total (take k (map count_set ws)) + left ≡ before
+        → slice_get (numbers_from 0 (word_marks (slice_index ws k))) left ≡ Some bit → slice_get (numbers_from n (marks_of ws)) before ≡ Some (n + 64 * k + bit)
+    at n [] before k left bit within is here = absurd (omega (arith, within))
+    at n (w ∷ ws) before zero left bit within is here =
+        let same : before ≡ left = omega (arith, is) in
+        let e : n + 0 ≡ n = omega arith in
+        let to : n + bit ≡ n + 64 * 0 + bit = omega arith in
+        ap (λ ns. slice_get ns before) (numbers-append n (word_marks w) (marks_of ws))
+        ∙ ap (slice_get (numbers_from n (word_marks w) ++ numbers_from (n + length (word_marks w)) (marks_of ws))) same
+        ∙ from-front left (n + bit) (numbers_from n (word_marks w)) (numbers_from (n + length (word_marks w)) (marks_of ws)) (ap (λ m. slice_get (numbers_from m (word_marks w)) left) (sym e) ∙ shifted n 0 left bit (word_marks w) here)
+        ∙ ap Some to
+    at n (w ∷ ws) before (suc k) left bit within is here =
+        let front = numbers_from n (word_marks w) in
+        let rest = total (take k (map count_set ws)) + left in
+        let same : before ≡ length front + rest = omega (arith, is, same-count n 0 (word_marks w)) in
+        let to : n + length (word_marks w) + 64 * k + bit ≡ n + 64 * suc k + bit = omega (arith, length-word_marks w) in
+        ap (λ ns. slice_get ns before) (numbers-append n (word_marks w) (marks_of ws))
+        ∙ ap (slice_get (front ++ numbers_from (n + length (word_marks w)) (marks_of ws))) same
+        ∙ behind-front rest _ front (numbers_from (n + length (word_marks w)) (marks_of ws)) (at (n + length (word_marks w)) ws rest k left bit (omega (arith, within)) refl here)
+        ∙ ap Some to
 
 -- what is found in a set's levels
-pub record Rank (first : ℕ) (levels : List (List ℕ)) (place : ℕ) : Type 0 where
+pub record Rank (words : List ℕ) (levels : List (List ℕ)) (place : ℕ) : Type 0 where
   pub way : HasWay levels place
-  pub within : (found_below levels place).place < length (lowest levels)
-  pub number : slice_get (numbers_from first (map is_one (lowest levels))) place ≡ Some (first + (found_below levels place).place)
+  pub found : IsFound (map count_set words) place (found_below levels place)
+  pub within : (found_below levels place).place < length words
+  pub left : (found_below levels place).left < count_set (slice_index words (found_below levels place).place)
 
-pub rank_in : (first len : ℕ) (levels : List (List ℕ)) (place : ℕ) → AreLevels levels len → place < len → Rank first levels place
-rank_in first len [] place is less = absurd (omega (arith, less, is.counted))
-rank_in first len (counts ∷ levels) place is less =
+pub rank_in : (first room len : ℕ) (words : List ℕ) (levels : List (List ℕ)) (place : ℕ) → AreWords first room len words levels → place < len → Rank words levels place
+rank_in first room len words [] place is less = absurd (omega (arith, less, is.counted))
+rank_in first room len words (counts ∷ levels) place is less =
     let found = found_is counts levels place is.sums (omega (arith, less, is.counted)) in
+    let in_words : IsFound (map count_set words) place (found_below (counts ∷ levels) place) =
+    subst (λ ns. IsFound ns place (found_below (counts ∷ levels) place)) is.counts found.0 in
+    let within : (found_below (counts ∷ levels) place).place < length words = omega (arith, in_words.within, counts-length words) in
     record {
       way = found.1;
-      within = found.0.within;
-      number = ranked first counts place (found_below (counts ∷ levels) place) is.marks found.0;
+      found = in_words;
+      within = within;
+      left = omega (arith, in_words.left, count-in-word words (found_below (counts ∷ levels) place).place within);
     }
+
+-- the number of what is found
+pub number-is : (first room len : ℕ) (words : List ℕ) (levels : List (List ℕ)) (place bit : ℕ) → AreWords first room len words levels → (less : place < len)
+    → slice_get (numbers_from 0 (word_marks (slice_index words (found_below levels place).place))) (found_below levels place).left ≡ Some bit
+    → slice_get (numbers_from first (take room (marks_of words))) place ≡ Some (first + 64 * (found_below levels place).place + bit)
+number-is first room len words levels place bit is less here =
+    ap (λ ns. slice_get ns place) (numbers-in-room first room (marks_of words) is.others)
+    ∙ ranked first words place bit (found_below levels place) (rank_in first room len words levels place is less).found here
 
 -- behind the last number there is none
 past : (xs : List ℕ) (place : ℕ) → length xs ≤ place → slice_get xs place ≡ None
@@ -125,7 +168,7 @@ past [] place h = refl
 past (x ∷ xs) zero h = absurd (omega (arith, h))
 past (x ∷ xs) (suc place) h = past xs place (omega (arith, h))
 
-pub beyond : (first len : ℕ) (levels : List (List ℕ)) (place : ℕ) → AreLevels levels len → len ≤ place
-    → slice_get (numbers_from first (map is_one (lowest levels))) place ≡ None
-beyond first len levels place is more =
-    past (numbers_from first (map is_one (lowest levels))) place (omega (arith, more, is.counted, length-numbers first (lowest levels) is.marks))
+pub beyond : (first room len : ℕ) (words : List ℕ) (levels : List (List ℕ)) (place : ℕ) → AreWords first room len words levels → len ≤ place
+    → slice_get (numbers_from first (take room (marks_of words))) place ≡ None
+beyond first room len words levels place is more =
+    past (numbers_from first (take room (marks_of words))) place (omega (arith, more, len-is first room len words levels is))

@@ -1,7 +1,11 @@
 -- What a set is after one of its marks was changed.
-use Rattle.std.proofs.Common.{◌≡◌, ℕ, zero, suc, ◌+◌, ◌-◌, ◌<◌, ◌≤◌, List, [], ◌∷◌, ◌++◌, Bool, true, false, length, map, set, take, drop, slice_index, slice_index_or, nat_le, nat_eq, ◌&&◌, refl, sym, ap, ◌∙◌, arith, add-one, true≢false}
-use Rattle.number_set.specs.Levels.{half, total, AreMarks, AreLevels, HasPlace, HasOne, one_more, one_less, lowest, is_one}
-use Rattle.number_set.specs.Numbers.{Marked, numbers_from, is_in, with_mark}
+use Rattle.std.proofs.Common.{◌≡◌, ℕ, zero, suc, ◌+◌, ◌-◌, ◌*◌, ◌/◌, ◌%◌, ◌<◌, ◌≤◌, List, [], ◌∷◌, ◌++◌, Bool, true, false, length, map, set, take, drop, IsTrue, slice_index, slice_index_or, nat_le, nat_lt, ◌&&◌, refl, sym, ap, ◌∙◌, arith, true≢false}
+use Rattle.std.proofs.Math.Seq.{take-set-lt}
+use Rattle.std.proofs.lemmas.List.{get_or_append_left, get_or-append_right, get_or-take, set-append_left, set-append_right, drop-set-lt, length-append, length-take-le, take-append-drop}
+use Rattle.number_set.specs.Levels.{half, total, HasPlace, HasOne, one_more, one_less, lowest}
+use Rattle.number_set.specs.Numbers.{Marked, HasRoom, numbers_from, is_in, with_mark}
+use Rattle.number_set.specs.Words.{word_marks, marks_of, count_set, AreOut, AreWords}
+use Rattle.number_set.proofs.Bits.{length-word_marks, none-out}
 use Rattle.number_set.proofs.Sums.{has_place, has_one, sums-more, sums-less, length-set}
 
 -- ---- a list that was written through a slice of all of it
@@ -32,31 +36,7 @@ pub length-one_less : (i : ℕ) (ls : List (List ℕ)) → length (one_less i ls
 length-one_less i [] = refl
 length-one_less i (l ∷ ls) = omega (arith, length-one_less (half i) ls)
 
--- ---- marks
-
-total-marks : (xs : List ℕ) → AreMarks xs → total xs ≤ length xs
-total-marks [] h = omega arith
-total-marks (x ∷ xs) h = omega (arith, h.0, total-marks xs h.1)
-
-length-marks : (xs : List ℕ) → length (map is_one xs) ≡ length xs
-length-marks [] = refl
-length-marks (x ∷ xs) = omega (arith, length-marks xs)
-
-pub length-numbers : (n : ℕ) (xs : List ℕ) → AreMarks xs → length (numbers_from n (map is_one xs)) ≡ total xs
-length-numbers n [] h = refl
-length-numbers n (zero ∷ xs) h = omega (arith, length-numbers (suc n) xs h.1)
-length-numbers n (suc x ∷ xs) h = omega (arith, h.0, length-numbers (suc n) xs h.1)
-
-marks-more : (i : ℕ) (xs : List ℕ) → AreMarks xs → slice_index_or (map is_one xs) i false ≡ false → AreMarks (set xs i (slice_index xs i + 1))
-marks-more i [] h p = tt
-marks-more zero (zero ∷ xs) h p = (omega arith, h.1)
-marks-more zero (suc x ∷ xs) h p = absurd (true≢false p)
-marks-more (suc i) (x ∷ xs) h p = (h.0, marks-more i xs h.1 p)
-
-marks-less : (i : ℕ) (xs : List ℕ) → AreMarks xs → AreMarks (set xs i (slice_index xs i - 1))
-marks-less i [] h = tt
-marks-less zero (x ∷ xs) h = (omega (arith, h.0), h.1)
-marks-less (suc i) (x ∷ xs) h = (h.0, marks-less i xs h.1)
+-- ---- marks, and how many of them are of numbers that are in
 
 total-more : (i : ℕ) (xs : List ℕ) → i < length xs → total (set xs i (slice_index xs i + 1)) ≡ total xs + 1
 total-more i [] h = absurd (omega (arith, h))
@@ -67,26 +47,6 @@ total-less : (i : ℕ) (xs : List ℕ) → 0 < slice_index xs i → total (set x
 total-less i [] h = absurd (omega (arith, h))
 total-less zero (x ∷ xs) h = omega (arith, h)
 total-less (suc i) (x ∷ xs) h = omega (arith, total-less i xs h)
-
-view-more : (i : ℕ) (xs : List ℕ) → map is_one (set xs i (slice_index xs i + 1)) ≡ set (map is_one xs) i true
-view-more i [] = refl
-view-more zero (x ∷ xs) = rw add-one refl
-view-more (suc i) (x ∷ xs) = ap (λ bs. is_one x ∷ bs) (view-more i xs)
-
-view-less : (i : ℕ) (xs : List ℕ) → AreMarks xs → map is_one (set xs i (slice_index xs i - 1)) ≡ set (map is_one xs) i false
-view-less i [] h = refl
-view-less zero (zero ∷ xs) h = refl
-view-less zero (suc x ∷ xs) h = ap (λ b. b ∷ map is_one xs) (ap is_one (less_one x h.0))
-  where
-    less_one : (x : ℕ) → suc x ≤ 1 → suc x - 1 ≡ 0
-    less_one x h = omega (arith, h)
-view-less (suc i) (x ∷ xs) h = ap (λ bs. is_one x ∷ bs) (view-less i xs h.1)
-
-one-positive : (i : ℕ) (xs : List ℕ) → slice_index_or (map is_one xs) i false ≡ true → 0 < slice_index xs i
-one-positive i [] p = absurd (true≢false (sym p))
-one-positive zero (zero ∷ xs) p = absurd (true≢false (sym p))
-one-positive zero (suc x ∷ xs) p = omega arith
-one-positive (suc i) (x ∷ xs) p = one-positive i xs p
 
 within-positive : (i : ℕ) (xs : List ℕ) → 0 < slice_index xs i → i < length xs
 within-positive i [] h = absurd (omega (arith, h))
@@ -99,65 +59,222 @@ unmarked i [] p = refl
 unmarked zero (b ∷ bs) p = ap (λ a. a ∷ bs) (sym p)
 unmarked (suc i) (b ∷ bs) p = ap (λ cs. b ∷ cs) (unmarked i bs p)
 
-pub marked : (i : ℕ) (bs : List Bool) → slice_index_or bs i false ≡ true → set bs i true ≡ bs
-marked i [] p = refl
-marked zero (b ∷ bs) p = ap (λ a. a ∷ bs) (sym p)
-marked (suc i) (b ∷ bs) p = ap (λ cs. b ∷ cs) (marked i bs p)
+pub numbers-append : (n : ℕ) (xs ys : List Bool) → numbers_from n (xs ++ ys) ≡ numbers_from n xs ++ numbers_from (n + length xs) ys
+numbers-append n [] ys = let e : n + 0 ≡ n = omega arith in rw e refl
+numbers-append n (true ∷ xs) ys = let e : n + suc (length xs) ≡ suc n + length xs = omega arith in rw e (ap (λ ns. n ∷ ns) (numbers-append (suc n) xs ys))
+numbers-append n (false ∷ xs) ys = let e : n + suc (length xs) ≡ suc n + length xs = omega arith in rw e (numbers-append (suc n) xs ys)
 
--- ---- levels
+pub same-count : (n m : ℕ) (bs : List Bool) → length (numbers_from n bs) ≡ length (numbers_from m bs)
+same-count n m [] = refl
+same-count n m (true ∷ bs) = omega (arith, same-count (suc n) (suc m) bs)
+same-count n m (false ∷ bs) = same-count (suc n) (suc m) bs
 
-pub place_in : (i len : ℕ) (ls : List (List ℕ)) → AreLevels ls len → i < length (map is_one (lowest ls)) → HasPlace i ls
-place_in i len [] is h = absurd (omega (arith, h))
-place_in i len (l ∷ ls) is h =
-    has_place i l ls is.sums (omega (arith, h, length-marks l)) (omega (arith, total-marks l is.marks, is.few))
+few-numbers : (n : ℕ) (bs : List Bool) → length (numbers_from n bs) ≤ length bs
+few-numbers n [] = omega arith
+few-numbers n (true ∷ bs) = omega (arith, few-numbers (suc n) bs)
+few-numbers n (false ∷ bs) = omega (arith, few-numbers (suc n) bs)
 
-pub one_in : (i len : ℕ) (ls : List (List ℕ)) → AreLevels ls len → slice_index_or (map is_one (lowest ls)) i false ≡ true → HasOne i ls
-one_in i len [] is p = tt
-one_in i len (l ∷ ls) is p =
-    let one = one-positive i l p in has_one i l ls is.sums (within-positive i l one) one
+count-more : (n i : ℕ) (bs : List Bool) → i < length bs → slice_index_or bs i false ≡ false → length (numbers_from n (set bs i true)) ≡ length (numbers_from n bs) + 1
+count-more n i [] h p = absurd (omega (arith, h))
+count-more n zero (true ∷ bs) h p = absurd (true≢false p)
+count-more n zero (false ∷ bs) h p = omega arith
+count-more n (suc i) (true ∷ bs) h p = omega (arith, count-more (suc n) i bs (omega (arith, h)) p)
+count-more n (suc i) (false ∷ bs) h p = count-more (suc n) i bs (omega (arith, h)) p
 
-pub levels_more : (i len : ℕ) (ls : List (List ℕ)) → AreLevels ls len → i < length (map is_one (lowest ls)) → slice_index_or (map is_one (lowest ls)) i false ≡ false
-    → AreLevels (one_more i ls) (len + 1)
-levels_more i len [] is h p = absurd (omega (arith, h))
-levels_more i len (l ∷ ls) is h p = record {
-  sums = sums-more i (l ∷ ls) is.sums (place_in i len (l ∷ ls) is h);
-  marks = marks-more i l is.marks p;
-  few = omega (arith, is.few, length-set i (slice_index l i + 1) l);
-  counted = omega (arith, is.counted, total-more i l (omega (arith, h, length-marks l)));
-}
+count-less : (n i : ℕ) (bs : List Bool) → slice_index_or bs i false ≡ true → length (numbers_from n (set bs i false)) + 1 ≡ length (numbers_from n bs)
+count-less n i [] p = absurd (true≢false (sym p))
+count-less n zero (true ∷ bs) p = omega arith
+count-less n zero (false ∷ bs) p = absurd (true≢false (sym p))
+count-less n (suc i) (true ∷ bs) p = omega (arith, count-less (suc n) i bs p)
+count-less n (suc i) (false ∷ bs) p = count-less (suc n) i bs p
 
-pub levels_less : (i len : ℕ) (ls : List (List ℕ)) → AreLevels ls len → slice_index_or (map is_one (lowest ls)) i false ≡ true → AreLevels (one_less i ls) (len - 1)
-levels_less i len [] is p = absurd (true≢false (sym p))
-levels_less i len (l ∷ ls) is p = record {
-  sums = sums-less i (l ∷ ls) is.sums (one_in i len (l ∷ ls) is p);
-  marks = marks-less i l is.marks;
-  few = omega (arith, is.few, length-set i (slice_index l i - 1) l);
-  counted = omega (arith, is.counted, total-less i l (one-positive i l p));
-}
+pub few-in-word : (w : ℕ) → count_set w ≤ 64
+few-in-word w = omega (arith, few-numbers 0 (word_marks w), length-word_marks w)
 
-pub few_more : (i : ℕ) (ls : List (List ℕ)) → length (lowest (one_more i ls)) ≡ length (lowest ls)
-few_more i [] = refl
-few_more i (l ∷ ls) = length-set i (slice_index l i + 1) l
+-- ---- the marks of words
 
-pub few_less : (i : ℕ) (ls : List (List ℕ)) → length (lowest (one_less i ls)) ≡ length (lowest ls)
-few_less i [] = refl
-few_less i (l ∷ ls) = length-set i (slice_index l i - 1) l
+pub length-marks_of : (ws : List ℕ) → length (marks_of ws) ≡ 64 * length ws
+length-marks_of [] = refl
+length-marks_of (w ∷ ws) = omega (arith, length-append (word_marks w) (marks_of ws), length-word_marks w, length-marks_of ws)
 
-pub marks_more : (i : ℕ) (ls : List (List ℕ)) → map is_one (lowest (one_more i ls)) ≡ set (map is_one (lowest ls)) i true
-marks_more i [] = refl
-marks_more i (l ∷ ls) = view-more i l
+pub mark-in-word : (ws : List ℕ) (k j : ℕ) → k < length ws → j < 64 → slice_index_or (marks_of ws) (64 * k + j) false ≡ slice_index_or (word_marks (slice_index ws k)) j false
+mark-in-word [] k j h p = absurd (omega (arith, h))
+mark-in-word (w ∷ ws) zero j h p =
+    let e : 64 * 0 + j ≡ j = omega arith in
+    ap (λ i. slice_index_or (word_marks w ++ marks_of ws) i false) e ∙ get_or_append_left (word_marks w) (marks_of ws) false j (omega (arith, p, length-word_marks w))
+mark-in-word (w ∷ ws) (suc k) j h p =
+    let long = length-word_marks w in
+    let e : 64 * suc k + j - 64 ≡ 64 * k + j = omega arith in
+    get_or-append_right (word_marks w) (marks_of ws) 64 (64 * suc k + j) false long (omega arith)
+    ∙ ap (λ i. slice_index_or (marks_of ws) i false) e ∙ mark-in-word ws k j (omega (arith, h)) p
 
-pub marks_less : (i len : ℕ) (ls : List (List ℕ)) → AreLevels ls len → map is_one (lowest (one_less i ls)) ≡ set (map is_one (lowest ls)) i false
-marks_less i len [] is = refl
-marks_less i len (l ∷ ls) is = view-less i l is.marks
+pub word-changed : (ws : List ℕ) (k j w' : ℕ) (b : Bool) → k < length ws → j < 64 → word_marks w' ≡ set (word_marks (slice_index ws k)) j b
+    → marks_of (set ws k w') ≡ set (marks_of ws) (64 * k + j) b
+word-changed [] k j w' b h p is = absurd (omega (arith, h))
+word-changed (w ∷ ws) zero j w' b h p is =
+    let e : 64 * 0 + j ≡ j = omega arith in
+    ap (λ ms. ms ++ marks_of ws) is ∙ sym (set-append_left (word_marks w) (marks_of ws) j b (omega (arith, p, length-word_marks w)))
+    ∙ ap (λ i. set (word_marks w ++ marks_of ws) i b) (sym e)
+word-changed (w ∷ ws) (suc k) j w' b h p is =
+    let e : 64 * suc k + j - 64 ≡ 64 * k + j = omega arith in
+    ap (λ ms. word_marks w ++ ms) (word-changed ws k j w' b (omega (arith, h)) p is ∙ ap (λ i. set (marks_of ws) i b) (sym e))
+    ∙ sym (set-append_right (word_marks w) (marks_of ws) 64 (64 * suc k + j) b (length-word_marks w) (omega arith))
 
-pub some_in : (i len : ℕ) (ls : List (List ℕ)) → AreLevels ls len → slice_index_or (map is_one (lowest ls)) i false ≡ true → 1 ≤ len
-some_in i len [] is p = absurd (true≢false (sym p))
-some_in i len (l ∷ ls) is p = omega (arith, is.counted, total-less i l (one-positive i l p))
+pub count-in-word : (ws : List ℕ) (k : ℕ) → k < length ws → slice_index (map count_set ws) k ≡ count_set (slice_index ws k)
+count-in-word [] k h = absurd (omega (arith, h))
+count-in-word (w ∷ ws) zero h = refl
+count-in-word (w ∷ ws) (suc k) h = count-in-word ws k (omega (arith, h))
 
-pub few_in : (len : ℕ) (ls : List (List ℕ)) → AreLevels ls len → len ≤ 1000001
-few_in len [] is = omega (arith, is.counted)
-few_in len (l ∷ ls) is = omega (arith, is.counted, is.few, total-marks l is.marks)
+counts-set : (ws : List ℕ) (k w : ℕ) → map count_set (set ws k w) ≡ set (map count_set ws) k (count_set w)
+counts-set [] k w = refl
+counts-set (v ∷ ws) zero w = refl
+counts-set (v ∷ ws) (suc k) w = ap (λ ns. count_set v ∷ ns) (counts-set ws k w)
+
+pub counts-length : (ws : List ℕ) → length (map count_set ws) ≡ length ws
+counts-length [] = refl
+counts-length (w ∷ ws) = omega (arith, counts-length ws)
+
+pub counts-few : (ws : List ℕ) → total (map count_set ws) ≤ 64 * length ws
+counts-few [] = omega arith
+counts-few (w ∷ ws) = omega (arith, few-in-word w, counts-few ws)
+
+pub counts-total : (n : ℕ) (ws : List ℕ) → length (numbers_from n (marks_of ws)) ≡ total (map count_set ws)
+counts-total n [] = refl
+counts-total n (w ∷ ws) = omega (
+  arith,
+  ap length (numbers-append n (word_marks w) (marks_of ws)),
+  length-append (numbers_from n (word_marks w)) (numbers_from (n + length (word_marks w)) (marks_of ws)),
+  same-count n 0 (word_marks w),
+  counts-total (n + length (word_marks w)) ws,
+)
+
+-- what stands behind the room counts for nothing
+pub numbers-in-room : (n room : ℕ) (ms : List Bool) → AreOut (drop room ms) → numbers_from n (take room ms) ≡ numbers_from n ms
+numbers-in-room n room ms out =
+    sym (
+    ap (numbers_from n) (sym (take-append-drop room ms)) ∙ numbers-append n (take room ms) (drop room ms)
+    ∙ ap (λ ns. numbers_from n (take room ms) ++ ns) (none-out (n + length (take room ms)) (drop room ms) out)
+    ∙ append-nil (numbers_from n (take room ms))
+    )
+  where
+    append-nil : (xs : List ℕ) → xs ++ [] ≡ xs
+    append-nil [] = refl
+    append-nil (x ∷ xs) = ap (λ ys. x ∷ ys) (append-nil xs)
+
+-- ---- a place in the room
+
+-- where a mark stands
+pub record IsPlace (room : ℕ) (ws : List ℕ) (p : ℕ) : Type 0 where
+  pub word : p / 64 < length ws
+  pub bit : p % 64 < 64
+  pub whole : 64 * (p / 64) + p % 64 ≡ p
+
+pub place-is : (first room len p : ℕ) (ws : List ℕ) (ls : List (List ℕ)) → AreWords first room len ws ls → p < room → IsPlace room ws p
+place-is first room len p ws ls is h = record { word = omega (arith, is.enough, h); bit = omega arith; whole = omega arith }
+
+pub mark-at : (first room len p : ℕ) (ws : List ℕ) (ls : List (List ℕ)) → AreWords first room len ws ls → p < room
+    → slice_index_or (take room (marks_of ws)) p false ≡ slice_index_or (word_marks (slice_index ws (p / 64))) (p % 64) false
+mark-at first room len p ws ls is h =
+    let place = place-is first room len p ws ls is h in
+    get_or-take room (marks_of ws) p false h ∙ ap (λ i. slice_index_or (marks_of ws) i false) (sym place.whole) ∙ mark-in-word ws (p / 64) (p % 64) place.word place.bit
+
+pub place_in : (first room len k : ℕ) (ws : List ℕ) (ls : List (List ℕ)) → AreWords first room len ws ls → k < length ws → HasPlace k ls
+place_in first room len k ws [] is h = tt
+place_in first room len k ws (l ∷ ls) is h =
+    has_place k l ls is.sums (omega (arith, h, ap length is.counts, counts-length ws)) (omega (arith, ap total is.counts, counts-few ws, is.few))
+
+pub one_in : (first room len k : ℕ) (ws : List ℕ) (ls : List (List ℕ)) → AreWords first room len ws ls → 0 < slice_index (map count_set ws) k → HasOne k ls
+one_in first room len k ws [] is h = tt
+one_in first room len k ws (l ∷ ls) is h =
+    let some : 0 < slice_index l k = rw is.counts h in has_one k l ls is.sums (within-positive k l some) some
+
+lowest-more : (k : ℕ) (ls : List (List ℕ)) → lowest (one_more k ls) ≡ set (lowest ls) k (slice_index (lowest ls) k + 1)
+lowest-more k [] = refl
+lowest-more k (l ∷ ls) = refl
+
+lowest-less : (k : ℕ) (ls : List (List ℕ)) → lowest (one_less k ls) ≡ set (lowest ls) k (slice_index (lowest ls) k - 1)
+lowest-less k [] = refl
+lowest-less k (l ∷ ls) = refl
+
+-- ---- one more, one less
+
+-- what a set is once the mark at a place was changed
+pub record IsChanged (first room len p w' : ℕ) (b : Bool) (ws : List ℕ) (ls : List (List ℕ)) : Type 0 where
+  pub still : AreWords first room len (set ws (p / 64) w') ls
+  pub marks : take room (marks_of (set ws (p / 64) w')) ≡ set (take room (marks_of ws)) p b
+
+marks-changed : (first room len p w' : ℕ) (b : Bool) (ws : List ℕ) (ls : List (List ℕ)) → AreWords first room len ws ls → p < room
+    → word_marks w' ≡ set (word_marks (slice_index ws (p / 64))) (p % 64) b → marks_of (set ws (p / 64) w') ≡ set (marks_of ws) p b
+marks-changed first room len p w' b ws ls is h new =
+    let place = place-is first room len p ws ls is h in
+    word-changed ws (p / 64) (p % 64) w' b place.word place.bit new ∙ ap (λ i. set (marks_of ws) i b) place.whole
+
+pub words-more : (first room len p w' : ℕ) (ws : List ℕ) (ls : List (List ℕ)) → AreWords first room len ws ls → p < room
+    → word_marks w' ≡ set (word_marks (slice_index ws (p / 64))) (p % 64) true → slice_index_or (take room (marks_of ws)) p false ≡ false
+    → IsChanged first room (len + 1) p w' true ws (one_more (p / 64) ls)
+words-more first room len p w' ws ls is h new none =
+    let place = place-is first room len p ws ls is h in
+    let k = p / 64 in
+    let marks = marks-changed first room len p w' true ws ls is h new in
+    let more : count_set w' ≡ count_set (slice_index ws k) + 1 =
+    ap (λ ms. length (numbers_from 0 ms)) new
+    ∙ count-more 0 (p % 64) (word_marks (slice_index ws k)) (omega (arith, length-word_marks (slice_index ws k), place.bit)) (sym (mark-at first room len p ws ls is h) ∙ none) in
+    let counts : lowest (one_more k ls) ≡ map count_set (set ws k w') =
+    lowest-more k ls ∙ rw (is.counts, counts-set ws k w', more, count-in-word ws k place.word) refl in
+    record {
+      still = record {
+        end = is.end;
+        enough = omega (arith, is.enough, length-set k w' ws);
+        few = omega (arith, is.few, length-set k w' ws);
+        others = rw (marks, drop-set-lt room (marks_of ws) p true h) is.others;
+        sums = sums-more k ls is.sums (place_in first room len k ws ls is place.word);
+        counts = counts;
+        counted = omega (arith, is.counted, ap total (lowest-more k ls), total-more k (lowest ls) (omega (arith, place.word, ap length is.counts, counts-length ws)));
+      };
+      marks = ap (take room) marks ∙ take-set-lt room (marks_of ws) p true h;
+    }
+
+pub words-less : (first room len p w' : ℕ) (ws : List ℕ) (ls : List (List ℕ)) → AreWords first room len ws ls → p < room
+    → word_marks w' ≡ set (word_marks (slice_index ws (p / 64))) (p % 64) false → slice_index_or (take room (marks_of ws)) p false ≡ true
+    → (1 ≤ len) × HasOne (p / 64) ls × IsChanged first room (len - 1) p w' false ws (one_less (p / 64) ls)
+words-less first room len p w' ws ls is h new one =
+    let place = place-is first room len p ws ls is h in
+    let k = p / 64 in
+    let marks = marks-changed first room len p w' false ws ls is h new in
+    let less : length (numbers_from 0 (set (word_marks (slice_index ws k)) (p % 64) false)) + 1 ≡ count_set (slice_index ws k) =
+    count-less 0 (p % 64) (word_marks (slice_index ws k)) (sym (mark-at first room len p ws ls is h) ∙ one) in
+    let now : count_set w' ≡ count_set (slice_index ws k) - 1 = omega (arith, less, ap (λ ms. length (numbers_from 0 ms)) new) in
+    let some : 0 < slice_index (map count_set ws) k = omega (arith, less, count-in-word ws k place.word) in
+    let counts : lowest (one_less k ls) ≡ map count_set (set ws k w') =
+    lowest-less k ls ∙ rw (is.counts, counts-set ws k w', now, count-in-word ws k place.word) refl in
+    let total-one : total (lowest (one_less k ls)) + 1 ≡ total (lowest ls) =
+    ap (λ ns. total ns + 1) (lowest-less k ls) ∙ total-less k (lowest ls) (rw is.counts some) in
+    let has = one_in first room len k ws ls is some in (
+      omega (arith, is.counted, total-one),
+      has,
+      record {
+        still = record {
+          end = is.end;
+          enough = omega (arith, is.enough, length-set k w' ws);
+          few = omega (arith, is.few, length-set k w' ws);
+          others = rw (marks, drop-set-lt room (marks_of ws) p false h) is.others;
+          sums = sums-less k ls is.sums has;
+          counts = counts;
+          counted = omega (arith, is.counted, total-one);
+        };
+        marks = ap (take room) marks ∙ take-set-lt room (marks_of ws) p false h;
+      },
+    )
+
+pub few_in : (first room len : ℕ) (ws : List ℕ) (ls : List (List ℕ)) → AreWords first room len ws ls → len ≤ 64000064
+few_in first room len ws ls is = omega (arith, is.counted, ap total is.counts, counts-few ws, is.few)
+
+pub len-is : (first room len : ℕ) (ws : List ℕ) (ls : List (List ℕ)) → AreWords first room len ws ls → len ≡ length (numbers_from first (take room (marks_of ws)))
+len-is first room len ws ls is =
+    is.counted ∙ ap total is.counts ∙ sym (counts-total first ws) ∙ ap length (sym (numbers-in-room first room (marks_of ws) is.others))
+
+pub length-room : (first room len : ℕ) (ws : List ℕ) (ls : List (List ℕ)) → AreWords first room len ws ls → length (take room (marks_of ws)) ≡ room
+length-room first room len ws ls is = length-take-le room (marks_of ws) (omega (arith, is.enough, length-marks_of ws))
 
 -- ---- whether a number is in
 
@@ -188,17 +305,27 @@ without false s n h p = rw h refl
 pub not_in : (s : Marked) (n : ℕ) → is_in s n ≡ false → with_mark false n s ≡ s
 not_in s n p = without (nat_le s.first n) s n refl p
 
-one_mark : (xs : List ℕ) (k : ℕ) → AreMarks xs → k < length xs → nat_eq (slice_index xs k) 1 ≡ slice_index_or (map is_one xs) k false
-one_mark [] k h w = absurd (omega (arith, w))
-one_mark (zero ∷ xs) zero h w = refl
-one_mark (suc zero ∷ xs) zero h w = refl
-one_mark (suc (suc x) ∷ xs) zero h w = absurd (omega (arith, h.0))
-one_mark (x ∷ xs) (suc k) h w = one_mark xs k h.1 (omega (arith, w))
+pub is-in : (first n : ℕ) (marks : List Bool) → first ≤ n → slice_index_or marks (n - first) false ≡ is_in (record { first = first; marks = marks }) n
+is-in first n marks h = ap (λ b. b && slice_index_or marks (n - first) false) (sym (at_least first n h))
 
-pub mark_is : (first n : ℕ) (xs : List ℕ) → AreMarks xs → first ≤ n → n - first < length xs
-    → nat_eq (slice_index xs (n - first)) 1 ≡ is_in (record { first = first; marks = map is_one xs }) n
-mark_is first n xs h m w = one_mark xs (n - first) h w ∙ ap (λ b. b && slice_index_or (map is_one xs) (n - first) false) (sym (at_least first n m))
+-- a word that was read at a place
+pub word-read : (ws : List ℕ) (k w : ℕ) → k < length ws → w ≡ slice_index_or ws k w → w ≡ slice_index ws k
+word-read [] k w h is = absurd (omega (arith, h))
+word-read (v ∷ ws) zero w h is = is
+word-read (v ∷ ws) (suc k) w h is = word-read ws k w (omega (arith, h)) is
 
-pub first_is : {X : Type 0} (f : X → List ℕ) (xs : List X) (x : X) → x ≡ slice_index_or xs 0 x → 0 < length xs → f x ≡ lowest (map f xs)
-first_is f [] x p h = absurd (omega (arith, h))
-first_is f (y ∷ xs) x p h = ap f p
+-- a number that is in has room
+pub room-of : (s : Marked) (n : ℕ) → is_in s n ≡ true → HasRoom s n
+room-of s n here =
+    let is = present s.first n s.marks here in
+    let first : s.first ≤ n = grind (arith, is.0) in
+    let within : n - s.first < length s.marks = some-mark s.marks (n - s.first) is.1 in
+    (first, omega (arith, within, first))
+  where
+    some-mark : (marks : List Bool) (i : ℕ) → slice_index_or marks i false ≡ true → i < length marks
+    some-mark [] i p = absurd (true≢false (sym p))
+    some-mark (m ∷ marks) zero p = omega arith
+    some-mark (m ∷ marks) (suc i) p = omega (arith, some-mark marks i p)
+
+pub room-told : (s : Marked) (n room : ℕ) → length s.marks ≡ room → s.first ≤ n → (IsTrue (nat_lt (n - s.first) room) → HasRoom s n) × (HasRoom s n → IsTrue (nat_lt (n - s.first) room))
+room-told s n room long first = (λ told. let within : n - s.first < room = grind (arith, told) in (first, omega (arith, within, long, first)), λ has. let within : n - s.first < room = omega (arith, has.1, long, first) in grind (arith, within))

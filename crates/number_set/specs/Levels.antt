@@ -1,7 +1,6 @@
--- Levels of counts over the marks of a set: what a set holds, for its private contracts.
+-- Levels of counts over the words of a set: what a set holds, for its private contracts.
 use Rattle.std.specs.Prelude.{◌≡◌, ℕ, zero, suc, ◌+◌, ◌-◌, ◌*◌, ◌^◌, ◌<◌, ◌≤◌, List, [], ◌∷◌, Bool, true, false, length, set, slice_index, nat_lt, if◌then◌else◌, ⊤}
 use Rattle.number_set.specs.declared.levels.Found.{Found}
-use Rattle.number_set.specs.declared.limits.TheConstants.{LARGEST_END}
 
 abbrev pub half : ℕ → ℕ
 half zero = zero
@@ -85,26 +84,11 @@ HasWay (counts ∷ levels) before = (2 * (found_below levels before).place < len
 abbrev pub AreSmall : List ℕ → Type 0
 AreSmall counts = total counts < 2 ^ 32
 
--- the marks that a set's levels stand over
+-- the counts that a set's levels stand over
 abbrev pub lowest : List (List ℕ) → List ℕ
 lowest [] = []
 lowest (counts ∷ levels) = counts
 
-abbrev pub AreMarks : List ℕ → Type 0
-AreMarks [] = ⊤
-AreMarks (n ∷ counts) = (n ≤ 1) × AreMarks counts
-
 abbrev pub is_one : ℕ → Bool
 is_one zero = false
 is_one (suc n) = true
-
--- what a set's levels and count are
-pub record AreLevels (levels : List (List ℕ)) (len : ℕ) : Type 0 where
-  pub sums : AreSums levels
-  pub marks : AreMarks (lowest levels)
-  pub few : length (lowest levels) ≤ LARGEST_END
-  pub counted : len ≡ total (lowest levels)
-
-abbrev pub mark_count : Bool → ℕ
-mark_count true = 1
-mark_count false = 0

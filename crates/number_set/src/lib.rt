@@ -5,6 +5,7 @@
 mod levels;
 mod limits;
 mod number_set;
+mod word;
 
 pub use limits::{LARGEST_END, limit_of_sets_in_figures};
 pub use number_set::NumberSet;

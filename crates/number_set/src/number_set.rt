@@ -1,9 +1,9 @@
-ghost use Rattle.std.specs.Prelude.{◌≡◌, ◌≤◌, ◌↔◌, ◌-◌, [], length, map, slice_get, IfOk, IsTrue, OnOk, OnErr, true, false};
+ghost use Rattle.std.specs.Prelude.{◌≡◌, ◌≤◌, ◌↔◌, ◌-◌, [], length, replicate, slice_get, IfOk, IsTrue, OnOk, OnErr, true, false};
 ghost use Rattle.number_set.specs.declared.limits.TheConstants.{LARGEST_END};
 ghost use Rattle.number_set.specs.Numbers.{HasRoom, is_in, marks_from, numbers, with_mark};
-ghost use Rattle.number_set.specs.Levels.{mark_count, total};
 
 use crate::levels::{count_one_less, count_one_more, find_place, levels_over};
+use crate::word::{WORD_SIZE, bit_behind, has_bit, with_bit, without_bit};
 use std::alloc::{AllocError, Global};
 use std::marker::Model;
 
@@ -13,29 +13,31 @@ pub struct NumberSet {
     alloc: Global,
     /// The least number that there is room for.
     first: u32,
+    /// How many numbers there is room for.
+    room: u32,
     /// How many numbers are in.
     len: u32,
-    /// Lowest, for each number that there is room for, 1 where it is in and else 0; then for each two counts their sum,
-    /// and so on, up to a single count.
+    /// For each number that there is room for a bit, which is set where it is in.
+    words: Vec<u64>,
+    /// Lowest, for each word, how many of its bits are set; then for each two counts their sum, and
+    /// so on, up to a single count.
     levels: Vec<Vec<u32>>,
 }
 
 impl Model for NumberSet {
-    ghost use Rattle.std.specs.Prelude.{map, ◌≤◌, ◌+◌, length};
-    ghost use Rattle.number_set.specs.declared.limits.TheConstants.{LARGEST_END};
+    ghost use Rattle.std.specs.Prelude.{map, take};
     ghost use Rattle.number_set.specs.Numbers.{Marked};
-    ghost use Rattle.number_set.specs.Levels.{AreLevels, is_one, lowest};
+    ghost use Rattle.number_set.specs.Words.{AreWords, marks_of};
 
     ghost Value = { Marked };
 
     ghost view = { λ set. record {
       first = set.first;
-      marks = map is_one (lowest (map (λ counts. counts.items) set.levels.items));
+      marks = take set.room (marks_of set.words.items);
     } };
 
-    ghost invariant = { λ set. AreLevels (map (λ counts. counts.items) set.levels.items) set.len
-        × (set.first + length (lowest (map (λ counts. counts.items) set.levels.items))
-        ≤ LARGEST_END) };
+    ghost invariant = { λ set. AreWords set.first set.room set.len set.words.items
+        (map (λ counts. counts.items) set.levels.items) };
 }
 
 impl NumberSet {
@@ -46,9 +48,32 @@ impl NumberSet {
         NumberSet {
             alloc,
             first: 0,
+            room: 0,
             len: 0,
+            words: Vec::new(alloc),
             levels: Vec::new(alloc),
         }
+    }
+
+    /// A set of no numbers, with room for those from `first` up to, and without, `end`.
+    fn of_none(alloc: Global, first: u32, end: u32) -> Result<NumberSet, AllocError>
+        requires order { first ≤ end }
+        requires most { end ≤ LARGEST_END }
+        ensures { IfOk result (λ set. set ≡
+            record { first = first; marks = replicate (end - first) false }) }
+    {
+        let room = end - first;
+        let count = (room as usize).div_ceil(WORD_SIZE);
+        let words = vec![in alloc; 0u64; count]?;
+        let levels = levels_over(alloc, vec![in alloc; 0u32; count]?)?;
+        Ok(NumberSet {
+            alloc,
+            first,
+            room,
+            len: 0,
+            words,
+            levels,
+        })
     }
 
     /// Makes room for the numbers from `first` up to, and without, `end`; what there was room for beside them is given
@@ -60,29 +85,12 @@ impl NumberSet {
             record { first = first; marks = marks_from self.old first (end - first) }) }
         ensures err { OnErr result (self.new ≡ self.old) }
     {
-        let (marks, len) = self.marks_between(first, end)?;
-        self.levels = levels_over(self.alloc, marks)?;
-        self.first = first;
-        self.len = len;
-        Ok(())
-    }
-
-    /// The marks of these numbers, and how many are in.
-    fn marks_between(&self, first: u32, end: u32) -> Result<(Vec<u32>, u32), AllocError>
-        requires order { first ≤ end }
-        requires most { end ≤ LARGEST_END }
-        ensures marks { IfOk result (λ made.
-            made.0.items ≡ map mark_count (marks_from self.now first (end - first))) }
-        ensures len { IfOk result (λ made. made.1 ≡ total made.0.items) }
-    {
-        let mut marks = Vec::with_capacity(self.alloc, (end - first) as usize)?;
-        let mut len = 0;
-        for number in first..end {
-            let mark = mark_of(self.contains(number));
-            marks.push(mark)?;
-            len += mark;
+        let mut set = NumberSet::of_none(self.alloc, first, end)?;
+        if self.len > 0 {
+            put_all(&mut set, self, first, end);
         }
-        Ok((marks, len))
+        *self = set;
+        Ok(())
     }
 
     /// How many numbers are in.
@@ -96,29 +104,18 @@ impl NumberSet {
     pub fn has_room(&self, number: u32) -> bool
         ensures { IsTrue result ↔ HasRoom self.now number }
     {
-        if number < self.first {
-            return false;
-        }
-        match self.levels.first() {
-            Some(marks) => ((number - self.first) as usize) < marks.len(),
-            None => false,
-        }
+        number >= self.first && number - self.first < self.room
     }
 
     /// Whether the number is in.
     pub fn contains(&self, number: u32) -> bool
         ensures { result ≡ is_in self.now number }
     {
-        if number < self.first {
+        if !self.has_room(number) {
             return false;
         }
-        match self.levels.first() {
-            Some(marks) => match marks.get((number - self.first) as usize) {
-                Some(mark) => *mark == 1,
-                None => false,
-            },
-            None => false,
-        }
+        let place = (number - self.first) as usize;
+        has_bit(self.words[place / WORD_SIZE], (place % WORD_SIZE) as u32)
     }
 
     /// The number at a place, from 0, of those that are in, ascending.
@@ -129,7 +126,8 @@ impl NumberSet {
             return None;
         }
         let found = find_place(self.levels.as_slice(), place);
-        Some(self.first + found.place as u32)
+        let bit = bit_behind(self.words[found.place], found.left);
+        Some(self.first + (found.place * WORD_SIZE) as u32 + bit)
     }
 
     /// Puts a number in.
@@ -138,7 +136,10 @@ impl NumberSet {
         ensures { self.new ≡ with_mark true number self.old }
     {
         if !self.contains(number) {
-            count_one_more(self.levels.as_mut_slice(), (number - self.first) as usize);
+            let place = (number - self.first) as usize;
+            let word = place / WORD_SIZE;
+            self.words[word] = with_bit(self.words[word], (place % WORD_SIZE) as u32);
+            count_one_more(self.levels.as_mut_slice(), word);
             self.len += 1;
         }
     }
@@ -148,15 +149,24 @@ impl NumberSet {
         ensures { self.new ≡ with_mark false number self.old }
     {
         if self.contains(number) {
-            count_one_less(self.levels.as_mut_slice(), (number - self.first) as usize);
+            let place = (number - self.first) as usize;
+            let word = place / WORD_SIZE;
+            self.words[word] = without_bit(self.words[word], (place % WORD_SIZE) as u32);
+            count_one_less(self.levels.as_mut_slice(), word);
             self.len -= 1;
         }
     }
 }
 
-/// The mark of a number that is in, or isn't.
-fn mark_of(is_in: bool) -> u32
-    ensures { result ≡ mark_count is_in }
+/// Puts those of the numbers from `first` up to `end` in that are in `old`.
+fn put_all(set: &mut NumberSet, old: &NumberSet, first: u32, end: u32)
+    requires order { first ≤ end }
+    requires none { set.old ≡ record { first = first; marks = replicate (end - first) false } }
+    ensures { set.new ≡ record { first = first; marks = marks_from old.now first (end - first) } }
 {
-    if is_in { 1 } else { 0 }
+    for number in first..end {
+        if old.contains(number) {
+            set.insert(number);
+        }
+    }
 }

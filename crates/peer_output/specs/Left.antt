@@ -6,8 +6,8 @@ use Rattle.rpc_messages.specs.Dues.{unit_kind}
 use Rattle.rpc_messages.specs.Entry.{SeenEntry, call, reply, stray, invalid}
 use Rattle.rpc_messages.specs.Numbering.{numbers_of, unit_numbers}
 use Rattle.rpc_messages.specs.Unit.{SeenUnit, unreadable, single, batch}
-use Rattle.answer_desk.specs.declared.place.Place.{Place}
-use Rattle.answer_desk.specs.declared.place.Place.TheVariants as places
+use Rattle.answer_desk.specs.declared.shape.Place.{Place}
+use Rattle.answer_desk.specs.declared.shape.Place.TheVariants as places
 use Rattle.answer_desk.specs.declared.shape.Shape.{Shape}
 use Rattle.answer_desk.specs.Waiting.{Part, Waiting, request, silent as no_answer, invalid as no_call, unreadable as no_json}
 use Rattle.peer_output.specs.Course.{Course}

@@ -1,10 +1,4 @@
 pub mod Counting
-pub mod Draining
-pub mod Ending
 pub mod Pieces
-pub mod Players
 pub mod Results
-pub mod Settling
-pub mod Taking
-pub mod Turned
-pub mod Unfailing
+pub mod Steps

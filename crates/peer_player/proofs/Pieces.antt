@@ -4,7 +4,7 @@ use Rattle.std.proofs.lemmas.Grind.{flat_map-append}
 use Rattle.std.proofs.lemmas.List.{take_more, take-append-drop}
 use Rattle.method_steps.specs.Steps.{MethodTable}
 use Rattle.peer_session.specs.declared.limits.Limits.{Limits}
-use Rattle.peer_session.specs.Run.{IsRunCutShort}
+use Rattle.stream_session.specs.Promise.{IsRunCutShort}
 use Rattle.peer_player.specs.Player.{StoppedAfter}
 
 abbrev pub bytes_in : List (Vec ℕ Global) → List ℕ

@@ -1,25 +1,18 @@
 -- What a player has done with the bytes so far.
-use Rattle.std.specs.Prelude.{◌≡◌, ℕ, List, ◌++◌, false, Option}
-use Rattle.lsp_frames.specs.Contents.{Standing, IsContents}
-use Rattle.lsp_frames.specs.Decoding.{Decoding, known}
-use Rattle.lsp_frames.specs.declared.frame.Frame.{Frame}
-use Rattle.rpc_messages.specs.Numbering.{taken, is_cut}
-use Rattle.rpc_messages.specs.Unit.{units_of}
+use Rattle.std.specs.Prelude.{ℕ, List, ◌++◌, Option}
+use Rattle.lsp_frames.specs.Devices.{Unfinished}
 use Rattle.method_steps.specs.Steps.{MethodTable}
 use Rattle.peer_session.specs.declared.limits.Limits.{Limits}
-use Rattle.peer_session.specs.SessionState.{SessionState}
-use Rattle.peer_session.specs.Run.{IsRunCutShort}
-use Rattle.peer_player.specs.Playing.{HasWritten, close_by}
+use Rattle.stream_session.specs.Promise.{IsRunCutShort}
+use Rattle.stream_session.specs.Stream.{Fed, StreamState}
+use Rattle.peer_player.specs.Playing.{Plays}
 
--- The bytes have these frames, whose units were played; the decoder stands after the bytes, unless the session is full and takes no more.
-pub record PlaysAfter (table : MethodTable) (limits : Limits) (bytes : List ℕ) (before : Option (List ℕ)) (decoder : Decoding) (s : SessionState)
-    (after : Option (List ℕ)) : Type 0 where
-  pub frames : List Frame
-  pub standing : Standing
-  pub contents : IsContents limits.content bytes frames standing
-  pub written : HasWritten table limits (close_by limits.numbers (units_of frames)) (taken limits.numbers (units_of frames)) before s after
-  pub limit : decoder.limit ≡ limits.content
-  pub stands : is_cut limits.numbers (units_of frames) ≡ false → decoder.standing ≡ known limits.content standing
+abbrev pub fed_so_far : MethodTable → Limits → List ℕ → Option (List ℕ) → Fed
+fed_so_far table limits bytes before = record { table = table; limits = limits; bytes = bytes; ending = Unfinished; before = before }
+
+-- It stands after these bytes, whose input goes on.
+abbrev pub PlaysAfter : MethodTable → Limits → List ℕ → Option (List ℕ) → StreamState → Option (List ℕ) → Type 0
+PlaysAfter table limits bytes before s after = Plays (fed_so_far table limits bytes before) s after
 
 -- It has stopped short, whatever bytes come behind these.
 abbrev pub StoppedAfter : MethodTable → Limits → List ℕ → Option (List ℕ) → Option (List ℕ) → Type 0

@@ -1,7 +1,6 @@
 //! The player: a peer on one thread, from the bytes that come in to the bytes that go out.
 #![tactic(auto)]
 
-mod known;
 mod player;
 mod playing;
 mod schedule;

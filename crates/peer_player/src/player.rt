@@ -3,24 +3,22 @@
 ghost use Rattle.std.specs.Prelude.{◌≡◌, ◌++◌, ℕ, List, [], false, IfOk, IfErr, OnOk, OnErr, Option};
 ghost use Rattle.method_steps.specs.Steps.{MethodTable};
 ghost use Rattle.peer_session.specs.Events.{CountsDrain};
-ghost use Rattle.peer_session.specs.Session.{view};
-ghost use Rattle.peer_player.specs.Play.{IsPlay};
-ghost use Rattle.peer_session.specs.Run.{IsRunCutShort};
+ghost use Rattle.stream_session.specs.Promise.{IsPlay, IsRunCutShort};
+ghost use Rattle.stream_session.specs.Stream.{stream_of};
 ghost use Rattle.peer_player.specs.Player.{PlaysAfter, StoppedAfter};
 
-use crate::known::known;
 use crate::playing::Playing;
 use crate::schedule::Schedule;
-use lsp_frames::{Decoder, End, FeedFault, Sink};
+use lsp_frames::Sink;
 use method_steps::Table;
-use peer_session::{Close, DrainFault, Limits, Report, Session};
+use peer_session::{DrainFault, Limits, Report};
 use std::alloc::{AllocError, Global};
+use stream_session::StreamSession;
 
 /// A peer on one thread, which is fed its input piece by piece and writes to its sink as it goes. Of the input it holds the
 /// frame under way and no more.
 #[derive(Drop)]
 pub struct Player<'a, S: Sink> {
-    pub(crate) decoder: Decoder,
     pub(crate) playing: Playing<'a, S>,
     /// Whether nothing was done yet.
     pub(crate) is_new: bool,
@@ -39,19 +37,17 @@ impl<'a, S: Sink> Player<'a, S> {
         sink: S,
     ) -> Result<Player<'a, S>, (DrainFault, S)>
         ensures ok { IfOk result (λ player. PlaysAfter table.now limits [] (S.bytes_taken sink)
-            player.decoder (view player.playing.session) (S.bytes_taken player.playing.sink)) }
+            (stream_of player.playing.stream) (S.bytes_taken player.playing.sink)) }
         ensures unbroken { IfOk result (λ player.
-            (view player.playing.session).is_broken ≡ false) }
+            (stream_of player.playing.stream).session.is_broken ≡ false) }
         ensures sink { IfOk result (λ player. player.playing.sink ≡ sink) }
         ensures err { IfErr result (λ refused. (refused.0 ≡ DrainFault.Memory) × (refused.1 ≡
             sink)) }
     {
-        known();
-        match Session::new(alloc, table, limits) {
-            Ok(session) => Ok(Player {
-                decoder: Decoder::new(alloc, limits.content),
+        match StreamSession::new(alloc, table, limits) {
+            Ok(stream) => Ok(Player {
                 playing: Playing {
-                    session,
+                    stream,
                     schedule,
                     turned: 0,
                     sink,
@@ -67,60 +63,48 @@ impl<'a, S: Sink> Player<'a, S> {
     pub fn feed(&mut self, piece: &[u8]) -> Result<(), DrainFault>
         ensures plays { (table : MethodTable) (limits : Limits) (bytes : List ℕ)
             (before : Option (List ℕ)) →
-            PlaysAfter table limits bytes before self.old.decoder (view self.old.playing.session)
+            PlaysAfter table limits bytes before (stream_of self.old.playing.stream)
             (S.bytes_taken self.old.playing.sink) →
-            OnOk result (PlaysAfter table limits (bytes ++ piece.now) before self.new.decoder
-            (view self.new.playing.session) (S.bytes_taken self.new.playing.sink)) }
+            OnOk result (PlaysAfter table limits (bytes ++ piece.now) before
+            (stream_of self.new.playing.stream) (S.bytes_taken self.new.playing.sink)) }
         ensures stopped { (table : MethodTable) (limits : Limits) (bytes : List ℕ)
             (before : Option (List ℕ)) →
-            PlaysAfter table limits bytes before self.old.decoder (view self.old.playing.session)
+            PlaysAfter table limits bytes before (stream_of self.old.playing.stream)
             (S.bytes_taken self.old.playing.sink) →
             OnErr result (StoppedAfter table limits (bytes ++ piece.now) before
             (S.bytes_taken self.new.playing.sink)) }
 
         // The sink's count of failures rises where a write fails now, and in no other case.
-        ensures cause { CountsDrain (view self.old.playing.session)
+        ensures cause { CountsDrain (stream_of self.old.playing.stream).session
             (S.failures self.old.playing.sink) result (S.failures self.new.playing.sink) }
-        ensures same { OnOk result ((view self.new.playing.session).is_broken ≡
-            (view self.old.playing.session).is_broken) }
+        ensures same { OnOk result ((stream_of self.new.playing.stream).session.is_broken ≡
+            (stream_of self.old.playing.stream).session.is_broken) }
     {
-        known();
         self.begin()?;
-        if !self.playing.session.is_open() {
-            return Ok(());
-        }
-        match self.decoder.feed(piece) {
-            Ok(frames) => self.playing.take_frames(frames.as_slice()),
-            Err(FeedFault::Ended(_, frames)) => self.playing.take_frames(frames.as_slice()),
-            Err(FeedFault::Memory) => Err(DrainFault::Memory),
-        }
+        self.playing.feed(piece)
     }
 
     /// Ends the input, and does all that is left.
     pub fn end(&mut self) -> Result<Report, DrainFault>
         ensures ok { (table : MethodTable) (limits : Limits) (bytes : List ℕ)
             (before : Option (List ℕ)) →
-            PlaysAfter table limits bytes before self.old.decoder (view self.old.playing.session)
+            PlaysAfter table limits bytes before (stream_of self.old.playing.stream)
             (S.bytes_taken self.old.playing.sink) →
             IfOk result (λ report. IsPlay table limits bytes before (S.bytes_taken
             self.new.playing.sink) report) }
         ensures err { (table : MethodTable) (limits : Limits) (bytes : List ℕ)
             (before : Option (List ℕ)) →
-            PlaysAfter table limits bytes before self.old.decoder (view self.old.playing.session)
+            PlaysAfter table limits bytes before (stream_of self.old.playing.stream)
             (S.bytes_taken self.old.playing.sink) →
             OnErr result (IsRunCutShort table limits bytes before
             (S.bytes_taken self.new.playing.sink)) }
 
         // The sink's count of failures rises where a write fails now, and in no other case.
-        ensures cause { CountsDrain (view self.old.playing.session)
+        ensures cause { CountsDrain (stream_of self.old.playing.stream).session
             (S.failures self.old.playing.sink) result (S.failures self.new.playing.sink) }
     {
         self.begin()?;
-        let close = match self.decoder.end() {
-            End::Clean => Close::Clean,
-            End::Fault(fault) => Close::Frame(fault),
-        };
-        self.playing.end(close)
+        self.playing.end()
     }
 
     /// The sink, with what was written.
@@ -136,20 +120,20 @@ impl<'a, S: Sink> Player<'a, S> {
     fn begin(&mut self) -> Result<(), DrainFault>
         ensures plays { (table : MethodTable) (limits : Limits) (bytes : List ℕ)
             (before : Option (List ℕ)) →
-            PlaysAfter table limits bytes before self.old.decoder (view self.old.playing.session)
+            PlaysAfter table limits bytes before (stream_of self.old.playing.stream)
             (S.bytes_taken self.old.playing.sink) →
-            OnOk result (PlaysAfter table limits bytes before self.new.decoder
-            (view self.new.playing.session) (S.bytes_taken self.new.playing.sink)) }
+            OnOk result (PlaysAfter table limits bytes before
+            (stream_of self.new.playing.stream) (S.bytes_taken self.new.playing.sink)) }
         ensures stopped { (table : MethodTable) (limits : Limits) (bytes : List ℕ)
             (before : Option (List ℕ)) →
-            PlaysAfter table limits bytes before self.old.decoder (view self.old.playing.session)
+            PlaysAfter table limits bytes before (stream_of self.old.playing.stream)
             (S.bytes_taken self.old.playing.sink) →
             OnErr result (StoppedAfter table limits bytes before
             (S.bytes_taken self.new.playing.sink)) }
-        ensures cause { CountsDrain (view self.old.playing.session)
+        ensures cause { CountsDrain (stream_of self.old.playing.stream).session
             (S.failures self.old.playing.sink) result (S.failures self.new.playing.sink) }
-        ensures same { OnOk result ((view self.new.playing.session).is_broken ≡
-            (view self.old.playing.session).is_broken) }
+        ensures same { OnOk result ((stream_of self.new.playing.stream).session.is_broken ≡
+            (stream_of self.old.playing.stream).session.is_broken) }
     {
         if self.is_new {
             self.is_new = false;

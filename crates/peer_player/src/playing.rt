@@ -1,110 +1,107 @@
 //! A session that is played into a sink.
 
-ghost use Rattle.std.specs.Prelude.{◌≡◌, ◌<◌, ◌++◌, ℕ, List, [], ◌∷◌, IsTrue, false, IfOk, OnOk, OnErr, Option, Some, is_some};
-ghost use Rattle.rpc_messages.specs.Numbering.{taken};
-ghost use Rattle.rpc_messages.specs.Unit.{SeenUnit, units_of};
-ghost use Rattle.method_steps.specs.Steps.{MethodTable};
-ghost use Rattle.peer_session.specs.declared.limits.Limits.{Limits as LimitsOf};
-ghost use Rattle.peer_session.specs.declared.report.Close.{Close as CloseOf};
-ghost use Rattle.peer_output.specs.Cancelled.{Begins};
-ghost use Rattle.peer_output.specs.Later.{MayBecome};
+ghost use Rattle.std.specs.Prelude.{◌≡◌, ◌<◌, [], IsTrue, false, IfOk, OnOk, OnErr};
+ghost use Rattle.lsp_frames.specs.Devices.{Unfinished};
 ghost use Rattle.session_state.specs.Turns.{all_turns_left};
 ghost use Rattle.session_state.specs.Turning.{ready};
 ghost use Rattle.peer_session.specs.Events.{CountsDrain};
-ghost use Rattle.peer_session.specs.Session.{view};
-ghost use Rattle.peer_player.specs.Playing.{HasDrained, HasWritten, HasSettled, HasStopped, close_by, HasEnded};
+ghost use Rattle.stream_session.specs.Promise.{IsPlay, IsRunCutShort};
+ghost use Rattle.stream_session.specs.Stream.{Fed, IsTaken, StopsShort, stream_of, with_piece};
+ghost use Rattle.peer_player.specs.Playing.{Plays, HasWritten, HasSettled, KeepsInput};
 ghost use Rattle.peer_player.specs.Schedule.{TurnsPicked, turns_after};
 
-use crate::known::known;
 use crate::schedule::Schedule;
 use job_slots::Turns;
-use lsp_frames::{Frame, Sink};
-use peer_session::{Close, DrainFault, Report, Session};
+use lsp_frames::Sink;
+use peer_session::{DrainFault, Report};
+use session_state::turned_handlers_have_fewer_turns_left;
+use stream_session::{InputEnd, Next, StreamSession, what_a_stream_wrote, what_sessions_wrote};
 
 /// A session, the sink that it writes to, and how many jobs were turned by the schedule.
 #[derive(Drop)]
 pub(crate) struct Playing<'a, S: Sink> {
-    pub(crate) session: Session<'a>,
+    pub(crate) stream: StreamSession<'a>,
     pub(crate) schedule: &'a Schedule,
     pub(crate) turned: usize,
     pub(crate) sink: S,
 }
 
 impl<'a, S: Sink> Playing<'a, S> {
-    /// Takes the contents of frames, as long as the session takes any.
-    pub(crate) fn take_frames(&mut self, frames: &[Frame]) -> Result<(), DrainFault>
-        ensures ok { (table : MethodTable) (limits : LimitsOf) (units : List SeenUnit)
-            (before : Option (List ℕ)) →
-            HasWritten table limits (close_by limits.numbers units) (taken limits.numbers units)
-            before (view self.old.session) (S.bytes_taken self.old.sink) →
-            OnOk result (HasWritten table limits (close_by limits.numbers
-            (units ++ units_of frames.now))
-            (taken limits.numbers (units ++ units_of frames.now)) before (view self.new.session)
+    /// Plays one more piece of the input.
+    pub(crate) fn feed(&mut self, piece: &[u8]) -> Result<(), DrainFault>
+        ensures ok { (fed : Fed) → fed.ending ≡ Unfinished →
+            Plays fed (stream_of self.old.stream) (S.bytes_taken self.old.sink) →
+            OnOk result (Plays (with_piece fed piece.now) (stream_of self.new.stream)
             (S.bytes_taken self.new.sink)) }
-        ensures err { (table : MethodTable) (limits : LimitsOf) (units : List SeenUnit)
-            (before : Option (List ℕ)) →
-            HasWritten table limits (close_by limits.numbers units) (taken limits.numbers units)
-            before (view self.old.session) (S.bytes_taken self.old.sink) →
-            OnErr result ((all : List SeenUnit) → Begins (units ++ units_of frames.now) all →
-            HasStopped table (taken limits.numbers all) before (S.bytes_taken self.new.sink)) }
-        ensures cause { CountsDrain (view self.old.session) (S.failures self.old.sink) result
-            (S.failures self.new.sink) }
-        ensures same { OnOk result ((view self.new.session).is_broken ≡
-            (view self.old.session).is_broken) }
+        ensures err { (fed : Fed) → fed.ending ≡ Unfinished →
+            Plays fed (stream_of self.old.stream) (S.bytes_taken self.old.sink) →
+            OnErr result (StopsShort (with_piece fed piece.now) (S.bytes_taken self.new.sink)) }
+        ensures cause { CountsDrain (stream_of self.old.stream).session (S.failures self.old.sink)
+            result (S.failures self.new.sink) }
+        ensures same { OnOk result ((stream_of self.new.stream).session.is_broken
+            ≡ (stream_of self.old.stream).session.is_broken) }
     {
-        for frame in frames {
-            self.take(frame)?;
+        what_a_stream_wrote();
+        self.stream.feed(piece)?;
+        self.take_contents()
+    }
+
+    /// Ends the input, and does all that is left.
+    pub(crate) fn end(&mut self) -> Result<Report, DrainFault>
+        ensures ok { (fed : Fed) → fed.ending ≡ Unfinished →
+            Plays fed (stream_of self.old.stream) (S.bytes_taken self.old.sink) →
+            IfOk result (IsPlay fed.table fed.limits fed.bytes fed.before
+            (S.bytes_taken self.new.sink)) }
+        ensures err { (fed : Fed) → fed.ending ≡ Unfinished →
+            Plays fed (stream_of self.old.stream) (S.bytes_taken self.old.sink) →
+            OnErr result (IsRunCutShort fed.table fed.limits fed.bytes fed.before
+            (S.bytes_taken self.new.sink)) }
+        ensures cause { CountsDrain (stream_of self.old.stream).session (S.failures self.old.sink)
+            result (S.failures self.new.sink) }
+    {
+        what_sessions_wrote();
+        what_a_stream_wrote();
+        self.stream.end(InputEnd::Finished);
+        self.take_contents()?;
+        self.settle()?;
+        Ok(self.stream.report())
+    }
+
+    /// Takes all that waits. An eager player settles after each content.
+    fn take_contents(&mut self) -> Result<(), DrainFault>
+        ensures ok { (fed : Fed) →
+            Plays fed (stream_of self.old.stream) (S.bytes_taken self.old.sink) →
+            OnOk result (Plays fed (stream_of self.new.stream) (S.bytes_taken self.new.sink)) }
+        ensures err { (fed : Fed) →
+            Plays fed (stream_of self.old.stream) (S.bytes_taken self.old.sink) →
+            OnErr result (StopsShort fed (S.bytes_taken self.new.sink)) }
+        ensures taken { OnOk result (IsTaken (stream_of self.new.stream)) }
+        ensures last { (stream_of self.new.stream).last ≡ (stream_of self.old.stream).last }
+        ensures cause { CountsDrain (stream_of self.old.stream).session (S.failures self.old.sink)
+            result (S.failures self.new.sink) }
+        ensures same { OnOk result ((stream_of self.new.stream).session.is_broken
+            ≡ (stream_of self.old.stream).session.is_broken) }
+    {
+        what_a_stream_wrote();
+        while let Next::Content = self.stream.take_next()? {
+            self.settle_if_eager()?;
         }
         Ok(())
     }
 
-    /// Takes a content, if the session takes any.
-    fn take(&mut self, frame: &Frame) -> Result<(), DrainFault>
-        ensures ok { (table : MethodTable) (limits : LimitsOf) (units : List SeenUnit)
-            (before : Option (List ℕ)) →
-            HasWritten table limits (close_by limits.numbers units) (taken limits.numbers units)
-            before (view self.old.session) (S.bytes_taken self.old.sink) →
-            OnOk result (HasWritten table limits (close_by limits.numbers (units ++ units_of
-            (frame.now ∷ [])))
-            (taken limits.numbers (units ++ units_of (frame.now ∷ []))) before
-            (view self.new.session) (S.bytes_taken self.new.sink)) }
-        ensures err { (table : MethodTable) (limits : LimitsOf) (units : List SeenUnit)
-            (before : Option (List ℕ)) →
-            HasWritten table limits (close_by limits.numbers units) (taken limits.numbers units)
-            before (view self.old.session) (S.bytes_taken self.old.sink) →
-            OnErr result ((all : List SeenUnit) → Begins (units ++ units_of (frame.now ∷ [])) all →
-            HasStopped table (taken limits.numbers all) before (S.bytes_taken self.new.sink)) }
-        ensures cause { CountsDrain (view self.old.session) (S.failures self.old.sink) result
-            (S.failures self.new.sink) }
-        ensures same { OnOk result ((view self.new.session).is_broken ≡
-            (view self.old.session).is_broken) }
-    {
-        known();
-        if !self.session.is_open() {
-            return Ok(());
-        }
-        self.session.take(frame)?;
-        self.settle_if_eager()
-    }
-
     /// An eager player writes what is due, and turns all handlers that are ready.
     pub(crate) fn settle_if_eager(&mut self) -> Result<(), DrainFault>
-        ensures ok { (table : MethodTable) (limits : LimitsOf) (close : Option CloseOf)
-            (units : List SeenUnit) (before : Option (List ℕ)) →
-            HasWritten table limits close units before (view self.old.session) (S.bytes_taken
-            self.old.sink) →
-            OnOk result (HasWritten table limits close units before (view self.new.session)
-            (S.bytes_taken self.new.sink)) }
-        ensures err { (table : MethodTable) (limits : LimitsOf) (close : Option CloseOf)
-            (units : List SeenUnit) (before : Option (List ℕ)) →
-            HasWritten table limits close units before (view self.old.session) (S.bytes_taken
-            self.old.sink) →
-            OnErr result ((later : List SeenUnit) → MayBecome (is_some close) units later →
-            HasStopped table later before (S.bytes_taken self.new.sink)) }
-        ensures cause { CountsDrain (view self.old.session) (S.failures self.old.sink) result
-            (S.failures self.new.sink) }
-        ensures same { OnOk result ((view self.new.session).is_broken ≡
-            (view self.old.session).is_broken) }
+        ensures ok { (fed : Fed) →
+            Plays fed (stream_of self.old.stream) (S.bytes_taken self.old.sink) →
+            OnOk result (Plays fed (stream_of self.new.stream) (S.bytes_taken self.new.sink)) }
+        ensures err { (fed : Fed) →
+            Plays fed (stream_of self.old.stream) (S.bytes_taken self.old.sink) →
+            OnErr result (StopsShort fed (S.bytes_taken self.new.sink)) }
+        ensures input { KeepsInput (stream_of self.old.stream) (stream_of self.new.stream) }
+        ensures cause { CountsDrain (stream_of self.old.stream).session (S.failures self.old.sink)
+            result (S.failures self.new.sink) }
+        ensures same { OnOk result ((stream_of self.new.stream).session.is_broken
+            ≡ (stream_of self.old.stream).session.is_broken) }
     {
         if self.schedule.lazy {
             return Ok(());
@@ -112,49 +109,20 @@ impl<'a, S: Sink> Playing<'a, S> {
         self.settle()
     }
 
-    /// Ends the input, and does all that is left.
-    pub(crate) fn end(&mut self, close: Close) -> Result<Report, DrainFault>
-        ensures ok { (table : MethodTable) (limits : LimitsOf) (units : List SeenUnit)
-            (before : Option (List ℕ)) →
-            HasWritten table limits (close_by limits.numbers units) (taken limits.numbers units)
-            before (view self.old.session) (S.bytes_taken self.old.sink) →
-            IfOk result (λ report. HasEnded table limits units close before report (S.bytes_taken
-            self.new.sink)) }
-        ensures err { (table : MethodTable) (limits : LimitsOf) (units : List SeenUnit)
-            (before : Option (List ℕ)) →
-            HasWritten table limits (close_by limits.numbers units) (taken limits.numbers units)
-            before (view self.old.session) (S.bytes_taken self.old.sink) →
-            OnErr result (HasStopped table (taken limits.numbers units) before
-            (S.bytes_taken self.new.sink)) }
-        ensures cause { CountsDrain (view self.old.session) (S.failures self.old.sink) result
-            (S.failures self.new.sink) }
-    {
-        known();
-        self.session.end(close);
-        self.settle()?;
-        Ok(self.session.report())
-    }
-
     /// Writes what is due, and turns handlers until none is ready.
     fn settle(&mut self) -> Result<(), DrainFault>
-        ensures ok { (table : MethodTable) (limits : LimitsOf) (close : Option CloseOf)
-            (units : List SeenUnit) (before : Option (List ℕ)) →
-            HasWritten table limits close units before (view self.old.session) (S.bytes_taken
-            self.old.sink) →
-            OnOk result (HasSettled table limits close units before (view self.new.session)
-            (S.bytes_taken self.new.sink)) }
-        ensures err { (table : MethodTable) (limits : LimitsOf) (close : Option CloseOf)
-            (units : List SeenUnit) (before : Option (List ℕ)) →
-            HasWritten table limits close units before (view self.old.session) (S.bytes_taken
-            self.old.sink) →
-            OnErr result ((later : List SeenUnit) → MayBecome (is_some close) units later →
-            HasStopped table later before (S.bytes_taken self.new.sink)) }
-        ensures cause { CountsDrain (view self.old.session) (S.failures self.old.sink) result
-            (S.failures self.new.sink) }
-        ensures same { OnOk result ((view self.new.session).is_broken ≡
-            (view self.old.session).is_broken) }
+        ensures ok { (fed : Fed) →
+            Plays fed (stream_of self.old.stream) (S.bytes_taken self.old.sink) →
+            OnOk result (HasSettled fed (stream_of self.new.stream) (S.bytes_taken self.new.sink)) }
+        ensures err { (fed : Fed) →
+            Plays fed (stream_of self.old.stream) (S.bytes_taken self.old.sink) →
+            OnErr result (StopsShort fed (S.bytes_taken self.new.sink)) }
+        ensures input { KeepsInput (stream_of self.old.stream) (stream_of self.new.stream) }
+        ensures cause { CountsDrain (stream_of self.old.stream).session (S.failures self.old.sink)
+            result (S.failures self.new.sink) }
+        ensures same { OnOk result ((stream_of self.new.stream).session.is_broken
+            ≡ (stream_of self.old.stream).session.is_broken) }
     {
-        known();
         self.drain()?;
         while self.turn_next() {
             self.drain()?;
@@ -164,57 +132,53 @@ impl<'a, S: Sink> Playing<'a, S> {
 
     /// Writes what is due.
     fn drain(&mut self) -> Result<(), DrainFault>
-        ensures ok { (table : MethodTable) (limits : LimitsOf) (close : Option CloseOf)
-            (units : List SeenUnit) (before : Option (List ℕ)) →
-            HasWritten table limits close units before (view self.old.session) (S.bytes_taken
-            self.old.sink) →
-            OnOk result (HasDrained table limits close units before (view self.new.session)
-            (S.bytes_taken self.new.sink)) }
-        ensures err { (table : MethodTable) (limits : LimitsOf) (close : Option CloseOf)
-            (units : List SeenUnit) (before : Option (List ℕ)) →
-            HasWritten table limits close units before (view self.old.session) (S.bytes_taken
-            self.old.sink) →
-            OnErr result ((later : List SeenUnit) → MayBecome (is_some close) units later →
-            HasStopped table later before (S.bytes_taken self.new.sink)) }
-        ensures turns { OnOk result (all_turns_left (view self.new.session).core.stages ≡
-            all_turns_left (view self.old.session).core.stages) }
-        ensures cause { CountsDrain (view self.old.session) (S.failures self.old.sink) result
-            (S.failures self.new.sink) }
-        ensures same { OnOk result ((view self.new.session).is_broken ≡
-            (view self.old.session).is_broken) }
+        ensures ok { (fed : Fed) →
+            Plays fed (stream_of self.old.stream) (S.bytes_taken self.old.sink) →
+            OnOk result (HasWritten fed (stream_of self.new.stream) (S.bytes_taken self.new.sink)) }
+        ensures err { (fed : Fed) →
+            Plays fed (stream_of self.old.stream) (S.bytes_taken self.old.sink) →
+            OnErr result (StopsShort fed (S.bytes_taken self.new.sink)) }
+        ensures input { KeepsInput (stream_of self.old.stream) (stream_of self.new.stream) }
+        ensures turns { OnOk result (all_turns_left (stream_of self.new.stream).session.core.stages
+            ≡ all_turns_left (stream_of self.old.stream).session.core.stages) }
+        ensures cause { CountsDrain (stream_of self.old.stream).session (S.failures self.old.sink)
+            result (S.failures self.new.sink) }
+        ensures same { OnOk result ((stream_of self.new.stream).session.is_broken
+            ≡ (stream_of self.old.stream).session.is_broken) }
     {
-        known();
-        self.session.drain(&mut self.sink)
+        turned_handlers_have_fewer_turns_left();
+        self.stream.drain(&mut self.sink)
     }
 
     /// Turns the handler that the schedule picks, if any is ready.
     fn turn_next(&mut self) -> bool
-        ensures turned { (table : MethodTable) (limits : LimitsOf) (close : Option CloseOf) (units
-            : List SeenUnit) (before : Option (List ℕ)) →
-            HasWritten table limits close units before (view self.old.session) (S.bytes_taken
-            self.old.sink) →
-            HasWritten table limits close units before (view self.new.session)
-            (S.bytes_taken self.new.sink) }
-        ensures fewer { IsTrue result → all_turns_left (view self.new.session).core.stages <
-            all_turns_left (view self.old.session).core.stages }
-        ensures none { result ≡ false → (ready (view self.new.session).core ≡ []) × (view
-            self.new.session ≡ view self.old.session) }
+        ensures turned { (fed : Fed) →
+            Plays fed (stream_of self.old.stream) (S.bytes_taken self.old.sink) →
+            Plays fed (stream_of self.new.stream) (S.bytes_taken self.new.sink) }
+        ensures input { KeepsInput (stream_of self.old.stream) (stream_of self.new.stream) }
+        ensures fewer { IsTrue result →
+            all_turns_left (stream_of self.new.stream).session.core.stages <
+            all_turns_left (stream_of self.old.stream).session.core.stages }
+        ensures none { result ≡ false → (ready (stream_of self.new.stream).session.core ≡ [])
+            × (stream_of self.new.stream ≡ stream_of self.old.stream) }
         ensures picked { IsTrue result → TurnsPicked self.old.schedule.now.picks self.old.turned
-            (view self.old.session) (view self.new.session) }
+            (stream_of self.old.stream).session (stream_of self.new.stream).session }
         ensures counted { self.new.turned ≡ turns_after result self.old.turned }
         ensures schedule { self.new.schedule ≡ self.old.schedule }
         ensures sink { self.new.sink ≡ self.old.sink }
-        ensures same { (view self.new.session).is_broken ≡ (view self.old.session).is_broken }
+        ensures same { (stream_of self.new.stream).session.is_broken
+            ≡ (stream_of self.old.stream).session.is_broken }
     {
-        known();
-        let ready = self.session.count_ready();
+        what_a_stream_wrote();
+        turned_handlers_have_fewer_turns_left();
+        let ready = self.stream.count_ready();
         let pick = self.schedule.picks.place(self.turned, ready);
-        let Some(mut job) = self.session.next_job(pick) else {
+        let Some(mut job) = self.stream.next_job(pick) else {
             return false;
         };
         self.turned = self.turned.saturating_add(1);
         job.turn();
-        self.session.back(job);
+        self.stream.back(job);
         true
     }
 }

@@ -3,19 +3,18 @@
 ghost use Rattle.std.specs.Prelude.{◌≡◌, ℕ, List, [], IfOk, IfErr, OnErr, Option, Some, flat_map};
 ghost use Rattle.method_steps.specs.Steps.{MethodTable};
 ghost use Rattle.peer_session.specs.declared.limits.Limits.{Limits as LimitsOf};
-ghost use Rattle.peer_session.specs.Session.{view};
+ghost use Rattle.stream_session.specs.Stream.{stream_of};
 ghost use Rattle.peer_player.specs.Player.{PlaysAfter};
 ghost use Rattle.peer_session.specs.Events.{CountsDrain};
-ghost use Rattle.peer_player.specs.Play.{IsPlay, CountsFault};
-ghost use Rattle.peer_session.specs.Run.{IsRunCutShort};
+ghost use Rattle.stream_session.specs.Promise.{IsPlay, IsRunCutShort, CountsFault};
 
-use crate::known::known;
 use crate::player::Player;
 use crate::schedule::Schedule;
 use lsp_frames::{MemSink, Sink};
 use method_steps::Table;
 use peer_session::{DrainFault, Limits, Report};
 use std::alloc::Global;
+use stream_session::what_a_stream_wrote;
 
 /// Why nothing was played.
 #[derive(Clone, Copy, Debug, PartialEq, Eq)]
@@ -78,7 +77,7 @@ pub fn play_to<S: Sink>(
     ensures cause { IfErr result (λ stopped. CountsFault (S.failures sink) stopped.0
         (S.failures stopped.1)) }
 {
-    known();
+    what_a_stream_wrote();
     let mut player = Player::new(alloc, table, limits, schedule, sink)?;
     match play_all(&mut player, pieces) {
         Ok(report) => Ok((report, player.into_sink())),
@@ -89,16 +88,16 @@ pub fn play_to<S: Sink>(
 /// Feeds the pieces to a new player, and ends the input.
 fn play_all<S: Sink>(player: &mut Player<'_, S>, pieces: &[Vec<u8>]) -> Result<Report, DrainFault>
     ensures ok { (table : MethodTable) (limits : LimitsOf) (before : Option (List ℕ)) →
-        PlaysAfter table limits [] before player.old.decoder (view player.old.playing.session)
+        PlaysAfter table limits [] before (stream_of player.old.playing.stream)
         (S.bytes_taken player.old.playing.sink) →
         IfOk result (λ report. IsPlay table limits (flat_map (λ piece. piece.items) pieces.now)
         before (S.bytes_taken player.new.playing.sink) report) }
     ensures err { (table : MethodTable) (limits : LimitsOf) (before : Option (List ℕ)) →
-        PlaysAfter table limits [] before player.old.decoder (view player.old.playing.session)
+        PlaysAfter table limits [] before (stream_of player.old.playing.stream)
         (S.bytes_taken player.old.playing.sink) →
         OnErr result (IsRunCutShort table limits (flat_map (λ piece. piece.items) pieces.now)
         before (S.bytes_taken player.new.playing.sink)) }
-    ensures cause { CountsDrain (view player.old.playing.session)
+    ensures cause { CountsDrain (stream_of player.old.playing.stream).session
         (S.failures player.old.playing.sink) result (S.failures player.new.playing.sink) }
 {
     for piece in pieces {

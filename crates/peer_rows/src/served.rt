@@ -3,6 +3,7 @@
 mod crew;
 mod devices;
 mod held_back;
+mod side_by_side;
 
 use crate::cuts;
 use lsp_frames::{MemSink, MemSource};

@@ -1,14 +1,13 @@
 -- What the board holds for a number, and who is ready by it.
-use Rattle.std.proofs.Common.{◌≡◌, ◌≢◌, ℕ, zero, suc, rules, List, [], ◌∷◌, Bool, true, false, is_some, Option, Some, None, map, take, drop, ◌++◌, length, set, slice_index_or, refl, sym, ap, ◌∙◌, arith}
+use Rattle.std.proofs.Common.{◌≡◌, ◌≢◌, ℕ, zero, suc, List, [], ◌∷◌, Bool, true, false, is_some, Option, Some, None, length, set, slice_index_or, refl, sym, ap, ◌∙◌}
 use Rattle.std.specs.Option.{option_map, option_and_then}
 use Rattle.std.specs.List.{list_all}
 use Rattle.std.proofs.lemmas.List.{get_or-set_other, length-set}
-use Rattle.rpc_messages.specs.declared.id.Id.{Id}
 use Rattle.rpc_messages.specs.declared.reply.Reply.{Reply}
-use Rattle.answer_desk.specs.declared.number.Number.{Number}
-use Rattle.answer_desk.specs.declared.slot.Slot.{Slot}
+use Rattle.answer_desk.specs.declared.open_call.OpenCall.{OpenCall}
+use Rattle.answer_desk.specs.declared.replies.Slot.{Slot}
 use Rattle.answer_desk.specs.Replies.{slot_at, is_kept}
-use Rattle.answer_desk.specs.State.{State, number_at, is_open, reply_of, slot_of, numbers_with, put_of, with_reply, without_reply, with_marks, with_told, with_end, number_marked}
+use Rattle.answer_desk.specs.State.{State, number_at, is_open, reply_of, slot_of, numbers_with, put_of, with_reply, without_reply, with_reached, with_end}
 use Rattle.session_stages.specs.declared.stage.Stage.{Stage}
 use Rattle.session_stages.specs.declared.stage.Stage.TheVariants.{Gone, Faulty, Idle, Out, Over, Failed}
 use Rattle.handler_future.specs.State.{HandlerState}
@@ -17,19 +16,19 @@ use Rattle.session_state.specs.Turning.{is_ready_stage}
 use Rattle.peer_session.specs.Inner.Runs.{StageFits, is_idle, is_live}
 
 -- the slots of a number, where it is open
-abbrev pub slots_of : Option Number → Option (List Slot)
-slots_of number = option_map (λ (n : Number). n.replies) number
+abbrev pub slots_of : Option OpenCall → Option (List Slot)
+slots_of number = option_map (λ (n : OpenCall). n.replies) number
 
 -- the same board for a number
 pub record SameBoard (d d' : State) (n : ℕ) : Type 0 where
   pub slots : slots_of (number_at d' n) ≡ slots_of (number_at d n)
   pub closed : d'.is_closed ≡ d.is_closed
 
-slot-by : (number : Option Number) (turn : ℕ) → option_and_then (λ (n : Number). slot_at n.replies turn) number ≡ option_and_then (λ slots. slot_at slots turn) (slots_of number)
+slot-by : (number : Option OpenCall) (turn : ℕ) → option_and_then (λ (n : OpenCall). slot_at n.replies turn) number ≡ option_and_then (λ slots. slot_at slots turn) (slots_of number)
 slot-by None turn = refl
 slot-by (Some number) turn = refl
 
-open-by : (number : Option Number) → is_some number ≡ is_some (slots_of number)
+open-by : (number : Option OpenCall) → is_some number ≡ is_some (slots_of number)
 open-by None = refl
 open-by (Some number) = refl
 
@@ -94,11 +93,11 @@ idle-ready d d' Failed not = refl
 
 -- ---- what each call leaves of the board
 
-open-changed : (change : Number → Number) (number : Option Number) → is_some (option_map change number) ≡ is_some number
+open-changed : (change : OpenCall → OpenCall) (number : Option OpenCall) → is_some (option_map change number) ≡ is_some number
 open-changed change None = refl
 open-changed change (Some number) = refl
 
-open-set : (numbers : List (Option Number)) (n k : ℕ) (change : Number → Number)
+open-set : (numbers : List (Option OpenCall)) (n k : ℕ) (change : OpenCall → OpenCall)
     → is_some (slice_index_or (numbers_with numbers n change) k None) ≡ is_some (slice_index_or numbers k None)
 open-set [] n k change = refl
 open-set (x ∷ xs) zero zero change = open-changed change x
@@ -106,7 +105,7 @@ open-set (x ∷ xs) zero (suc k) change = refl
 open-set (x ∷ xs) (suc n) zero change = refl
 open-set (x ∷ xs) (suc n) (suc k) change = open-set xs n k change
 
-other-set : (numbers : List (Option Number)) (n k : ℕ) (number : Option Number) → k ≢ n
+other-set : (numbers : List (Option OpenCall)) (n k : ℕ) (number : Option OpenCall) → k ≢ n
     → slice_index_or (set numbers n number) k None ≡ slice_index_or numbers k None
 other-set numbers n k number apart = get_or-set_other numbers n k number None apart
 
@@ -159,45 +158,22 @@ pub end-other : (d : State) (n : ℕ) (reply : Reply) (k : ℕ) → k ≢ n → 
 end-other d n reply k apart = record { slots = ap slots_of (other-set d.numbers n k None apart); closed = refl }
 
 -- marks
-marked-slots : (id : Id) (number : Option Number) → slots_of (option_map (number_marked id) number) ≡ slots_of number
-marked-slots id None = refl
-marked-slots id (Some number) = ap Some (search rules)
-
-marks-slots : (id : Id) (before : ℕ) (numbers : List (Option Number)) (k : ℕ)
-    → slots_of (slice_index_or (map (option_map (number_marked id)) (take before numbers) ++ drop before numbers) k None) ≡ slots_of (slice_index_or numbers k None)
-marks-slots id zero numbers k = refl
-marks-slots id (suc before) [] k = refl
-marks-slots id (suc before) (x ∷ xs) zero = marked-slots id x
-marks-slots id (suc before) (x ∷ xs) (suc k) = marks-slots id before xs k
-
-pub marks-board : (d : State) (id : Id) (before k : ℕ) → SameBoard d (with_marks d id before) k
-marks-board d id before k = record { slots = marks-slots id before d.numbers k; closed = refl }
-
-marks-list-length : (id : Id) (before : ℕ) (numbers : List (Option Number))
-    → length (map (option_map (number_marked id)) (take before numbers) ++ drop before numbers) ≡ length numbers
-marks-list-length id zero numbers = refl
-marks-list-length id (suc before) [] = refl
-marks-list-length id (suc before) (x ∷ xs) = omega (arith, marks-list-length id before xs)
-
-pub marks-length : (d : State) (id : Id) (before : ℕ) → length (with_marks d id before).numbers ≡ length d.numbers
-marks-length d id before = marks-list-length id before d.numbers
-
-told-slots : (change : Number → Number) → ((n : Number) → (change n).replies ≡ n.replies) → (numbers : List (Option Number)) (n k : ℕ)
+reached-slots : (change : OpenCall → OpenCall) → ((n : OpenCall) → (change n).replies ≡ n.replies) → (numbers : List (Option OpenCall)) (n k : ℕ)
     → slots_of (slice_index_or (numbers_with numbers n change) k None) ≡ slots_of (slice_index_or numbers k None)
-told-slots change same [] n k = refl
-told-slots change same (None ∷ xs) zero zero = refl
-told-slots change same (Some x ∷ xs) zero zero = ap Some (same x)
-told-slots change same (x ∷ xs) zero (suc k) = refl
-told-slots change same (x ∷ xs) (suc n) zero = refl
-told-slots change same (x ∷ xs) (suc n) (suc k) = told-slots change same xs n k
+reached-slots change same [] n k = refl
+reached-slots change same (None ∷ xs) zero zero = refl
+reached-slots change same (Some x ∷ xs) zero zero = ap Some (same x)
+reached-slots change same (x ∷ xs) zero (suc k) = refl
+reached-slots change same (x ∷ xs) (suc n) zero = refl
+reached-slots change same (x ∷ xs) (suc n) (suc k) = reached-slots change same xs n k
 
-pub told-board : (d : State) (told : Option ℕ) (k : ℕ) → SameBoard d (with_told d told) k
-told-board d None k = record { slots = refl; closed = refl }
-told-board d (Some n) k = record { slots = told-slots _ (λ m. refl) d.numbers n k; closed = refl }
+pub reached-board : (d : State) (reached : Option ℕ) (k : ℕ) → SameBoard d (with_reached d reached) k
+reached-board d None k = record { slots = refl; closed = refl }
+reached-board d (Some n) k = record { slots = reached-slots _ (λ m. refl) d.numbers n k; closed = refl }
 
-pub told-length : (d : State) (told : Option ℕ) → length (with_told d told).numbers ≡ length d.numbers
-told-length d None = refl
-told-length d (Some n) = length-set d.numbers n _
+pub reached-length : (d : State) (reached : Option ℕ) → length (with_reached d reached).numbers ≡ length d.numbers
+reached-length d None = refl
+reached-length d (Some n) = length-set d.numbers n _
 
 -- who is ready is here
 pub ready-idle : (d : State) (stage : Stage) → is_ready_stage d stage ≡ true → is_idle stage ≡ true

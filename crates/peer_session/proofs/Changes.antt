@@ -38,6 +38,10 @@ unwritten-here (Faulty error) is = cc
 unwritten-here (Out written) is = cc
 unwritten-here Failed is = cc
 
+-- a number that isn't gone is in the stage that it was put into
+pub stage-there : (core : Core) (n : ℕ) (stage : Stage) → is_gone (stage_at core n) ≡ false → stage_at (with_stage core n stage) n ≡ stage
+stage-there core n stage here = get_or-set_same core.stages n stage Gone (here-below core.stages n here)
+
 -- a number is in another stage, and marked so
 pub AreRuns-replaced : (core : Core) (r u : Marked) (n : ℕ) (stage : Stage) → is_gone (stage_at core n) ≡ false → StageFits core.desk n stage → AreRuns core r u
     → AreRuns (with_stage core n stage) (with_mark (is_ready_stage core.desk (stage_at (with_stage core n stage) n)) n r) (with_mark (has_unwritten (stage_at (with_stage core n stage) n)) n u)

@@ -1,13 +1,15 @@
 -- What a drain makes of a session.
-use Rattle.std.proofs.Common.{◌≡◌, ℕ, ◌+◌, ◌-◌, ◌^◌, min, List, ◌++◌, [], length, take, Bool, true, false, cond, Option, Some, None, refl, sym, ap, subst, ◌∙◌, append-nil, arith}
+use Rattle.std.proofs.Common.{◌≡◌, ℕ, ◌+◌, ◌-◌, ◌<◌, ◌^◌, flat_map, min, List, ◌++◌, [], length, take, Bool, true, false, cond, Option, Some, None, refl, sym, ap, subst, ◌∙◌, append-nil, arith}
 use Rattle.std.proofs.lemmas.List.{take_all}
 use Rattle.std.specs.Io.KnownBytes.{Keeps, Appends}
+use Rattle.lsp_frames.specs.Frames.{written}
 use Rattle.answer_desk.specs.State.{front_texts}
-use Rattle.peer_output.specs.Items.{count_sendings, count_calls}
+use Rattle.peer_output.specs.Items.{bytes_of, count_sendings, count_calls}
 use Rattle.session_state.specs.Core.{Core}
-use Rattle.session_state.specs.Turning.{drained}
+use Rattle.session_state.specs.Turning.{due_bytes, drained}
 use Rattle.peer_session.specs.declared.writing.Written.{Written}
 use Rattle.peer_session.specs.Events.{due_sendings, drained_session, WritesNothing, WritesSome, FailsToWrite}
+use Rattle.peer_session.specs.Inner.Runs.{NothingDue}
 use Rattle.peer_session.specs.Inner.Writing.{Counts, CountsOn}
 use Rattle.peer_session.specs.SessionState.{SessionState, with_core, counted}
 
@@ -86,3 +88,19 @@ told-true before other false is = cc
 pub told-false : (before other : ℕ) (b : Bool) → b ≡ false → cond b before other ≡ other
 told-false before other true is = cc
 told-false before other false is = refl
+
+-- ---- nothing is due
+
+pub no-bytes : (core : Core) → NothingDue core → due_bytes core ≡ []
+no-bytes core none = ap (λ items. bytes_of items ++ flat_map written (front_texts core.desk)) none.sendings ∙ ap (λ texts. flat_map written texts) none.answers
+
+counted-none : (a : ℕ) → a < 2 ^ 64 → a ≡ counted (a + 0)
+counted-none a small = omega (arith, small)
+
+pub drained-nothing : (s : SessionState) → NothingDue s.core → s.messages < 2 ^ 64 → s.call_frames < 2 ^ 64 → s.answers < 2 ^ 64 → s ≡ drained_session s
+drained-nothing s none a b d =
+    let core : s.core ≡ drained s.core = sym none.same in
+    let messages : s.messages ≡ counted (s.messages + count_sendings (due_sendings s)) = counted-none s.messages a ∙ ap (λ items. counted (s.messages + count_sendings items)) (sym none.sendings) in
+    let call_frames : s.call_frames ≡ counted (s.call_frames + count_calls (due_sendings s)) = counted-none s.call_frames b ∙ ap (λ items. counted (s.call_frames + count_calls items)) (sym none.sendings) in
+    let answers : s.answers ≡ counted (s.answers + length (front_texts s.core.desk)) = counted-none s.answers d ∙ ap (λ texts. counted (s.answers + length texts)) (sym none.answers) in
+    λ i. record s { core = core i; messages = messages i; call_frames = call_frames i; answers = answers i }

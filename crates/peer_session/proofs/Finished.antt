@@ -1,17 +1,19 @@
--- Numbers are finished, and fewer are newly marked.
-use Rattle.std.proofs.Common.{◌≡◌, ℕ, zero, suc, ◌+◌, ◌<◌, ◌≤◌, List, [], ◌∷◌, set, slice_index_or, Bool, true, false, if◌then◌else◌, is_some, Option, Some, None, refl, ap, ◌∙◌, arith}
+-- Numbers are finished, and a cancel can reach fewer.
+use Rattle.std.proofs.Common.{◌≡◌, ℕ, zero, suc, ◌+◌, ◌<◌, ◌≤◌, List, [], ◌∷◌, set, slice_index_or, Bool, true, false, ◌&&◌, if◌then◌else◌, is_some, Option, Some, None, refl, ap, ◌∙◌, arith}
+use Rattle.rpc_messages.specs.Ids.{has_id}
+use Rattle.rpc_messages.specs.declared.id.Id.{Id}
 use Rattle.rpc_messages.specs.declared.reply.Reply.{Reply}
 use Rattle.rpc_messages.specs.declared.reply.Reply.TheVariants.{Standard as Fixed}
 use Rattle.rpc_messages.specs.declared.standard.Standard.TheVariants.{Cancelled}
-use Rattle.answer_desk.specs.declared.number.Number.{Number}
-use Rattle.answer_desk.specs.State.{State, numbers_with, is_newly_marked, is_open, number_at, reply_of, without_reply, with_told, with_end}
+use Rattle.answer_desk.specs.declared.open_call.OpenCall.{OpenCall}
+use Rattle.answer_desk.specs.State.{State, numbers_with, marked, is_in_reach, is_open, number_at, reply_of, without_reply, with_reached, with_end}
 use Rattle.handler_future.specs.State.{HandlerState}
 use Rattle.session_stages.specs.declared.stage.Stage.{Stage}
 use Rattle.session_stages.specs.declared.stage.Stage.TheVariants.{Gone, Faulty, Idle, Out, Over, Failed}
 use Rattle.session_state.specs.Core.{Core, stage_at, with_stage, with_desk}
 use Rattle.session_state.specs.Hearing.{hear_if, hear_turns, hear_waits}
 use Rattle.session_state.specs.Finishing.{over_or_gone, cancelled, told_at, told}
-use Rattle.peer_session.specs.Inner.Marks.{count_new}
+use Rattle.peer_session.specs.Inner.Marks.{count_in_reach}
 use Rattle.peer_session.proofs.Boards.{take-open}
 
 -- ---- what hearing leaves
@@ -53,65 +55,68 @@ cancelled-over core n h written number =
     ap (λ ss. record { desk = with_end hearing.desk hearing.handler.number (Fixed Cancelled); stages = ss })
     (set-over core.stages n hearing.handler.number Failed (over_or_gone hearing.handler written) same)
 
--- ---- marks
+-- ---- what a cancel can reach yet
 
-new-if : Bool → ℕ → ℕ
-new-if is_new n = if is_new then n + 1 else n
-
-more-if : (is_new : Bool) (n m : ℕ) → n ≤ m → (if is_new then n + 1 else n) ≤ (if is_new then m + 1 else m)
+more-if : (hit : Bool) (n m : ℕ) → n ≤ m → (if hit then n + 1 else n) ≤ (if hit then m + 1 else m)
 more-if true n m less = omega (arith, less)
 more-if false n m less = less
 
-strict-if : (is_new : Bool) (n m : ℕ) → n < m → (if is_new then n + 1 else n) < (if is_new then m + 1 else m)
+strict-if : (hit : Bool) (n m : ℕ) → n < m → (if hit then n + 1 else n) < (if hit then m + 1 else m)
 strict-if true n m less = omega (arith, less)
 strict-if false n m less = less
 
-none-if : (is_new : Bool) (n : ℕ) → n ≤ (if is_new then n + 1 else n)
+none-if : (hit : Bool) (n : ℕ) → n ≤ (if hit then n + 1 else n)
 none-if true n = omega arith
 none-if false n = omega arith
 
-ended-new : (numbers : List (Option Number)) (n : ℕ) → count_new (set numbers n None) ≤ count_new numbers
-ended-new [] n = omega arith
-ended-new (x ∷ xs) zero = none-if (is_newly_marked x) (count_new xs)
-ended-new (x ∷ xs) (suc n) = more-if (is_newly_marked x) (count_new (set xs n None)) (count_new xs) (ended-new xs n)
+and-false : (b : Bool) → (b && false) ≡ false
+and-false true = refl
+and-false false = refl
 
-changed-new : (change : Number → Number) → ((m : Number) → is_newly_marked (Some (change m)) ≡ is_newly_marked (Some m))
-    → (numbers : List (Option Number)) (n : ℕ) → count_new (numbers_with numbers n change) ≡ count_new numbers
-changed-new change same [] n = refl
-changed-new change same (None ∷ xs) zero = refl
-changed-new change same (Some x ∷ xs) zero = ap (λ b. if b then count_new xs + 1 else count_new xs) (same x)
-changed-new change same (x ∷ xs) (suc n) = ap (λ c. if is_newly_marked x then c + 1 else c) (changed-new change same xs n)
+module _ (id : Id) where
+  ended-count : (numbers : List (Option OpenCall)) (n : ℕ) → count_in_reach id (set numbers n None) ≤ count_in_reach id numbers
+  ended-count [] n = omega arith
+  ended-count (x ∷ xs) zero = none-if (is_in_reach id x) (count_in_reach id xs)
+  ended-count (x ∷ xs) (suc n) = more-if (is_in_reach id x) (count_in_reach id (set xs n None)) (count_in_reach id xs) (ended-count xs n)
 
-told-new : (change : Number → Number) → ((m : Number) → is_newly_marked (Some (change m)) ≡ false)
-    → (numbers : List (Option Number)) (n : ℕ) → is_newly_marked (slice_index_or numbers n None) ≡ true → count_new (numbers_with numbers n change) < count_new numbers
-told-new change none [] n is = cc
-told-new change none (None ∷ xs) zero is = cc
-told-new change none (Some x ∷ xs) zero is = rw (none x, is) (omega arith)
-told-new change none (x ∷ xs) (suc n) is = strict-if (is_newly_marked x) (count_new (numbers_with xs n change)) (count_new xs) (told-new change none xs n is)
+  changed-count : (change : OpenCall → OpenCall) → ((m : OpenCall) → is_in_reach id (Some (change m)) ≡ is_in_reach id (Some m))
+      → (numbers : List (Option OpenCall)) (n : ℕ) → count_in_reach id (numbers_with numbers n change) ≡ count_in_reach id numbers
+  changed-count change same [] n = refl
+  changed-count change same (None ∷ xs) zero = refl
+  changed-count change same (Some x ∷ xs) zero = ap (λ b. if b then count_in_reach id xs + 1 else count_in_reach id xs) (same x)
+  changed-count change same (x ∷ xs) (suc n) = ap (λ c. if is_in_reach id x then c + 1 else c) (changed-count change same xs n)
 
-taken-new-if : (some : Bool) (d : State) (n turn : ℕ) → is_some (reply_of d n turn) ≡ some → count_new (without_reply d n turn).numbers ≡ count_new d.numbers
-taken-new-if true d n turn is = rw is (changed-new _ (λ m. refl) d.numbers n)
-taken-new-if false d n turn is = rw is refl
+  reached-count : (numbers : List (Option OpenCall)) (n : ℕ) → is_in_reach id (slice_index_or numbers n None) ≡ true
+      → count_in_reach id (numbers_with numbers n marked) < count_in_reach id numbers
+  reached-count [] n is = cc
+  reached-count (None ∷ xs) zero is = cc
+  reached-count (Some x ∷ xs) zero is = rw (and-false (has_id id x.id), is) (omega arith)
+  reached-count (x ∷ xs) (suc n) is = strict-if (is_in_reach id x) (count_in_reach id (numbers_with xs n marked)) (count_in_reach id xs) (reached-count xs n is)
 
-hears-new : (d : State) (h : HandlerState) (turns : List ℕ) → count_new (hear_turns d h turns).desk.numbers ≡ count_new d.numbers
-hears-new d h [] = refl
-hears-new d h (turn ∷ turns) =
-    hears-new (without_reply d h.number turn) (hear_if h turn (reply_of d h.number turn)) turns ∙ taken-new-if (is_some (reply_of d h.number turn)) d h.number turn refl
+  taken-count : (some : Bool) (d : State) (n turn : ℕ) → is_some (reply_of d n turn) ≡ some → count_in_reach id (without_reply d n turn).numbers ≡ count_in_reach id d.numbers
+  taken-count true d n turn is = rw is (changed-count _ (λ m. refl) d.numbers n)
+  taken-count false d n turn is = rw is refl
 
-finished-new : (core : Core) (stage : Stage) → count_new (told_at core stage).desk.numbers ≤ count_new core.desk.numbers
-finished-new core (Idle h written) =
-    let heard = hears-new core.desk h h.waits in
-    let hearing = hear_waits core.desk h in
-    omega (arith, heard, ended-new hearing.desk.numbers hearing.handler.number)
-finished-new core Gone = omega arith
-finished-new core (Faulty error) = omega arith
-finished-new core (Out written) = omega arith
-finished-new core (Over h written) = omega arith
-finished-new core Failed = omega arith
+  hears-count : (d : State) (h : HandlerState) (turns : List ℕ) → count_in_reach id (hear_turns d h turns).desk.numbers ≡ count_in_reach id d.numbers
+  hears-count d h [] = refl
+  hears-count d h (turn ∷ turns) =
+      hears-count (without_reply d h.number turn) (hear_if h turn (reply_of d h.number turn)) turns ∙ taken-count (is_some (reply_of d h.number turn)) d h.number turn refl
 
--- a number that is told of its cancel is newly marked no longer
-pub fewer-new : (core : Core) (n : ℕ) → is_newly_marked (number_at core.desk n) ≡ true → count_new (told core n).desk.numbers < count_new core.desk.numbers
-fewer-new core n is =
-    let after = with_desk core (with_told core.desk (Some n)) in
-    let less : count_new after.desk.numbers < count_new core.desk.numbers = told-new _ (λ m. refl) core.desk.numbers n is in
-    omega (arith, less, finished-new after (stage_at core n))
+  finished-count : (core : Core) (stage : Stage) → count_in_reach id (told_at core stage).desk.numbers ≤ count_in_reach id core.desk.numbers
+  finished-count core (Idle h written) =
+      let heard = hears-count core.desk h h.waits in
+      let hearing = hear_waits core.desk h in
+      omega (arith, heard, ended-count hearing.desk.numbers hearing.handler.number)
+  finished-count core Gone = omega arith
+  finished-count core (Faulty error) = omega arith
+  finished-count core (Out written) = omega arith
+  finished-count core (Over h written) = omega arith
+  finished-count core Failed = omega arith
+
+  -- once a number was told of a cancel, the cancel reaches it no more
+  pub fewer-in_reach : (core : Core) (n : ℕ) → is_in_reach id (number_at core.desk n) ≡ true
+      → count_in_reach id (told core n).desk.numbers < count_in_reach id core.desk.numbers
+  fewer-in_reach core n is =
+      let after = with_desk core (with_reached core.desk (Some n)) in
+      let less : count_in_reach id after.desk.numbers < count_in_reach id core.desk.numbers = reached-count core.desk.numbers n is in
+      omega (arith, less, finished-count after (stage_at core n))

@@ -1,20 +1,19 @@
 -- The runs after a unit was opened: each of its calls has a number.
-use Rattle.std.proofs.Common.{◌≡◌, ℕ, zero, suc, ◌+◌, ◌-◌, ◌<◌, ◌≤◌, List, [], ◌∷◌, ◌++◌, length, map, slice_index_or, nat_le, Bool, true, false, None, is_some, true≢false, refl, sym, ap, subst, ◌∙◌, arith}
-use Rattle.std.proofs.lemmas.List.{get_or_append_left, get_or-append_right, get_or_past, length-append, length-map}
+use Rattle.std.proofs.Common.{◌≡◌, ℕ, zero, suc, ◌+◌, ◌-◌, ◌<◌, ◌≤◌, List, [], ◌∷◌, ◌++◌, length, slice_index_or, nat_le, Bool, true, false, None, is_some, true≢false, refl, sym, ap, subst, ◌∙◌, arith}
+use Rattle.std.proofs.lemmas.List.{get_or_append_left, get_or-append_right, get_or_past, length-append}
 use Rattle.number_set.specs.Numbers.{Marked, HasRoom, is_in}
 use Rattle.rpc_messages.specs.Entry.{SeenEntry, call, reply, stray, invalid}
 use Rattle.rpc_messages.specs.Numbering.{numbers_in, entries_in, unit_numbers}
 use Rattle.rpc_messages.specs.Unit.{SeenUnit, unreadable, single, batch}
 use Rattle.method_steps.specs.Steps.{MethodTable}
-use Rattle.answer_desk.specs.declared.shape.Shape.{Shape}
 use Rattle.answer_desk.specs.Places.{new_numbers}
-use Rattle.answer_desk.specs.State.{State, is_open, with_unit}
+use Rattle.answer_desk.specs.State.{State, is_open}
 use Rattle.session_stages.specs.declared.stage.Stage.{Stage}
 use Rattle.session_stages.specs.declared.stage.Stage.TheVariants.{Gone}
 use Rattle.session_stages.specs.Stages.{is_gone}
 use Rattle.peer_output.specs.Work.{Work, nothing, fault, run, call_work}
 use Rattle.session_state.specs.Core.{Core, stage_at}
-use Rattle.session_state.specs.Taking.{stage_for, stages_for, places_of_entries, places_of_unit, shape_of_unit, opened}
+use Rattle.session_state.specs.Taking.{stage_for, stages_for, places_of_entries, places_of_unit, opened}
 use Rattle.session_state.specs.Turning.{is_ready_stage}
 use Rattle.peer_session.specs.Inner.Runs.{AreRuns, StageFits, has_unwritten}
 use Rattle.peer_session.proofs.Boards.{SameBoard, slots_of, same-stage, same-open, fits-stage}
@@ -27,9 +26,6 @@ stages-many table n (call c ∷ es) = omega (arith, stages-many table (n + 1) es
 stages-many table n (reply m t r ∷ es) = omega (arith, stages-many table (n + 0) es)
 stages-many table n (stray ∷ es) = omega (arith, stages-many table (n + 0) es)
 stages-many table n (invalid ∷ es) = omega (arith, stages-many table (n + 0) es)
-
-pub arrived-many : {X : Type 0} (f : X → Stage) (table : MethodTable) (n : ℕ) (es : List SeenEntry) (items : List X) → map f items ≡ stages_for table n es → length items ≡ numbers_in es
-arrived-many f table n es items is = sym (length-map items f) ∙ ap length is ∙ stages-many table n es
 
 numbers-among : (table : MethodTable) (es : List SeenEntry) → length (new_numbers (places_of_entries table es)) ≡ numbers_in es
 numbers-among table [] = refl
@@ -208,11 +204,3 @@ given-here stages first k gone here = (low (nat_le first k) refl, high (nat_le (
     high : (is : Bool) → nat_le (length stages) k ≡ is → k < length stages
     high true is = absurd (true≢false (sym (ap is_gone (get_or_past stages k Gone (grind (arith, is)))) ∙ here))
     high false is = grind (arith, is)
-
-pub opened-same : (table : MethodTable) (desk desk_now : State) (stages stages_now fresh : List Stage) (u : SeenUnit) (shape : Shape) (n : ℕ) → desk_now ≡ with_unit desk shape
-    → shape ≡ shape_of_unit table u → stages_now ≡ stages ++ fresh → fresh ≡ stages_for table n (entries_in u) → n ≡ length stages
-    → (let now : Core = record { desk = desk_now; stages = stages_now } in now) ≡ opened table (record { desk = desk; stages = stages }) u
-opened-same table desk desk_now stages stages_now fresh u shape n p is q fits same =
-    let desks : desk_now ≡ with_unit desk (shape_of_unit table u) = p ∙ ap (with_unit desk) is in
-    let all : stages_now ≡ stages ++ stages_for table (length stages) (entries_in u) = q ∙ ap (λ l. stages ++ l) (fits ∙ ap (λ k. stages_for table k (entries_in u)) same) in
-    λ i. record { desk = desks i; stages = all i }

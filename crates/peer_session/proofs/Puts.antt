@@ -8,7 +8,7 @@ use Rattle.std.proofs.lemmas.List.Sums.{sum_by-append}
 use Rattle.std.proofs.lemmas.Option.{slice_get_within, get_or_from_slice_get}
 use Rattle.std.specs.List.{count_by}
 use Rattle.lsp_frames.specs.Frames.{written}
-use Rattle.answer_desk.specs.State.{State}
+use Rattle.answer_desk.specs.State.{State, front_texts, without_front}
 use Rattle.handler_future.specs.declared.message.Message.{Message}
 use Rattle.handler_future.specs.State.{HandlerState}
 use Rattle.session_stages.specs.declared.stage.Stage.{Stage}
@@ -18,7 +18,7 @@ use Rattle.peer_output.specs.Items.{Item, sent, bytes_of, item_text, count_sendi
 use Rattle.session_state.specs.Core.{Core, stage_at, with_stage, unwritten, unwritten_from}
 use Rattle.session_state.specs.Turning.{written_stage}
 use Rattle.peer_session.specs.declared.writing.Written.{Written}
-use Rattle.peer_session.specs.Inner.Runs.{StageFits, has_unwritten, unwritten_numbers_from, unwritten_numbers}
+use Rattle.peer_session.specs.Inner.Runs.{NothingDue, StageFits, has_unwritten, unwritten_numbers_from, unwritten_numbers}
 use Rattle.peer_session.specs.Inner.Writing.{Counts, CountsOn, unwritten_of}
 use Rattle.peer_session.specs.SessionState.{counted}
 
@@ -235,19 +235,26 @@ pub noted : (s between after : Core) (n : ℕ) (first last : Stage) → between 
 noted s between after n first last p q =
     q ∙ ap (λ (c : Core). with_stage c n last) p ∙ ap (λ l. record s { stages = l }) (set-again s.stages n first last)
 
--- a number that fits its stage fits it once all is written
-pub written-fits : (desk : State) (n : ℕ) (stage : Stage) → StageFits desk n stage → StageFits desk n (written_stage stage)
-written-fits desk n Gone fits = tt
-written-fits desk n (Faulty error) fits = fits
-written-fits desk n (Idle h so_far) fits = fits
-written-fits desk n (Out so_far) fits = fits
-written-fits desk n (Over h so_far) fits = tt
-written-fits desk n Failed fits = tt
-
 pub done-noted : (core : Core) → slice_get (unwritten_numbers core) 0 ≡ None → ((n : ℕ) → StageFits core.desk n (stage_at core n)) → map written_stage core.stages ≡ core.stages
 done-noted core none fits =
     all-noted core.desk 0 core.stages (none-first (unwritten_numbers core) none)
     (λ k. subst (λ j. StageFits core.desk j (get_or core.stages k Gone)) (let same : k ≡ 0 + k = omega arith in same) (fits k))
+
+none-of-few : (ns : List ℕ) → length ns ≤ 0 → ns ≡ []
+none-of-few [] few = refl
+none-of-few (n ∷ ns) few = absurd (omega (arith, few))
+
+-- where no number has something to write, and no answer is due, a drain changes nothing
+pub nothing-due : (core : Core) → length (unwritten_numbers core) ≤ 0 → ((n : ℕ) → StageFits core.desk n (stage_at core n)) → front_texts core.desk ≡ []
+    → without_front core.desk ≡ core.desk → NothingDue core
+nothing-due core few fits none same =
+    let numbers : unwritten_numbers core ≡ [] = none-of-few (unwritten_numbers core) few in
+    let stages : map written_stage core.stages ≡ core.stages = done-noted core (ap (λ ns. slice_get ns 0) numbers) fits in
+    record {
+      sendings = sym (all-of core) ∙ ap (unwritten_of core) numbers;
+      answers = none;
+      same = λ i. record { desk = same i; stages = stages i };
+    }
 
 pub same-core : (s t : Core) → s.desk ≡ t.desk → s.stages ≡ t.stages → s ≡ t
 same-core s t p q = λ i. record { desk = p i; stages = q i }

@@ -1,32 +1,27 @@
-//! A unit as it arrives: its shape for the desk, and the stages of its calls.
+//! What arrives with a unit: how many calls it has, and what the desk and the stages keep of each.
 
 ghost use Rattle.rpc_messages.specs.declared.key.TheConstants.{MOST_NUMBERS};
-ghost use Rattle.std.specs.Prelude.{◌≡◌, ◌≤◌, ◌+◌, IfOk, map, if◌then◌else◌};
+ghost use Rattle.std.specs.Prelude.{◌≡◌, ◌≤◌, ◌+◌, ◌++◌, [], ◌∷◌, IfOk, OnOk, map, if◌then◌else◌};
 ghost use Rattle.std.specs.Arc.{arc_value};
-ghost use Rattle.rpc_messages.specs.Entry.{entry_seen};
+ghost use Rattle.rpc_messages.specs.Entry.{call as call_entry, entry_seen};
 ghost use Rattle.rpc_messages.specs.Numbering.{numbers_in, numbers_of as numbers_of_entry, unit_numbers, entries_in};
 ghost use Rattle.rpc_messages.specs.Unit.{unit_seen};
 ghost use Rattle.peer_output.specs.Work.{call_work};
-ghost use Rattle.session_stages.specs.Stages.{stage_in};
-ghost use Rattle.session_state.specs.Taking.{place_of_entry, places_of_entries, shape_of_unit, stage_for, stages_for};
+ghost use Rattle.handler_future.specs.State.{new_state, program_at};
+ghost use Rattle.session_stages.specs.declared.stage.Stage.TheVariants.{Idle};
+ghost use Rattle.session_state.specs.Taking.{place_of_entry, places_of_entries, entry_stages, stage_for, stages_for};
+ghost use Rattle.peer_session.specs.declared.work.Work.TheVariants.{Run};
+ghost use Rattle.peer_session.specs.Inner.Arriving.{MayRun};
 
-use crate::work::{Work, most_of, work_of};
-use answer_desk::{Kind, Place, Shape};
-use handler_future::Handler;
-use json_values::Items;
+use crate::spare::Spare;
+use crate::work::{Work, work_of};
+use answer_desk::Place;
 use method_steps::Table;
 use rpc_messages::{Call, Entry, Unit};
 use session_stages::Stage;
 use std::alloc::{AllocError, Global};
 use std::slice;
 use std::sync::Arc;
-
-/// What the desk and the stages keep of a unit.
-#[derive(Drop)]
-pub(crate) struct Arrival {
-    pub(crate) shape: Shape,
-    pub(crate) stages: Vec<Option<Box<Stage>>>,
-}
 
 /// The unit's entries, in their order.
 fn entries_of(unit: &Unit) -> &[Entry]
@@ -62,99 +57,119 @@ fn is_call(entry: &Entry) -> bool
     matches!(entry, Entry::Call(_))
 }
 
-impl Arrival {
-    /// A unit whose first call takes the number `first`.
-    pub(crate) fn make(
-        alloc: Global,
+/// A call as it arrives: its place at the desk, and its stage.
+pub(crate) struct Incoming {
+    pub(crate) place: Place,
+    pub(crate) stage: Stage,
+}
+
+impl Incoming {
+    /// The call that takes this number.
+    pub(crate) fn of_call(
         table: &Table,
-        first: u32,
-        unit: &Unit,
-    ) -> Result<Arrival, AllocError>
-        requires first { 1 ≤ first }
-        requires room { first + unit_numbers (unit_seen unit.now) ≤ MOST_NUMBERS + 1 }
-        ensures shape { IfOk result (λ arrival. arrival.shape ≡ shape_of_unit table.now
-            (unit_seen unit.now)) }
-        ensures stages { IfOk result
-            (λ arrival. map stage_in arrival.stages.items ≡ stages_for table.now first
-            (entries_in (unit_seen unit.now))) }
+        spare: &mut Spare,
+        number: u32,
+        call: &Arc<Call>,
+    ) -> Result<Incoming, AllocError>
+        requires { (1 ≤ number) × (number ≤ MOST_NUMBERS) }
+        ensures place { IfOk result (λ incoming. incoming.place
+            ≡ place_of_entry table.now (call_entry (arc_value call.now))) }
+        ensures stage { IfOk result (λ incoming. incoming.stage
+            ≡ stage_for number (call_work table.now (arc_value call.now))) }
     {
-        let entries = entries_of(unit);
-        let (kind, places) = match unit {
-            Unit::Unreadable => (Kind::Single, vec![in alloc; Place::Unreadable]?),
-            Unit::Single(_) => (Kind::Single, places_of(alloc, table, entries)?),
-            Unit::Batch(_) => (Kind::Batch, places_of(alloc, table, entries)?),
-        };
-        let stages = stages_of(alloc, table, first, entries)?;
-        let places = Items::from(places);
-        Ok(Arrival {
-            shape: Shape { kind, places },
-            stages,
-        })
-    }
-}
-
-fn places_of(alloc: Global, table: &Table, entries: &[Entry]) -> Result<Vec<Place>, AllocError>
-    ensures { IfOk result (λ places. places.items ≡ places_of_entries table.now
-        (map entry_seen entries.now)) }
-{
-    let mut places = Vec::with_capacity(alloc, entries.len())?;
-    for entry in entries {
-        places.push(place_of(table, entry)?)?;
-    }
-    Ok(places)
-}
-
-fn place_of(table: &Table, entry: &Entry) -> Result<Place, AllocError>
-    ensures { IfOk result (λ place. place ≡ place_of_entry table.now (entry_seen entry.now)) }
-{
-    match entry {
-        Entry::Call(call) => Ok(Place::Numbered {
-            id: call.id.clone()?,
-            most: most_of(table, call),
-        }),
-        Entry::Reply { .. } | Entry::Stray => Ok(Place::Silent),
-        Entry::Invalid => Ok(Place::Invalid),
-    }
-}
-
-fn stages_of(
-    alloc: Global,
-    table: &Table,
-    first: u32,
-    entries: &[Entry],
-) -> Result<Vec<Option<Box<Stage>>>, AllocError>
-    requires first { 1 ≤ first }
-    requires room { first + numbers_in (map entry_seen entries.now) ≤ MOST_NUMBERS + 1 }
-    ensures { IfOk result (λ stages. map stage_in stages.items ≡ stages_for table.now first
-        (map entry_seen entries.now)) }
-{
-    let mut stages = Vec::new(alloc);
-    let mut number = first;
-    for entry in entries {
-        if let Entry::Call(call) = entry {
-            stages.push(stage_for(alloc, table, number, call)?)?;
-            number += 1;
+        let id = call.id.clone()?;
+        match work_of(table, call) {
+            Work::Fault(error) => Ok(Incoming {
+                place: Place::Numbered { id, most: 0 },
+                stage: Stage::Faulty(error),
+            }),
+            Work::Run(method) => {
+                let most = table.calls_most(method);
+                let stage = idle(table, spare, method, number, call)?;
+                Ok(Incoming {
+                    place: Place::Numbered { id, most },
+                    stage,
+                })
+            }
         }
     }
-    Ok(stages)
 }
 
-/// The stage of a call as it arrives.
-fn stage_for(
-    alloc: Global,
+/// The stage of a call whose method runs, before the first poll.
+fn idle(
     table: &Table,
+    spare: &mut Spare,
+    method: u32,
     number: u32,
     call: &Arc<Call>,
-) -> Result<Option<Box<Stage>>, AllocError>
-    requires { (1 ≤ number) × (number ≤ MOST_NUMBERS) }
-    ensures { IfOk result (λ place. stage_in place
-        ≡ stage_for number (call_work table.now (arc_value call.now))) }
+) -> Result<Stage, AllocError>
+    requires number { (1 ≤ number) × (number ≤ MOST_NUMBERS) }
+    requires runs { MayRun table.now (arc_value call.now) (Run method) }
+    ensures { IfOk result (λ stage. stage
+        ≡ Idle (new_state number (program_at table.now.methods method call.now)) 0) }
 {
-    match work_of(table, call) {
-        Work::Fault(error) => Stage::Faulty(error).boxed(alloc),
-        Work::Run(method) => {
-            let handler = Handler::new(alloc, table, method, number, Arc::try_clone(call)?)?;
-            Stage::Idle(handler, 0).boxed(alloc)
+    let handler = spare.handler(table, method, number, Arc::try_clone(call)?)?;
+    Ok(Stage::Idle(handler, 0))
+}
+
+/// What the desk and the stages keep of a batch.
+#[derive(Drop)]
+pub(crate) struct Arrival {
+    pub(crate) places: Vec<Place>,
+    pub(crate) stages: Vec<Stage>,
+    /// The number that the next call takes.
+    next: u32,
+}
+
+impl Arrival {
+    /// Entries of which the first call takes the number `first`.
+    pub(crate) fn of_entries(
+        alloc: Global,
+        table: &Table,
+        spare: &mut Spare,
+        first: u32,
+        entries: &[Entry],
+    ) -> Result<Arrival, AllocError>
+        requires first { 1 ≤ first }
+        requires room { first + numbers_in (map entry_seen entries.now) ≤ MOST_NUMBERS + 1 }
+        ensures places { IfOk result (λ arrival. arrival.places.items
+            ≡ places_of_entries table.now (map entry_seen entries.now)) }
+        ensures stages { IfOk result (λ arrival. arrival.stages.items
+            ≡ stages_for table.now first (map entry_seen entries.now)) }
+    {
+        let mut arrival = Arrival {
+            places: Vec::with_capacity(alloc, entries.len())?,
+            stages: Vec::new(alloc),
+            next: first,
+        };
+        for entry in entries {
+            arrival.add(table, spare, entry)?;
         }
+        Ok(arrival)
+    }
+
+    /// One more entry.
+    fn add(&mut self, table: &Table, spare: &mut Spare, entry: &Entry) -> Result<(), AllocError>
+        requires first { 1 ≤ self.old.next }
+        requires room { self.old.next + numbers_of_entry (entry_seen entry.now)
+            ≤ MOST_NUMBERS + 1 }
+        ensures places { OnOk result (self.new.places.items
+            ≡ self.old.places.items ++ place_of_entry table.now (entry_seen entry.now) ∷ []) }
+        ensures stages { OnOk result (self.new.stages.items ≡ self.old.stages.items
+            ++ entry_stages table.now self.old.next (entry_seen entry.now)) }
+        ensures next { OnOk result (self.new.next
+            ≡ self.old.next + numbers_of_entry (entry_seen entry.now)) }
+    {
+        match entry {
+            Entry::Call(call) => {
+                let Incoming { place, stage } = Incoming::of_call(table, spare, self.next, call)?;
+                self.stages.push(stage)?;
+                self.places.push(place)?;
+                self.next += 1;
+            }
+            Entry::Reply { .. } | Entry::Stray => self.places.push(Place::Silent)?,
+            Entry::Invalid => self.places.push(Place::Invalid)?,
+        }
+        Ok(())
     }
 }

@@ -2,11 +2,11 @@
 //! "Cancellation Support").
 
 ghost use Rattle.std.specs.Prelude.{◌≡◌, MatchOption, true, false};
-ghost use Rattle.answer_desk.specs.State.{is_open, with_marks};
+ghost use Rattle.answer_desk.specs.State.{is_open};
 ghost use Rattle.session_stages.specs.declared.stage.Stage.TheVariants.{Idle, Failed};
 ghost use Rattle.session_stages.specs.Stages.{is_gone};
-ghost use Rattle.session_state.specs.Core.{stage_at, with_stage, with_desk};
-ghost use Rattle.session_state.specs.Finishing.{over_or_gone, finished, cancelled, Tells, fault_passed};
+ghost use Rattle.session_state.specs.Core.{stage_at, with_stage};
+ghost use Rattle.session_state.specs.Finishing.{finished, cancelled, Reaches, fault_passed};
 ghost use Rattle.peer_session.specs.Inner.Runs.{is_idle, told_here};
 
 use crate::hearing::hear_waits;
@@ -14,18 +14,6 @@ use crate::runs::{Runs, is_more_than};
 use handler_future::Handler;
 use rpc_messages::{Id, Reply, Standard};
 use session_stages::Stage;
-
-/// The stage of a finished number: it is gone once all is written.
-fn over_or_gone(handler: Handler, written: usize) -> Stage
-    ensures { result ≡ over_or_gone handler written }
-{
-    if is_more_than(written, &handler) {
-        Stage::Over(handler, written)
-    } else {
-        drop(handler);
-        Stage::Gone
-    }
-}
 
 /// Takes the handler of a number out of the runs, where it is here. Its place is kept.
 pub(crate) fn take_idle(runs: &mut Runs, number: u32) -> Option<(Handler, usize)>
@@ -38,7 +26,7 @@ pub(crate) fn take_idle(runs: &mut Runs, number: u32) -> Option<(Handler, usize)
     let Some(Stage::Idle(..)) = runs.stage(number) else {
         return None;
     };
-    match runs.replace(number, Stage::Failed) {
+    match runs.take_out(number) {
         Stage::Idle(handler, written) => Some((handler, written)),
         other => {
             drop(other);
@@ -54,7 +42,12 @@ pub(crate) fn finish(runs: &mut Runs, handler: Handler, written: usize, answer: 
     ensures { runs.new ≡ finished runs.old handler written answer }
 {
     let number = handler.number();
-    drop(runs.replace(number, over_or_gone(handler, written)));
+    if is_more_than(written, &handler) {
+        drop(runs.replace(number, Stage::Over(handler, written)));
+    } else {
+        drop(runs.replace(number, Stage::Gone));
+        runs.keep(handler);
+    }
     runs.finish(number, answer);
 }
 
@@ -80,12 +73,12 @@ fn tell(runs: &mut Runs, number: u32)
     }
 }
 
-/// A cancel of this id, which is call `number` of the stream, reaches the requests before it.
+/// A cancel of this id, which is call `number` of the stream, reaches the requests before it, the lowest
+/// first.
 pub(crate) fn cancel_requests(runs: &mut Runs, id: &Id, number: u32)
-    ensures { Tells (with_desk runs.old (with_marks runs.old.desk id.now number)) runs.new }
+    ensures { Reaches id.now number runs.old runs.new }
 {
-    runs.mark(id, number);
-    while let Some(reached) = runs.take_marked() {
+    while let Some(reached) = runs.reach(id, number) {
         tell(runs, reached);
     }
 }

@@ -3,6 +3,7 @@
 //! Its limits say how much a peer takes, its report what a run tells of itself.
 #![tactic(auto)]
 
+mod admission;
 mod arrival;
 mod drain_fault;
 mod finishing;
@@ -13,6 +14,7 @@ mod passing;
 mod report;
 mod runs;
 mod session;
+mod spare;
 mod taken;
 mod turning;
 mod work;

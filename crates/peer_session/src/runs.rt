@@ -7,17 +7,19 @@ ghost use Rattle.number_set.specs.Numbers.{HasRoom, is_in, with_mark};
 ghost use Rattle.rpc_messages.specs.Numbering.{unit_numbers};
 ghost use Rattle.rpc_messages.specs.Unit.{unit_seen};
 ghost use Rattle.answer_desk.specs.Desk.{view as desk_view};
-ghost use Rattle.answer_desk.specs.State.{is_open, number_at, is_marked_number, reply_of, without_reply, with_reply, with_marks, with_told, with_end, IsLowestNewlyMarked, front_texts, without_front};
-ghost use Rattle.session_stages.specs.declared.stage.Stage.TheVariants.{Gone};
+ghost use Rattle.answer_desk.specs.State.{is_open, number_at, is_marked_number, reply_of, without_reply, with_reply, with_reached, with_end, IsLowestInReach, front_texts, without_front};
+ghost use Rattle.session_stages.specs.declared.stage.Stage.TheVariants.{Gone, Failed};
 ghost use Rattle.session_stages.specs.Stages.{is_gone, stage_at as stage_in_list};
 ghost use Rattle.session_state.specs.Core.{Core, stage_at, with_stage, with_desk};
 ghost use Rattle.session_state.specs.Hearing.{is_ready};
 ghost use Rattle.session_state.specs.Taking.{opened};
 ghost use Rattle.session_state.specs.Turning.{start, closed, ready, is_ready_stage};
-ghost use Rattle.peer_session.specs.Inner.Runs.{StageFits, is_idle, is_live, has_unwritten, is_more_than, unwritten_numbers};
+ghost use Rattle.peer_session.specs.Inner.Runs.{NothingDue, StageFits, is_idle, is_live, has_unwritten, is_more_than, unwritten_numbers};
 
-use crate::arrival::{Arrival, numbers_of};
+use crate::admission::enter;
+use crate::arrival::numbers_of;
 use crate::hearing::is_ready;
+use crate::spare::Spare;
 use answer_desk::Desk;
 use handler_future::Handler;
 use method_steps::Table;
@@ -42,6 +44,8 @@ pub(crate) struct Runs {
     stages: Stages,
     ready: NumberSet,
     unwritten: NumberSet,
+    /// Handlers that are over. Contracts don't see them.
+    spare: Spare,
 }
 
 impl Model for Runs {
@@ -72,11 +76,13 @@ impl Runs {
                 stages: Stages::new(alloc),
                 ready: NumberSet::new(alloc),
                 unwritten: NumberSet::new(alloc),
+                spare: Spare::new(alloc)?,
             }),
             Some(handler) => Ok(Runs {
                 stages: Stages::with_opening(alloc, handler)?,
                 ready: set_with_zero(alloc)?,
                 unwritten: set_with_room(alloc)?,
+                spare: Spare::new(alloc)?,
                 desk: Desk::with_opening(alloc, table.opening_most())?,
             }),
         }
@@ -145,6 +151,13 @@ impl Runs {
         self.unwritten.at(place)
     }
 
+    /// Whether something may be due: where nothing is, a drain changes nothing.
+    pub(crate) fn has_due(&self) -> bool
+        ensures { result ≡ false → NothingDue self.now }
+    {
+        self.unwritten.len() > 0 || self.desk.has_due()
+    }
+
     /// Opens a unit: each of its calls takes a number.
     pub(crate) fn open(
         &mut self,
@@ -161,12 +174,14 @@ impl Runs {
         let lowest = self.stages.first();
         make_room(&mut self.ready, lowest, end)?;
         make_room(&mut self.unwritten, lowest, end)?;
-        let Arrival { shape, stages } = Arrival::make(alloc, table, first, unit)?;
-        self.stages.append(stages)?;
-        if let Err(error) = self.desk.open_unit(shape) {
-            self.stages.truncate(first);
-            return Err(error);
-        }
+        enter(
+            alloc,
+            table,
+            &mut self.spare,
+            &mut self.desk,
+            &mut self.stages,
+            unit,
+        )?;
         mark_ready(&mut self.ready, &self.desk, &self.stages, first, end);
         Ok(())
     }
@@ -178,12 +193,28 @@ impl Runs {
         ensures before { result ≡ stage_at self.old number }
         ensures after { self.new ≡ with_stage self.old number stage }
     {
-        let before = self.stages.replace(number, stage);
-        let is_ready = is_ready_at(&self.desk, &self.stages, number);
+        let is_ready = is_ready_stage(&self.desk, &stage);
+        let is_unwritten = has_unwritten(&stage);
         set_mark(&mut self.ready, number, is_ready);
-        let is_unwritten = is_unwritten_at(&self.stages, number);
         set_mark(&mut self.unwritten, number, is_unwritten);
-        before
+        self.stages.replace(number, stage)
+    }
+
+    /// Takes the stage of a number out for a moment, and gives it. Until it is put back, the number
+    /// stands as one that failed.
+    pub(crate) fn take_out(&mut self, number: u32) -> Stage
+        requires { is_gone (stage_at self.old number) ≡ false }
+        ensures taken { result ≡ stage_at self.old number }
+        ensures after { self.new ≡ with_stage self.old number Failed }
+    {
+        self.replace(number, Stage::Failed)
+    }
+
+    /// Keeps a handler that is over for a further call.
+    pub(crate) fn keep(&mut self, handler: Handler)
+        ensures { self.new ≡ self.old }
+    {
+        self.spare.keep(handler);
     }
 
     /// Keeps the first reply to a call of an open number.
@@ -204,19 +235,12 @@ impl Runs {
         self.desk.take_reply(number, turn)
     }
 
-    /// A cancel of this id reaches the requests before a number.
-    pub(crate) fn mark(&mut self, id: &Id, before: u32)
-        ensures { self.new ≡ with_desk self.old (with_marks self.old.desk id.now before) }
+    /// One step of a cancel of this id: the lowest request before a number that it reaches is marked.
+    pub(crate) fn reach(&mut self, id: &Id, before: u32) -> Option<u32>
+        ensures lowest { IsLowestInReach self.old.desk id.now before result }
+        ensures after { self.new ≡ with_desk self.old (with_reached self.old.desk result) }
     {
-        self.desk.mark(id, before);
-    }
-
-    /// The lowest number that is newly marked, once.
-    pub(crate) fn take_marked(&mut self) -> Option<u32>
-        ensures lowest { IsLowestNewlyMarked self.old.desk result }
-        ensures after { self.new ≡ with_desk self.old (with_told self.old.desk result) }
-    {
-        self.desk.take_marked()
+        self.desk.reach(id, before)
     }
 
     /// Whether a cancel has reached the number.
@@ -269,19 +293,29 @@ fn is_ready_at(desk: &Desk, stages: &Stages, number: u32) -> bool
     ensures { result ≡ is_ready_stage (desk_view desk.now) (stage_in_list stages.now number) }
 {
     match stages.stage(number) {
-        Some(Stage::Idle(handler, _)) => is_ready(desk, handler),
+        Some(stage) => is_ready_stage(desk, stage),
+        None => false,
+    }
+}
+
+/// Whether a number in this stage has its handler here, and ready.
+fn is_ready_stage(desk: &Desk, stage: &Stage) -> bool
+    ensures { result ≡ is_ready_stage (desk_view desk.now) stage.now }
+{
+    match stage {
+        Stage::Idle(handler, _) => is_ready(desk, handler),
         _ => false,
     }
 }
 
-/// Whether something of what a number has sent isn't written. What a job that is out has made waits
-/// until it is back.
-fn is_unwritten_at(stages: &Stages, number: u32) -> bool
-    ensures { result ≡ has_unwritten (stage_in_list stages.now number) }
+/// Whether something of what a number in this stage has sent isn't written. What a job that is out
+/// has made waits until it is back.
+fn has_unwritten(stage: &Stage) -> bool
+    ensures { result ≡ has_unwritten stage.now }
 {
-    match stages.stage(number) {
-        Some(Stage::Idle(handler, written)) => *written < handler.messages().len(),
-        Some(Stage::Over(handler, written)) => is_more_than(*written, handler),
+    match stage {
+        Stage::Idle(handler, written) => *written < handler.messages().len(),
+        Stage::Over(handler, written) => is_more_than(*written, handler),
         _ => false,
     }
 }

@@ -224,6 +224,10 @@ impl<'a> Session<'a> {
         if self.has_failed {
             return Err(DrainFault::Memory);
         }
+        self.written.counts_fit();
+        if !self.runs.has_due() {
+            return Ok(());
+        }
         self.output.clear();
         let Ok(written) = put_due(self.alloc, &mut self.runs, &mut self.output) else {
             return Err(DrainFault::Memory);

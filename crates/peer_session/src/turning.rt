@@ -2,9 +2,9 @@
 
 ghost use Rattle.std.specs.Prelude.{◌≡◌, slice_get};
 ghost use Rattle.session_state.specs.Turning.{ready, returned};
-ghost use Rattle.peer_session.specs.Inner.Runs.{LeavesFrom};
+ghost use Rattle.peer_session.specs.Inner.Runs.{LeavesFrom, SendsOut};
 
-use crate::finishing::{cancel, finish, take_idle};
+use crate::finishing::{cancel, finish};
 use crate::hearing::hear_waits;
 use crate::runs::Runs;
 use handler_future::{Handler, Outcome};
@@ -16,10 +16,26 @@ pub(crate) fn leave(runs: &mut Runs, place: u32) -> Option<Handler>
     ensures { LeavesFrom runs.old (slice_get (ready runs.old) place) result runs.new }
 {
     let number = runs.ready_at(place)?;
-    let (mut handler, written) = take_idle(runs, number)?;
+    let mut handler = send_out(runs, number)?;
     hear_waits(runs, &mut handler);
-    drop(runs.replace(number, Stage::Out(written)));
     Some(handler)
+}
+
+/// The handler of a number goes out, where it is here.
+fn send_out(runs: &mut Runs, number: u32) -> Option<Handler>
+    ensures { SendsOut runs.old number result runs.new }
+{
+    let Some(Stage::Idle(_, written)) = runs.stage(number) else {
+        return None;
+    };
+    let written = *written;
+    match runs.replace(number, Stage::Out(written)) {
+        Stage::Idle(handler, _) => Some(handler),
+        other => {
+            drop(other);
+            None
+        }
+    }
 }
 
 /// A handler that was out is here again, with what its poll answered. One that isn't out is let go.

@@ -2,7 +2,6 @@
 
 ghost use Rattle.std.specs.Prelude.{◌≡◌};
 ghost use Rattle.peer_output.specs.Work.{call_work};
-ghost use Rattle.session_state.specs.Taking.{most_of};
 ghost use Rattle.peer_session.specs.Inner.Arriving.{work_seen, MayRun};
 
 use method_steps::Table;
@@ -33,15 +32,5 @@ pub(crate) fn work_of(table: &Table, call: &Call) -> Work
             Params::Fractional => Work::Fault(Standard::InvalidParams),
             Params::Omitted | Params::Whole(_) => Work::Run(method),
         },
-    }
-}
-
-/// How many calls the work of a call makes at most.
-pub(crate) fn most_of(table: &Table, call: &Call) -> u32
-    ensures { result ≡ most_of (call_work table.now call.now) }
-{
-    match work_of(table, call) {
-        Work::Fault(_) => 0,
-        Work::Run(method) => table.calls_most(method),
     }
 }

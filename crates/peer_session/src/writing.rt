@@ -1,6 +1,6 @@
 //! What is due, as frames (LSP 3.17, "Base Protocol").
 
-ghost use Rattle.std.specs.Prelude.{◌≡◌, ◌++◌, [], ◌∷◌, All, IfOk, OnOk, OnErr, length, map, drop, true};
+ghost use Rattle.std.specs.Prelude.{◌≡◌, ◌<◌, ◌^◌, ◌++◌, [], ◌∷◌, All, IfOk, OnOk, OnErr, length, map, drop, true};
 ghost use Rattle.handler_future.specs.Front.{HasTurnsUpTo};
 ghost use Rattle.answer_desk.specs.State.{front_texts};
 ghost use Rattle.peer_output.specs.Course.{message as sends_message, withdrawal};
@@ -16,7 +16,6 @@ use lsp_frames::put_frame;
 use rpc_messages::{put_call, put_calls, put_notice, put_withdrawal};
 use session_stages::Stage;
 use std::alloc::{AllocError, Global};
-use std::mem;
 
 /// How many messages and answers were put.
 #[derive(Clone, Copy)]
@@ -45,6 +44,17 @@ impl Written {
             call_frames: self.call_frames.saturating_add(more.call_frames),
             answers: self.answers.saturating_add(more.answers),
         }
+    }
+
+    /// What holds of the counts.
+    pub(crate) fn counts_fit(&self)
+        ensures messages { self.now.messages < 2 ^ 64 }
+        ensures call_frames { self.now.call_frames < 2 ^ 64 }
+        ensures answers { self.now.answers < 2 ^ 64 }
+    {
+        let _messages = self.messages;
+        let _call_frames = self.call_frames;
+        let _answers = self.answers;
     }
 
     /// One message.
@@ -215,18 +225,15 @@ fn note_number(runs: &mut Runs, number: u32)
     ensures { runs.new ≡ with_stage runs.old number (written_stage (stage_at runs.old number)) }
 {
     runs.stages_fit();
-    let mut stage = runs.replace(number, Stage::Failed);
-    note_stage(&mut stage);
-    drop(runs.replace(number, stage));
-}
-
-/// All that a number in this stage has sent is written.
-fn note_stage(stage: &mut Stage)
-    ensures { stage.new ≡ written_stage stage.old }
-{
-    match stage {
-        Stage::Idle(handler, so_far) => *so_far = (*so_far).max(handler.messages().len()),
-        Stage::Over(..) => drop(mem::replace(stage, Stage::Gone)),
-        _ => {}
+    match runs.take_out(number) {
+        Stage::Idle(handler, so_far) => {
+            let written = so_far.max(handler.messages().len());
+            drop(runs.replace(number, Stage::Idle(handler, written)));
+        }
+        Stage::Over(handler, _) => {
+            drop(runs.replace(number, Stage::Gone));
+            runs.keep(handler);
+        }
+        other => drop(runs.replace(number, other)),
     }
 }

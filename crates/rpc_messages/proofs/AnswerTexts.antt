@@ -1,16 +1,18 @@
 -- A response's text, part by part, and that it is read back.
-use Rattle.std.proofs.Common.{◌≡◌, ℕ, ◌≤◌, ◌++◌, List, codes, false, Some, Result, Ok, Err, OnOk, refl, ap, sym, subst, ◌∙◌, arith, [], ◌∷◌, append-nil, ℤ, pos, negsuc, FitsSigned, w64, ◌||◌}
+use Rattle.std.proofs.Common.{◌≡◌, ℕ, ◌<◌, ◌≤◌, ◌^◌, ◌++◌, List, codes, false, Some, Result, Ok, Err, OnOk, refl, ap, sym, subst, ◌∙◌, arith, [], ◌∷◌, append-nil, decimal, ℤ, pos, negsuc, FitsSigned, w64, ◌||◌}
 use Rattle.std.specs.Fmt.{digits}
+use Rattle.std.specs.Prelude.{option_and_then}
 use Rattle.json.specs.Print.{print, quoted}
 use Rattle.json.specs.Token as token
 use Rattle.json.proofs.OnLiterals.{json_on_literals}
-use Rattle.serde_json.specs.Data.{Data, depth}
+use Rattle.serde_json.specs.Data.{Data, null, boolean, number, string, array, object, unsigned, negative, float, depth}
+use Rattle.serde_json.specs.Find.{as_number, as_u64}
 use Rattle.serde_json.specs.Read.{read, max_depth}
 use Rattle.serde_json.specs.Written.{compact_text, has_float}
 use Rattle.rpc_messages.specs.declared.standard.Standard.{Standard}
 use Rattle.rpc_messages.specs.declared.standard.Standard.TheVariants.{ParseError, InvalidRequest, MethodNotFound, InvalidParams, InternalError, Cancelled, NoReply, InvalidReply}
 use Rattle.rpc_messages.specs.Texts.{standard_error, answer_text_of, answer_of, error_answer_of, error_data, id_data}
-use Rattle.rpc_messages.specs.Parts.{done_text, error_text}
+use Rattle.rpc_messages.specs.Parts.{IsReadBack, done_text, error_text}
 use Rattle.rpc_messages.specs.declared.error_value.ErrorValue.{ErrorValue}
 use Rattle.rpc_messages.specs.declared.id.Id.{Id}
 use Rattle.rpc_messages.specs.declared.id.Id.TheVariants.{Null, Text, Signed, Unsigned}
@@ -61,6 +63,26 @@ pub id_reads_back : (id seen : Id) → seen ≡ id → Sound (id_data id) → ha
 id_reads_back id seen is sound whole shallow =
     let P : Id → Type 0 = λ i. read (compact_text (id_data i)) ≡ Some (id_data i) in
     subst P (sym is) (read-compact_text (id_data id) sound whole shallow)
+
+-- a value that is shown to be this whole number
+pub unsigned_is : (d : Data) (n : ℕ) → Some n ≡ option_and_then as_u64 (as_number d) → d ≡ number (unsigned n)
+unsigned_is null n e = cc
+unsigned_is (boolean b) n e = cc
+unsigned_is (number (unsigned m)) n e = let same : n ≡ m = cc in ap (λ k. number (unsigned k)) (sym same)
+unsigned_is (number (negative z)) n e = cc
+unsigned_is (number (float x)) n e = cc
+unsigned_is (string s) n e = cc
+unsigned_is (array ds) n e = cc
+unsigned_is (object ms) n e = cc
+
+pub unsigned_text : (n : ℕ) → decimal n ≡ compact_text (number (unsigned n))
+unfolding json_on_literals
+unsigned_text n = refl
+
+-- such a number is read back
+pub unsigned_is_read_back : (d : Data) (n : ℕ) → d ≡ number (unsigned n) → n < 2 ^ 64 → IsReadBack d
+unsigned_is_read_back d n is fits =
+    subst (λ v. IsReadBack v) (sym is) (record { whole = refl; back = λ shallow. read-compact_text (number (unsigned n)) fits refl shallow })
 
 -- a number of i64 fits
 pub signed_sound : (z : ℤ) → FitsSigned w64 z → Sound (id_data (Signed z))
@@ -124,9 +146,8 @@ fixed_whole InvalidReply = refl
 
 -- ---- what `put_answer` puts
 
-pub put_done : (old new : List ℕ) (id : Id) (d : Data) (seen : Reply) (text : List ℕ) → seen ≡ Done d → text ≡ compact_text d → new ≡ old ++ done_text id text → new ≡ old ++ answer_text_of id seen
-put_done old new id d seen text is same put =
-    put ∙ ap (λ t. old ++ done_text id t) same ∙ ap (λ t. old ++ t) (done_text-is id d ∙ ap (answer_text_of id) (sym is))
+pub put_done : (old new : List ℕ) (id : Id) (d : Data) (seen : Reply) → seen ≡ Done d → new ≡ old ++ done_text id (compact_text d) → new ≡ old ++ answer_text_of id seen
+put_done old new id d seen is put = put ∙ ap (λ t. old ++ t) (done_text-is id d ∙ ap (answer_text_of id) (sym is))
 
 pub put_error : (old new : List ℕ) (id : Id) (e : ErrorValue) (seen : Reply) (text : List ℕ) → answer_of id seen ≡ error_answer_of id e → text ≡ compact_text (error_data e)
     → new ≡ old ++ error_text id text → new ≡ old ++ answer_text_of id seen
@@ -137,6 +158,10 @@ put_error old new id e seen text is same put =
 pub OnOk-map : {X E P Q : Type 0} (r : Result X E) → (P → Q) → OnOk r P → OnOk r Q
 OnOk-map (Ok x) f p = f p
 OnOk-map (Err e) f p = tt
+
+pub OnOk-map2 : {X E P Q R : Type 0} (r : Result X E) → (P → Q → R) → OnOk r P → OnOk r Q → OnOk r R
+OnOk-map2 (Ok x) f p q = f p q
+OnOk-map2 (Err e) f p q = tt
 
 abbrev pub ReadsBack : Data → Type 0
 ReadsBack d = depth d ≤ max_depth → read (compact_text d) ≡ Some d

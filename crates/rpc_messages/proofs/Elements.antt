@@ -15,7 +15,7 @@ pub none_before : (r : Option (Items × List Token)) → r ≡ parse_map (elemen
 none_before None = refl
 none_before (Some p) = refl
 
-push : (ds : List Data) (d : Data) (rest : Items) → elements_before ds (item d rest) ≡ elements_before (ds ++ d ∷ []) rest
+pub push : (ds : List Data) (d : Data) (rest : Items) → elements_before ds (item d rest) ≡ elements_before (ds ++ d ∷ []) rest
 push [] d rest = refl
 push (e ∷ ds) d rest = ap (item e) (push ds d rest)
 

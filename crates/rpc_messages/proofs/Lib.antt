@@ -3,6 +3,7 @@ mod AnswerTexts
 mod BatchLemmas
 mod BatchReadBack
 mod CallTexts
+mod Compact
 mod Contents
 mod Elements
 mod Envelopes

@@ -5,6 +5,7 @@ pub mod Entry
 pub mod Envelope
 pub mod Held
 pub mod Ids
+pub mod Inner
 pub mod Key
 pub mod Numbering
 pub mod Parts

@@ -1,15 +1,18 @@
+//! The texts of answers to requests of the other side.
+
 ghost use Rattle.std.specs.Prelude.{◌≡◌, ◌≤◌, ◌<◌, ◌++◌, Some, List, IfOk, OnOk, OnErr, length, map};
 ghost use Rattle.std.specs.Io.{StartsWith};
 ghost use Rattle.serde_json.specs.Data.{Data, depth, array};
 ghost use Rattle.serde_json.specs.Read.{read, max_depth};
 ghost use Rattle.serde_json.specs.View.{items_of};
 ghost use Rattle.serde_json.specs.Written.{compact_text};
-ghost use Rattle.rpc_messages.specs.Parts.{done_text, error_text};
+ghost use Rattle.rpc_messages.specs.Parts.{IsReadBack, done_text, error_text};
 ghost use Rattle.rpc_messages.specs.Texts.{answer_of, answer_text_of, id_data, batch_text_of, AreTextsOf};
 
 use crate::id::Id;
-use crate::parts::put_id;
+use crate::parts::{put_id, put_value};
 use crate::reply::Reply;
+use json_values::Json;
 use std::alloc::{AllocError, Global};
 
 /// The room that is made for what stands around a response's result or error, in bytes. A long id takes more.
@@ -63,7 +66,7 @@ fn put_response(
     ensures front { OnErr result (StartsWith bytes.new.items bytes.old.items) }
 {
     match reply {
-        Reply::Done(value) => put_done(alloc, bytes, id, value.to_bytes(alloc)?.as_slice()),
+        Reply::Done(value) => put_done(alloc, bytes, id, value),
         Reply::Error(error) => {
             let text = error.to_json(alloc)?.to_bytes(alloc)?;
             put_error(alloc, bytes, id, text.as_slice())
@@ -72,18 +75,20 @@ fn put_response(
     }
 }
 
-/// Puts a response with a result of that text.
-fn put_done(alloc: Global, bytes: &mut Vec<u8>, id: &Id, value: &[u8]) -> Result<(), AllocError>
-    ensures text { OnOk result (bytes.new.items ≡ bytes.old.items ++ done_text id.now value.now) }
+/// Puts a response with that result.
+fn put_done(alloc: Global, bytes: &mut Vec<u8>, id: &Id, value: &Json) -> Result<(), AllocError>
+    ensures text { OnOk result (bytes.new.items ≡
+        bytes.old.items ++ done_text id.now (compact_text value.now)) }
     ensures id_reads_back { OnOk result (read (compact_text (id_data id.now)) ≡
         Some (id_data id.now)) }
+    ensures reads_back { OnOk result (IsReadBack value.now) }
     ensures front { OnErr result (StartsWith bytes.new.items bytes.old.items) }
 {
-    bytes.reserve(ROOM + value.len())?;
+    bytes.reserve(ROOM)?;
     bytes.extend_from_slice(b"{\"id\":")?;
     put_id(alloc, bytes, id)?;
     bytes.extend_from_slice(b",\"jsonrpc\":\"2.0\",\"result\":")?;
-    bytes.extend_from_slice(value)?;
+    put_value(alloc, bytes, value)?;
     bytes.extend_from_slice(b"}")
 }
 

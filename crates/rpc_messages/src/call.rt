@@ -1,4 +1,4 @@
-//! Requests and notifications.
+//! A call of the other side: a request or a notification.
 
 ghost use Rattle.std.specs.Prelude.{◌≡◌, option_copied};
 

@@ -1,3 +1,5 @@
+//! The error of a reply.
+
 ghost use Rattle.std.specs.Prelude.{◌≡◌};
 
 use json_values::{Json, JsonObject, Text};

@@ -1,3 +1,5 @@
+//! The id of a request.
+
 ghost use Rattle.std.specs.Prelude.{◌≡◌};
 
 use json_values::{Json, Negative, Text};

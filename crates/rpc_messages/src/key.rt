@@ -1,3 +1,5 @@
+//! Keys: the ids of our calls.
+
 ghost use Rattle.std.specs.Prelude.{◌≡◌, ◌↔◌, ℕ, List, IfOk, Some, string_bytes};
 ghost use Rattle.rpc_messages.specs.declared.key.TheConstants.{MOST_NUMBERS, MOST_TURNS};
 ghost use Rattle.rpc_messages.specs.Key.{key_text, key_of, decimal_number as number_of, IsKeyOf};

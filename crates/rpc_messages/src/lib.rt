@@ -8,12 +8,12 @@ mod error_value;
 mod id;
 mod key;
 mod kind;
+mod our_calls;
 mod outgoing;
 mod params;
 mod parts;
 mod read;
 mod reply;
-mod request;
 mod standard;
 mod unit;
 mod unit_answer;
@@ -29,13 +29,13 @@ pub use key::{
     read_key,
 };
 pub use kind::Kind;
-pub use outgoing::Outgoing;
-pub use params::Params;
-pub use reply::Reply;
-pub use request::{
+pub use our_calls::{
     call_text, calls_text, notice_text, put_call, put_calls, put_notice, put_withdrawal,
     withdraw_text,
 };
+pub use outgoing::Outgoing;
+pub use params::Params;
+pub use reply::Reply;
 pub use standard::Standard;
 pub use unit::Unit;
 pub use unit_answer::{Answer, put_unit_answer};

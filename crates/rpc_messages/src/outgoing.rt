@@ -1,3 +1,5 @@
+//! What a call or notification of ours says.
+
 ghost use Rattle.std.specs.Prelude.{◌≡◌};
 
 use json_values::{Json, Text};

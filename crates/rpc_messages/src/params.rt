@@ -1,3 +1,5 @@
+//! The params of a call.
+
 use json_values::Json;
 
 /// The params of a call (JSON-RPC 2.0, section 4.2).

@@ -6,11 +6,13 @@ ghost use Rattle.json.specs.Print.{quoted};
 ghost use Rattle.serde_json.specs.Read.{read};
 ghost use Rattle.serde_json.specs.Written.{compact_text};
 ghost use Rattle.rpc_messages.specs.Key.{key_text};
+ghost use Rattle.rpc_messages.specs.Parts.{IsReadBack};
 ghost use Rattle.rpc_messages.specs.Texts.{id_data};
 
 use crate::id::Id;
 use itoa::{Buffer, Integer};
 use json::Writer;
+use json_values::Json;
 use std::alloc::{AllocError, Global};
 use std::mem;
 
@@ -27,6 +29,19 @@ pub(crate) fn put_id(alloc: Global, bytes: &mut Vec<u8>, id: &Id) -> Result<(), 
         Id::Signed(number) => put_decimal(bytes, number.get()),
         Id::Unsigned(number) => put_decimal(bytes, *number),
     }
+}
+
+/// Puts the text of a value, with no space. A whole number is put without memory for its text.
+pub(crate) fn put_value(alloc: Global, bytes: &mut Vec<u8>, value: &Json) -> Result<(), AllocError>
+    ensures text { OnOk result (bytes.new.items ≡ bytes.old.items ++ compact_text value.now) }
+    ensures reads_back { OnOk result (IsReadBack value.now) }
+    ensures front { OnErr result (StartsWith bytes.new.items bytes.old.items) }
+{
+    if let Some(number) = value.as_value().as_u64() {
+        return put_decimal(bytes, number);
+    }
+    let text = value.to_bytes(alloc)?;
+    bytes.extend_from_slice(text.as_slice())
 }
 
 /// Puts the key of call `turn` of the handler `number`, without quotes.

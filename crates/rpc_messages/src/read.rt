@@ -18,10 +18,12 @@ use json_reading::{ReadFault, value_from};
 use json_values::Items;
 use std::alloc::{AllocError, Global};
 
-mod call;
+pub(crate) mod compact;
+pub(crate) mod compact_value;
 mod envelope;
 mod members;
 mod reply;
+mod their_call;
 mod version;
 
 /// Values of a text nest at most this deep.
@@ -144,7 +146,7 @@ fn take_message(alloc: Global, envelope: &mut Envelope<'_>) -> Result<Entry, All
     ensures { IfOk result (λ e. entry_seen e ≡ message_in (envelope_view envelope.old)) }
 {
     if envelope.method.is_some() {
-        call::read_call(alloc, envelope)
+        their_call::read_call(alloc, envelope)
     } else if envelope.result.is_some() || envelope.error.is_some() {
         reply::read_reply(alloc, envelope)
     } else {

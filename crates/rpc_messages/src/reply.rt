@@ -1,3 +1,5 @@
+//! What a call ends with.
+
 ghost use Rattle.std.specs.Prelude.{◌≡◌};
 
 use crate::error_value::ErrorValue;

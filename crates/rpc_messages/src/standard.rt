@@ -1,3 +1,5 @@
+//! The errors that this peer answers with.
+
 use crate::error_value::ErrorValue;
 use json_values::Text;
 use std::alloc::{AllocError, Global};

@@ -1,8 +1,11 @@
 //! From contents to their units.
 
 ghost use Rattle.std.specs.Prelude.{◌≡◌, IfOk, false};
-ghost use Rattle.rpc_messages.specs.Unit.{unit_seen, unit_of};
+ghost use Rattle.serde_json.specs.Read.{read};
+ghost use Rattle.rpc_messages.specs.Unit.{unit_seen, unit_of, unit_of_reading};
 
+use crate::read::compact::read_compact;
+use crate::read::compact_value::Unread;
 use crate::read::read_text;
 use crate::unit::Unit;
 use json::Scratch;
@@ -47,9 +50,19 @@ impl UnitReader {
         let Ok(text) = simdutf8::compat::from_utf8(content) else {
             return Ok(Unit::Unreadable);
         };
+        match read_compact(self.alloc, text) {
+            Ok(unit) => Ok(unit),
+            Err(Unread::Unusual) => self.read_tokens(text),
+            Err(Unread::Memory) => Err(AllocError),
+        }
+    }
+
+    fn read_tokens(&mut self, text: &str) -> Result<Unit, AllocError>
+        ensures { IfOk result (λ u. unit_seen u ≡ unit_of_reading (read text.now)) }
+    {
         let mut scratch = self.take_scratch()?;
         let unit = read_text(self.alloc, text, &mut scratch);
-        if content.len() <= KEPT_ROOM {
+        if text.len() <= KEPT_ROOM {
             self.scratch = Some(scratch);
         } else {
             drop(scratch);

@@ -5,7 +5,7 @@ use denote.Param.SendFields.{declared_send}
 use Rattle.rpc_peer.specs.contracts.gated.Gated as Gated
 use Rattle.serde_json.proofs.value.Value.TheLaws.TheKnot as value
 use Rattle.json_values.specs.contracts.json_value.Json as Json
-use Rattle.handler_future.proofs.Crossing.{known, handler_send, reply_send}
+use Rattle.handler_future.proofs.Crossing.{known, handler_send}
 use Rattle.handler_future.specs.contracts.outcome.Outcome as Outcome
 use Rattle.peer_session.specs.contracts.job.Job as Job
 

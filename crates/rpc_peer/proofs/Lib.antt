@@ -1,15 +1,9 @@
 pub mod Arriving
 pub mod Crossing
-pub mod Draining
-pub mod Failing
 pub mod Happenings
 pub mod Jobs
-pub mod Nothing
 pub mod Outcomes
 pub mod Results
 pub mod Rings
-pub mod Runs
 pub mod Sent
 pub mod Served
-pub mod Unfailing
-pub mod Units

@@ -3,30 +3,30 @@ use Rattle.std.proofs.Common.{ℕ, List, Option, Result, Ok, Err, IfOk, OnErr}
 use Rattle.std.specs.Prelude.{IfErr}
 use Rattle.rtrb.specs.Ring.{received, SameConsumer}
 use Rattle.peer_session.specs.declared.report.Report.{Report}
-use Rattle.peer_session.specs.Run.{IsRun, IsRunCutShort}
+use Rattle.stream_session.specs.Promise.{IsRun, IsRunCutShort}
 use Rattle.peer_session.specs.declared.drain_fault.DrainFault.{DrainFault}
 use Rattle.rpc_peer.specs.Arriving.{bytes_of, ending_of}
 use Rattle.rpc_peer.specs.Clerk.{CountsRun}
 use Rattle.rpc_peer.specs.Serving.{Start, Stops, Finishes}
-use Rattle.rpc_peer.specs.declared.serving.Serving.{Serving}
+use Rattle.rpc_peer.specs.declared.clerk.Clerk.{Clerk}
 
-module _ {G K : Type 0} (taken : K → Option (List ℕ)) (failures : K → ℕ) (start : Start) (serving : Serving G K) where
-  pub ring-of : (r : Result Report DrainFault) → IfOk r (Finishes taken failures start serving) → IfErr r (Stops taken failures start serving)
-      → SameConsumer start.ring serving.ring
+module _ {G K : Type 0} (taken : K → Option (List ℕ)) (failures : K → ℕ) (start : Start) (clerk : Clerk G K) where
+  pub ring-of : (r : Result Report DrainFault) → IfOk r (Finishes taken failures start clerk) → IfErr r (Stops taken failures start clerk)
+      → SameConsumer start.ring clerk.ring
   ring-of (Ok report) finishes stops = finishes.ring
   ring-of (Err fault) finishes stops = stops.ring
 
-  pub run-of : (r : Result Report DrainFault) → IfOk r (Finishes taken failures start serving)
-      → IfOk r (λ report. IsRun start.table start.limits (bytes_of (received serving.ring)) (ending_of (received serving.ring)) start.taken (taken serving.sink) report)
+  pub run-of : (r : Result Report DrainFault) → IfOk r (Finishes taken failures start clerk)
+      → IfOk r (λ report. IsRun start.table start.limits (bytes_of (received clerk.ring)) (ending_of (received clerk.ring)) start.taken (taken clerk.sink) report)
   run-of (Ok report) finishes = finishes.whole
   run-of (Err fault) finishes = tt
 
-  pub part-of : (r : Result Report DrainFault) → IfErr r (Stops taken failures start serving)
-      → OnErr r (IsRunCutShort start.table start.limits (bytes_of (received serving.ring)) start.taken (taken serving.sink))
+  pub part-of : (r : Result Report DrainFault) → IfErr r (Stops taken failures start clerk)
+      → OnErr r (IsRunCutShort start.table start.limits (bytes_of (received clerk.ring)) start.taken (taken clerk.sink))
   part-of (Ok report) stops = tt
   part-of (Err fault) stops = stops.short
 
-  pub cause-of : (r : Result Report DrainFault) → IfOk r (Finishes taken failures start serving) → IfErr r (Stops taken failures start serving)
-      → CountsRun start.failures r (failures serving.sink)
+  pub cause-of : (r : Result Report DrainFault) → IfOk r (Finishes taken failures start clerk) → IfErr r (Stops taken failures start clerk)
+      → CountsRun start.failures r (failures clerk.sink)
   cause-of (Ok report) finishes stops = finishes.unfailing
   cause-of (Err fault) finishes stops = stops.cause

@@ -3,6 +3,10 @@ use Rattle.std.proofs.Common.{◌≡◌, Result, Ok, Err, Some, None, IfOk, OnOk
 use Rattle.std.specs.Prelude.{IfErr}
 use Rattle.std.specs.Result.{result_ok}
 
+pub on-ok : {A E X : Type 0} (r : Result A E) → X → OnOk r X
+on-ok (Ok a) x = x
+on-ok (Err e) x = tt
+
 pub on-err : {A E X : Type 0} (r : Result A E) → X → OnErr r X
 on-err (Ok a) x = tt
 on-err (Err e) x = x

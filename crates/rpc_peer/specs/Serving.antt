@@ -8,9 +8,9 @@ use Rattle.method_steps.specs.Steps.{MethodTable}
 use Rattle.job_slots.specs.Seats.{looks_of}
 use Rattle.peer_session.specs.declared.limits.Limits.{Limits}
 use Rattle.peer_session.specs.declared.report.Report.{Report}
-use Rattle.peer_session.specs.Run.{IsRun, IsRunCutShort}
+use Rattle.stream_session.specs.Promise.{IsRun, IsRunCutShort}
 use Rattle.peer_session.specs.declared.drain_fault.DrainFault.{DrainFault}
-use Rattle.peer_session.specs.Session.{view}
+use Rattle.stream_session.specs.Stream.{stream_of}
 use Rattle.session_state.specs.Core.{Core}
 use Rattle.session_state.specs.Turning.{drained}
 use Rattle.peer_session.specs.SessionState.{SessionState}
@@ -18,7 +18,7 @@ use Rattle.rpc_peer.specs.Arriving.{bytes_of, ending_of}
 use Rattle.rpc_peer.specs.declared.arrival.Arrival.{Arrival}
 use Rattle.rpc_peer.specs.Clerk.{CountsRun}
 use Rattle.rpc_peer.specs.Serves.{ServesAfter}
-use Rattle.rpc_peer.specs.declared.serving.Serving.{Serving}
+use Rattle.rpc_peer.specs.declared.clerk.Clerk.{Clerk}
 
 -- What a run begins with: the table and the limits, the ring, and what its sink has taken and how often it has failed.
 pub record Start : Type 0 where
@@ -28,25 +28,25 @@ pub record Start : Type 0 where
   pub taken : Option (List ℕ)
   pub failures : ℕ
 
-module _ {G K : Type 0} (taken : K → Option (List ℕ)) (failures : K → ℕ) (start : Start) (serving : Serving G K) where
+module _ {G K : Type 0} (taken : K → Option (List ℕ)) (failures : K → ℕ) (start : Start) (clerk : Clerk G K) where
   -- All that has arrived was served, and the sink has not failed.
   pub record Serves : Type 0 where
-    pub after : ServesAfter start.table start.limits (received serving.ring) start.taken serving.decoder (view serving.session) (looks_of serving.seat)
-        (taken serving.sink)
-    pub ring : SameConsumer start.ring serving.ring
-    pub unfailing : failures serving.sink ≡ start.failures
+    pub after : ServesAfter start.table start.limits (received clerk.ring) start.taken (stream_of clerk.stream) (looks_of clerk.seat)
+        (taken clerk.sink)
+    pub ring : SameConsumer start.ring clerk.ring
+    pub unfailing : failures clerk.sink ≡ start.failures
 
   -- It has stopped short, for this fault.
   pub record Stops (fault : DrainFault) : Type 0 where
-    pub short : IsRunCutShort start.table start.limits (bytes_of (received serving.ring)) start.taken (taken serving.sink)
-    pub ring : SameConsumer start.ring serving.ring
-    pub cause : CountsRun start.failures (Err fault) (failures serving.sink)
+    pub short : IsRunCutShort start.table start.limits (bytes_of (received clerk.ring)) start.taken (taken clerk.sink)
+    pub ring : SameConsumer start.ring clerk.ring
+    pub cause : CountsRun start.failures (Err fault) (failures clerk.sink)
 
   -- It has done all, and tells so.
   pub record Finishes (report : Report) : Type 0 where
-    pub whole : IsRun start.table start.limits (bytes_of (received serving.ring)) (ending_of (received serving.ring)) start.taken (taken serving.sink) report
-    pub ring : SameConsumer start.ring serving.ring
-    pub unfailing : failures serving.sink ≡ start.failures
+    pub whole : IsRun start.table start.limits (bytes_of (received clerk.ring)) (ending_of (received clerk.ring)) start.taken (taken clerk.sink) report
+    pub ring : SameConsumer start.ring clerk.ring
+    pub unfailing : failures clerk.sink ≡ start.failures
 
 -- Nothing is due: this is what a drain leaves, which no handler had failed before.
 pub record IsDrained (s : SessionState) : Type 0 where

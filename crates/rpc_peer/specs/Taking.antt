@@ -1,24 +1,23 @@
--- What it means for a clerk that the session takes more.
-use Rattle.std.specs.Prelude.{◌≡◌, ℕ, List, [], ◌∷◌, ◌++◌, Option}
-use Rattle.lsp_frames.specs.Decoding.{Decoding}
-use Rattle.rpc_messages.specs.Numbering.{taken}
-use Rattle.rpc_messages.specs.Unit.{SeenUnit}
-use Rattle.method_steps.specs.Steps.{MethodTable}
+-- What an arrival adds to what a session was fed.
+use Rattle.std.specs.Prelude.{◌≡◌, ◌≢◌, ℕ, List, Option}
+use Rattle.lsp_frames.specs.Devices.{Unfinished}
 use Rattle.handler_future.specs.State.{HandlerState}
-use Rattle.peer_session.specs.declared.limits.Limits.{Limits}
-use Rattle.peer_output.specs.Items.{Item}
-use Rattle.peer_session.specs.SessionState.{SessionState}
+use Rattle.stream_session.specs.Stream.{Fed, StreamState, StreamStands, with_piece}
+use Rattle.rpc_peer.specs.Arriving.{ending_by}
 use Rattle.rpc_peer.specs.declared.arrival.Arrival.{Arrival}
-use Rattle.rpc_peer.specs.Serves.{ServesOn, HasTaken, close_by}
+use Rattle.rpc_peer.specs.declared.arrival.Arrival.TheVariants.{Piece, End}
 
--- Whatever was served, these units are behind it, as far as their numbers go. Nothing is written.
-abbrev pub TakesUnits : SessionState → List SeenUnit → SessionState → Type 0
-TakesUnits s more after = (table : MethodTable) (limits : Limits) (units : List SeenUnit) (items : List Item) (jobs : ℕ → Option HandlerState) →
-    ServesOn table limits (taken limits.numbers units) items s jobs → s.close ≡ close_by limits.numbers units →
-    ServesOn table limits (taken limits.numbers (units ++ more)) items after jobs × (after.close ≡ close_by limits.numbers (units ++ more))
+-- a piece, or the end
+abbrev pub with_arrival : Fed → Arrival → Fed
+with_arrival fed (Piece bytes) = with_piece fed bytes
+with_arrival fed (End end) = record fed { ending = ending_by end }
 
--- Whatever has arrived, this is behind it.
-abbrev pub TakesArrival : Arrival → Decoding → SessionState → Decoding → SessionState → Type 0
-TakesArrival arrival decoder s later after = (table : MethodTable) (limits : Limits) (arrived : List Arrival) (items : List Item)
-    (jobs : ℕ → Option HandlerState) →
-    HasTaken table limits arrived items jobs decoder s → HasTaken table limits (arrived ++ arrival ∷ []) items jobs later after
+-- An end is the source's own. A reader that found no memory has none to tell.
+abbrev pub EndsInput : Arrival → Type 0
+EndsInput (Piece bytes) = Unit {0}
+EndsInput (End end) = ending_by end ≢ Unfinished
+
+-- Whatever a session stands after, it now stands after this behind it.
+abbrev pub TakesArrival : Arrival → StreamState → StreamState → Type 0
+TakesArrival arrival s after = (fed : Fed) (jobs : ℕ → Option HandlerState) (sink : Option (List ℕ)) →
+    StreamStands fed jobs s sink → fed.ending ≡ Unfinished → StreamStands (with_arrival fed arrival) jobs after sink

@@ -14,6 +14,8 @@ pub struct Bells {
     /// There is room in the ring.
     pub reader: EventCount,
     is_stopped: AtomicBool,
+    /// How many workers there are.
+    crew: u32,
 }
 
 /// Somebody has seen that the server has stopped. Only its bells give this, so a thread that has to show it can't leave
@@ -24,12 +26,24 @@ pub struct Stopped {
 }
 
 impl Bells {
-    pub fn new() -> Bells {
+    pub fn new(crew: u32) -> Bells {
         Bells {
             clerk: EventCount::new(),
             workers: EventCount::new(),
             reader: EventCount::new(),
             is_stopped: AtomicBool::new(false),
+            crew,
+        }
+    }
+
+    /// So many jobs were offered: wakes as many workers, if so many sleep, and all by one call where each may have one.
+    pub fn jobs_were_offered(&self, jobs: u32) {
+        if jobs >= self.crew {
+            self.workers.notify_all();
+            return;
+        }
+        for _ in 0..jobs {
+            self.workers.notify_one();
         }
     }
 

@@ -1,41 +1,35 @@
-//! The clerk, before its first event.
+//! The clerk: the owner of the session of a server.
 
-ghost use Rattle.std.specs.Prelude.{◌≡◌, [], replicate, IfOk, IfErr, OnErr};
-ghost use Rattle.rtrb.specs.Ring.{received, SameConsumer};
-ghost use Rattle.job_slots.specs.Seats.{IsClerkOf, looks_of, slot_count};
-ghost use Rattle.job_slots.specs.declared.view.Look.TheVariants.{Free};
-ghost use Rattle.rpc_peer.specs.Arriving.{bytes_of, ending_of};
-ghost use Rattle.peer_session.specs.Run.{IsRun, IsRunCutShort};
-ghost use Rattle.rpc_peer.specs.Clerk.{CountsRun, IsNew};
+ghost use Rattle.job_slots.specs.Seats.{IsClerkOf};
 
 use crate::arrival::Arrival;
 use crate::bells::Bells;
 use crate::gate::Gate;
 use crate::gated::Gated;
-use crate::known::known;
-use crate::serving::Serving;
-use job_slots::{ClerkSeat, JobSlots};
-use lsp_frames::{Decoder, Sink};
+use job_slots::{ClerkSeat, JobSlots, MOST_SLOTS};
+use lsp_frames::Sink;
 use method_steps::Table;
-use peer_session::{DrainFault, Limits, Report, Session};
+use peer_session::{DrainFault, Limits, Report};
 use rtrb::Consumer;
 use std::alloc::{AllocError, Global};
 use std::sync::{Arc, Wait};
+use stream_session::StreamSession;
 
-/// The owner of the session of a server. Nothing has come through its ring yet, and no job is out.
+/// The owner of the session of a server.
 #[derive(Drop)]
 pub struct Clerk<'a, G: Gate, K> {
-    alloc: Global,
     pub(crate) table: &'a Table,
     pub(crate) limits: Limits,
-    session: Session<'a>,
-    gate: Arc<G, Global>,
+    pub(crate) stream: StreamSession<'a>,
+    /// One for each slot that is free.
+    pub(crate) gates: Vec<Arc<G, Global>>,
     pub(crate) ring: Consumer<Arrival>,
-    slots: &'a JobSlots<Gated<G>>,
-    seat: ClerkSeat<Gated<G>>,
-    bells: &'a Bells,
-    yields: u32,
+    pub(crate) slots: &'a JobSlots<Gated<G>>,
+    pub(crate) seat: ClerkSeat<Gated<G>>,
+    pub(crate) bells: &'a Bells,
+    pub(crate) yields: u32,
     pub(crate) sink: K,
+    ghost seated: { IsClerkOf slots.now seat },
 }
 
 /// What is left of a clerk that has served.
@@ -48,7 +42,15 @@ pub struct Served<K> {
 }
 
 impl<'a, G: Gate, K: Sink> Clerk<'a, G, K> {
-    /// A clerk before the first event.
+    ghost use Rattle.std.specs.Prelude.{◌≡◌, [], replicate, IfOk, IfErr, OnErr};
+    ghost use Rattle.rtrb.specs.Ring.{received, SameConsumer};
+    ghost use Rattle.job_slots.specs.declared.view.Look.TheVariants.{Free};
+    ghost use Rattle.rpc_peer.specs.Arriving.{bytes_of, ending_of};
+    ghost use Rattle.stream_session.specs.Promise.{IsRun, IsRunCutShort};
+    ghost use Rattle.rpc_peer.specs.Clerk.{CountsRun, IsNew};
+    ghost use Rattle.job_slots.specs.Seats.{looks_of, slot_count};
+
+    /// A clerk before the first event. Nothing has come through its ring yet, and no job is out.
     ///
     /// # Errors
     /// Where there is no memory. The sink comes back as it was.
@@ -74,13 +76,15 @@ impl<'a, G: Gate, K: Sink> Clerk<'a, G, K> {
         ensures sink { IfOk result (λ clerk. clerk.sink ≡ sink) }
         ensures err { IfErr result (λ back. back ≡ sink) }
     {
-        match Session::new(alloc, table, limits) {
-            Ok(session) => Ok(Clerk {
-                alloc,
+        let Ok(gates) = one_for_each_slot(alloc, &gate) else {
+            return Err(sink);
+        };
+        match StreamSession::new(alloc, table, limits) {
+            Ok(stream) => Ok(Clerk {
                 table,
                 limits,
-                session,
-                gate,
+                stream,
+                gates,
                 ring,
                 slots,
                 seat,
@@ -113,36 +117,28 @@ impl<'a, G: Gate, K: Sink> Clerk<'a, G, K> {
         ensures cause { CountsRun (K.failures self.entry.sink) result.outcome
             (K.failures result.sink) }
     {
-        known();
-        let Clerk {
-            alloc,
-            limits,
-            session,
-            gate,
-            ring,
-            slots,
-            seat,
-            bells,
-            yields,
-            sink,
-            ..
-        } = self;
-        let mut serving = Serving {
-            session,
-            decoder: Decoder::new(alloc, limits.content),
-            gate,
-            ring,
-            slots,
-            seat,
-            bells,
-            sink,
-        };
-        let outcome = serving.serve(rt, yields);
-        let Serving { ring, sink, .. } = serving;
+        let mut clerk = self;
+        let outcome = clerk.serve(rt);
+        let Clerk { ring, sink, .. } = clerk;
         Served {
             outcome,
             ring,
             sink,
         }
     }
+}
+
+/// As many handles of a gate as there are slots, so that a hand-out needs no memory.
+fn one_for_each_slot<G: Gate>(
+    alloc: Global,
+    gate: &Arc<G, Global>,
+) -> Result<Vec<Arc<G, Global>>, AllocError> {
+    let mut gates = Vec::with_capacity(alloc, MOST_SLOTS)?;
+    for _ in 0..MOST_SLOTS {
+        let Ok(handle) = Arc::try_clone(gate) else {
+            return Err(AllocError);
+        };
+        gates.push(handle)?;
+    }
+    Ok(gates)
 }

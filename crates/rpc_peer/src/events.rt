@@ -1,19 +1,18 @@
 //! The events of a clerk: each is one call of the session, with what comes before it or after it.
 
 ghost use Rattle.std.specs.Prelude.{IfErr, OnOk};
-ghost use Rattle.peer_session.specs.Session.{view};
+ghost use Rattle.stream_session.specs.Stream.{stream_of};
 ghost use Rattle.rpc_peer.specs.Serving.{Start, Serves, Stops, IsDrained};
 
+use crate::clerk::Clerk;
 use crate::gate::Gate;
 use crate::gated::Gated;
-use crate::known::known;
-use crate::serving::Serving;
 use crate::taking::take_arrival;
 use lsp_frames::Sink;
 use peer_session::DrainFault;
-use std::sync::Arc;
+use stream_session::what_a_stream_wrote;
 
-impl<'a, G: Gate, K: Sink> Serving<'a, G, K> {
+impl<'a, G: Gate, K: Sink> Clerk<'a, G, K> {
     /// Takes in what came next through the ring, if anything did. Once the session is closed nothing more is taken.
     pub(crate) fn take_in(&mut self) -> Result<bool, DrainFault>
         ensures ok { (start : Start) → Serves K.bytes_taken K.failures start self.old →
@@ -21,15 +20,15 @@ impl<'a, G: Gate, K: Sink> Serving<'a, G, K> {
         ensures err { (start : Start) → Serves K.bytes_taken K.failures start self.old →
             IfErr result (Stops K.bytes_taken K.failures start self.new) }
     {
-        known();
-        if !self.session.is_open() {
+        what_a_stream_wrote();
+        if !self.stream.is_open() {
             return Ok(false);
         }
         let Ok(arrival) = self.ring.pop() else {
             return Ok(false);
         };
         self.bells.reader.notify_one();
-        let Ok(()) = take_arrival(&mut self.session, &mut self.decoder, arrival) else {
+        let Ok(()) = take_arrival(&mut self.stream, arrival) else {
             return Err(DrainFault::Memory);
         };
         Ok(true)
@@ -40,11 +39,12 @@ impl<'a, G: Gate, K: Sink> Serving<'a, G, K> {
         ensures { (start : Start) → Serves K.bytes_taken K.failures start self.old →
             Serves K.bytes_taken K.failures start self.new }
     {
-        known();
         let Some(gated) = self.slots.collect(&mut self.seat, slot) else {
             return false;
         };
-        self.session.back(gated.into_job());
+        let Gated { gate, job } = gated;
+        let _ = self.gates.push(gate);
+        self.stream.back(job);
         true
     }
 
@@ -52,36 +52,32 @@ impl<'a, G: Gate, K: Sink> Serving<'a, G, K> {
     pub(crate) fn drain(&mut self) -> Result<(), DrainFault>
         ensures ok { (start : Start) → Serves K.bytes_taken K.failures start self.old →
             OnOk result (Serves K.bytes_taken K.failures start self.new) }
-        ensures drained { OnOk result (IsDrained (view self.new.session)) }
+        ensures drained { OnOk result (IsDrained (stream_of self.new.stream).session) }
         ensures err { (start : Start) → Serves K.bytes_taken K.failures start self.old →
             IfErr result (Stops K.bytes_taken K.failures start self.new) }
     {
-        known();
-        self.session.drain(&mut self.sink)
+        self.stream.drain(&mut self.sink)
     }
 
-    /// Hands out the first job that is ready, if there is one and a slot is free.
-    pub(crate) fn hand_out_one(&mut self) -> Result<bool, DrainFault>
-        ensures ok { (start : Start) → Serves K.bytes_taken K.failures start self.old →
-            OnOk result (Serves K.bytes_taken K.failures start self.new) }
-        ensures err { (start : Start) → Serves K.bytes_taken K.failures start self.old →
-            IfErr result (Stops K.bytes_taken K.failures start self.new) }
+    /// Hands out the first job that is ready, if there is one and a slot is free, with a gate of its own.
+    /// It wakes nobody: `hand_out` does.
+    pub(crate) fn hand_out_one(&mut self) -> bool
+        ensures { (start : Start) → Serves K.bytes_taken K.failures start self.old →
+            Serves K.bytes_taken K.failures start self.new }
     {
-        known();
-        if self.session.count_ready() == 0 || !self.seat.has_room() {
-            return Ok(false);
+        if self.stream.count_ready() == 0 || !self.seat.has_room() {
+            return false;
         }
-        let Ok(gate) = Arc::try_clone(&self.gate) else {
-            return Err(DrainFault::Memory);
+        let Some(gate) = self.gates.pop() else {
+            return false;
         };
-        let Some(job) = self.session.next_job(0) else {
-            return Ok(false);
+        let Some(job) = self.stream.next_job(0) else {
+            return false;
         };
         let offered = self.slots.offer(&mut self.seat, Gated::new(gate, job));
         let Some(_) = offered.ok() else {
             unreachable!()
         };
-        self.bells.workers.notify_one();
-        Ok(true)
+        true
     }
 }

@@ -24,13 +24,6 @@ impl<G: Gate> Gated<G> {
     {
         Gated { gate, job }
     }
-
-    pub(crate) fn into_job(self) -> Job
-        ensures { result ≡ self.job }
-    {
-        let Gated { job, .. } = self;
-        job
-    }
 }
 
 impl<G: Gate> Turns for Gated<G> {

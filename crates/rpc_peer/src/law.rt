@@ -5,18 +5,17 @@ ghost use Rattle.method_steps.specs.Steps.{MethodTable};
 ghost use Rattle.peer_session.specs.declared.limits.Limits.{Limits as LimitsOf};
 ghost use Rattle.rpc_peer.specs.declared.arrival.Arrival.{Arrival as ArrivalOf};
 ghost use Rattle.rpc_peer.specs.Arriving.{Reads, bytes_of, ending_of};
-ghost use Rattle.rpc_peer.specs.Serve.{IsServedInPart};
+ghost use Rattle.stream_session.specs.Promise.{IsServedInPart};
 
-use lsp_frames::{Source, contents_are_a_function_of_the_bytes};
-use peer_output::nothing_is_a_partial_output;
+use lsp_frames::Source;
+use stream_session::what_a_stream_wrote;
 
 /// Where nothing was read and nothing was written, an input was served in part.
 pub(crate) fn nothing_is_served_in_part<S: Source>()
     ensures { (table : MethodTable) (limits : LimitsOf) (source : S) (before : Option (List ℕ)) →
         IsServedInPart table limits (S.gave source) before before }
 {
-    contents_are_a_function_of_the_bytes();
-    nothing_is_a_partial_output();
+    what_a_stream_wrote();
 }
 
 /// Whatever front of what was sent has arrived, the source gave its bytes and its ending.

@@ -38,7 +38,6 @@ mod events;
 mod fault;
 mod gate;
 mod gated;
-mod known;
 mod law;
 mod patience;
 mod reader;

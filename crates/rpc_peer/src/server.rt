@@ -9,7 +9,8 @@ ghost use Rattle.rpc_peer.specs.Arriving.{Reads};
 ghost use Rattle.rpc_peer.specs.declared.server.TheConstants.{MOST_WORKERS};
 ghost use Rattle.rpc_peer.specs.declared.fault.ServeFault.TheVariants.{Workers};
 ghost use Rattle.rpc_peer.specs.Inner.Threads.{HasServed};
-ghost use Rattle.rpc_peer.specs.Serve.{IsServed, IsServedInPart, IsImpossible, CountsFault};
+ghost use Rattle.stream_session.specs.Promise.{IsServed, IsServedInPart};
+ghost use Rattle.rpc_peer.specs.Serve.{IsImpossible, CountsFault};
 
 use crate::arrival::Arrival;
 use crate::bells::Bells;
@@ -195,7 +196,7 @@ where
     let Ok(seats) = split_seats(alloc, &slots, &mut seat, crew.workers) else {
         return Err(sink);
     };
-    let bells = Bells::new();
+    let bells = Bells::new(crew.workers);
     let clerk = match Clerk::new(
         alloc,
         table,

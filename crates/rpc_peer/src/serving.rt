@@ -1,56 +1,36 @@
 //! The rounds of a clerk.
 
-ghost use Rattle.job_slots.specs.Seats.{IsClerkOf};
-
-use crate::arrival::Arrival;
-use crate::bells::Bells;
+use crate::clerk::Clerk;
 use crate::gate::Gate;
-use crate::gated::Gated;
-use crate::known::known;
 use crate::patience::Patience;
-use job_slots::{ClerkSeat, JobSlots, MOST_SLOTS};
-use lsp_frames::{Decoder, Sink};
-use peer_session::{DrainFault, Report, Session};
-use rtrb::Consumer;
-use std::alloc::Global;
-use std::sync::{Arc, Wait};
+use job_slots::MOST_SLOTS;
+use lsp_frames::Sink;
+use peer_session::{DrainFault, Report};
+use std::sync::Wait;
+use stream_session::what_a_stream_wrote;
 
-/// A clerk in the middle of its run.
-#[derive(Drop)]
-pub(crate) struct Serving<'a, G: Gate, K> {
-    pub(crate) session: Session<'a>,
-    pub(crate) decoder: Decoder,
-    pub(crate) gate: Arc<G, Global>,
-    pub(crate) ring: Consumer<Arrival>,
-    pub(crate) slots: &'a JobSlots<Gated<G>>,
-    pub(crate) seat: ClerkSeat<Gated<G>>,
-    pub(crate) bells: &'a Bells,
-    pub(crate) sink: K,
-    ghost seated: { IsClerkOf slots.now seat },
-}
-
-impl<'a, G: Gate, K: Sink> Serving<'a, G, K> {
+impl<'a, G: Gate, K: Sink> Clerk<'a, G, K> {
     ghost use Rattle.std.specs.Prelude.{IfOk, IfErr, OnOk};
-    ghost use Rattle.peer_session.specs.Session.{view};
+    ghost use Rattle.stream_session.specs.Stream.{stream_of};
     ghost use Rattle.rpc_peer.specs.Serving.{Start, Serves, Stops, Finishes, IsDrained};
 
-    /// Goes round until all is done. Where it has found nothing to do for so many rounds, it sleeps until its bell rings.
-    pub(crate) fn serve<R: Wait>(&mut self, rt: &R, yields: u32) -> Result<Report, DrainFault>
+    /// Goes round until all is done. Where it has found nothing to do for some rounds, it sleeps until its bell rings.
+    pub(crate) fn serve<R: Wait>(&mut self, rt: &R) -> Result<Report, DrainFault>
         ensures ok { (start : Start) → Serves K.bytes_taken K.failures start self.old →
             IfOk result (Finishes K.bytes_taken K.failures start self.new) }
         ensures err { (start : Start) → Serves K.bytes_taken K.failures start self.old →
             IfErr result (Stops K.bytes_taken K.failures start self.new) }
     {
-        known();
+        what_a_stream_wrote();
         let bells = self.bells;
-        let mut patience = Patience::new(yields);
+        let mut patience = Patience::new(self.yields);
         for _ in rt.forever() {
             let key = patience.announce(&bells.clerk);
             let has_come = self.settle()?;
-            if self.session.is_done() {
-                return Ok(self.session.report());
+            if self.stream.is_done() {
+                return Ok(self.stream.report());
             }
-            let has_gone = self.hand_out()?;
+            let has_gone = self.hand_out();
             if has_come || has_gone {
                 patience.renew();
             } else {
@@ -64,7 +44,7 @@ impl<'a, G: Gate, K: Sink> Serving<'a, G, K> {
     fn settle(&mut self) -> Result<bool, DrainFault>
         ensures ok { (start : Start) → Serves K.bytes_taken K.failures start self.old →
             OnOk result (Serves K.bytes_taken K.failures start self.new) }
-        ensures drained { OnOk result (IsDrained (view self.new.session)) }
+        ensures drained { OnOk result (IsDrained (stream_of self.new.stream).session) }
         ensures err { (start : Start) → Serves K.bytes_taken K.failures start self.old →
             IfErr result (Stops K.bytes_taken K.failures start self.new) }
     {
@@ -82,22 +62,25 @@ impl<'a, G: Gate, K: Sink> Serving<'a, G, K> {
         ensures err { (start : Start) → Serves K.bytes_taken K.failures start self.old →
             IfErr result (Stops K.bytes_taken K.failures start self.new) }
     {
-        if self.session.count_ready() as usize > MOST_SLOTS {
+        if self.stream.count_ready() as usize > MOST_SLOTS {
             return Ok(false);
         }
         self.take_in()
     }
 
-    /// Takes back all jobs that were turned.
+    /// Takes back all jobs that were turned. It looks at the slots in use, and at no other.
     fn bring_home(&mut self) -> bool
         ensures { (start : Start) → Serves K.bytes_taken K.failures start self.old →
             Serves K.bytes_taken K.failures start self.new }
     {
         let mut has_moved = false;
-        for slot in 0..MOST_SLOTS as u32 {
+        let mut next = self.slots.next_in_use(&self.seat, 0);
+        for _ in 0..MOST_SLOTS {
+            let Some(slot) = next else { break };
             if self.bring_home_if_turned(slot) {
                 has_moved = true;
             }
+            next = self.slots.next_in_use(&self.seat, slot.saturating_add(1));
         }
         has_moved
     }
@@ -111,21 +94,29 @@ impl<'a, G: Gate, K: Sink> Serving<'a, G, K> {
         self.slots.is_turned(&self.seat, slot) && self.bring_home_from(slot)
     }
 
-    /// Hands out jobs, while one is ready and a slot is free.
-    fn hand_out(&mut self) -> Result<bool, DrainFault>
-        requires { IsDrained (view self.old.session) }
-        ensures ok { (start : Start) → Serves K.bytes_taken K.failures start self.old →
-            OnOk result (Serves K.bytes_taken K.failures start self.new) }
-        ensures err { (start : Start) → Serves K.bytes_taken K.failures start self.old →
-            IfErr result (Stops K.bytes_taken K.failures start self.new) }
+    /// Hands out jobs, while one is ready and a slot is free, and then wakes a worker for each.
+    fn hand_out(&mut self) -> bool
+        requires { IsDrained (stream_of self.old.stream).session }
+        ensures { (start : Start) → Serves K.bytes_taken K.failures start self.old →
+            Serves K.bytes_taken K.failures start self.new }
     {
-        let mut has_moved = false;
+        let gone = self.hand_out_jobs();
+        self.bells.jobs_were_offered(gone);
+        gone != 0
+    }
+
+    /// Hands out jobs, while one is ready and a slot is free, and tells how many.
+    fn hand_out_jobs(&mut self) -> u32
+        ensures { (start : Start) → Serves K.bytes_taken K.failures start self.old →
+            Serves K.bytes_taken K.failures start self.new }
+    {
+        let mut gone: u32 = 0;
         for _ in 0..MOST_SLOTS {
-            if !self.hand_out_one()? {
+            if !self.hand_out_one() {
                 break;
             }
-            has_moved = true;
+            gone = gone.saturating_add(1);
         }
-        Ok(has_moved)
+        gone
     }
 }

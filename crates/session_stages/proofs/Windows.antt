@@ -1,10 +1,9 @@
 -- The stages of all numbers and those of the window.
-use Rattle.std.proofs.Common.{◌≡◌, ℕ, suc, zero, ◌+◌, ◌-◌, ◌<◌, ◌≤◌, ◌==◌, IsTrue, rules, true≢false, List, [], ◌∷◌, ◌++◌, length, map, take, get_or, set, replicate, refl, ap, sym, ◌∙◌, arith, Bool, true, false, not, Option, Some, None}
-use Rattle.std.proofs.lemmas.List.{get_or-append_right, get_or_past, set-append_right, length-append, length-replicate, length-set, length-map, get_or_read, map-set}
-use Rattle.std.specs.Global.{Box}
+use Rattle.std.proofs.Common.{◌≡◌, ℕ, suc, zero, ◌+◌, ◌-◌, ◌≤◌, ◌==◌, IsTrue, rules, true≢false, List, [], ◌∷◌, length, take, set, replicate, refl, ap, sym, ◌∙◌, arith, Bool, true, false}
+use Rattle.std.proofs.lemmas.List.{set-append_right, length-append, length-replicate}
 use Rattle.session_stages.specs.declared.stage.Stage.{Stage}
-use Rattle.session_stages.specs.declared.stage.Stage.TheVariants.{Gone, Faulty, Idle, Out, Over, Failed}
-use Rattle.session_stages.specs.Stages.{is_gone, stage_at, stage_in, all_stages, begins_here, IsWindow}
+use Rattle.session_stages.specs.declared.stage.Stage.TheVariants.{Gone}
+use Rattle.session_stages.specs.Stages.{is_gone, stage_at, all_stages, begins_here}
 
 pub length-all : (first : ℕ) (window : List Stage) → length (all_stages first window) ≡ first + length window
 length-all first window = simp (length-append, length-replicate)
@@ -37,36 +36,24 @@ take-behind (suc first) (suc len) window reached =
     let same : suc len - suc first ≡ len - first = omega arith in
     rw same (ap (λ s. Gone ∷ s) (take-behind first len window (omega arith)))
 
-pub map-take-places : (len : ℕ) (items : List (Option (Box Stage))) → map stage_in (take len items) ≡ take len (map stage_in items)
-map-take-places zero items = refl
-map-take-places (suc len) [] = refl
-map-take-places (suc len) (x ∷ xs) = ap (λ s. stage_in x ∷ s) (map-take-places len xs)
-
--- one place of the window
-pub place-read : (items : List (Option (Box Stage))) (i : ℕ) (was : Option (Box Stage)) → was ≡ get_or items i was → stage_in was ≡ get_or (map stage_in items) i (stage_in was)
-place-read [] i was read = refl
-place-read (x ∷ xs) zero was read = ap stage_in read
-place-read (x ∷ xs) (suc i) was read = place-read xs i was read
-
 set-inside : (first n : ℕ) (window : List Stage) (stage : Stage) → first ≤ n
     → set (all_stages first window) n stage ≡ all_stages first (set window (n - first) stage)
 set-inside first n window stage reached = set-append_right (replicate first Gone) window first n stage (length-replicate first Gone) reached
 
 -- a change in the window, as one of all numbers
-pub place-changed : (first number i : ℕ) (items : List (Option (Box Stage))) (now : Option (Box Stage)) (stage : Stage) (stages : List Stage)
-    → first ≤ number → i ≡ number - first → stage_in now ≡ stage → all_stages first (map stage_in items) ≡ stages
-    → all_stages first (map stage_in (set items i now)) ≡ set stages number stage
-place-changed first number i items now stage stages reached place is seen =
-    ap (all_stages first) (map-set stage_in items i now ∙ ap (set (map stage_in items) i) is)
-    ∙ ap (λ k. all_stages first (set (map stage_in items) k stage)) place
-    ∙ sym (set-inside first number (map stage_in items) stage reached)
+pub place-changed : (first number i : ℕ) (items : List Stage) (stage : Stage) (stages : List Stage)
+    → first ≤ number → i ≡ number - first → all_stages first items ≡ stages
+    → all_stages first (set items i stage) ≡ set stages number stage
+place-changed first number i items stage stages reached place seen =
+    ap (λ k. all_stages first (set items k stage)) place
+    ∙ sym (set-inside first number items stage reached)
     ∙ ap (λ s. set s number stage) seen
 
 suc_not_zero : (n : ℕ) → (suc n == 0) ≡ false
 suc_not_zero n = search rules
 
-pub empty-tells : (is_empty : Bool) (items : List (Option (Box Stage))) (len : ℕ) → length items ≡ len → is_empty ≡ (len == 0)
-    → (IsTrue is_empty → map stage_in items ≡ []) × (map stage_in items ≡ [] → IsTrue is_empty)
+pub empty-tells : (is_empty : Bool) (items : List Stage) (len : ℕ) → length items ≡ len → is_empty ≡ (len == 0)
+    → (IsTrue is_empty → items ≡ []) × (items ≡ [] → IsTrue is_empty)
 empty-tells is_empty [] len long is = (λ empty. refl, λ none. is ∙ rw (← long) refl)
 empty-tells is_empty (x ∷ xs) len long is =
     let some : is_empty ≡ false = is ∙ rw (← long) (suc_not_zero (length xs)) in

@@ -1,6 +1,5 @@
 -- A window over the stages of numbers: those before it are gone.
-use Rattle.std.specs.Prelude.{◌≡◌, ◌≤◌, ◌<◌, ◌+◌, ◌++◌, ℕ, List, [], ◌∷◌, Bool, true, false, not, length, replicate, slice_index_or, Option, Some, None}
-use Rattle.std.specs.Global.{Box}
+use Rattle.std.specs.Prelude.{◌≡◌, ◌≤◌, ◌<◌, ◌+◌, ◌++◌, ℕ, List, [], ◌∷◌, Bool, true, false, not, length, replicate, slice_index_or}
 use Rattle.rpc_messages.specs.declared.key.TheConstants.{MOST_NUMBERS}
 use Rattle.session_stages.specs.declared.stage.Stage.{Stage}
 use Rattle.session_stages.specs.declared.stage.Stage.TheVariants.{Gone, Faulty, Idle, Out, Over, Failed}
@@ -16,11 +15,6 @@ is_gone Failed = false
 -- the stage of a number; a number that wasn't given is gone
 abbrev pub stage_at : List Stage → ℕ → Stage
 stage_at stages n = slice_index_or stages n Gone
-
--- what stands in a place of the window
-abbrev pub stage_in : Option (Box Stage) → Stage
-stage_in None = Gone
-stage_in (Some stage) = stage.value
 
 -- all stages, where the window begins at the number `first`
 abbrev pub all_stages : ℕ → List Stage → List Stage

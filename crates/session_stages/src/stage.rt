@@ -1,6 +1,5 @@
 use handler_future::Handler;
 use rpc_messages::Standard;
-use std::alloc::{AllocError, Global};
 
 /// The stage of a number.
 #[derive(Drop)]
@@ -21,23 +20,13 @@ pub enum Stage {
 }
 
 impl Stage {
-    ghost use Rattle.std.specs.Prelude.{◌≡◌, IfOk, Some};
-    ghost use Rattle.session_stages.specs.Stages.{is_gone, stage_in};
+    ghost use Rattle.std.specs.Prelude.{◌≡◌};
+    ghost use Rattle.session_stages.specs.Stages.{is_gone};
 
     /// Whether nothing is left to do or to write.
     pub fn is_gone(&self) -> bool
         ensures { result ≡ is_gone self.now }
     {
         matches!(self, Stage::Gone)
-    }
-
-    /// A place for a number in this stage.
-    pub fn boxed(self, alloc: Global) -> Result<Option<Box<Stage>>, AllocError>
-        ensures { IfOk result (λ place. stage_in place ≡ self) }
-    {
-        if let Stage::Gone = self {
-            return Ok(None);
-        }
-        Ok(Some(Box::new(alloc, self)?))
     }
 }

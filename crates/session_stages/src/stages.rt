@@ -1,8 +1,8 @@
 ghost use Rattle.rpc_messages.specs.declared.key.TheConstants.{MOST_NUMBERS};
-ghost use Rattle.std.specs.Prelude.{◌≡◌, ◌+◌, ◌<◌, ◌≤◌, ◌++◌, ◌↔◌, [], ◌∷◌, ℕ, IsTrue, IfOk, IfSome, MatchOption, OnOk, OnErr, SomeIff, ◌-◌, true, false, length, map, take, slice_set};
+ghost use Rattle.std.specs.Prelude.{◌≡◌, ◌+◌, ◌<◌, ◌≤◌, ◌++◌, ◌↔◌, [], ◌∷◌, ℕ, IsTrue, IfOk, IfSome, MatchOption, OnOk, OnErr, SomeIff, ◌-◌, true, false, length, take, slice_set};
 ghost use Rattle.std.specs.VecDeque.{deque_len};
 ghost use Rattle.session_stages.specs.declared.stage.Stage.TheVariants.{Gone, Idle};
-ghost use Rattle.session_stages.specs.Stages.{is_gone, stage_at, stage_in, all_stages, begins_here};
+ghost use Rattle.session_stages.specs.Stages.{is_gone, stage_at, all_stages, begins_here};
 
 use crate::stage::Stage;
 use handler_future::Handler;
@@ -11,11 +11,14 @@ use std::collections::VecDeque;
 use std::marker::Model;
 use std::mem;
 
+/// So many places are kept, however few of them are used.
+const KEPT_PLACES: usize = 64;
+
 /// The stage of each number that was given, seen by contracts as their list from number 0 on. Only
 /// a window of them is kept: it begins at the first number that isn't gone.
 pub struct Stages {
     first: u32,
-    window: VecDeque<Option<Box<Stage>>>,
+    window: VecDeque<Stage>,
 }
 
 // Written out, so that whoever drops one makes a call, and knows nothing of what is in it.
@@ -27,20 +30,20 @@ impl Drop for Stages {
 }
 
 impl Model for Stages {
-    ghost use Rattle.std.specs.Prelude.{List, map};
+    ghost use Rattle.std.specs.Prelude.{List};
     ghost use Rattle.std.specs.Coded.{codes};
     ghost use Rattle.json_values.specs.Codes.{coded_data};
     ghost use Rattle.method_steps.specs.Shape.{coded_shape};
     ghost use Rattle.session_stages.specs.declared.stage.Stage.{Stage};
-    ghost use Rattle.session_stages.specs.Stages.{stage_in, all_stages, IsWindow};
+    ghost use Rattle.session_stages.specs.Stages.{all_stages, IsWindow};
 
     ghost Value = { List Stage };
 
     ghost coded = { Prim.hlevel (codes, coded_data, coded_shape) };
 
-    ghost view = { λ s. all_stages s.first (map stage_in s.window.items) };
+    ghost view = { λ s. all_stages s.first s.window.items };
 
-    ghost invariant = { λ s. IsWindow s.first (map stage_in s.window.items) };
+    ghost invariant = { λ s. IsWindow s.first s.window.items };
 }
 
 impl Stages {
@@ -59,7 +62,7 @@ impl Stages {
         ensures { IfOk result (λ stages. stages ≡ Idle handler 0 ∷ []) }
     {
         let mut window = VecDeque::new(alloc);
-        window.push_back(Stage::Idle(handler, 0).boxed(alloc)?)?;
+        window.push_back(Stage::Idle(handler, 0))?;
         Ok(Stages { first: 0, window })
     }
 
@@ -94,19 +97,33 @@ impl Stages {
     {
         let index = index_of(self.first, self.window.len(), number)?;
         match &self.window[index] {
-            Some(stage) => Some(stage),
-            None => None,
+            Stage::Gone => None,
+            stage => Some(stage),
         }
     }
 
     /// Further numbers, in these stages.
-    pub fn append(&mut self, stages: Vec<Option<Box<Stage>>>) -> Result<(), AllocError>
+    pub fn append(&mut self, stages: Vec<Stage>) -> Result<(), AllocError>
         requires { length self.old + length stages.items ≤ MOST_NUMBERS + 1 }
-        ensures ok { OnOk result (self.new ≡ self.old ++ map stage_in stages.items) }
+        ensures ok { OnOk result (self.new ≡ self.old ++ stages.items) }
         ensures err { OnErr result (self.new ≡ self.old) }
     {
         self.window.append(&mut VecDeque::from_vec(stages))?;
         trim(&mut self.first, &mut self.window);
+        Ok(())
+    }
+
+    /// One further number, in this stage.
+    pub fn push(&mut self, stage: Stage) -> Result<(), AllocError>
+        requires { length self.old < MOST_NUMBERS + 1 }
+        ensures ok { OnOk result (self.new ≡ self.old ++ (stage ∷ [])) }
+        ensures err { OnErr result (self.new ≡ self.old) }
+    {
+        let is_gone = stage.is_gone();
+        self.window.push_back(stage)?;
+        if is_gone {
+            trim(&mut self.first, &mut self.window);
+        }
         Ok(())
     }
 
@@ -133,8 +150,11 @@ impl Stages {
         let Some(index) = index_of(self.first, self.window.len(), number) else {
             return stage;
         };
-        let before = put(&mut self.window[index], stage);
-        trim(&mut self.first, &mut self.window);
+        let is_gone = stage.is_gone();
+        let before = mem::replace(&mut self.window[index], stage);
+        if is_gone {
+            trim(&mut self.first, &mut self.window);
+        }
         before
     }
 
@@ -143,7 +163,8 @@ impl Stages {
         ensures { self.new ≡ self.old }
     {
         let used = self.window.len();
-        if used < self.window.capacity() / 4 {
+        let places = self.window.capacity();
+        if places > KEPT_PLACES && used < places / 4 {
             self.window.shrink_to(used.saturating_mul(2));
         }
     }
@@ -156,31 +177,12 @@ fn index_of(first: u32, len: usize, number: u32) -> Option<usize>
     if index < len { Some(index) } else { None }
 }
 
-/// Puts a stage into a place that isn't empty, and gives what was there. A place for what is gone
-/// keeps no memory.
-fn put(place: &mut Option<Box<Stage>>, stage: Stage) -> Stage
-    requires { is_gone (stage_in place.old) ≡ false }
-    ensures before { result ≡ stage_in place.old }
-    ensures after { stage_in place.new ≡ stage }
-{
-    if let Stage::Gone = stage {
-        return match mem::replace(place, None) {
-            Some(before) => Box::into_inner(before),
-            None => Stage::Gone,
-        };
-    }
-    match place {
-        Some(here) => mem::replace(&mut **here, stage),
-        None => stage,
-    }
-}
-
 /// Lets go of the places at the front of numbers that are gone.
-fn trim(first: &mut u32, window: &mut VecDeque<Option<Box<Stage>>>)
+fn trim(first: &mut u32, window: &mut VecDeque<Stage>)
     requires { first.old + deque_len window.old ≤ MOST_NUMBERS + 1 }
-    ensures same { all_stages first.new (map stage_in window.new.items) ≡ all_stages first.old
-        (map stage_in window.old.items) }
-    ensures trimmed { begins_here (map stage_in window.new.items) ≡ true }
+    ensures same { all_stages first.new window.new.items ≡ all_stages first.old
+        window.old.items }
+    ensures trimmed { begins_here window.new.items ≡ true }
     ensures end { first.new + deque_len window.new ≡ first.old + deque_len window.old }
 {
     while !begins_here(window) {
@@ -189,12 +191,11 @@ fn trim(first: &mut u32, window: &mut VecDeque<Option<Box<Stage>>>)
     }
 }
 
-fn begins_here(window: &VecDeque<Option<Box<Stage>>>) -> bool
-    ensures { result ≡ begins_here (map stage_in window.now.items) }
+fn begins_here(window: &VecDeque<Stage>) -> bool
+    ensures { result ≡ begins_here window.now.items }
 {
     match window.front() {
-        Some(Some(stage)) => !stage.is_gone(),
-        Some(None) => false,
+        Some(stage) => !stage.is_gone(),
         None => true,
     }
 }

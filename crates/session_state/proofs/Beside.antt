@@ -5,7 +5,7 @@ use Rattle.rpc_messages.specs.Entry.{SeenEntry}
 use Rattle.rpc_messages.specs.Numbering.{units_numbers}
 use Rattle.method_steps.specs.Steps.{MethodTable}
 use Rattle.answer_desk.specs.State.{number_at}
-use Rattle.answer_desk.specs.declared.number.Number.{Number}
+use Rattle.answer_desk.specs.declared.open_call.OpenCall.{OpenCall}
 use Rattle.handler_future.specs.State.{HandlerState}
 use Rattle.session_stages.specs.declared.stage.Stage.{Stage}
 use Rattle.peer_output.specs.Course.{Sending, Course}
@@ -32,48 +32,122 @@ abbrev pub FitsAt : MethodTable → Bool → List SeenEntry → Core → Past �
 FitsAt table is_over passed s past jobs n =
     NumberFits table is_over (past_entries past) passed n (stage_at s n) (number_at s.desk n) (jobs n) (past.sends n) (sent_by n past.items) (past.took n)
 
-pub record Beside (table : MethodTable) (is_over : Bool) (passed : List SeenEntry) (s : Core) (past : Past) (jobs : ℕ → Option HandlerState) (n : ℕ) :
+-- what fits, where each number has a place of its own in the stream: as a cancel goes on, those that it has yet to reach stand before it
+pub record FitsAlong (table : MethodTable) (is_over : Bool) (passed : ℕ → List SeenEntry) (s : Core) (past : Past) (jobs : ℕ → Option HandlerState) :
     Type 0 where
   pub past_is : IsPast table is_over past
   pub closed : s.desk.is_closed ≡ is_over
   pub units : s.desk.units ≡ units_left past.took (1 + units_numbers past.released) past.left
   pub numbers : length s.desk.numbers ≡ 1 + units_numbers (past_units past)
   pub stages : length s.stages ≡ 1 + units_numbers (past_units past)
-  pub passed_begin : Begins passed (past_entries past)
+  pub passed_begin : (n : ℕ) → Begins (passed n) (past_entries past)
+  pub each : (n : ℕ) → n ≤ units_numbers (past_units past) → FitsAt table is_over (passed n) s past jobs n
+  pub no_more_jobs : (n : ℕ) → units_numbers (past_units past) < n → jobs n ≡ None
+
+pub along-fits : (table : MethodTable) (is_over : Bool) (passed : List SeenEntry) (s : Core) (past : Past) (jobs : ℕ → Option HandlerState)
+    → FitsAlong table is_over (λ n. passed) s past jobs → Fits table is_over passed s past jobs
+along-fits table is_over passed s past jobs along = record {
+  past_is = along.past_is;
+  closed = along.closed;
+  units = along.units;
+  numbers = along.numbers;
+  stages = along.stages;
+  passed_begin = along.passed_begin 0;
+  each = along.each;
+  no_more_jobs = along.no_more_jobs;
+}
+
+-- the same places
+pub along-same : (table : MethodTable) (is_over : Bool) (passed places : ℕ → List SeenEntry) (s : Core) (past : Past) (jobs : ℕ → Option HandlerState)
+    → ((n : ℕ) → places n ≡ passed n) → FitsAlong table is_over passed s past jobs → FitsAlong table is_over places s past jobs
+along-same table is_over passed places s past jobs same along = record {
+  past_is = along.past_is;
+  closed = along.closed;
+  units = along.units;
+  numbers = along.numbers;
+  stages = along.stages;
+  passed_begin = λ n. subst (λ l. Begins l (past_entries past)) (sym (same n)) (along.passed_begin n);
+  each = λ n given. subst (λ l. FitsAt table is_over l s past jobs n) (sym (same n)) (along.each n given);
+  no_more_jobs = along.no_more_jobs;
+}
+
+pub record Beside (table : MethodTable) (is_over : Bool) (passed : ℕ → List SeenEntry) (s : Core) (past : Past) (jobs : ℕ → Option HandlerState) (n : ℕ) :
+    Type 0 where
+  pub past_is : IsPast table is_over past
+  pub closed : s.desk.is_closed ≡ is_over
+  pub units : s.desk.units ≡ units_left past.took (1 + units_numbers past.released) past.left
+  pub numbers : length s.desk.numbers ≡ 1 + units_numbers (past_units past)
+  pub stages : length s.stages ≡ 1 + units_numbers (past_units past)
+  pub passed_begin : (k : ℕ) → Begins (passed k) (past_entries past)
   pub given : n ≤ units_numbers (past_units past)
-  pub others : (k : ℕ) → k ≤ units_numbers (past_units past) → k ≢ n → FitsAt table is_over passed s past jobs k
+  pub others : (k : ℕ) → k ≤ units_numbers (past_units past) → k ≢ n → FitsAt table is_over (passed k) s past jobs k
   pub no_more_jobs : (k : ℕ) → units_numbers (past_units past) < k → jobs k ≡ None
 
+pub along-beside : (table : MethodTable) (is_over : Bool) (passed : ℕ → List SeenEntry) (s : Core) (past : Past) (jobs : ℕ → Option HandlerState) (n : ℕ)
+    → FitsAlong table is_over passed s past jobs → n ≤ units_numbers (past_units past) → Beside table is_over passed s past jobs n
+along-beside table is_over passed s past jobs n along given = record {
+  past_is = along.past_is;
+  closed = along.closed;
+  units = along.units;
+  numbers = along.numbers;
+  stages = along.stages;
+  passed_begin = along.passed_begin;
+  given = given;
+  others = λ k known apart. along.each k known;
+  no_more_jobs = along.no_more_jobs;
+}
+
 pub fits-beside : (table : MethodTable) (is_over : Bool) (passed : List SeenEntry) (s : Core) (past : Past) (jobs : ℕ → Option HandlerState) (n : ℕ)
-    → Fits table is_over passed s past jobs → n ≤ units_numbers (past_units past) → Beside table is_over passed s past jobs n
+    → Fits table is_over passed s past jobs → n ≤ units_numbers (past_units past) → Beside table is_over (λ k. passed) s past jobs n
 fits-beside table is_over passed s past jobs n fits given = record {
   past_is = fits.past_is;
   closed = fits.closed;
   units = fits.units;
   numbers = fits.numbers;
   stages = fits.stages;
-  passed_begin = fits.passed_begin;
+  passed_begin = λ k. fits.passed_begin;
   given = given;
   others = λ k known apart. fits.each k known;
   no_more_jobs = fits.no_more_jobs;
 }
 
-module _ (table : MethodTable) (is_over : Bool) (passed : List SeenEntry) (s : Core) (past : Past) (jobs : ℕ → Option HandlerState) (n : ℕ) where
-  pub beside-fits : Beside table is_over passed s past jobs n → FitsAt table is_over passed s past jobs n → Fits table is_over passed s past jobs
-  beside-fits beside here = record {
-    past_is = beside.past_is;
-    closed = beside.closed;
-    units = beside.units;
-    numbers = beside.numbers;
-    stages = beside.stages;
-    passed_begin = beside.passed_begin;
-    each = λ k known. each_of_if (FitsAt table is_over passed s past jobs) n k (n == k) refl here (beside.others k known);
-    no_more_jobs = beside.no_more_jobs;
-  }
+pub beside-along : (table : MethodTable) (is_over : Bool) (passed : ℕ → List SeenEntry) (s : Core) (past : Past) (jobs : ℕ → Option HandlerState) (n : ℕ)
+    → Beside table is_over passed s past jobs n → FitsAt table is_over (passed n) s past jobs n → FitsAlong table is_over passed s past jobs
+beside-along table is_over passed s past jobs n beside here = record {
+  past_is = beside.past_is;
+  closed = beside.closed;
+  units = beside.units;
+  numbers = beside.numbers;
+  stages = beside.stages;
+  passed_begin = beside.passed_begin;
+  each = λ k known. each_of_if (λ m. FitsAt table is_over (passed m) s past jobs m) n k (n == k) refl here (beside.others k known);
+  no_more_jobs = beside.no_more_jobs;
+}
+
+pub beside-fits : (table : MethodTable) (is_over : Bool) (passed : List SeenEntry) (s : Core) (past : Past) (jobs : ℕ → Option HandlerState) (n : ℕ)
+    → Beside table is_over (λ k. passed) s past jobs n → FitsAt table is_over passed s past jobs n → Fits table is_over passed s past jobs
+beside-fits table is_over passed s past jobs n beside here =
+    along-fits table is_over passed s past jobs (beside-along table is_over (λ k. passed) s past jobs n beside here)
+
+-- the other numbers have the same places
+pub beside-same : (table : MethodTable) (is_over : Bool) (passed places : ℕ → List SeenEntry) (s : Core) (past : Past) (jobs : ℕ → Option HandlerState) (n : ℕ)
+    → ((k : ℕ) → Begins (places k) (past_entries past)) → ((k : ℕ) → k ≢ n → places k ≡ passed k)
+    → Beside table is_over passed s past jobs n → Beside table is_over places s past jobs n
+beside-same table is_over passed places s past jobs n begin same beside = record {
+  past_is = beside.past_is;
+  closed = beside.closed;
+  units = beside.units;
+  numbers = beside.numbers;
+  stages = beside.stages;
+  passed_begin = begin;
+  given = beside.given;
+  others = λ k known apart. subst (λ l. FitsAt table is_over l s past jobs k) (sym (same k apart)) (beside.others k known apart);
+  no_more_jobs = beside.no_more_jobs;
+}
 
 -- ---- a change at one number leaves the others
 
-pub same-fits : (table : MethodTable) (is_over : Bool) (entries passed : List SeenEntry) (n : ℕ) (stage stage_now : Stage) (desk desk_now : Option Number)
+pub same-fits : (table : MethodTable) (is_over : Bool) (entries passed : List SeenEntry) (n : ℕ) (stage stage_now : Stage) (desk desk_now : Option OpenCall)
     (job job_now : Option HandlerState) (sends sends_now : List Sending) (written written_now : List Sending) (took took_now : Option Course)
     → stage_now ≡ stage → desk_now ≡ desk → job_now ≡ job → sends_now ≡ sends → written_now ≡ written → took_now ≡ took
     → NumberFits table is_over entries passed n stage desk job sends written took
@@ -90,7 +164,7 @@ same-fits table is_over entries passed n stage stage_now desk desk_now job job_n
 abbrev pub with_numbers : Past → (ℕ → List Sending) → (ℕ → Option Course) → Past
 with_numbers past sends took = record past { sends = sends; took = took }
 
-pub beside-changed : (table : MethodTable) (is_over : Bool) (passed : List SeenEntry) (s after : Core) (past : Past) (sends : ℕ → List Sending)
+pub beside-changed : (table : MethodTable) (is_over : Bool) (passed : ℕ → List SeenEntry) (s after : Core) (past : Past) (sends : ℕ → List Sending)
     (took : ℕ → Option Course) (jobs jobs_now : ℕ → Option HandlerState) (n : ℕ) → Beside table is_over passed s past jobs n
     → IsPast table is_over (with_numbers past sends took)
     → after.desk.is_closed ≡ s.desk.is_closed
@@ -111,7 +185,7 @@ beside-changed table is_over passed s after past sends took jobs jobs_now n besi
   stages = stages ∙ beside.stages;
   passed_begin = beside.passed_begin;
   given = beside.given;
-  others = λ k known apart. same-fits table is_over (past_entries past) passed k (stage_at s k) (stage_at after k) (number_at s.desk k) (number_at after.desk k)
+  others = λ k known apart. same-fits table is_over (past_entries past) (passed k) k (stage_at s k) (stage_at after k) (number_at s.desk k) (number_at after.desk k)
       (jobs k) (jobs_now k) (past.sends k) (sends k) (sent_by k past.items) (sent_by k past.items) (past.took k) (took k)
       (stage k apart) (desk k apart) (job k apart) (send k apart) refl (take k apart) (beside.others k known apart);
   no_more_jobs = λ k more. job k (λ same. absurd (let given = beside.given in omega arith)) ∙ beside.no_more_jobs k more;

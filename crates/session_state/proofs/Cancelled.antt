@@ -20,10 +20,10 @@ use Rattle.peer_output.specs.Later.{IsFinished, IsUnderWay}
 use Rattle.peer_output.specs.Past.{Past, past_entries, NumberStands}
 use Rattle.session_state.specs.Core.{Core, stage_at, all_of}
 use Rattle.session_state.specs.Finishing.{over_or_gone, finished, cancelled, cancelled_course}
-use Rattle.session_state.specs.Fits.{NumberFits, RunFits, Fits}
+use Rattle.session_state.specs.Fits.{NumberFits, RunFits}
 use Rattle.session_state.specs.Hearing.{hear_waits}
 use Rattle.session_state.specs.Inner.Known.{Known}
-use Rattle.session_state.proofs.Beside.{FitsAt, Beside, beside-fits, same-fits, beside-changed}
+use Rattle.session_state.proofs.Beside.{FitsAt, FitsAlong, Beside, beside-along, same-fits, beside-changed}
 use Rattle.session_state.proofs.Hears.{WaitsForLast, waits-fit, HasHeard, waits-heard, turns-last}
 use Rattle.session_state.proofs.Pointwise.{at-here, at-elsewhere}
 
@@ -50,7 +50,7 @@ over_if table is_over entries passed n h so_far c written sends is within false 
 
 -- ---- finished with an answer
 
-module _ (known : Known) (table : MethodTable) (is_over : Bool) (passed : List SeenEntry) (s : Core) (past : Past) (jobs jobs_now : ℕ → Option HandlerState)
+module _ (known : Known) (table : MethodTable) (is_over : Bool) (passed : ℕ → List SeenEntry) (s : Core) (past : Past) (jobs jobs_now : ℕ → Option HandlerState)
     (n : ℕ) (h : HandlerState) (so_far : ℕ) (c : Course) (beside : Beside table is_over passed s past jobs n) (is : h.number ≡ n)
     (open_yet : past.took n ≡ None) (begins : Begins (past.sends n) c.sends) (certain : IsFinished table is_over (past_entries past) n c)
     (sends : c.sends ≡ all_of h) (written : IsWritten past n so_far) (none_out : jobs_now n ≡ None)
@@ -69,13 +69,13 @@ module _ (known : Known) (table : MethodTable) (is_over : Bool) (passed : List S
       (λ k apart. at-elsewhere n c.sends past.sends k apart)
       (λ k apart. at-elsewhere n (Some c) past.took k apart)
 
-  finished-here : FitsAt table is_over passed (finished s h so_far c.answer) (with_course past n c) jobs_now n
+  finished-here : FitsAt table is_over (passed n) (finished s h so_far c.answer) (with_course past n c) jobs_now n
   finished-here =
       let given = beside.given in
       let stages = beside.stages in
       let given_here : n < length s.stages = omega arith in
       let within = written.within in
-      same-fits table is_over (past_entries past) passed n (over_or_gone h so_far) (stage_at (finished s h so_far c.answer) n) None (number_at (with_end s.desk h.number c.answer) n)
+      same-fits table is_over (past_entries past) (passed n) n (over_or_gone h so_far) (stage_at (finished s h so_far c.answer) n) None (number_at (with_end s.desk h.number c.answer) n)
       None (jobs_now n) c.sends (with_at n c.sends past.sends n) (sent_by n past.items) (sent_by n past.items) (Some c) (with_at n (Some c) past.took n)
       (subst (λ m. get_or (set s.stages m (over_or_gone h so_far)) n Gone ≡ over_or_gone h so_far) (sym is) (get_or-set_same s.stages n (over_or_gone h so_far) Gone given_here))
       (subst (λ m. number_at (with_end s.desk m c.answer) n ≡ None) (sym is) (known.ended_here s.desk n c.answer))
@@ -83,13 +83,13 @@ module _ (known : Known) (table : MethodTable) (is_over : Bool) (passed : List S
       (at-here n c.sends past.sends)
       refl
       (at-here n (Some c) past.took)
-      (over_if table is_over (past_entries past) passed n h so_far c (sent_by n past.items) sends
+      (over_if table is_over (past_entries past) (passed n) n h so_far c (sent_by n past.items) sends
       (written.written ∙ sym (ap (take so_far) begins.joined ∙ take-append-le so_far (past.sends n) begins.rest within))
       (omega (arith, ap length begins.joined, length-append (past.sends n) begins.rest))
       (nat_lt so_far (length h.messages + length h.waits)) refl)
 
-  pub finished-fits : Fits table is_over passed (finished s h so_far c.answer) (with_course past n c) jobs_now
-  finished-fits = beside-fits table is_over passed (finished s h so_far c.answer) (with_course past n c) jobs_now n finished-beside finished-here
+  pub finished-fits : FitsAlong table is_over passed (finished s h so_far c.answer) (with_course past n c) jobs_now
+  finished-fits = beside-along table is_over passed (finished s h so_far c.answer) (with_course past n c) jobs_now n finished-beside finished-here
 
 -- ---- finished as cancelled
 
@@ -105,14 +105,14 @@ pub under_way : (table : MethodTable) (is_over : Bool) (entries : List SeenEntry
 under_way table is_over entries n sends None is h = h
 under_way table is_over entries n sends (Some c) is h = cc
 
-module _ (known : Known) (table : MethodTable) (is_over : Bool) (passed : List SeenEntry) (s : Core) (past : Past) (jobs jobs_now : ℕ → Option HandlerState)
-    (n : ℕ) (h : HandlerState) (so_far : ℕ) (beside : Beside table is_over passed s past jobs n) (here : IsHere table is_over passed s past n h so_far)
+module _ (known : Known) (table : MethodTable) (is_over : Bool) (passed : ℕ → List SeenEntry) (s : Core) (past : Past) (jobs jobs_now : ℕ → Option HandlerState)
+    (n : ℕ) (h : HandlerState) (so_far : ℕ) (beside : Beside table is_over passed s past jobs n) (here : IsHere table is_over (passed n) s past n h so_far)
     (none_out : jobs_now n ≡ None) (others_out : (k : ℕ) → k ≢ n → jobs_now k ≡ jobs k) where
   heard : HasHeard n s.desk h (hear_waits s.desk h)
   heard = subst (λ m. HasHeard m s.desk h (hear_waits s.desk h)) here.runs.number (waits-heard known s.desk h)
 
-  now_runs : RunFits table is_over (past_entries past) passed n (hear_waits s.desk h).handler (number_at (hear_waits s.desk h).desk n) (past.sends n) (past.took n)
-  now_runs = waits-fit known table is_over (past_entries past) passed (past.sends n) (past.took n) n s.desk h beside.closed here.runs
+  now_runs : RunFits table is_over (past_entries past) (passed n) n (hear_waits s.desk h).handler (number_at (hear_waits s.desk h).desk n) (past.sends n) (past.took n)
+  now_runs = waits-fit known table is_over (past_entries past) (passed n) (past.sends n) (past.took n) n s.desk h beside.closed here.runs
 
   -- the desk, once it has heard
   pub heard-beside : Beside table is_over passed (record { desk = (hear_waits s.desk h).desk; stages = s.stages }) past jobs n
@@ -137,11 +137,11 @@ module _ (known : Known) (table : MethodTable) (is_over : Bool) (passed : List S
 
   cancel_reached : is_marked_number (number_at s.desk n) ≡ true → is_cancelled (past_entries past) n ≡ true
   cancel_reached marked =
-      known.cancel_stays passed (past_entries past) n beside.passed_begin
+      known.cancel_stays (passed n) (past_entries past) n (beside.passed_begin n)
       (sym here.runs.fits.mark ∙ ap is_marked_number (sym here.runs.is_open) ∙ marked)
 
   pub cancelled-fits : is_marked_number (number_at s.desk n) ≡ true
-      → Fits table is_over passed (cancelled s h so_far) (with_course past n (cancelled_course s h)) jobs_now
+      → FitsAlong table is_over passed (cancelled s h so_far) (with_course past n (cancelled_course s h)) jobs_now
   cancelled-fits marked =
       finished-fits known table is_over passed (record { desk = (hear_waits s.desk h).desk; stages = s.stages }) past jobs jobs_now n (hear_waits s.desk h).handler so_far
       (cancelled_course s h) heard-beside now_runs.number now_runs.unfinished cancel_begins (cancel_certain (cancel_reached marked)) refl here.written none_out others_out

@@ -5,9 +5,9 @@ use Rattle.rpc_messages.specs.Entry.{SeenEntry}
 use Rattle.rpc_messages.specs.Numbering.{numbers_in}
 use Rattle.rpc_messages.specs.Replies.{reply_to}
 use Rattle.method_steps.specs.Steps.{MethodTable}
-use Rattle.answer_desk.specs.declared.number.Number.{Number}
-use Rattle.answer_desk.specs.declared.slot.Slot.{Slot}
-use Rattle.answer_desk.specs.declared.slot.Slot.TheVariants.{Empty, Held, Given}
+use Rattle.answer_desk.specs.declared.open_call.OpenCall.{OpenCall}
+use Rattle.answer_desk.specs.declared.replies.Slot.{Slot}
+use Rattle.answer_desk.specs.declared.replies.Slot.TheVariants.{Empty, Held, Given}
 use Rattle.answer_desk.specs.State.{is_marked_number}
 use Rattle.handler_future.specs.Front.{Heard}
 use Rattle.handler_future.specs.State.{HandlerState}
@@ -16,21 +16,21 @@ use Rattle.session_stages.specs.declared.stage.Stage.TheVariants.{Gone, Faulty, 
 use Rattle.peer_output.specs.Work.{work}
 use Rattle.peer_output.specs.Course.{Sending, Course}
 use Rattle.peer_output.specs.Later.{IsHeardFrom}
-use Rattle.session_state.specs.Fits.{SlotFits, OpenFits, RunFits, IsGone, NumberFits, is_told}
+use Rattle.session_state.specs.Fits.{SlotFits, OpenFits, RunFits, IsGone, NumberFits}
 
 -- from these entries, and those of them that were passed, and what the desk keeps, to those
-pub record Carries (table : MethodTable) (is_over : Bool) (entries passed entries' passed' : List SeenEntry) (n : ℕ) (stage : Stage) (desk desk' : Option Number) : Type 0 where
+pub record Carries (table : MethodTable) (is_over : Bool) (entries passed entries' passed' : List SeenEntry) (n : ℕ) (stage : Stage) (desk desk' : Option OpenCall) : Type 0 where
   pub works : work table entries' n ≡ work table entries n
   pub closed : desk ≡ None → desk' ≡ None
   pub behind : (error : Standard) → stage ≡ Faulty error → numbers_in passed < n → numbers_in passed' < n
-  pub faulty : (error : Standard) → stage ≡ Faulty error → numbers_in passed < n → (kept : Number) → desk ≡ Some kept → is_marked_number desk ≡ false
-      → ((kept' : Number) × (desk' ≡ Some kept') × (is_marked_number desk' ≡ false))
-  pub told : is_told desk ≡ false → is_told desk' ≡ false
+  pub faulty : (error : Standard) → stage ≡ Faulty error → numbers_in passed < n → (kept : OpenCall) → desk ≡ Some kept → is_marked_number desk ≡ false
+      → ((kept' : OpenCall) × (desk' ≡ Some kept') × (is_marked_number desk' ≡ false))
+  pub unmarked : is_marked_number desk ≡ false → is_marked_number desk' ≡ false
   pub heard : (heard : Heard) → IsHeardFrom is_over passed n heard → IsHeardFrom is_over passed' n heard
-  pub keeps : (h : HandlerState) (kept : Number) → desk ≡ Some kept → OpenFits entries passed n h kept
-      → ((kept' : Number) × (desk' ≡ Some kept') × OpenFits entries' passed' n h kept')
+  pub keeps : (h : HandlerState) (kept : OpenCall) → desk ≡ Some kept → OpenFits entries passed n h kept
+      → ((kept' : OpenCall) × (desk' ≡ Some kept') × OpenFits entries' passed' n h kept')
 
-module _ (table : MethodTable) (is_over : Bool) (entries passed entries' passed' : List SeenEntry) (n : ℕ) (desk desk' : Option Number) where
+module _ (table : MethodTable) (is_over : Bool) (entries passed entries' passed' : List SeenEntry) (n : ℕ) (desk desk' : Option OpenCall) where
   gone-carried : (took : Option Course) → work table entries' n ≡ work table entries n → IsGone table entries n took → IsGone table entries' n took
   gone-carried took works (inl over) = inl over
   gone-carried took works (inr none) = inr (works ∙ none.0, none.1)
@@ -55,7 +55,7 @@ module _ (table : MethodTable) (is_over : Bool) (entries passed entries' passed'
   carried Gone job sends written took c f = (c.closed f.0, f.1, f.2, gone-carried took c.works f.3)
   carried (Faulty error) job sends written took c f =
       (c.faulty error refl f.5 f.0.0 f.0.1 f.0.2, f.1, f.2, f.3, c.works ∙ f.4, c.behind error refl f.5)
-  carried (Idle h so_far) job sends written took c f = (run-carried (Idle h so_far) h sends took c f.0, f.1, c.told f.2, f.3, f.4, f.5)
+  carried (Idle h so_far) job sends written took c f = (run-carried (Idle h so_far) h sends took c f.0, f.1, c.unmarked f.2, f.3, f.4, f.5)
   carried (Out so_far) job sends written took c f = (f.0, f.1, f.2, run-carried (Out so_far) f.0 sends took c f.3, f.4, f.5)
   carried (Over h so_far) job sends written took c f = (c.closed f.0, f.1, f.2, f.3, f.4)
   carried Failed job sends written took c f = f

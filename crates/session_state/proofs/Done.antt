@@ -48,13 +48,13 @@ module _ (known : Known) (table : MethodTable) (s : Core) (past : Past) (jobs : 
   gone_fits : (n : ℕ) → n ≤ units_numbers (past_units past)
       → NumberFits table true (past_entries past) (past_entries past) n Gone (number_at s.desk n) (jobs n) (past.sends n) (sent_by n past.items) (past.took n)
   gone_fits n given = subst (λ st. NumberFits table true (past_entries past) (past_entries past) n st (number_at s.desk n) (jobs n) (past.sends n) (sent_by n past.items) (past.took n))
-      (gone n) (rest.fits.each n given)
+      (gone n) (rest.each n given)
 
   all_written : (n : ℕ) → (n ≤ units_numbers (past_units past)) ⊎ (units_numbers (past_units past) < n) → sent_by n past.items ≡ past.sends n
   all_written n (inl given) = (gone_fits n given).2
   all_written n (inr later) =
-      let none = (rest.fits.past_is.later n later).0 in
-      begins-nothing (sent_by n past.items) (subst (Begins (sent_by n past.items)) none (rest.fits.past_is.written n)) ∙ sym none
+      let none = (rest.past_is.later n later).0 in
+      begins-nothing (sent_by n past.items) (subst (Begins (sent_by n past.items)) none (rest.past_is.written n)) ∙ sym none
 
   untaken : (n : ℕ) → IsGone table (past_entries past) n (past.took n) → past.took n ≡ None → work table (past_entries past) n ≡ nothing
   untaken n (inl finished) none = absurd (let is = finished.1 in cc)
@@ -67,7 +67,7 @@ module _ (known : Known) (table : MethodTable) (s : Core) (past : Past) (jobs : 
 
   pub done-output : s.desk.units ≡ [] → IsOutput table (past_units past) past.items
   done-output none =
-      known.is_output table past rest.fits.past_is (none-left past.took (1 + units_numbers past.released) past.left (sym rest.fits.units ∙ none))
+      known.is_output table past rest.past_is (none-left past.took (1 + units_numbers past.released) past.left (sym rest.units ∙ none))
       (λ n. all_written n (grind arith)) (λ n. all_finished n (grind arith))
 
 -- ---- where nothing is ready
@@ -163,7 +163,7 @@ module _ (table : MethodTable) (s : Core) (past : Past) (jobs : ℕ → Option H
   over_of n given Gone is fits = (fits.3, refl)
   over_of n given (Faulty error) is fits = absurd (let later = fits.5 in omega (arith, numbers-along (past_units past)))
   over_of n given (Idle h so_far) is fits =
-      let here : is_ready s.desk h ≡ true = closed-ready table true (past_entries past) (past_entries past) n h s.desk (past.sends n) (past.took n) fits.0 rest.fits.closed fits.1 in
+      let here : is_ready s.desk h ≡ true = closed-ready table true (past_entries past) (past_entries past) n h s.desk (past.sends n) (past.took n) fits.0 rest.closed fits.1 in
       let not_here : is_ready s.desk h ≡ false = ap (is_ready_stage s.desk) (sym is) ∙ none-ready s.desk 0 n s.stages none_ready in
       absurd (cc)
   over_of n given (Out so_far) is fits = absurd (let some = fits.1 in let none = none_out n in cc)
@@ -171,12 +171,12 @@ module _ (table : MethodTable) (s : Core) (past : Past) (jobs : ℕ → Option H
   over_of n given Failed is fits = absurd (none_failed n is)
 
   pub all-over : (n : ℕ) → n ≤ units_numbers (past_units past) → IsGone table (past_entries past) n (past.took n)
-  all-over n given = (over_of n given (stage_at s n) refl (rest.fits.each n given)).0
+  all-over n given = (over_of n given (stage_at s n) refl (rest.each n given)).0
 
   drained_if : (n : ℕ) → (n ≤ units_numbers (past_units past)) ⊎ (units_numbers (past_units past) < n) → written_stage (stage_at s n) ≡ Gone
-  drained_if n (inl given) = (over_of n given (stage_at s n) refl (rest.fits.each n given)).1
+  drained_if n (inl given) = (over_of n given (stage_at s n) refl (rest.each n given)).1
   drained_if n (inr later) =
-      let stages = rest.fits.stages in
+      let stages = rest.stages in
       ap written_stage (get_or_past s.stages n Gone (omega arith))
 
   pub drained-gone : (n : ℕ) → stage_at (drained s) n ≡ Gone
@@ -185,7 +185,7 @@ module _ (table : MethodTable) (s : Core) (past : Past) (jobs : ℕ → Option H
   pub drained-none : (drained s).desk.units ≡ []
   unfolding Answered
   drained-none =
-      ap behind_front rest.fits.units
+      ap behind_front rest.units
       ∙ units-whole past.took (1 + units_numbers past.released) past.left
       (λ k low high. let given : k ≤ units_numbers (past_units past) = omega (arith, units-append past.released past.left) in
       gone-answered table (past_entries past) k (past.took k) (omega arith) (omega (arith, numbers-along (past_units past), given)) (all-over k given))

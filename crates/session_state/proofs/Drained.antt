@@ -11,7 +11,7 @@ use Rattle.rpc_messages.specs.Numbering.{units_numbers}
 use Rattle.rpc_messages.specs.Replies.{entries_along}
 use Rattle.rpc_messages.specs.Unit.{SeenUnit}
 use Rattle.method_steps.specs.Steps.{MethodTable}
-use Rattle.answer_desk.specs.declared.number.Number.{Number}
+use Rattle.answer_desk.specs.declared.open_call.OpenCall.{OpenCall}
 use Rattle.answer_desk.specs.State.{number_at, front_texts}
 use Rattle.answer_desk.specs.Waiting.{unit_text, whole_front, behind_front}
 use Rattle.handler_future.specs.State.{HandlerState}
@@ -41,7 +41,7 @@ none_more written sends begins = subst (λ l. Begins l sends) (sym (append-nil w
 all_now : (so_far : ℕ) (written sends made : List Sending) → written ≡ take so_far sends → sends ≡ made → written ++ drop so_far made ≡ sends
 all_now so_far written sends made is same = ap (λ l. l ++ drop so_far made) is ∙ ap (λ l. take so_far sends ++ drop so_far l) (sym same) ∙ take-append-drop so_far sends
 
-module _ (table : MethodTable) (is_over : Bool) (entries passed : List SeenEntry) (n : ℕ) (desk : Option Number) (job : Option HandlerState) (sends written : List Sending) (took : Option Course) where
+module _ (table : MethodTable) (is_over : Bool) (entries passed : List SeenEntry) (n : ℕ) (desk : Option OpenCall) (job : Option HandlerState) (sends written : List Sending) (took : Option Course) where
   number-begins : (stage : Stage) → NumberFits table is_over entries passed n stage desk job sends written took → Begins written sends → Begins (written ++ unwritten stage) sends
   number-begins Gone fits begins = none_more written sends begins
   number-begins (Faulty error) fits begins = none_more written sends begins
@@ -91,15 +91,15 @@ module _ (known : Known) (table : MethodTable) (is_over : Bool) (s : Core) (past
       → Begins (sent_by m past.items ++ unwritten (stage_at s m)) (past.sends m)
   begins_if m (inl given) =
       number-begins table is_over (past_entries past) (past_entries past) m (number_at s.desk m) (jobs m) (past.sends m) (sent_by m past.items) (past.took m) (stage_at s m)
-      (rest.fits.each m given) (rest.fits.past_is.written m)
+      (rest.each m given) (rest.past_is.written m)
   begins_if m (inr later) =
-      let stages = rest.fits.stages in
+      let stages = rest.stages in
       let gone : stage_at s m ≡ Gone = get_or_past s.stages m Gone (omega arith) in
       subst (λ st. Begins (sent_by m past.items ++ unwritten st) (past.sends m)) (sym gone)
-      (none_more (sent_by m past.items) (past.sends m) (rest.fits.past_is.written m))
+      (none_more (sent_by m past.items) (past.sends m) (rest.past_is.written m))
 
   sent_past : IsPast table is_over (with_items past (unwritten_from 0 s.stages))
-  sent_past = unwritten-past known table is_over 0 s.stages past rest.fits.past_is
+  sent_past = unwritten-past known table is_over 0 s.stages past rest.past_is
       (λ m k is. let same : m ≡ k = omega arith in
       subst (λ j. Begins (sent_by m past.items ++ unwritten (get_or s.stages j Gone)) (past.sends m)) same (begins_if m (grind arith)))
 
@@ -108,7 +108,7 @@ module _ (known : Known) (table : MethodTable) (is_over : Bool) (s : Core) (past
 
   given_if : (m : ℕ) (c : Course) → past.took m ≡ Some c → (m ≤ units_numbers (past_units past)) ⊎ (units_numbers (past_units past) < m) → m ≤ units_numbers (past_units past)
   given_if m c is (inl given) = given
-  given_if m c is (inr later) = absurd (let none = (rest.fits.past_is.later m later).1 in cc)
+  given_if m c is (inr later) = absurd (let none = (rest.past_is.later m later).1 in cc)
 
   sent_all : (m : ℕ) → (c : Course) × (past.took m ≡ Some c) → IsAllSent past.took (past.items ++ unwritten_from 0 s.stages) m
   sent_all m finished = record {
@@ -116,8 +116,8 @@ module _ (known : Known) (table : MethodTable) (is_over : Bool) (s : Core) (past
     finished = finished.1;
     all = by_now m
         ∙ number-all table is_over (past_entries past) (past_entries past) m (number_at s.desk m) (jobs m) (past.sends m) (sent_by m past.items) (past.took m) (stage_at s m)
-        finished.0 (rest.fits.each m (given_if m finished.0 finished.1 (grind arith))) finished.1
-        ∙ stands-all table is_over (past_entries past) m (past.sends m) (past.took m) finished.0 finished.1 (rest.fits.past_is.numbers m);
+        finished.0 (rest.each m (given_if m finished.0 finished.1 (grind arith))) finished.1
+        ∙ stands-all table is_over (past_entries past) m (past.sends m) (past.took m) finished.0 finished.1 (rest.past_is.numbers m);
   }
 
   module _ (front left : List SeenUnit) (split : past.left ≡ front ++ left)
@@ -161,23 +161,20 @@ module _ (known : Known) (table : MethodTable) (is_over : Bool) (s : Core) (past
         (subst (λ l. NumberFits table is_over (past_entries past) (past_entries past) m (written_stage (stage_at s m)) (number_at s.desk m) (jobs m) (past.sends m) l (past.took m))
         (sym (by_later m))
         (number-drained table is_over (past_entries past) (past_entries past) m (number_at s.desk m) (jobs m) (past.sends m) (sent_by m past.items) (past.took m) (stage_at s m)
-        (rest.fits.each m (subst (λ us. m ≤ units_numbers us) units_same given)))))
+        (rest.each m (subst (λ us. m ≤ units_numbers us) units_same given)))))
 
     later_rest : AtRest table is_over (drained s) later jobs
     unfolding later
     later_rest = record {
-      fits = record {
-        past_is = later_past;
-        closed = rest.fits.closed;
-        units = ap behind_front rest.fits.units ∙ behind
-            ∙ ap (λ k. units_left past.took k left) (let place : 1 + units_numbers past.released + units_numbers front ≡ 1 + units_numbers (past.released ++ front) = omega (arith, units-append past.released front) in place);
-        numbers = rest.fits.numbers ∙ ap (λ us. 1 + units_numbers us) (sym units_same);
-        stages = length-map s.stages written_stage ∙ rest.fits.stages ∙ ap (λ us. 1 + units_numbers us) (sym units_same);
-        passed_begin = begins-itself (past_entries later);
-        each = each_later;
-        no_more_jobs = λ m more. rest.fits.no_more_jobs m (subst (λ us. units_numbers us < m) units_same more);
-      };
-      told = rest.told;
+      past_is = later_past;
+      closed = rest.closed;
+      units = ap behind_front rest.units ∙ behind
+          ∙ ap (λ k. units_left past.took k left) (let place : 1 + units_numbers past.released + units_numbers front ≡ 1 + units_numbers (past.released ++ front) = omega (arith, units-append past.released front) in place);
+      numbers = rest.numbers ∙ ap (λ us. 1 + units_numbers us) (sym units_same);
+      stages = length-map s.stages written_stage ∙ rest.stages ∙ ap (λ us. 1 + units_numbers us) (sym units_same);
+      passed_begin = begins-itself (past_entries later);
+      each = each_later;
+      no_more_jobs = λ m more. rest.no_more_jobs m (subst (λ us. units_numbers us < m) units_same more);
     }
 
     pub drained_to : (later : Past) × (dues : List Due) × AtRest table is_over (drained s) later jobs × (past_units later ≡ past_units past)
@@ -189,7 +186,7 @@ module _ (known : Known) (table : MethodTable) (is_over : Bool) (s : Core) (past
       dues_of past.took (1 + units_numbers past.released) front,
       later_rest,
       units_same,
-      sym (ap (λ us. filter_map unit_text (whole_front us)) rest.fits.units ∙ texts),
+      sym (ap (λ us. filter_map unit_text (whole_front us)) rest.units ∙ texts),
       refl,
       refl,
       refl,

@@ -13,7 +13,6 @@ use Rattle.peer_output.specs.Past.{Past, past_units, past_entries}
 use Rattle.session_state.specs.Core.{Core, stage_at}
 use Rattle.session_state.specs.Fits.{NumberFits, AtRest}
 use Rattle.session_state.specs.Passing.{EndsByCancel, PassesNumber, Passes}
-use Rattle.session_state.proofs.Marks.{unmarked-here}
 use Rattle.session_state.proofs.Pointwise.{stage-within}
 use Rattle.session_state.proofs.Streams.{numbers-along}
 
@@ -23,20 +22,20 @@ module _ (table : MethodTable) (is_over : Bool) (s : Core) (past : Past) (jobs :
       → NumberFits table is_over (past_entries past) (past_entries past) n stage (number_at s.desk n) (jobs n) (past.sends n) (sent_by n past.items) (past.took n)
   fits-stage stage was some =
       let below : n < length s.stages = stage-within s.stages n (λ gone. some (sym was ∙ gone)) in
-      let given : n ≤ units_numbers (past_units past) = omega (arith, below, rest.fits.stages) in
+      let given : n ≤ units_numbers (past_units past) = omega (arith, below, rest.stages) in
       subst (λ st. NumberFits table is_over (past_entries past) (past_entries past) n st (number_at s.desk n) (jobs n) (past.sends n) (sent_by n past.items) (past.took n)) was
-      (rest.fits.each n given)
+      (rest.each n given)
 
   pub here-uncancelled : (h : HandlerState) (so_far : ℕ) → stage_at s n ≡ Idle h so_far → is_cancelled (past_entries past) n ≡ false
   here-uncancelled h so_far was =
       let f = fits-stage (Idle h so_far) was (λ gone. cc) in
-      sym f.0.fits.mark ∙ ap is_marked_number (sym f.0.is_open) ∙ unmarked-here (number_at s.desk n) (rest.told n) f.2
+      sym f.0.fits.mark ∙ ap is_marked_number (sym f.0.is_open) ∙ f.2
 
   pub no-fault : (error : Standard) → stage_at s n ≢ Faulty error
   no-fault error was =
       let below : n < length s.stages = stage-within s.stages n (λ gone. (let clash : Faulty error ≡ Gone = sym was ∙ gone in cc)) in
       let behind : numbers_in (past_entries past) < n = (fits-stage (Faulty error) was (λ gone. cc)).5 in
-      absurd (omega (arith, below, behind, rest.fits.stages, numbers-along (past_units past)))
+      absurd (omega (arith, below, behind, rest.stages, numbers-along (past_units past)))
 
 -- ---- the law of cancels
 

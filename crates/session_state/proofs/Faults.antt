@@ -1,5 +1,5 @@
 -- A call at fault is finished as its entry is passed.
-use Rattle.std.proofs.Common.{◌≡◌, ◌≢◌, ℕ, ◌+◌, ◌≤◌, List, [], false, Option, Some, None, ◌⊎◌, inl, inr, refl, sym, ap, subst, ◌∙◌, arith}
+use Rattle.std.proofs.Common.{◌≡◌, ◌≢◌, ℕ, ◌+◌, ◌≤◌, List, [], false, Option, Some, None, ◌⊎◌, inl, inr, refl, sym, subst, ◌∙◌, arith}
 use Rattle.std.proofs.lemmas.Bool.{cases_eq}
 use Rattle.std.proofs.lemmas.List.{length-set}
 use Rattle.rpc_messages.specs.declared.reply.Reply.TheVariants.{Standard as Fixed}
@@ -7,7 +7,7 @@ use Rattle.rpc_messages.specs.declared.standard.Standard.{Standard}
 use Rattle.rpc_messages.specs.Entry.{SeenEntry}
 use Rattle.rpc_messages.specs.Numbering.{units_numbers}
 use Rattle.method_steps.specs.Steps.{MethodTable}
-use Rattle.answer_desk.specs.State.{number_at, with_end, is_newly_marked}
+use Rattle.answer_desk.specs.State.{number_at, with_end}
 use Rattle.handler_future.specs.State.{HandlerState}
 use Rattle.session_stages.specs.declared.stage.Stage.{Stage}
 use Rattle.session_stages.specs.declared.stage.Stage.TheVariants.{Gone, Faulty, Idle, Out, Over, Failed}
@@ -22,26 +22,24 @@ use Rattle.session_state.specs.Fits.{NumberFits, Fits}
 use Rattle.session_state.specs.Passing.{EndsByFault, PassesNumber}
 use Rattle.session_state.specs.Inner.Known.{Known}
 use Rattle.session_state.proofs.Beside.{Beside, FitsAt, fits-beside, beside-fits, beside-changed, same-fits}
-use Rattle.session_state.proofs.Passing.{passes-nothing}
 use Rattle.session_state.proofs.Pointwise.{at-here, at-elsewhere, stage-elsewhere, stage-gone, next-ended, units-ended}
 use Rattle.session_state.proofs.Streams.{begins-nothing, begins-itself, numbers-along}
-use Rattle.session_state.proofs.Tellings.{PassesTo}
+use Rattle.session_state.proofs.Passing.{PassesTo, passes-nothing}
 
 -- what becomes of it, and that the number isn't at fault
 pub record HasPassedFault (table : MethodTable) (passed : List SeenEntry) (s after : Core) (past : Past) (jobs : ℕ → Option HandlerState) (n : ℕ) : Type 0 where
   pub all : PassesTo table passed s after past jobs
   pub sound : (error : Standard) → stage_at after n ≢ Faulty error
-  pub unmarked : (k : ℕ) → is_newly_marked (number_at after.desk k) ≡ false
 
 module _ (known : Known) (table : MethodTable) (passed : List SeenEntry) (jobs : ℕ → Option HandlerState) (s : Core) (past : Past)
-    (fits : Fits table false passed s past jobs) (none : (k : ℕ) → is_newly_marked (number_at s.desk k) ≡ false) (n : ℕ) (given : n ≤ units_numbers (past_units past)) where
+    (fits : Fits table false passed s past jobs) (n : ℕ) (given : n ≤ units_numbers (past_units past)) where
   module _ (error : Standard) (was : stage_at s n ≡ Faulty error)
       (f : NumberFits table false (past_entries past) passed n (Faulty error) (number_at s.desk n) (jobs n) (past.sends n) (sent_by n past.items) (past.took n)) where
     later : Past
     later = with_course past n (silent (Fixed error))
 
-    fault-beside : Beside table false passed (fault_at s n (Faulty error)) (with_course past n (silent (Fixed error))) jobs n
-    fault-beside = beside-changed table false passed s (fault_at s n (Faulty error)) past (with_at n [] past.sends) (with_at n (Some (silent (Fixed error))) past.took) jobs jobs n
+    fault-beside : Beside table false (λ k. passed) (fault_at s n (Faulty error)) (with_course past n (silent (Fixed error))) jobs n
+    fault-beside = beside-changed table false (λ k. passed) s (fault_at s n (Faulty error)) past (with_at n [] past.sends) (with_at n (Some (silent (Fixed error))) past.took) jobs jobs n
         (fits-beside table false passed s past jobs n fits given)
         (known.finishes table false past n (silent (Fixed error)) fits.past_is given f.3 (subst (λ l. Begins l []) (sym f.2) (begins-itself []))
         (known.fault_finishes table false (past_entries past) n error (omega (arith, given, numbers-along (past_units past))) f.4))
@@ -78,11 +76,6 @@ module _ (known : Known) (table : MethodTable) (passed : List SeenEntry) (jobs :
       took = at-elsewhere n (Some (silent (Fixed error))) past.took k apart;
     })
 
-    fault-unmarked : (k : ℕ) → (k ≡ n) ⊎ (k ≡ n → ⊥) → is_newly_marked (number_at (with_end s.desk n (Fixed error)) k) ≡ false
-    fault-unmarked k (inl same) =
-        subst (λ i. is_newly_marked (number_at (with_end s.desk n (Fixed error)) i) ≡ false) (sym same) (ap is_newly_marked (known.ended_here s.desk n (Fixed error)))
-    fault-unmarked k (inr apart) = ap is_newly_marked (known.ended_elsewhere s.desk n k (Fixed error) apart) ∙ none k
-
     gone-sound : (st : Stage) → st ≡ Gone → (other : Standard) → st ≢ Faulty other
     gone-sound st gone other is = cc
 
@@ -94,12 +87,11 @@ module _ (known : Known) (table : MethodTable) (passed : List SeenEntry) (jobs :
         passes = record { released = refl; left = refl; items = refl; numbers = λ k. fault-number k (cases_eq k n) };
       };
       sound = gone-sound (stage_at (fault_at s n (Faulty error)) n) (stage-gone s.stages n);
-      unmarked = λ k. fault-unmarked k (cases_eq k n);
     }
 
   -- one that isn't at fault
   sound-passes : ((error : Standard) → stage_at s n ≢ Faulty error) → HasPassedFault table passed s s past jobs n
-  sound-passes sound = record { all = record { later = past; fits = fits; passes = passes-nothing s s past refl }; sound = sound; unmarked = none }
+  sound-passes sound = record { all = record { later = past; fits = fits; passes = passes-nothing s s past refl }; sound = sound }
 
   other-sound : (stage : Stage) → stage_at s n ≡ stage → ((error : Standard) → stage ≢ Faulty error) → (error : Standard) → stage_at s n ≢ Faulty error
   other-sound stage was other error is = other error (sym was ∙ is)

@@ -10,11 +10,11 @@ use Rattle.rpc_messages.specs.declared.reply.Reply.{Reply}
 use Rattle.rpc_messages.specs.declared.reply.Reply.TheVariants.{Standard}
 use Rattle.rpc_messages.specs.declared.standard.Standard.TheVariants.{NoReply}
 use Rattle.method_steps.specs.Steps.{MethodTable}
-use Rattle.answer_desk.specs.declared.number.Number.{Number}
-use Rattle.answer_desk.specs.declared.slot.Slot.{Slot}
-use Rattle.answer_desk.specs.declared.slot.Slot.TheVariants.{Empty, Held, Given}
+use Rattle.answer_desk.specs.declared.open_call.OpenCall.{OpenCall}
+use Rattle.answer_desk.specs.declared.replies.Slot.{Slot}
+use Rattle.answer_desk.specs.declared.replies.Slot.TheVariants.{Empty, Held, Given}
 use Rattle.answer_desk.specs.Replies.{slot_at, given_by}
-use Rattle.answer_desk.specs.State.{State, number_at, numbers_with, slot_of, with_slot, reply_of, without_reply, is_unmarked, is_new, is_marked_number, is_newly_marked}
+use Rattle.answer_desk.specs.State.{State, number_at, numbers_with, slot_of, with_slot, reply_of, without_reply, is_marked_number}
 use Rattle.handler_future.specs.Front.{Heard, find_heard, is_heard, unheard, last_turns}
 use Rattle.handler_future.specs.State.{HandlerState, with_heard}
 use Rattle.peer_output.specs.Course.{Sending, Course}
@@ -70,13 +70,13 @@ replied-known n t es r is = known_if n t es r is (grind arith)
 
 -- ---- the desk once a reply was taken
 
-number-changed : (numbers : List (Option Number)) (n : ℕ) (change : Number → Number) → get_or (numbers_with numbers n change) n None ≡ option_map change (get_or numbers n None)
+number-changed : (numbers : List (Option OpenCall)) (n : ℕ) (change : OpenCall → OpenCall) → get_or (numbers_with numbers n change) n None ≡ option_map change (get_or numbers n None)
 number-changed [] n change = refl
 number-changed (o ∷ os) zero change = refl
 number-changed (o ∷ os) (suc n) change = number-changed os n change
 
 -- an open number once the reply of a turn was taken
-abbrev pub with_given : Number → ℕ → Number
+abbrev pub with_given : OpenCall → ℕ → OpenCall
 with_given number turn = record number { replies = set number.replies (turn - 1) Given }
 
 taken_if : (o : Option Reply) (r : Reply) (s t : State) → o ≡ Some r → cond (is_some o) t s ≡ t
@@ -86,18 +86,18 @@ taken_if (Some q) r s t is = refl
 pub without-taken : (desk : State) (n turn : ℕ) (r : Reply) → reply_of desk n turn ≡ Some r → without_reply desk n turn ≡ with_slot desk n turn Given
 without-taken desk n turn r is = taken_if (reply_of desk n turn) r desk (with_slot desk n turn Given) is
 
-pub number-given : (desk : State) (n turn : ℕ) (r : Reply) (kept : Number) → reply_of desk n turn ≡ Some r → number_at desk n ≡ Some kept
+pub number-given : (desk : State) (n turn : ℕ) (r : Reply) (kept : OpenCall) → reply_of desk n turn ≡ Some r → number_at desk n ≡ Some kept
     → number_at (without_reply desk n turn) n ≡ Some (with_given kept turn)
 number-given desk n turn r kept is open_now =
     ap (λ (d : State). number_at d n) (without-taken desk n turn r is)
-    ∙ number-changed desk.numbers n (λ (m : Number). with_given m turn)
-    ∙ ap (option_map (λ (m : Number). with_given m turn)) open_now
+    ∙ number-changed desk.numbers n (λ (m : OpenCall). with_given m turn)
+    ∙ ap (option_map (λ (m : OpenCall). with_given m turn)) open_now
 
 -- nothing else changes
 pub left_if : (desk : State) (n turn : ℕ) (b : Bool)
     → ((cond b (with_slot desk n turn Given) desk).is_closed ≡ desk.is_closed) × ((cond b (with_slot desk n turn Given) desk).units ≡ desk.units)
     × (length (cond b (with_slot desk n turn Given) desk).numbers ≡ length desk.numbers)
-left_if desk n turn true = (refl, refl, length-set desk.numbers n (option_map (λ (m : Number). with_given m turn) (get_or desk.numbers n None)))
+left_if desk n turn true = (refl, refl, length-set desk.numbers n (option_map (λ (m : OpenCall). with_given m turn) (get_or desk.numbers n None)))
 left_if desk n turn false = (refl, refl, refl)
 
 -- ---- what it hears stands in the stream
@@ -130,11 +130,11 @@ module _ (known : Known) where
       → SlotFits passed n (with_heard h turn r) turn slot
   slot_here passed n h turn r slot is = subst (SlotFits passed n (with_heard h turn r) turn) (sym is) (heard-here h.heard turn r)
 
-  module _ (desk : State) (passed : List SeenEntry) (n : ℕ) (h : HandlerState) (turn : ℕ) (r : Reply) (kept : Number)
+  module _ (desk : State) (passed : List SeenEntry) (n : ℕ) (h : HandlerState) (turn : ℕ) (r : Reply) (kept : OpenCall)
       (is : reply_of desk n turn ≡ Some r) (open_now : number_at desk n ≡ Some kept)
       (fits : (t : ℕ) (slot : Slot) → slot_at kept.replies t ≡ Some slot → SlotFits passed n h t slot) where
     slot_seen : (t : ℕ) → slot_of (without_reply desk n turn) n t ≡ slot_at (with_given kept turn).replies t
-    slot_seen t = ap (option_and_then (λ (m : Number). slot_at m.replies t)) (number-given desk n turn r kept is open_now)
+    slot_seen t = ap (option_and_then (λ (m : OpenCall). slot_at m.replies t)) (number-given desk n turn r kept is open_now)
 
     slots_if : (t : ℕ) (slot : Slot) (hit : Bool) → (turn == t) ≡ hit → slot_at (with_given kept turn).replies t ≡ Some slot
         → SlotFits passed n (with_heard h turn r) t slot
@@ -146,7 +146,7 @@ module _ (known : Known) where
         subst (λ u. SlotFits passed n (with_heard h turn r) u slot) same (slot_here passed n h turn r slot (cc))
     slots_if t slot false hit at =
         let apart : t ≢ turn = λ same. absurd (let hits : (turn == t) ≡ true = (unsigned_Decides turn t).1 (sym same) in cc) in
-        let was : slot_of desk n t ≡ slot_at kept.replies t = ap (option_and_then (λ (m : Number). slot_at m.replies t)) open_now in
+        let was : slot_of desk n t ≡ slot_at kept.replies t = ap (option_and_then (λ (m : OpenCall). slot_at m.replies t)) open_now in
         slot_other passed n h turn r t slot hit (fits t slot (sym was ∙ sym (known.given_other_slot desk n turn t apart) ∙ slot_seen t ∙ at))
 
     slots_again : (t : ℕ) (slot : Slot) → slot_at (with_given kept turn).replies t ≡ Some slot → SlotFits passed n (with_heard h turn r) t slot
@@ -164,7 +164,7 @@ module _ (known : Known) where
       number = fits.number;
       works = fits.works;
       heard = heard_from is_over desk.is_closed passed n h turn (slot_at fits.kept.replies turn) r closed (λ s at. fits.fits.slots turn s at)
-          (ap (given_by desk.is_closed) (sym (ap (option_and_then (λ (m : Number). slot_at m.replies turn)) fits.is_open)) ∙ is) fits.heard;
+          (ap (given_by desk.is_closed) (sym (ap (option_and_then (λ (m : OpenCall). slot_at m.replies turn)) fits.is_open)) ∙ is) fits.heard;
       sends_are = fits.sends_are;
       unfinished = fits.unfinished;
       kept = with_given fits.kept turn;
@@ -201,14 +201,14 @@ module _ (known : Known) where
 
 -- ---- what stays as it was
 
-same_mark : (o : Option Number) (turn : ℕ) → option_map (λ (m : Number). m.mark) (option_map (λ (m : Number). with_given m turn) o) ≡ option_map (λ (m : Number). m.mark) o
+same_mark : (o : Option OpenCall) (turn : ℕ) → option_map (λ (m : OpenCall). m.is_marked) (option_map (λ (m : OpenCall). with_given m turn) o) ≡ option_map (λ (m : OpenCall). m.is_marked) o
 same_mark None turn = refl
 same_mark (Some m) turn = refl
 
 mark_if : (desk : State) (n turn : ℕ) (b : Bool)
-    → option_map (λ (m : Number). m.mark) (number_at (cond b (with_slot desk n turn Given) desk) n) ≡ option_map (λ (m : Number). m.mark) (number_at desk n)
+    → option_map (λ (m : OpenCall). m.is_marked) (number_at (cond b (with_slot desk n turn Given) desk) n) ≡ option_map (λ (m : OpenCall). m.is_marked) (number_at desk n)
 mark_if desk n turn true =
-    ap (option_map (λ (m : Number). m.mark)) (number-changed desk.numbers n (λ (m : Number). with_given m turn)) ∙ same_mark (number_at desk n) turn
+    ap (option_map (λ (m : OpenCall). m.is_marked)) (number-changed desk.numbers n (λ (m : OpenCall). with_given m turn)) ∙ same_mark (number_at desk n) turn
 mark_if desk n turn false = refl
 
 -- a handler that has heard some of these turns, and the desk
@@ -217,7 +217,7 @@ pub record HasHeard (n : ℕ) (desk : State) (h : HandlerState) (after : Hearing
   pub program : after.handler.program ≡ h.program
   pub messages : after.handler.messages ≡ h.messages
   pub others : (k : ℕ) → k ≢ n → number_at after.desk k ≡ number_at desk k
-  pub mark : option_map (λ (m : Number). m.mark) (number_at after.desk n) ≡ option_map (λ (m : Number). m.mark) (number_at desk n)
+  pub mark : option_map (λ (m : OpenCall). m.is_marked) (number_at after.desk n) ≡ option_map (λ (m : OpenCall). m.is_marked) (number_at desk n)
   pub closed : after.desk.is_closed ≡ desk.is_closed
   pub units : after.desk.units ≡ desk.units
   pub numbers : length after.desk.numbers ≡ length desk.numbers
@@ -243,7 +243,7 @@ module _ (known : Known) where
         program = later.program ∙ (handler_stays h turn o).0;
         messages = later.messages ∙ (handler_stays h turn o).1;
         others = λ k apart. later.others k apart ∙ known.given_elsewhere desk h.number turn k (λ same. apart (same ∙ is));
-        mark = later.mark ∙ subst (λ m. option_map (λ (x : Number). x.mark) (number_at d m) ≡ option_map (λ (x : Number). x.mark) (number_at desk m)) is (mark_if desk h.number turn (is_some o));
+        mark = later.mark ∙ subst (λ m. option_map (λ (x : OpenCall). x.is_marked) (number_at d m) ≡ option_map (λ (x : OpenCall). x.is_marked) (number_at desk m)) is (mark_if desk h.number turn (is_some o));
         closed = later.closed ∙ stays.0;
         units = later.units ∙ stays.1;
         numbers = later.numbers ∙ stays.2;
@@ -253,17 +253,11 @@ module _ (known : Known) where
   waits-heard desk h = turns-heard h.waits h.number desk h refl
 
 -- what its mark says
-pub same-new : (o p : Option Number) → option_map (λ (m : Number). m.mark) o ≡ option_map (λ (m : Number). m.mark) p → is_newly_marked o ≡ is_newly_marked p
-same-new None None same = refl
-same-new None (Some q) same = cc
-same-new (Some m) None same = cc
-same-new (Some m) (Some q) same = let mark : m.mark ≡ q.mark = cc in ap is_new mark
-
-pub same-marked : (o p : Option Number) → option_map (λ (m : Number). m.mark) o ≡ option_map (λ (m : Number). m.mark) p → is_marked_number o ≡ is_marked_number p
+pub same-marked : (o p : Option OpenCall) → option_map (λ (m : OpenCall). m.is_marked) o ≡ option_map (λ (m : OpenCall). m.is_marked) p → is_marked_number o ≡ is_marked_number p
 same-marked None None same = refl
 same-marked None (Some q) same = cc
 same-marked (Some m) None same = cc
-same-marked (Some m) (Some q) same = let mark : m.mark ≡ q.mark = cc in ap (λ k. cond (is_unmarked k) false true) mark
+same-marked (Some m) (Some q) same = cc
 
 -- ---- what it waits for
 

@@ -4,8 +4,8 @@ use Rattle.std.proofs.lemmas.List.{get_or-set_same, get_or-set_other, length-set
 use Rattle.rpc_messages.specs.Entry.{SeenEntry}
 use Rattle.rpc_messages.specs.Numbering.{units_numbers}
 use Rattle.method_steps.specs.Steps.{MethodTable}
-use Rattle.answer_desk.specs.declared.number.Number.{Number}
-use Rattle.answer_desk.specs.State.{number_at, is_newly_marked}
+use Rattle.answer_desk.specs.declared.open_call.OpenCall.{OpenCall}
+use Rattle.answer_desk.specs.State.{number_at}
 use Rattle.handler_future.specs.State.{HandlerState}
 use Rattle.session_stages.specs.declared.stage.Stage.{Stage}
 use Rattle.session_stages.specs.declared.stage.Stage.TheVariants.{Gone, Faulty, Idle, Out, Over, Failed}
@@ -18,8 +18,8 @@ use Rattle.session_state.specs.Fits.{RunFits, NumberFits, Fits, AtRest}
 use Rattle.session_state.specs.Hearing.{hear_waits}
 use Rattle.session_state.specs.Inner.Known.{Known}
 use Rattle.session_state.specs.Turning.{Leaves, closed}
-use Rattle.session_state.proofs.Beside.{fits-beside, beside-fits, same-fits, beside-changed, each-number}
-use Rattle.session_state.proofs.Hears.{waits-fit, HasHeard, waits-heard, same-new}
+use Rattle.session_state.proofs.Beside.{fits-beside, beside-fits, same-fits, beside-changed}
+use Rattle.session_state.proofs.Hears.{waits-fit, HasHeard, waits-heard}
 use Rattle.session_state.proofs.Pointwise.{at-here, at-elsewhere, stage-within}
 use Rattle.session_state.proofs.Streams.{begins-itself}
 use Rattle.session_state.proofs.Waits.{ready-hears_all}
@@ -27,7 +27,7 @@ use Rattle.session_state.proofs.Waits.{ready-hears_all}
 -- ---- the input ends
 
 module _ (known : Known) (table : MethodTable) where
-  run-over : (entries passed : List SeenEntry) (n : ℕ) (h : HandlerState) (desk : Option Number) (sends : List Sending) (took : Option Course)
+  run-over : (entries passed : List SeenEntry) (n : ℕ) (h : HandlerState) (desk : Option OpenCall) (sends : List Sending) (took : Option Course)
       → RunFits table false entries passed n h desk sends took → RunFits table true entries passed n h desk sends took
   run-over entries passed n h desk sends took fits = record {
     number = fits.number;
@@ -40,7 +40,7 @@ module _ (known : Known) (table : MethodTable) where
     fits = fits.fits;
   }
 
-  number-over : (entries passed : List SeenEntry) (n : ℕ) (stage : Stage) (desk : Option Number) (job : Option HandlerState) (sends written : List Sending) (took : Option Course)
+  number-over : (entries passed : List SeenEntry) (n : ℕ) (stage : Stage) (desk : Option OpenCall) (job : Option HandlerState) (sends written : List Sending) (took : Option Course)
       → NumberFits table false entries passed n stage desk job sends written took → NumberFits table true entries passed n stage desk job sends written took
   number-over entries passed n Gone desk job sends written took fits = fits
   number-over entries passed n (Faulty error) desk job sends written took fits = fits
@@ -53,20 +53,16 @@ module _ (known : Known) (table : MethodTable) where
 
   pub closed-rest : (s : Core) (past : Past) (jobs : ℕ → Option HandlerState) → AtRest table false s past jobs → AtRest table true (closed s) past jobs
   closed-rest s past jobs rest =
-      let fits = rest.fits in
       record {
-        fits = record {
-          past_is = known.input_ends table past fits.past_is;
-          closed = refl;
-          units = fits.units;
-          numbers = fits.numbers;
-          stages = fits.stages;
-          passed_begin = fits.passed_begin;
-          each = λ n given. number-over (past_entries past) (past_entries past) n (stage_at s n) (number_at s.desk n) (jobs n) (past.sends n) (sent_by n past.items) (past.took n)
-              (fits.each n given);
-          no_more_jobs = fits.no_more_jobs;
-        };
-        told = rest.told;
+        past_is = known.input_ends table past rest.past_is;
+        closed = refl;
+        units = rest.units;
+        numbers = rest.numbers;
+        stages = rest.stages;
+        passed_begin = rest.passed_begin;
+        each = λ n given. number-over (past_entries past) (past_entries past) n (stage_at s n) (number_at s.desk n) (jobs n) (past.sends n) (sent_by n past.items) (past.took n)
+            (rest.each n given);
+        no_more_jobs = rest.no_more_jobs;
       }
 
 -- ---- a number with a stage was given
@@ -83,11 +79,11 @@ staged-given table is_over passed s past jobs n fits some =
 module _ (known : Known) (table : MethodTable) (is_over : Bool) (s : Core) (past : Past) (jobs : ℕ → Option HandlerState) (n : ℕ) (h : HandlerState) (so_far : ℕ)
     (rest : AtRest table is_over s past jobs) (stage : stage_at s n ≡ Idle h so_far) where
   idle_given : n ≤ units_numbers (past_units past)
-  idle_given = staged-given table is_over (past_entries past) s past jobs n rest.fits (λ gone. absurd (cc))
+  idle_given = staged-given table is_over (past_entries past) s past jobs n rest (λ gone. absurd (cc))
 
   pub idle_fits : NumberFits table is_over (past_entries past) (past_entries past) n (Idle h so_far) (number_at s.desk n) (jobs n) (past.sends n) (sent_by n past.items) (past.took n)
   idle_fits = subst (λ st. NumberFits table is_over (past_entries past) (past_entries past) n st (number_at s.desk n) (jobs n) (past.sends n) (sent_by n past.items) (past.took n))
-      stage (rest.fits.each n idle_given)
+      stage (rest.each n idle_given)
 
   left : Core
   left = record { desk = (hear_waits s.desk h).desk; stages = set s.stages n (Out so_far) }
@@ -99,30 +95,25 @@ module _ (known : Known) (table : MethodTable) (is_over : Bool) (s : Core) (past
       → AtRest table is_over (record { desk = (hear_waits s.desk h).desk; stages = set s.stages n (Out so_far) }) past (with_at n (Some job) jobs)
   unfolding left
   handler-leaves job is none =
-      let stages = rest.fits.stages in
+      let stages = rest.stages in
       let given = idle_given in
       let within : n < length s.stages = omega arith in
-      record {
-        fits = beside-fits table is_over (past_entries past) left past (with_at n (Some job) jobs) n
-            (beside-changed table is_over (past_entries past) s left past past.sends past.took jobs (with_at n (Some job) jobs) n
-            (fits-beside table is_over (past_entries past) s past jobs n rest.fits idle_given) rest.fits.past_is
-            job_heard.closed (job_heard.units ∙ rest.fits.units) job_heard.numbers (length-set s.stages n (Out so_far))
-            (λ k apart. get_or-set_other s.stages n k (Out so_far) Gone apart) job_heard.others (λ k apart. at-elsewhere n (Some job) jobs k apart) (λ k apart. refl) (λ k apart. refl))
-            (same-fits table is_over (past_entries past) (past_entries past) n (Out so_far) (stage_at left n) (number_at left.desk n) (number_at left.desk n) (Some job) (with_at n (Some job) jobs n)
-            (past.sends n) (past.sends n) (sent_by n past.items) (sent_by n past.items) (past.took n) (past.took n)
-            (get_or-set_same s.stages n (Out so_far) Gone within) refl (at-here n (Some job) jobs) refl refl refl (
-              job,
-              refl,
-              none,
-              subst (λ g. RunFits table is_over (past_entries past) (past_entries past) n g (number_at left.desk n) (past.sends n) (past.took n)) (sym is)
-                  (waits-fit known table is_over (past_entries past) (past_entries past) (past.sends n) (past.took n) n s.desk h rest.fits.closed idle_fits.0),
-              idle_fits.4,
-              idle_fits.5,
-            ));
-        told = each-number (λ k. is_newly_marked (number_at left.desk k) ≡ false) n
-            (same-new (number_at left.desk n) (number_at s.desk n) job_heard.mark ∙ rest.told n)
-            (λ k apart. ap is_newly_marked (job_heard.others k apart) ∙ rest.told k);
-      }
+      beside-fits table is_over (past_entries past) left past (with_at n (Some job) jobs) n
+      (beside-changed table is_over (λ k. past_entries past) s left past past.sends past.took jobs (with_at n (Some job) jobs) n
+      (fits-beside table is_over (past_entries past) s past jobs n rest idle_given) rest.past_is
+      job_heard.closed (job_heard.units ∙ rest.units) job_heard.numbers (length-set s.stages n (Out so_far))
+      (λ k apart. get_or-set_other s.stages n k (Out so_far) Gone apart) job_heard.others (λ k apart. at-elsewhere n (Some job) jobs k apart) (λ k apart. refl) (λ k apart. refl))
+      (same-fits table is_over (past_entries past) (past_entries past) n (Out so_far) (stage_at left n) (number_at left.desk n) (number_at left.desk n) (Some job) (with_at n (Some job) jobs n)
+      (past.sends n) (past.sends n) (sent_by n past.items) (sent_by n past.items) (past.took n) (past.took n)
+      (get_or-set_same s.stages n (Out so_far) Gone within) refl (at-here n (Some job) jobs) refl refl refl (
+        job,
+        refl,
+        none,
+        subst (λ g. RunFits table is_over (past_entries past) (past_entries past) n g (number_at left.desk n) (past.sends n) (past.took n)) (sym is)
+            (waits-fit known table is_over (past_entries past) (past_entries past) (past.sends n) (past.took n) n s.desk h rest.closed idle_fits.0),
+        idle_fits.4,
+        idle_fits.5,
+      ))
 
 pub leaves-rest : (known : Known) (table : MethodTable) (is_over : Bool) (s after : Core) (past : Past) (jobs : ℕ → Option HandlerState) (n : ℕ) (job : HandlerState)
     → AtRest table is_over s past jobs → Leaves s n job after → AtRest table is_over after past (with_at n (Some job) jobs) × (job.waits ≡ [])

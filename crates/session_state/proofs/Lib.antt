@@ -14,12 +14,12 @@ pub mod Passed
 pub mod Passing
 pub mod Pointwise
 pub mod Polled
+pub mod Reaching
 pub mod Returned
 pub mod Started
 pub mod Stood
 pub mod Streams
 pub mod Takings
-pub mod Tellings
 pub mod Totals
 pub mod TurnsLeft
 pub mod Unanswered

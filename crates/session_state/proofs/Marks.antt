@@ -1,16 +1,13 @@
 -- What a cancel marks at the desk, and which requests it reaches.
-use Rattle.std.proofs.Common.{◌≡◌, ◌≢◌, Bool, true, false, cond, ◌&&◌, ◌||◌, Option, Some, None, Decides, refl, sym, ap, ◌∙◌}
+use Rattle.std.proofs.Common.{◌≡◌, ◌≢◌, Bool, true, false, not, ◌&&◌, ◌||◌, Option, Some, None, Decides, refl, sym}
 use Rattle.std.specs.Cmp.{unsigned_Decides, signed_Decides}
 use Rattle.std.specs.Cmp.Lexicographic.{bytes_decides}
 use Rattle.std.specs.Option.{option_map, option_map_or}
 use Rattle.rpc_messages.specs.declared.id.Id.{Id}
 use Rattle.rpc_messages.specs.declared.id.Id.TheVariants.{Null, Text, Signed, Unsigned}
 use Rattle.rpc_messages.specs.Ids.{same_id, has_id}
-use Rattle.answer_desk.specs.declared.mark.Mark.{Mark}
-use Rattle.answer_desk.specs.declared.mark.Mark.TheVariants.{Unmarked, New, Told}
-use Rattle.answer_desk.specs.declared.number.Number.{Number}
-use Rattle.answer_desk.specs.State.{is_unmarked, is_new, number_marked, is_marked_number, is_newly_marked}
-use Rattle.session_state.specs.Fits.{is_told_mark, is_told}
+use Rattle.answer_desk.specs.declared.open_call.OpenCall.{OpenCall}
+use Rattle.answer_desk.specs.State.{marked, is_in_reach, is_marked_number}
 
 -- ---- equal ids, either way round
 
@@ -43,68 +40,47 @@ pub reaches-turned : (id : Id) (own : Option Id) → has_id id own ≡ option_ma
 reaches-turned id None = refl
 reaches-turned id (Some own) = id-turned own id
 
--- ---- an open number once a cancel of this id has come
+-- ---- one that a cancel can reach, and one that it has reached
 
-marks_if : (b : Bool) (mark : Mark) (kept : Number) → kept.mark ≡ mark
-    → is_marked_number (Some (cond (b && is_unmarked mark) (record kept { mark = New }) kept)) ≡ (is_marked_number (Some kept) || b)
-marks_if true Unmarked kept is = ap (λ m. cond (is_unmarked m) false true || true) (sym is)
-marks_if true New kept is = ap (λ m. cond (is_unmarked m) false true) is ∙ ap (λ m. cond (is_unmarked m) false true || true) (sym is)
-marks_if true Told kept is = ap (λ m. cond (is_unmarked m) false true) is ∙ ap (λ m. cond (is_unmarked m) false true || true) (sym is)
-marks_if false mark kept is = or_false (is_marked_number (Some kept))
+and-parts : (a b : Bool) → (a && b) ≡ true → (a ≡ true) × (b ≡ true)
+and-parts true true is = (refl, refl)
+and-parts true false is = cc
+and-parts false b is = cc
+
+and-none : (b : Bool) → (b && false) ≡ false
+and-none true = refl
+and-none false = refl
+
+pub reach-open : (id : Id) (o : Option OpenCall) → is_in_reach id o ≡ true → o ≢ None
+reach-open id None is none = cc
+reach-open id (Some kept) is none = cc
+
+pub reach-unmarked : (id : Id) (o : Option OpenCall) → is_in_reach id o ≡ true → is_marked_number o ≡ false
+reach-unmarked id None is = refl
+reach-unmarked id (Some kept) is = by_mark kept.is_marked (and-parts (has_id id kept.id) (not kept.is_marked) is).1
   where
-    or_false : (b : Bool) → b ≡ (b || false)
-    or_false true = refl
-    or_false false = refl
+    by_mark : (b : Bool) → not b ≡ true → b ≡ false
+    by_mark true is = cc
+    by_mark false is = refl
 
-pub marks-reached : (id : Id) (kept : Number) → is_marked_number (Some (number_marked id kept)) ≡ (is_marked_number (Some kept) || has_id id kept.id)
-marks-reached id kept = marks_if (has_id id kept.id) kept.mark kept refl
-
-told_if : (b : Bool) (kept : Number) → is_told (Some kept) ≡ false → is_told (Some (cond b (record kept { mark = New }) kept)) ≡ false
-told_if true kept untold = refl
-told_if false kept untold = untold
-
-pub marks-untold : (id : Id) (o : Option Number) → is_told o ≡ false → is_told (option_map (number_marked id) o) ≡ false
-marks-untold id None untold = untold
-marks-untold id (Some kept) untold = told_if (has_id id kept.id && is_unmarked kept.mark) kept untold
-
-id_if : (b : Bool) (kept : Number) → (cond b (record kept { mark = New }) kept).id ≡ kept.id
-id_if true kept = refl
-id_if false kept = refl
-
-pub marks-id : (id : Id) (kept : Number) → (number_marked id kept).id ≡ kept.id
-marks-id id kept = id_if (has_id id kept.id && is_unmarked kept.mark) kept
-
-replies_if : (b : Bool) (kept : Number) → (cond b (record kept { mark = New }) kept).replies ≡ kept.replies
-replies_if true kept = refl
-replies_if false kept = refl
-
-pub marks-replies : (id : Id) (kept : Number) → (number_marked id kept).replies ≡ kept.replies
-marks-replies id kept = replies_if (has_id id kept.id && is_unmarked kept.mark) kept
-
--- ---- one that is newly marked is marked, and open
-
-pub new-marked : (o : Option Number) → is_newly_marked o ≡ true → is_marked_number o ≡ true
-new-marked None is = cc
-new-marked (Some kept) is = by_mark kept.mark is
+-- what a cancel reaches has its id
+pub reach-id : (id : Id) (kept : OpenCall) → is_in_reach id (Some kept) ≡ true → true ≡ (kept.is_marked || has_id id kept.id)
+reach-id id kept is = by_mark kept.is_marked (has_id id kept.id) (and-parts (has_id id kept.id) (not kept.is_marked) is).0
   where
-    by_mark : (m : Mark) → is_new m ≡ true → cond (is_unmarked m) false true ≡ true
-    by_mark Unmarked is = cc
-    by_mark New is = refl
-    by_mark Told is = refl
+    by_mark : (marked own : Bool) → own ≡ true → true ≡ (marked || own)
+    by_mark true own is = refl
+    by_mark false own is = sym is
 
-pub new-open : (o : Option Number) → is_newly_marked o ≡ true → o ≢ None
-new-open None is none = cc
-new-open (Some kept) is none = cc
-
-pub told-marked : (kept : Number) → is_marked_number (Some (record kept { mark = Told })) ≡ true
-told-marked kept = refl
-
--- one that isn't newly marked, and isn't told, isn't marked
-pub unmarked-here : (o : Option Number) → is_newly_marked o ≡ false → is_told o ≡ false → is_marked_number o ≡ false
-unmarked-here None new told = refl
-unmarked-here (Some kept) new told = by_mark kept.mark new told
+-- what it doesn't reach is marked, or hasn't
+pub reach-none : (id : Id) (kept : OpenCall) → is_in_reach id (Some kept) ≡ false → kept.is_marked ≡ (kept.is_marked || has_id id kept.id)
+reach-none id kept is = by_mark kept.is_marked (has_id id kept.id) is
   where
-    by_mark : (m : Mark) → is_new m ≡ false → is_told_mark m ≡ false → cond (is_unmarked m) false true ≡ false
-    by_mark Unmarked new told = refl
-    by_mark New new told = cc
-    by_mark Told new told = cc
+    by_mark : (marked own : Bool) → (own && not marked) ≡ false → marked ≡ (marked || own)
+    by_mark true own is = refl
+    by_mark false true is = cc
+    by_mark false false is = refl
+
+-- and once it has been there, it reaches it no more
+pub reached-out : (id : Id) (o : Option OpenCall) → is_in_reach id (option_map marked o) ≡ false
+reached-out id None = refl
+reached-out id (Some kept) = and-none (has_id id kept.id)

@@ -15,11 +15,9 @@ use Rattle.rpc_messages.specs.Numbering.{numbers_in, entries_in, unit_numbers, u
 use Rattle.rpc_messages.specs.Replies.{entries_along, calls_in, call_numbered}
 use Rattle.rpc_messages.specs.Unit.{SeenUnit, unreadable, single, batch}
 use Rattle.method_steps.specs.Steps.{MethodTable, calls_of, place_of}
-use Rattle.answer_desk.specs.declared.place.Place.{Place}
-use Rattle.answer_desk.specs.declared.place.Place.TheVariants as places
-use Rattle.answer_desk.specs.declared.slot.Slot.TheVariants.{Empty}
+use Rattle.answer_desk.specs.declared.replies.Slot.TheVariants.{Empty}
 use Rattle.answer_desk.specs.Places.{new_number, new_numbers, new_parts, call_part}
-use Rattle.answer_desk.specs.State.{number_at, with_unit, is_newly_marked}
+use Rattle.answer_desk.specs.State.{number_at, with_unit}
 use Rattle.answer_desk.specs.Waiting.{silent as no_answer, invalid as no_call}
 use Rattle.handler_future.specs.State.{HandlerState, new_state}
 use Rattle.session_stages.specs.declared.stage.Stage.TheVariants.{Gone}
@@ -117,15 +115,6 @@ unit-numbers table unreadable = refl
 unit-numbers table (single e) = refl
 unit-numbers table (batch es) = refl
 
--- none of them is marked
-unmarked-new : (ps : List Place) (k : ℕ) → is_newly_marked (get_or (new_numbers ps) k None) ≡ false
-unmarked-new [] k = refl
-unmarked-new (places.Unreadable ∷ ps) k = unmarked-new ps k
-unmarked-new (places.Invalid ∷ ps) k = unmarked-new ps k
-unmarked-new (places.Silent ∷ ps) k = unmarked-new ps k
-unmarked-new (places.Numbered id most ∷ ps) zero = refl
-unmarked-new (places.Numbered id most ∷ ps) (suc k) = unmarked-new ps k
-
 -- ---- the unit as it is left at the desk
 
 entries-parts : (table : MethodTable) (most : ℕ → ℕ) (n m : ℕ) (es : List SeenEntry) → new_parts n (places_of_entries table es) ≡ new_parts n (places_for most m es)
@@ -194,12 +183,12 @@ module _ (known : Known) (table : MethodTable) (s : Core) (past : Past) (jobs : 
   many-passed = numbers-along (past_units past)
 
   none-took : (k : ℕ) → length s.desk.numbers ≤ k → past.took k ≡ None
-  none-took k le = (rest.fits.past_is.later k (omega (arith, rest.fits.numbers, le))).1
+  none-took k le = (rest.past_is.later k (omega (arith, rest.numbers, le))).1
 
   opened-units : (with_unit s.desk (shape_of_unit table u)).units ≡ units_left past.took (1 + units_numbers past.released) (past.left ++ u ∷ [])
   opened-units =
-      let next : length s.desk.numbers ≡ 1 + units_numbers past.released + units_numbers past.left = omega (arith, rest.fits.numbers, units-append past.released past.left) in
-      ap (λ us. us ++ record { kind = unit_kind u; parts = new_parts (length s.desk.numbers) (places_of_unit table u) } ∷ []) rest.fits.units
+      let next : length s.desk.numbers ≡ 1 + units_numbers past.released + units_numbers past.left = omega (arith, rest.numbers, units-append past.released past.left) in
+      ap (λ us. us ++ record { kind = unit_kind u; parts = new_parts (length s.desk.numbers) (places_of_unit table u) } ∷ []) rest.units
       ∙ ap (λ ps. units_left past.took (1 + units_numbers past.released) past.left ++ record { kind = unit_kind u; parts = ps } ∷ []) (unit-parts table (λ k. 0) (length s.desk.numbers) u)
       ∙ ap (λ w. units_left past.took (1 + units_numbers past.released) past.left ++ w ∷ []) (known.left_opened past.took (λ k. 0) (length s.desk.numbers) u none-took)
       ∙ ap (λ k. units_left past.took (1 + units_numbers past.released) past.left ++ unit_left past.took k u ∷ []) next
@@ -214,7 +203,7 @@ module _ (known : Known) (table : MethodTable) (s : Core) (past : Past) (jobs : 
         closed = λ is. is;
         behind = λ error is lt. lt;
         faulty = λ error is lt kept is_open unmarked. (kept, is_open, unmarked);
-        told = λ is. is;
+        unmarked = λ is. is;
         heard = λ heard from. from;
         keeps = λ h kept is_open f. (
           kept,
@@ -229,10 +218,10 @@ module _ (known : Known) (table : MethodTable) (s : Core) (past : Past) (jobs : 
   given-fits n le =
       same-fits table false (past_entries (with_units past (u ∷ []))) (past_entries past) n (stage_at s n) (stage_at (opened table s u) n) (number_at s.desk n) (number_at (opened table s u).desk n)
       (jobs n) (jobs n) (past.sends n) (past.sends n) (sent_by n past.items) (sent_by n past.items) (past.took n) (past.took n)
-      (get_or_append_left s.stages (stages_for table (length s.stages) (entries_in u)) Gone n (omega (arith, le, rest.fits.stages)))
-      (number-opened_before s.desk (shape_of_unit table u) n (omega (arith, le, rest.fits.numbers))) refl refl refl refl
+      (get_or_append_left s.stages (stages_for table (length s.stages) (entries_in u)) Gone n (omega (arith, le, rest.stages)))
+      (number-opened_before s.desk (shape_of_unit table u) n (omega (arith, le, rest.numbers))) refl refl refl refl
       (carried table false (past_entries past) (past_entries past) (past_entries (with_units past (u ∷ []))) (past_entries past) n (number_at s.desk n) (number_at s.desk n)
-      (stage_at s n) (jobs n) (past.sends n) (sent_by n past.items) (past.took n) (given-carried n le) (rest.fits.each n le))
+      (stage_at s n) (jobs n) (past.sends n) (sent_by n past.items) (past.took n) (given-carried n le) (rest.each n le))
 
   -- of a number that came with the unit, which is call k of it
   new-fits : (n k : ℕ) → n ≡ 1 + units_numbers (past_units past) + k → k < unit_numbers u
@@ -240,22 +229,22 @@ module _ (known : Known) (table : MethodTable) (s : Core) (past : Past) (jobs : 
       (past.sends n) (sent_by n past.items) (past.took n)
   new-fits n k place below =
       let new = new-call table (length s.stages) (entries_in u) k below in
-      let at_stage : n - length s.stages ≡ k = omega (arith, place, rest.fits.stages) in
-      let at_number : n - length s.desk.numbers ≡ k = omega (arith, place, rest.fits.numbers) in
-      let at_call : length s.stages + k ≡ n = omega (arith, place, rest.fits.stages) in
-      let none = rest.fits.past_is.later n (omega (arith, place)) in
+      let at_stage : n - length s.stages ≡ k = omega (arith, place, rest.stages) in
+      let at_number : n - length s.desk.numbers ≡ k = omega (arith, place, rest.numbers) in
+      let at_call : length s.stages + k ≡ n = omega (arith, place, rest.stages) in
+      let none = rest.past_is.later n (omega (arith, place)) in
       let numbered : call_numbered n (past_entries (with_units past (u ∷ []))) ≡ Some new.call =
       ap (call_numbered n) entries-same ∙ call-beyond k n (past_entries past) (entries_in u) (omega (arith, place, many-passed)) ∙ new.is_call in
       let stage : stage_at (opened table s u) n ≡ stage_for n (call_work table new.call) =
-      get_or-append_right s.stages (stages_for table (length s.stages) (entries_in u)) (length s.stages) n Gone refl (omega (arith, place, rest.fits.stages))
+      get_or-append_right s.stages (stages_for table (length s.stages) (entries_in u)) (length s.stages) n Gone refl (omega (arith, place, rest.stages))
       ∙ ap (λ i. get_or (stages_for table (length s.stages) (entries_in u)) i Gone) at_stage ∙ new.stage ∙ ap (λ m. stage_for m (call_work table new.call)) at_call in
       let number : number_at (opened table s u).desk n ≡ Some (new_number new.call.id (most_of (call_work table new.call))) =
-      number-opened_behind s.desk (shape_of_unit table u) n (omega (arith, place, rest.fits.numbers))
+      number-opened_behind s.desk (shape_of_unit table u) n (omega (arith, place, rest.numbers))
       ∙ ap (λ i. get_or (new_numbers (places_of_unit table u)) i None) at_number ∙ ap (λ l. get_or l k None) (unit-numbers table u) ∙ new.number in
       same-fits table false (past_entries (with_units past (u ∷ []))) (past_entries past) n (stage_for n (call_work table new.call)) (stage_at (opened table s u) n)
       (Some (new_number new.call.id (most_of (call_work table new.call)))) (number_at (opened table s u).desk n) None (jobs n) [] (past.sends n) [] (sent_by n past.items) None (past.took n)
-      stage number (rest.fits.no_more_jobs n (omega (arith, place))) none.0
-      (begins-nothing (sent_by n past.items) (subst (Begins (sent_by n past.items)) none.0 (rest.fits.past_is.written n))) none.1
+      stage number (rest.no_more_jobs n (omega (arith, place))) none.0
+      (begins-nothing (sent_by n past.items) (subst (Begins (sent_by n past.items)) none.0 (rest.past_is.written n))) none.1
       (fresh known table (past_entries (with_units past (u ∷ []))) (past_entries past) n new.call.id (call_work table new.call)
       (work-call table (past_entries (with_units past (u ∷ []))) n new.call (omega (arith, place)) numbered) (call-some table new.call)
       (sym (ap (option_and_then (λ (c : Call). c.id)) numbered)) (omega (arith, place, many-passed)))
@@ -273,20 +262,13 @@ module _ (known : Known) (table : MethodTable) (s : Core) (past : Past) (jobs : 
 
   pub opened-fits : Fits table false (past_entries past) (opened table s u) (with_units past (u ∷ [])) jobs
   opened-fits = record {
-    past_is = known.units_come table past (u ∷ []) rest.fits.past_is;
-    closed = rest.fits.closed;
+    past_is = known.units_come table past (u ∷ []) rest.past_is;
+    closed = rest.closed;
     units = opened-units;
     numbers = length-append s.desk.numbers (new_numbers (places_of_unit table u))
-        ∙ omega (arith, rest.fits.numbers, many-same, ap length (unit-numbers table u), numbers-many table (entries_in u));
-    stages = length-append s.stages (stages_for table (length s.stages) (entries_in u)) ∙ omega (arith, rest.fits.stages, many-same, stages-many table (length s.stages) (entries_in u));
+        ∙ omega (arith, rest.numbers, many-same, ap length (unit-numbers table u), numbers-many table (entries_in u));
+    stages = length-append s.stages (stages_for table (length s.stages) (entries_in u)) ∙ omega (arith, rest.stages, many-same, stages-many table (length s.stages) (entries_in u));
     passed_begin = entries-begin;
     each = each-opened;
-    no_more_jobs = λ n lt. rest.fits.no_more_jobs n (omega (arith, lt, many-same));
+    no_more_jobs = λ n lt. rest.no_more_jobs n (omega (arith, lt, many-same));
   }
-
-  pub opened-unmarked : (n : ℕ) → is_newly_marked (number_at (opened table s u).desk n) ≡ false
-  opened-unmarked n = by_place (cases_lt n (length s.desk.numbers))
-    where
-      by_place : (n < length s.desk.numbers) ⊎ (length s.desk.numbers ≤ n) → is_newly_marked (number_at (opened table s u).desk n) ≡ false
-      by_place (inl given) = ap is_newly_marked (number-opened_before s.desk (shape_of_unit table u) n given) ∙ rest.told n
-      by_place (inr new) = ap is_newly_marked (number-opened_behind s.desk (shape_of_unit table u) n new) ∙ unmarked-new (places_of_unit table u) (n - length s.desk.numbers)

@@ -9,27 +9,28 @@ use Rattle.rpc_messages.specs.declared.reply.Reply.{Reply}
 use Rattle.rpc_messages.specs.declared.standard.Standard.{Standard}
 use Rattle.rpc_messages.specs.Entry.{SeenEntry, call, reply}
 use Rattle.rpc_messages.specs.Ids.{has_id}
-use Rattle.rpc_messages.specs.Numbering.{numbers_of, numbers_in}
+use Rattle.rpc_messages.specs.Numbering.{numbers_of, numbers_in, units_numbers}
 use Rattle.rpc_messages.specs.Replies.{first_reply, reply_to}
 use Rattle.method_steps.specs.Steps.{MethodTable}
-use Rattle.answer_desk.specs.declared.number.Number.{Number}
-use Rattle.answer_desk.specs.declared.put.Put.{Put}
-use Rattle.answer_desk.specs.declared.put.Put.TheVariants.{Unknown, Second, Kept}
-use Rattle.answer_desk.specs.declared.slot.Slot.{Slot}
-use Rattle.answer_desk.specs.declared.slot.Slot.TheVariants.{Empty, Held, Given}
+use Rattle.answer_desk.specs.declared.open_call.OpenCall.{OpenCall}
+use Rattle.answer_desk.specs.declared.replies.Put.{Put}
+use Rattle.answer_desk.specs.declared.replies.Put.TheVariants.{Unknown, Second, Kept}
+use Rattle.answer_desk.specs.declared.replies.Slot.{Slot}
+use Rattle.answer_desk.specs.declared.replies.Slot.TheVariants.{Empty, Held, Given}
 use Rattle.answer_desk.specs.Replies.{slot_at, put_into, is_kept}
-use Rattle.answer_desk.specs.State.{State, number_at, slot_of, put_of, with_reply, with_marks, number_marked, is_unmarked, is_marked_number, is_newly_marked, is_new}
+use Rattle.answer_desk.specs.State.{State, number_at, slot_of, put_of, with_reply, is_in_reach, is_marked_number}
 use Rattle.handler_future.specs.State.{HandlerState}
 use Rattle.session_stages.specs.declared.stage.Stage.TheVariants.{Faulty}
 use Rattle.peer_output.specs.Cancelled.{Begins, cancels, request_id, is_cancelled}
 use Rattle.peer_output.specs.Items.{sent_by}
-use Rattle.peer_output.specs.Past.{Past, past_entries}
+use Rattle.peer_output.specs.Past.{Past, past_units, past_entries}
 use Rattle.session_state.specs.Core.{Core, stage_at, with_desk}
-use Rattle.session_state.specs.Fits.{SlotFits, Fits, is_told_mark, is_told}
+use Rattle.session_state.specs.Fits.{SlotFits, Fits}
 use Rattle.session_state.specs.Inner.Known.{Known}
+use Rattle.session_state.proofs.Beside.{FitsAt}
 use Rattle.session_state.proofs.Carried.{Carries, carried, slot-carried}
-use Rattle.session_state.proofs.Marks.{marks-reached, marks-untold, marks-id, marks-replies, reaches-turned}
-use Rattle.session_state.proofs.Pointwise.{closed-replied, units-replied, next-replied, next-marked}
+use Rattle.session_state.proofs.Marks.{reach-none, reaches-turned}
+use Rattle.session_state.proofs.Pointwise.{closed-replied, units-replied, next-replied}
 use Rattle.session_state.proofs.Streams.{begins-append, numbers-push, id-front, cancelled-unknown, reply-unknown, reply-found, reply-other, reply-last, reply-first}
 
 or-none : (a : Bool) → (a || false) ≡ a
@@ -48,13 +49,9 @@ first-turned : (b c : Bool) (r : Reply) → c ≡ false → cond (b && c) (Some 
 first-turned true c r is = ap (λ d. cond d (Some r) None) is
 first-turned false c r is = refl
 
-told-mapped : (f : Number → Number) → ((k : Number) → (f k).mark ≡ k.mark) → (o : Option Number) → is_told (option_map f o) ≡ is_told o
-told-mapped f same None = refl
-told-mapped f same (Some k) = ap is_told_mark (same k)
-
-new-mapped : (f : Number → Number) → ((k : Number) → (f k).mark ≡ k.mark) → (o : Option Number) → is_newly_marked (option_map f o) ≡ is_newly_marked o
-new-mapped f same None = refl
-new-mapped f same (Some k) = ap is_new (same k)
+marked-mapped : (f : OpenCall → OpenCall) → ((k : OpenCall) → (f k).is_marked ≡ k.is_marked) → (o : Option OpenCall) → is_marked_number (option_map f o) ≡ is_marked_number o
+marked-mapped f same None = refl
+marked-mapped f same (Some k) = same k
 
 unmapped : {A : Type 0} (o : Option A) → o ≡ option_map (λ x. x) o
 unmapped None = refl
@@ -68,6 +65,21 @@ empty-kept None is = cc
 empty-kept (Some Empty) is = refl
 empty-kept (Some (Held r)) is = cc
 empty-kept (Some Given) is = cc
+
+-- a cancel has reached a number that is marked, or that has its id
+module _ (known : Known) (passed : List SeenEntry) (e : SeenEntry) (c : Call) (is : e ≡ call c) (id : Id) (target : c.target ≡ Some id)
+    (entries : List SeenEntry) (begins : Begins passed entries) where
+  reaches : (own : Option Id) → option_map_or (λ i. has_id i (Some id)) own false ≡ option_map_or (λ i. cancels i e) own false
+  reaches None = refl
+  reaches (Some own) = ap (has_id own) (sym target) ∙ ap (cancels own) (sym is)
+
+  pub mark-with : (n : ℕ) (kept : OpenCall) → n ≤ numbers_in passed → kept.id ≡ request_id entries n → is_marked_number (Some kept) ≡ is_cancelled passed n
+      → (kept.is_marked || has_id id kept.id) ≡ is_cancelled (passed ++ e ∷ []) n
+  mark-with n kept here own mark =
+      ap (λ b. b || has_id id kept.id) mark
+      ∙ ap (λ o. is_cancelled passed n || has_id id o) (own ∙ id-front n passed entries here begins)
+      ∙ ap (λ b. is_cancelled passed n || b) (reaches-turned id (request_id passed n) ∙ reaches (request_id passed n))
+      ∙ sym (known.cancel_reaches passed e n here)
 
 module _ (known : Known) (table : MethodTable) (passed : List SeenEntry) (s : Core) (past : Past) (jobs : ℕ → Option HandlerState) (e : SeenEntry)
     (fits : Fits table false passed s past jobs) (more : Begins (passed ++ e ∷ []) (past_entries past)) where
@@ -87,7 +99,7 @@ module _ (known : Known) (table : MethodTable) (passed : List SeenEntry) (s : Co
   }
 
   -- a number of which the entry says nothing
-  quiet : (n : ℕ) (d : Option Number) → d ≡ number_at s.desk n → ((t : ℕ) → reply_to n t (passed ++ e ∷ []) ≡ reply_to n t passed)
+  quiet : (n : ℕ) (d : Option OpenCall) → d ≡ number_at s.desk n → ((t : ℕ) → reply_to n t (passed ++ e ∷ []) ≡ reply_to n t passed)
       → is_cancelled (passed ++ e ∷ []) n ≡ is_cancelled passed n
       → ((error : Standard) → stage_at s n ≡ Faulty error → numbers_in passed < n → numbers_in (passed ++ e ∷ []) < n)
       → Carries table false (past_entries past) passed (past_entries past) (passed ++ e ∷ []) n (stage_at s n) (number_at s.desk n) d
@@ -96,7 +108,7 @@ module _ (known : Known) (table : MethodTable) (passed : List SeenEntry) (s : Co
     closed = λ is. same ∙ is;
     behind = behind;
     faulty = λ error is lt kept is_open unmarked. (kept, same ∙ is_open, ap is_marked_number same ∙ unmarked);
-    told = λ untold. ap is_told same ∙ untold;
+    unmarked = λ unmarked. ap is_marked_number same ∙ unmarked;
     heard = λ heard from. known.heard_stays false passed (passed ++ e ∷ []) n heard (begins-append passed (e ∷ [])) from;
     keeps = λ h kept is_open f. (
       kept,
@@ -140,44 +152,29 @@ module _ (known : Known) (table : MethodTable) (passed : List SeenEntry) (s : Co
       behind-call n error at lt (inl same) = absurd (sound error (subst (λ k. stage_at s k ≡ Faulty error) same at))
       behind-call n error at lt (inr apart) = omega (arith, lt, numbers-push passed e, ap numbers_of is, apart)
 
-  -- a call that cancels others
+  -- a call that cancels others: what it doesn't reach
   module _ (c : Call) (is : e ≡ call c) (id : Id) (target : c.target ≡ Some id) (sound : (error : Standard) → stage_at s (1 + numbers_in passed) ≢ Faulty error) where
-    reaches : (own : Option Id) → option_map_or (λ i. has_id i (Some id)) own false ≡ option_map_or (λ i. cancels i e) own false
-    reaches None = refl
-    reaches (Some own) = ap (has_id own) (sym target) ∙ ap (cancels own) (sym is)
-
-    marked-mark : (n : ℕ) (kept : Number) → n ≤ numbers_in passed → kept.id ≡ request_id (past_entries past) n → is_marked_number (Some kept) ≡ is_cancelled passed n
-        → is_marked_number (Some (number_marked id kept)) ≡ is_cancelled (passed ++ e ∷ []) n
-    marked-mark n kept here own mark =
-        marks-reached id kept ∙ ap (λ b. b || has_id id kept.id) mark
-        ∙ ap (λ o. is_cancelled passed n || has_id id o) (own ∙ id-front n passed (past_entries past) here fits.passed_begin)
-        ∙ ap (λ b. is_cancelled passed n || b) (reaches-turned id (request_id passed n) ∙ reaches (request_id passed n))
-        ∙ sym (known.cancel_reaches passed e n here)
-
-    marked-carries : (n : ℕ) → n ≤ numbers_in passed
-        → Carries table false (past_entries past) passed (past_entries past) (passed ++ e ∷ []) n (stage_at s n) (number_at s.desk n) (number_at (with_marks s.desk id (1 + numbers_in passed)) n)
-    marked-carries n here =
-        let same : number_at (with_marks s.desk id (1 + numbers_in passed)) n ≡ option_map (number_marked id) (number_at s.desk n) =
-        known.marked_below s.desk id (1 + numbers_in passed) n (omega (arith, here)) in
+    unreached-carries : (n : ℕ) → n ≤ numbers_in passed → is_in_reach id (number_at s.desk n) ≡ false
+        → Carries table false (past_entries past) passed (past_entries past) (passed ++ e ∷ []) n (stage_at s n) (number_at s.desk n) (number_at s.desk n)
+    unreached-carries n here unreached = record {
+      works = refl;
+      closed = λ none. none;
+      behind = λ error at lt. absurd (omega (arith, here, lt));
+      faulty = λ error at lt kept is_open unmarked. absurd (omega (arith, here, lt));
+      unmarked = λ unmarked. unmarked;
+      heard = λ heard from. known.heard_stays false passed (passed ++ e ∷ []) n heard (begins-append passed (e ∷ [])) from;
+      keeps = λ h kept is_open f. (
+        kept,
+        is_open,
         record {
-          works = refl;
-          closed = λ none. same ∙ ap (option_map (number_marked id)) none;
-          behind = λ error at lt. absurd (omega (arith, here, lt));
-          faulty = λ error at lt kept is_open unmarked. absurd (omega (arith, here, lt));
-          told = λ untold. ap is_told same ∙ marks-untold id (number_at s.desk n) untold;
-          heard = λ heard from. known.heard_stays false passed (passed ++ e ∷ []) n heard (begins-append passed (e ∷ [])) from;
-          keeps = λ h kept is_open f. (
-            number_marked id kept,
-            same ∙ ap (option_map (number_marked id)) is_open,
-            record {
-              id = marks-id id kept ∙ f.id;
-              mark = marked-mark n kept here f.id f.mark;
-              turns = ap length (marks-replies id kept) ∙ f.turns;
-              slots = λ turn slot at. slot-carried passed (passed ++ e ∷ []) n turn h slot (reply-other n turn passed e (ap (λ x. first_reply n turn (x ∷ [])) is))
-                  (f.slots turn slot (ap (λ rs. slot_at rs turn) (sym (marks-replies id kept)) ∙ at));
-            },
-          );
-        }
+          id = f.id;
+          mark = reach-none id kept (ap (is_in_reach id) (sym is_open) ∙ unreached)
+              ∙ mark-with known passed e c is id target (past_entries past) fits.passed_begin n kept here f.id f.mark;
+          turns = f.turns;
+          slots = λ turn slot at. slot-carried passed (passed ++ e ∷ []) n turn h slot (reply-other n turn passed e (ap (λ x. first_reply n turn (x ∷ [])) is)) (f.slots turn slot at);
+        },
+      );
+    }
 
     behind-cancel : (n : ℕ) → numbers_in passed < n → (error : Standard) → stage_at s n ≡ Faulty error → (n ≡ 1 + numbers_in passed) ⊎ (n ≡ 1 + numbers_in passed → ⊥)
         → numbers_in (passed ++ e ∷ []) < n
@@ -185,21 +182,22 @@ module _ (known : Known) (table : MethodTable) (passed : List SeenEntry) (s : Co
     behind-cancel n lt error at (inr apart) = omega (arith, lt, numbers-push passed e, ap numbers_of is, apart)
 
     later-carries : (n : ℕ) → numbers_in passed < n
-        → Carries table false (past_entries past) passed (past_entries past) (passed ++ e ∷ []) n (stage_at s n) (number_at s.desk n) (number_at (with_marks s.desk id (1 + numbers_in passed)) n)
-    later-carries n unknown = quiet n (number_at (with_marks s.desk id (1 + numbers_in passed)) n) (known.marked_from s.desk id (1 + numbers_in passed) n (omega (arith, unknown)))
+        → Carries table false (past_entries past) passed (past_entries past) (passed ++ e ∷ []) n (stage_at s n) (number_at s.desk n) (number_at s.desk n)
+    later-carries n unknown = quiet n (number_at s.desk n) refl
         (λ t. reply-other n t passed e (ap (λ x. first_reply n t (x ∷ [])) is))
         (known.cancel_passes passed e n unknown ∙ sym (cancelled-unknown passed n unknown))
         (λ error at lt. behind-cancel n unknown error at (cases_eq n (1 + numbers_in passed)))
 
-    pub cancel-fits : Fits table false (passed ++ e ∷ []) (with_desk s (with_marks s.desk id (1 + numbers_in passed))) past jobs
-    cancel-fits = passed-fits (with_marks s.desk id (1 + numbers_in passed)) refl refl (next-marked s.desk id (1 + numbers_in passed))
-        (λ n. by_place n (cases_lt (numbers_in passed) n))
-      where
-        by_place : (n : ℕ) → (numbers_in passed < n) ⊎ (n ≤ numbers_in passed)
-            → Carries table false (past_entries past) passed (past_entries past) (passed ++ e ∷ []) n (stage_at s n) (number_at s.desk n)
-            (number_at (with_marks s.desk id (1 + numbers_in passed)) n)
-        by_place n (inl unknown) = later-carries n unknown
-        by_place n (inr here) = marked-carries n here
+    carries_at : (n : ℕ) → (n ≤ numbers_in passed → is_in_reach id (number_at s.desk n) ≡ false) → (numbers_in passed < n) ⊎ (n ≤ numbers_in passed)
+        → Carries table false (past_entries past) passed (past_entries past) (passed ++ e ∷ []) n (stage_at s n) (number_at s.desk n) (number_at s.desk n)
+    carries_at n unreached (inl unknown) = later-carries n unknown
+    carries_at n unreached (inr here) = unreached-carries n here (unreached here)
+
+    pub unreached-fits : (n : ℕ) → n ≤ units_numbers (past_units past) → (n ≤ numbers_in passed → is_in_reach id (number_at s.desk n) ≡ false)
+        → FitsAt table false (passed ++ e ∷ []) s past jobs n
+    unreached-fits n given unreached =
+        carried table false (past_entries past) passed (past_entries past) (passed ++ e ∷ []) n (number_at s.desk n) (number_at s.desk n) (stage_at s n) (jobs n)
+        (past.sends n) (sent_by n past.items) (past.took n) (carries_at n unreached (cases_lt (numbers_in passed) n)) (fits.each n given)
 
   -- a reply to a call that has come
   module _ (m t : ℕ) (r : Reply) (is : e ≡ reply m t r) where
@@ -227,9 +225,9 @@ module _ (known : Known) (table : MethodTable) (passed : List SeenEntry) (s : Co
 
     module _ (here : m ≤ numbers_in passed) where
       -- what the desk keeps of its number, where its slots fit
-      replied-carries : (d : Option Number) (f : Number → Number) → ((k : Number) → (f k).id ≡ k.id) → ((k : Number) → (f k).mark ≡ k.mark)
-          → ((k : Number) → length (f k).replies ≡ length k.replies) → d ≡ option_map f (number_at s.desk m)
-          → ((h : HandlerState) (kept : Number) → number_at s.desk m ≡ Some kept → ((u : ℕ) (slot : Slot) → slot_at kept.replies u ≡ Some slot → SlotFits passed m h u slot)
+      replied-carries : (d : Option OpenCall) (f : OpenCall → OpenCall) → ((k : OpenCall) → (f k).id ≡ k.id) → ((k : OpenCall) → (f k).is_marked ≡ k.is_marked)
+          → ((k : OpenCall) → length (f k).replies ≡ length k.replies) → d ≡ option_map f (number_at s.desk m)
+          → ((h : HandlerState) (kept : OpenCall) → number_at s.desk m ≡ Some kept → ((u : ℕ) (slot : Slot) → slot_at kept.replies u ≡ Some slot → SlotFits passed m h u slot)
           → (u : ℕ) (slot : Slot) → slot_at (f kept).replies u ≡ Some slot → SlotFits (passed ++ e ∷ []) m h u slot)
           → Carries table false (past_entries past) passed (past_entries past) (passed ++ e ∷ []) m (stage_at s m) (number_at s.desk m) d
       replied-carries d f same_id same_mark same_length same slots = record {
@@ -237,14 +235,14 @@ module _ (known : Known) (table : MethodTable) (passed : List SeenEntry) (s : Co
         closed = λ none. same ∙ ap (option_map f) none;
         behind = λ error at lt. absurd (omega (arith, here, lt));
         faulty = λ error at lt kept is_open unmarked. absurd (omega (arith, here, lt));
-        told = λ untold. ap is_told same ∙ told-mapped f same_mark (number_at s.desk m) ∙ untold;
+        unmarked = λ unmarked. ap is_marked_number same ∙ marked-mapped f same_mark (number_at s.desk m) ∙ unmarked;
         heard = λ heard from. known.heard_stays false passed (passed ++ e ∷ []) m heard (begins-append passed (e ∷ [])) from;
         keeps = λ h kept is_open fit. (
           f kept,
           same ∙ ap (option_map f) is_open,
           record {
             id = same_id kept ∙ fit.id;
-            mark = ap (λ k. cond (is_unmarked k) false true) (same_mark kept) ∙ fit.mark ∙ sym (uncancelled no_cancel m);
+            mark = same_mark kept ∙ fit.mark ∙ sym (uncancelled no_cancel m);
             turns = same_length kept ∙ fit.turns;
             slots = slots h kept is_open fit.slots;
           },
@@ -254,8 +252,8 @@ module _ (known : Known) (table : MethodTable) (passed : List SeenEntry) (s : Co
       put-open : put_of s.desk m t ≡ put_into (slot_of s.desk m t)
       put-open = ap (λ b. cond b Unknown (put_into (slot_of s.desk m t))) fits.closed
 
-      slot-seen : (kept : Number) → number_at s.desk m ≡ Some kept → (u : ℕ) → slot_of s.desk m u ≡ slot_at kept.replies u
-      slot-seen kept is_open u = ap (option_and_then (λ (n : Number). slot_at n.replies u)) is_open
+      slot-seen : (kept : OpenCall) → number_at s.desk m ≡ Some kept → (u : ℕ) → slot_of s.desk m u ≡ slot_at kept.replies u
+      slot-seen kept is_open u = ap (option_and_then (λ (n : OpenCall). slot_at n.replies u)) is_open
 
       -- one that isn't kept
       second-slot : (h : HandlerState) (slot : Slot) → slot ≢ Empty → SlotFits passed m h t slot → SlotFits (passed ++ e ∷ []) m h t slot
@@ -263,7 +261,7 @@ module _ (known : Known) (table : MethodTable) (passed : List SeenEntry) (s : Co
       second-slot h (Held q) some fit = (reply-found m t q passed (e ∷ []) here fit.0, fit.1)
       second-slot h Given some fit = fit
 
-      refused-slots : is_kept (put_of s.desk m t) ≡ false → (h : HandlerState) (kept : Number) → number_at s.desk m ≡ Some kept
+      refused-slots : is_kept (put_of s.desk m t) ≡ false → (h : HandlerState) (kept : OpenCall) → number_at s.desk m ≡ Some kept
           → ((u : ℕ) (slot : Slot) → slot_at kept.replies u ≡ Some slot → SlotFits passed m h u slot)
           → (u : ℕ) (slot : Slot) → slot_at kept.replies u ≡ Some slot → SlotFits (passed ++ e ∷ []) m h u slot
       refused-slots refused h kept is_open old u slot at = by_turn (cases_eq u t)
@@ -282,14 +280,14 @@ module _ (known : Known) (table : MethodTable) (passed : List SeenEntry) (s : Co
           (ap (λ (d : State). number_at d m) (known.reply_refused s.desk m t r refused) ∙ unmapped (number_at s.desk m)) (refused-slots refused)
 
       -- one that is
-      kept-slots : put_of s.desk m t ≡ Kept → (h : HandlerState) (kept : Number) → number_at s.desk m ≡ Some kept
+      kept-slots : put_of s.desk m t ≡ Kept → (h : HandlerState) (kept : OpenCall) → number_at s.desk m ≡ Some kept
           → ((u : ℕ) (slot : Slot) → slot_at kept.replies u ≡ Some slot → SlotFits passed m h u slot)
           → (u : ℕ) (slot : Slot) → slot_at (set kept.replies (t - 1) (Held r)) u ≡ Some slot → SlotFits (passed ++ e ∷ []) m h u slot
       kept-slots put h kept is_open old u slot at = by_turn (cases_eq u t)
         where
           now-seen : (v : ℕ) → slot_of (with_reply s.desk m t r) m v ≡ slot_at (set kept.replies (t - 1) (Held r)) v
-          now-seen v = ap (option_and_then (λ (n : Number). slot_at n.replies v))
-              (known.reply_here s.desk m t r put ∙ ap (option_map (λ (k : Number). record k { replies = set k.replies (t - 1) (Held r) })) is_open)
+          now-seen v = ap (option_and_then (λ (n : OpenCall). slot_at n.replies v))
+              (known.reply_here s.desk m t r put ∙ ap (option_map (λ (k : OpenCall). record k { replies = set k.replies (t - 1) (Held r) })) is_open)
 
           was-empty : SlotFits passed m h t Empty
           was-empty = old t Empty (sym (slot-seen kept is_open t) ∙ empty-kept (slot_of s.desk m t) (sym put-open ∙ put))
@@ -312,7 +310,7 @@ module _ (known : Known) (table : MethodTable) (passed : List SeenEntry) (s : Co
       kept-carries : put_of s.desk m t ≡ Kept
           → Carries table false (past_entries past) passed (past_entries past) (passed ++ e ∷ []) m (stage_at s m) (number_at s.desk m) (number_at (with_reply s.desk m t r) m)
       kept-carries put =
-          replied-carries (number_at (with_reply s.desk m t r) m) (λ (k : Number). record k { replies = set k.replies (t - 1) (Held r) }) (λ k. refl) (λ k. refl)
+          replied-carries (number_at (with_reply s.desk m t r) m) (λ (k : OpenCall). record k { replies = set k.replies (t - 1) (Held r) }) (λ k. refl) (λ k. refl)
           (λ k. length-set k.replies (t - 1) (Held r)) (known.reply_here s.desk m t r put) (kept-slots put)
 
       by_put : (put : Put) → put_of s.desk m t ≡ put
@@ -331,19 +329,3 @@ module _ (known : Known) (table : MethodTable) (passed : List SeenEntry) (s : Co
 
       pub reply-fits : Fits table false (passed ++ e ∷ []) (with_desk s (with_reply s.desk m t r)) past jobs
       reply-fits = passed-fits (with_reply s.desk m t r) (closed-replied s.desk m t r) (units-replied s.desk m t r) (next-replied s.desk m t r) (λ n. reply-carries n (cases_eq n m))
-
--- ---- a reply marks nothing
-
-module _ (known : Known) (d : State) (m t : ℕ) (r : Reply) where
-  new-replied_here : (put : Put) → put_of d m t ≡ put → is_newly_marked (number_at (with_reply d m t r) m) ≡ is_newly_marked (number_at d m)
-  new-replied_here Kept put =
-      ap is_newly_marked (known.reply_here d m t r put) ∙ new-mapped (λ (k : Number). record k { replies = set k.replies (t - 1) (Held r) }) (λ k. refl) (number_at d m)
-  new-replied_here Unknown put = ap (λ (x : State). is_newly_marked (number_at x m)) (known.reply_refused d m t r (ap is_kept put))
-  new-replied_here Second put = ap (λ (x : State). is_newly_marked (number_at x m)) (known.reply_refused d m t r (ap is_kept put))
-
-  pub new-replied : (n : ℕ) → is_newly_marked (number_at (with_reply d m t r) n) ≡ is_newly_marked (number_at d n)
-  new-replied n = by_number (cases_eq n m)
-    where
-      by_number : (n ≡ m) ⊎ (n ≡ m → ⊥) → is_newly_marked (number_at (with_reply d m t r) n) ≡ is_newly_marked (number_at d n)
-      by_number (inl same) = subst (λ k. is_newly_marked (number_at (with_reply d m t r) k) ≡ is_newly_marked (number_at d k)) (sym same) (new-replied_here (put_of d m t) refl)
-      by_number (inr apart) = ap is_newly_marked (known.reply_elsewhere d m t n r apart)

@@ -1,13 +1,23 @@
 -- What becomes of numbers over one entry, and over several.
-use Rattle.std.proofs.Common.{◌≡◌, ℕ, List, ◌++◌, map, Option, Some, None, inl, inr, refl, sym, ap, subst, ◌∙◌}
+use Rattle.std.proofs.Common.{◌≡◌, ℕ, List, ◌++◌, map, Option, Some, None, false, inl, inr, refl, sym, ap, subst, ◌∙◌}
 use Rattle.rpc_messages.specs.declared.reply.Reply.TheVariants.{Standard as Fixed}
 use Rattle.rpc_messages.specs.declared.standard.Standard.TheVariants.{Cancelled}
+use Rattle.rpc_messages.specs.Entry.{SeenEntry}
 use Rattle.rpc_messages.specs.Replies.{entries_along}
+use Rattle.method_steps.specs.Steps.{MethodTable}
+use Rattle.handler_future.specs.State.{HandlerState}
 use Rattle.peer_output.specs.Course.{Sending, withdrawal, Course, silent}
 use Rattle.peer_output.specs.Cancelled.{Begins}
 use Rattle.peer_output.specs.Past.{Past, past_units, past_entries}
 use Rattle.session_state.specs.Core.{Core, stage_at}
+use Rattle.session_state.specs.Fits.{Fits}
 use Rattle.session_state.specs.Passing.{unanswered, StaysAsItWas, IsFinishedWith, EndsByFault, EndsByCancel, PassesNumber, Passes}
+
+-- what becomes of a session as entries are passed
+pub record PassesTo (table : MethodTable) (passed : List SeenEntry) (s after : Core) (past : Past) (jobs : ℕ → Option HandlerState) : Type 0 where
+  pub later : Past
+  pub fits : Fits table false passed after later jobs
+  pub passes : Passes s after past later
 
 -- ---- nothing happens to numbers
 

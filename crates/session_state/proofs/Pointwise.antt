@@ -1,15 +1,13 @@
 -- What an event changes at one number, and leaves as it is at the others.
-use Rattle.std.proofs.Common.{◌≡◌, ◌≢◌, ℕ, zero, suc, ◌-◌, ◌<◌, ◌≤◌, ◌==◌, List, [], ◌∷◌, ◌++◌, length, map, take, drop, get_or, set, Bool, true, false, cond, Option, Some, None, refl, sym, ap, ◌∙◌, arith}
+use Rattle.std.proofs.Common.{◌≡◌, ◌≢◌, ℕ, zero, suc, ◌-◌, ◌<◌, ◌≤◌, ◌==◌, List, [], ◌∷◌, length, map, get_or, set, Bool, true, false, cond, Option, Some, None, refl, sym, ap, ◌∙◌, arith}
 use Rattle.std.proofs.lemmas.Bool.{cond-true, cond-false}
 use Rattle.std.proofs.lemmas.List.{get_or-set_same, get_or-set_other, get_or_append_left, get_or-append_right, get_or_past, length-set}
 use Rattle.std.specs.Cmp.{unsigned_Decides}
-use Rattle.std.specs.Option.{option_map}
-use Rattle.rpc_messages.specs.declared.id.Id.{Id}
 use Rattle.rpc_messages.specs.declared.reply.Reply.{Reply}
 use Rattle.answer_desk.specs.declared.shape.Shape.{Shape}
-use Rattle.answer_desk.specs.declared.slot.Slot.{Slot}
+use Rattle.answer_desk.specs.declared.replies.Slot.{Slot}
 use Rattle.answer_desk.specs.Places.{new_numbers}
-use Rattle.answer_desk.specs.State.{State, number_at, number_marked, with_unit, with_slot, with_reply, without_reply, with_marks, with_told, with_end}
+use Rattle.answer_desk.specs.State.{State, number_at, with_unit, with_slot, with_reply, without_reply, with_reached, with_end}
 use Rattle.session_stages.specs.declared.stage.Stage.{Stage}
 use Rattle.session_stages.specs.declared.stage.Stage.TheVariants.{Gone}
 use Rattle.peer_output.specs.Course.{Course}
@@ -59,8 +57,8 @@ stage-within (o ∷ os) (suc n) some = omega (arith, stage-within os n some)
 pub next-ended : (d : State) (n : ℕ) (reply : Reply) → length (with_end d n reply).numbers ≡ length d.numbers
 next-ended d n reply = length-set d.numbers n None
 
-pub next-told : (d : State) (n : ℕ) → length (with_told d (Some n)).numbers ≡ length d.numbers
-next-told d n = length-set d.numbers n _
+pub next-reached : (d : State) (n : ℕ) → length (with_reached d (Some n)).numbers ≡ length d.numbers
+next-reached d n = length-set d.numbers n _
 
 pub next-slotted : (d : State) (n turn : ℕ) (slot : Slot) → length (with_slot d n turn slot).numbers ≡ length d.numbers
 next-slotted d n turn slot = length-set d.numbers n _
@@ -74,14 +72,6 @@ next-replied d n turn reply = slotted_if _ d n turn _
 
 pub next-given : (d : State) (n turn : ℕ) → length (without_reply d n turn).numbers ≡ length d.numbers
 next-given d n turn = slotted_if _ d n turn _
-
-mapped_front : {A : Type 0} (f : A → A) (n : ℕ) (xs : List A) → length (map f (take n xs) ++ drop n xs) ≡ length xs
-mapped_front f zero xs = refl
-mapped_front f (suc n) [] = refl
-mapped_front f (suc n) (x ∷ xs) = ap suc (mapped_front f n xs)
-
-pub next-marked : (d : State) (id : Id) (before : ℕ) → length (with_marks d id before).numbers ≡ length d.numbers
-next-marked d id before = mapped_front (option_map (number_marked id)) before d.numbers
 
 -- ---- what these leave as it is
 

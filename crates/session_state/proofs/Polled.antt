@@ -9,7 +9,7 @@ use Rattle.rpc_messages.specs.Entry.{SeenEntry, call, reply, stray, invalid}
 use Rattle.rpc_messages.specs.Numbering.{numbers_of, units_numbers, entries_in}
 use Rattle.rpc_messages.specs.Unit.{SeenUnit}
 use Rattle.method_steps.specs.Steps.{MethodTable, Step}
-use Rattle.answer_desk.specs.declared.number.Number.{Number}
+use Rattle.answer_desk.specs.declared.open_call.OpenCall.{OpenCall}
 use Rattle.answer_desk.specs.State.{number_at, is_marked_number}
 use Rattle.handler_future.specs.declared.outcome.Outcome.{Outcome}
 use Rattle.handler_future.specs.declared.outcome.Outcome.TheVariants.{Answer, Failed as NoMemory}
@@ -285,7 +285,7 @@ closed-polls table s jobs items polls fit = record { last = fit.last; each = fit
 -- ---- a unit is taken
 
 -- what a number that is finished has to write yet
-module _ (table : MethodTable) (is_over : Bool) (entries passed : List SeenEntry) (n : ℕ) (desk : Option Number) (job : Option HandlerState) (sends written : List Sending)
+module _ (table : MethodTable) (is_over : Bool) (entries passed : List SeenEntry) (n : ℕ) (desk : Option OpenCall) (job : Option HandlerState) (sends written : List Sending)
     (took : Option Course) where
   finished-sent : (stage : Stage) (c : Course) → took ≡ Some c → NumberFits table is_over entries passed n stage desk job sends written took
       → (frames (to_write stage job) + frames written ≡ frames sends) × (live n stage ≡ 0)
@@ -351,7 +351,7 @@ module _ (known : Known) (table : MethodTable) (s after : Core) (past : Past) (u
     fits-after =
         let many = open_fits.stages in
         let same : units_numbers (past_units later) ≡ units_numbers (past_units came) = ap units_numbers (same-units open_core after came later taken.passes) in
-        taken.rest.fits.each k (omega arith)
+        taken.rest.each k (omega arith)
 
     finished-now : (c : Course) → later.took k ≡ Some c → (held jobs k (stage_at after k) + frames (sent_by k later.items) ≡ frames (later.sends k)) × (live k (stage_at after k) ≡ 0)
     finished-now c is =
@@ -387,7 +387,7 @@ module _ (known : Known) (table : MethodTable) (s after : Core) (past : Past) (u
   same_many : length after.stages ≡ length open_core.stages
   same_many =
       let many = open_fits.stages in
-      let now = taken.rest.fits.stages in
+      let now = taken.rest.stages in
       let same : units_numbers (past_units taken.later) ≡ units_numbers (past_units came) = ap units_numbers (same-units open_core after came taken.later taken.passes) in
       omega arith
 
@@ -416,7 +416,7 @@ module _ (known : Known) (table : MethodTable) (s after : Core) (past : Past) (u
       let lives = live-counted 0 after.stages in
       let many = length-append s.stages new in
       let same = same_many in
-      let some = rest.fits.stages in
+      let some = rest.stages in
       record {
         last = fit.last;
         each = omega (arith, fit.each);

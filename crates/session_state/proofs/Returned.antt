@@ -6,12 +6,10 @@ use Rattle.rpc_messages.specs.Entry.{SeenEntry}
 use Rattle.rpc_messages.specs.Numbering.{numbers_in, units_numbers}
 use Rattle.rpc_messages.specs.declared.reply.Reply.{Reply}
 use Rattle.method_steps.specs.Steps.{MethodTable, calls_of}
-use Rattle.answer_desk.specs.declared.mark.Mark.{Mark}
-use Rattle.answer_desk.specs.declared.mark.Mark.TheVariants.{Unmarked, New, Told}
-use Rattle.answer_desk.specs.declared.number.Number.{Number}
-use Rattle.answer_desk.specs.declared.slot.Slot.{Slot}
-use Rattle.answer_desk.specs.declared.slot.Slot.TheVariants.{Empty, Held, Given}
-use Rattle.answer_desk.specs.State.{number_at, is_unmarked, is_marked_number, is_newly_marked}
+use Rattle.answer_desk.specs.declared.open_call.OpenCall.{OpenCall}
+use Rattle.answer_desk.specs.declared.replies.Slot.{Slot}
+use Rattle.answer_desk.specs.declared.replies.Slot.TheVariants.{Empty, Held, Given}
+use Rattle.answer_desk.specs.State.{number_at, is_marked_number}
 use Rattle.handler_future.specs.declared.outcome.Outcome.{Outcome}
 use Rattle.handler_future.specs.declared.outcome.Outcome.TheVariants.{Answer, Failed as NoMemory}
 use Rattle.handler_future.specs.Evaluation.{Program}
@@ -28,12 +26,12 @@ use Rattle.peer_output.specs.Later.{IsHeardFrom}
 use Rattle.peer_output.specs.Past.{Past, past_units, past_entries, IsPast}
 use Rattle.session_state.specs.Core.{Core, stage_at, with_stage, made_by}
 use Rattle.session_state.specs.Finishing.{finished, cancelled, cancelled_course}
-use Rattle.session_state.specs.Fits.{SlotFits, RunFits, NumberFits, AtRest, is_told, is_told_mark}
+use Rattle.session_state.specs.Fits.{SlotFits, RunFits, NumberFits, AtRest}
 use Rattle.session_state.specs.Hearing.{hear_waits}
 use Rattle.session_state.specs.Inner.Known.{Known}
 use Rattle.session_state.specs.Passing.{unanswered}
 use Rattle.session_state.specs.Turning.{returned, returned_with, returned_to}
-use Rattle.session_state.proofs.Beside.{Beside, fits-beside, beside-fits, same-fits, beside-changed, each-number}
+use Rattle.session_state.proofs.Beside.{Beside, along-fits, fits-beside, beside-fits, same-fits, beside-changed}
 use Rattle.session_state.proofs.Cancelled.{IsWritten, IsHere, finished-fits, cancelled-fits}
 use Rattle.session_state.proofs.Hears.{waits-heard}
 use Rattle.session_state.proofs.Pointwise.{at-here, at-elsewhere}
@@ -82,8 +80,8 @@ given_if past jobs n job is_out none (inr later) = absurd (let no_job : jobs n �
 pub job-out : (table : MethodTable) (is_over : Bool) (s : Core) (past : Past) (jobs : ℕ → Option HandlerState) (n : ℕ) (job : HandlerState)
     → AtRest table is_over s past jobs → jobs n ≡ Some job → IsOut table is_over s past n job
 job-out table is_over s past jobs n job rest is_out =
-    let given = given_if past jobs n job is_out rest.fits.no_more_jobs (grind arith) in
-    out_of table is_over s past jobs n job is_out given (stage_at s n) refl (rest.fits.each n given)
+    let given = given_if past jobs n job is_out rest.no_more_jobs (grind arith) in
+    out_of table is_over s past jobs n job is_out given (stage_at s n) refl (rest.each n given)
 
 -- ---- once it was polled
 
@@ -93,7 +91,7 @@ slot_same passed n h g turn (Held r) same fits = (fits.0, ap (λ l. is_heard l t
 slot_same passed n h g turn Given same fits = ap (λ l. is_heard l turn) same ∙ fits
 
 pub run-polled : (table : MethodTable) (is_over : Bool) (entries passed : List SeenEntry) (n : ℕ) (job turned : HandlerState) (outcome : Option Outcome)
-    (desk : Option Number) (sends : List Sending) (took : Option Course) → IsPoll job turned outcome
+    (desk : Option OpenCall) (sends : List Sending) (took : Option Course) → IsPoll job turned outcome
     → RunFits table is_over entries passed n job desk sends took → RunFits table is_over entries passed n turned desk (made_by turned) took
 run-polled table is_over entries passed n job turned outcome desk sends took polled fits = record {
   number = polled.same_number ∙ fits.number;
@@ -117,16 +115,6 @@ more_sent job turned sends outcome polled is = record {
   rest = map message polled.messages_stay.0;
   joined = ap (map message) polled.messages_stay.1 ∙ map-append message job.messages polled.messages_stay.0 ∙ ap (λ l. l ++ map message polled.messages_stay.0) (sym is);
 }
-
--- an unmarked number wasn't told
-told_if : (mark : Mark) → cond (is_unmarked mark) false true ≡ false → is_told_mark mark ≡ false
-told_if Unmarked is = refl
-told_if New is = cc
-told_if Told is = cc
-
-unmarked-untold : (o : Option Number) → is_marked_number o ≡ false → is_told o ≡ false
-unmarked-untold None is = refl
-unmarked-untold (Some m) is = told_if m.mark is
 
 -- ---- what comes back goes to its number
 
@@ -154,12 +142,12 @@ module _ (known : Known) (table : MethodTable) (is_over : Bool) (s : Core) (past
   jobs_now : ℕ → Option HandlerState
   jobs_now = with_at n None jobs
 
-  beside_now : Beside table is_over (past_entries past) s past jobs n
-  beside_now = fits-beside table is_over (past_entries past) s past jobs n rest.fits out.given
+  beside_now : Beside table is_over (λ k. past_entries past) s past jobs n
+  beside_now = fits-beside table is_over (past_entries past) s past jobs n rest out.given
 
   staged : (stage : Stage) → get_or (set s.stages turned.number stage) n Gone ≡ stage
   staged stage =
-      let stages = rest.fits.stages in
+      let stages = rest.stages in
       let given = out.given in
       let within : n < length s.stages = omega arith in
       subst (λ m. get_or (set s.stages m stage) n Gone ≡ stage) (sym number_is) (get_or-set_same s.stages n stage Gone within)
@@ -178,61 +166,54 @@ module _ (known : Known) (table : MethodTable) (is_over : Bool) (s : Core) (past
   -- ---- it found no memory
 
   failed_rest : AtRest table is_over (with_stage s turned.number Failed) past (with_at n None jobs)
-  failed_rest = record {
-    fits = beside-fits table is_over (past_entries past) (with_stage s turned.number Failed) past (with_at n None jobs) n
-        (beside-changed table is_over (past_entries past) s (with_stage s turned.number Failed) past past.sends past.took jobs (with_at n None jobs) n beside_now
-        rest.fits.past_is refl rest.fits.units refl (length-set s.stages turned.number Failed) (staged_other Failed) (λ k apart. refl)
-        (λ k apart. at-elsewhere n None jobs k apart) (λ k apart. refl) (λ k apart. refl))
-        (same-fits table is_over (past_entries past) (past_entries past) n Failed (stage_at (with_stage s turned.number Failed) n) (number_at s.desk n) (number_at s.desk n)
-        None (with_at n None jobs n) (past.sends n) (past.sends n) (sent_by n past.items) (sent_by n past.items) (past.took n) (past.took n)
-        (staged Failed) refl (at-here n None jobs) refl refl refl (refl, out.runs.unfinished));
-    told = rest.told;
-  }
+  failed_rest =
+      beside-fits table is_over (past_entries past) (with_stage s turned.number Failed) past (with_at n None jobs) n
+      (beside-changed table is_over (λ k. past_entries past) s (with_stage s turned.number Failed) past past.sends past.took jobs (with_at n None jobs) n beside_now
+      rest.past_is refl rest.units refl (length-set s.stages turned.number Failed) (staged_other Failed) (λ k apart. refl)
+      (λ k apart. at-elsewhere n None jobs k apart) (λ k apart. refl) (λ k apart. refl))
+      (same-fits table is_over (past_entries past) (past_entries past) n Failed (stage_at (with_stage s turned.number Failed) n) (number_at s.desk n) (number_at s.desk n)
+      None (with_at n None jobs n) (past.sends n) (past.sends n) (sent_by n past.items) (sent_by n past.items) (past.took n) (past.took n)
+      (staged Failed) refl (at-here n None jobs) refl refl refl (refl, out.runs.unfinished))
 
   -- ---- it has ended
 
   ended_rest : (answer : Reply) → HasEnded turned answer
       → AtRest table is_over (finished s turned out.so_far answer) (with_course past n (record { sends = made_by turned; answer = answer })) (with_at n None jobs)
-  ended_rest answer ended = record {
-    fits = finished-fits known table is_over (past_entries past) s past jobs (with_at n None jobs) n turned out.so_far (record { sends = made_by turned; answer = answer })
-        beside_now number_is out.runs.unfinished turned_begins
-        (known.ended_finishes table is_over (past_entries past) n turned answer has_come turned_runs.works turned_runs.heard ended)
-        (sym (append-nil (made_by turned)) ∙ ap (λ ws. made_by turned ++ map withdrawal ws) (sym ended.no_waits))
-        out.written (at-here n None jobs) (λ k apart. at-elsewhere n None jobs k apart);
-    told = each-number (λ k. is_newly_marked (number_at (finished s turned out.so_far answer).desk k) ≡ false) n
-        (ap is_newly_marked (subst (λ m. number_at (finished s turned out.so_far answer).desk m ≡ None) number_is (known.ended_here s.desk turned.number answer)))
-        (λ k apart. ap is_newly_marked (known.ended_elsewhere s.desk turned.number k answer (λ same. apart (same ∙ number_is))) ∙ rest.told k);
-  }
+  ended_rest answer ended =
+      along-fits table is_over (past_entries past) (finished s turned out.so_far answer) (with_course past n (record { sends = made_by turned; answer = answer })) (with_at n None jobs)
+      (finished-fits known table is_over (λ k. past_entries past) s past jobs (with_at n None jobs) n turned out.so_far (record { sends = made_by turned; answer = answer })
+      beside_now number_is out.runs.unfinished turned_begins
+      (known.ended_finishes table is_over (past_entries past) n turned answer has_come turned_runs.works turned_runs.heard ended)
+      (sym (append-nil (made_by turned)) ∙ ap (λ ws. made_by turned ++ map withdrawal ws) (sym ended.no_waits))
+      out.written (at-here n None jobs) (λ k apart. at-elsewhere n None jobs k apart))
 
   -- ---- it waits
 
   module _ (waiting : IsWaiting turned) where
     sent_past : IsPast table is_over (with_sends past n (made_by turned))
-    sent_past = known.sends table is_over past n (made_by turned) rest.fits.past_is out.given out.runs.unfinished turned_begins
+    sent_past = known.sends table is_over past n (made_by turned) rest.past_is out.given out.runs.unfinished turned_begins
         (known.waiting_sends table is_over (past_entries past) n turned has_come turned_runs.works turned_runs.heard waiting)
 
     pending_rest : is_marked_number (number_at s.desk n) ≡ false
         → AtRest table is_over (with_stage s turned.number (Idle turned out.so_far)) (with_sends past n (made_by turned)) (with_at n None jobs)
-    pending_rest unmarked = record {
-      fits = beside-fits table is_over (past_entries past) (with_stage s turned.number (Idle turned out.so_far)) (with_sends past n (made_by turned)) (with_at n None jobs) n
-          (beside-changed table is_over (past_entries past) s (with_stage s turned.number (Idle turned out.so_far)) past (with_at n (made_by turned) past.sends) past.took
-          jobs (with_at n None jobs) n beside_now
-          sent_past refl rest.fits.units refl (length-set s.stages turned.number (Idle turned out.so_far)) (staged_other (Idle turned out.so_far)) (λ k apart. refl)
-          (λ k apart. at-elsewhere n None jobs k apart) (λ k apart. at-elsewhere n (made_by turned) past.sends k apart) (λ k apart. refl))
-          (same-fits table is_over (past_entries past) (past_entries past) n (Idle turned out.so_far) (stage_at (with_stage s turned.number (Idle turned out.so_far)) n)
-          (number_at s.desk n) (number_at s.desk n) None (with_at n None jobs n) (made_by turned) (with_at n (made_by turned) past.sends n)
-          (sent_by n past.items) (sent_by n past.items) (past.took n) (past.took n)
-          (staged (Idle turned out.so_far)) refl (at-here n None jobs) (at-here n (made_by turned) past.sends) refl refl
-          (let more = more_written (made_by turned) turned_begins in
-          (turned_runs, inr waiting, unmarked-untold (number_at s.desk n) unmarked, refl, more.0, more.1)));
-      told = rest.told;
-    }
+    pending_rest unmarked =
+        beside-fits table is_over (past_entries past) (with_stage s turned.number (Idle turned out.so_far)) (with_sends past n (made_by turned)) (with_at n None jobs) n
+        (beside-changed table is_over (λ k. past_entries past) s (with_stage s turned.number (Idle turned out.so_far)) past (with_at n (made_by turned) past.sends) past.took
+        jobs (with_at n None jobs) n beside_now
+        sent_past refl rest.units refl (length-set s.stages turned.number (Idle turned out.so_far)) (staged_other (Idle turned out.so_far)) (λ k apart. refl)
+        (λ k apart. at-elsewhere n None jobs k apart) (λ k apart. at-elsewhere n (made_by turned) past.sends k apart) (λ k apart. refl))
+        (same-fits table is_over (past_entries past) (past_entries past) n (Idle turned out.so_far) (stage_at (with_stage s turned.number (Idle turned out.so_far)) n)
+        (number_at s.desk n) (number_at s.desk n) None (with_at n None jobs n) (made_by turned) (with_at n (made_by turned) past.sends n)
+        (sent_by n past.items) (sent_by n past.items) (past.took n) (past.took n)
+        (staged (Idle turned out.so_far)) refl (at-here n None jobs) (at-here n (made_by turned) past.sends) refl refl
+        (let more = more_written (made_by turned) turned_begins in
+        (turned_runs, inr waiting, unmarked, refl, more.0, more.1)))
 
     -- ---- it waits, and is cancelled
 
-    beside_sent : Beside table is_over (past_entries past) s (with_sends past n (made_by turned)) jobs n
-    beside_sent = beside-changed table is_over (past_entries past) s s past (with_at n (made_by turned) past.sends) past.took jobs jobs n beside_now
-        sent_past refl rest.fits.units refl refl (λ k apart. refl) (λ k apart. refl) (λ k apart. refl)
+    beside_sent : Beside table is_over (λ k. past_entries past) s (with_sends past n (made_by turned)) jobs n
+    beside_sent = beside-changed table is_over (λ k. past_entries past) s s past (with_at n (made_by turned) past.sends) past.took jobs jobs n beside_now
+        sent_past refl rest.units refl refl (λ k apart. refl) (λ k apart. refl) (λ k apart. refl)
         (λ k apart. at-elsewhere n (made_by turned) past.sends k apart) (λ k apart. refl)
 
     turned_here : IsHere table is_over (past_entries past) s (with_sends past n (made_by turned)) n turned out.so_far
@@ -251,17 +232,9 @@ module _ (known : Known) (table : MethodTable) (is_over : Bool) (s : Core) (past
     cancelled_rest : is_marked_number (number_at s.desk n) ≡ true
         → AtRest table is_over (cancelled s turned out.so_far) (with_course (with_sends past n (made_by turned)) n (cancelled_course s turned)) (with_at n None jobs)
     cancelled_rest marked =
-        let heard = waits-heard known s.desk turned in
-        record {
-          fits = cancelled-fits known table is_over (past_entries past) s (with_sends past n (made_by turned)) jobs (with_at n None jobs) n turned out.so_far
-              beside_sent turned_here (at-here n None jobs) (λ k apart. at-elsewhere n None jobs k apart) marked;
-          told = each-number (λ k. is_newly_marked (number_at (cancelled s turned out.so_far).desk k) ≡ false) n
-              (ap is_newly_marked (subst (λ m. number_at (cancelled s turned out.so_far).desk m ≡ None) (heard.number ∙ number_is)
-              (known.ended_here (hear_waits s.desk turned).desk (hear_waits s.desk turned).handler.number (cancelled_course s turned).answer)))
-              (λ k apart. ap is_newly_marked
-              (known.ended_elsewhere (hear_waits s.desk turned).desk (hear_waits s.desk turned).handler.number k (cancelled_course s turned).answer (λ same. apart (same ∙ heard.number ∙ number_is))
-              ∙ heard.others k (λ same. apart (same ∙ number_is))) ∙ rest.told k);
-        }
+        along-fits table is_over (past_entries past) (cancelled s turned out.so_far) (with_course (with_sends past n (made_by turned)) n (cancelled_course s turned)) (with_at n None jobs)
+        (cancelled-fits known table is_over (λ k. past_entries past) s (with_sends past n (made_by turned)) jobs (with_at n None jobs) n turned out.so_far
+        beside_sent turned_here (at-here n None jobs) (λ k apart. at-elsewhere n None jobs k apart) marked)
 
   -- ---- the four outcomes
 
@@ -377,7 +350,7 @@ module _ (known : Known) (table : MethodTable) (s : Core) (past : Past) (jobs : 
   withdraws-unanswered rest =
       ap (λ ms. map message ms ++ map withdrawal (hear_waits s.desk turned).handler.waits) (waits-heard known s.desk turned).messages
       ∙ ap (λ ws. made_by turned ++ map withdrawal ws)
-      (waits-unanswered known table (past_entries past) (past_entries past) n turned s.desk (made_by turned) (past.took n) rest.fits.closed
+      (waits-unanswered known table (past_entries past) (past_entries past) n turned s.desk (made_by turned) (past.took n) rest.closed
       (turned_runs known table false s past jobs n job turned None rest is_out polled) (inr polled.leaves))
 
   pub withdraws-nothing : AtRest table true s past jobs → (cancelled_course s turned).sends ≡ made_by turned
@@ -386,5 +359,5 @@ module _ (known : Known) (table : MethodTable) (s : Core) (past : Past) (jobs : 
       ∙ ap (λ ws. made_by turned ++ map withdrawal ws)
       (ready-hears_all known s.desk turned
       (closed-ready table true (past_entries past) (past_entries past) n turned s.desk (made_by turned) (past.took n)
-      (turned_runs known table true s past jobs n job turned None rest is_out polled) rest.fits.closed (inr polled.leaves)))
+      (turned_runs known table true s past jobs n job turned None rest is_out polled) rest.closed (inr polled.leaves)))
       ∙ append-nil (made_by turned)

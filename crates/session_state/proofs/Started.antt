@@ -2,11 +2,11 @@
 use Rattle.std.proofs.Common.{◌≡◌, ℕ, zero, suc, ◌+◌, ◌-◌, ◌≤◌, ◌==◌, List, [], ◌∷◌, length, Bool, true, false, cond, Some, None, inl, inr, refl, sym, ap, subst, arith, replicate}
 use Rattle.std.proofs.lemmas.List.{length-replicate}
 use Rattle.method_steps.specs.Steps.{Step, MethodTable, calls_of}
-use Rattle.answer_desk.specs.declared.slot.Slot.{Slot}
-use Rattle.answer_desk.specs.declared.slot.Slot.TheVariants.{Empty}
+use Rattle.answer_desk.specs.declared.replies.Slot.{Slot}
+use Rattle.answer_desk.specs.declared.replies.Slot.TheVariants.{Empty}
 use Rattle.answer_desk.specs.Places.{new_number}
 use Rattle.answer_desk.specs.Replies.{slot_at}
-use Rattle.answer_desk.specs.State.{number_at, is_newly_marked}
+use Rattle.answer_desk.specs.State.{number_at}
 use Rattle.handler_future.specs.State.{new_state, opening_program}
 use Rattle.std.specs.Prelude.{slice_get}
 use Rattle.peer_output.specs.Work.{opening_work}
@@ -71,12 +71,6 @@ units-first : (steps : List Step) → (first_desk steps).units ≡ []
 units-first [] = refl
 units-first (s ∷ ss) = refl
 
-unmarked-first : (steps : List Step) (n : ℕ) → is_newly_marked (number_at (first_desk steps) n) ≡ false
-unmarked-first [] zero = refl
-unmarked-first [] (suc n) = refl
-unmarked-first (s ∷ ss) zero = refl
-unmarked-first (s ∷ ss) (suc n) = refl
-
 only-number : Known → (table : MethodTable) (n : ℕ) → n ≤ 0 →
     NumberFits table false [] [] n (stage_at (start table) n) (number_at (start table).desk n) None [] [] None
 only-number known table zero le = opening-fits known table table.opening refl
@@ -84,15 +78,12 @@ only-number known table (suc n) le = absurd (omega arith)
 
 pub start-at_rest : Known → (table : MethodTable) → AtRest table false (start table) no_past (λ n. None)
 start-at_rest known table = record {
-  fits = record {
-    past_is = known.starts table;
-    closed = closed-first table.opening;
-    units = units-first table.opening;
-    numbers = numbers-first table.opening;
-    stages = refl;
-    passed_begin = begins-itself [];
-    each = only-number known table;
-    no_more_jobs = λ n lt. refl;
-  };
-  told = unmarked-first table.opening;
+  past_is = known.starts table;
+  closed = closed-first table.opening;
+  units = units-first table.opening;
+  numbers = numbers-first table.opening;
+  stages = refl;
+  passed_begin = begins-itself [];
+  each = only-number known table;
+  no_more_jobs = λ n lt. refl;
 }

@@ -91,7 +91,7 @@ module _ (known : Known) (table : MethodTable) where
     pub partial-stands : (later : List SeenUnit) → MayBecome is_over units later → IsPartialOutput table later items
     partial-stands later becomes =
         subst (IsPartialOutput table later) stands.items_are
-        (known.is_partial table is_over stands.past later stands.rests.fits.past_is (subst (λ us. MayBecome is_over us later) (sym stands.units_are) becomes))
+        (known.is_partial table is_over stands.past later stands.rests.past_is (subst (λ us. MayBecome is_over us later) (sym stands.units_are) becomes))
 
   pub output-stands : (s : Core) (jobs : ℕ → Option HandlerState) (units : List SeenUnit) (items : List Item) → StandsAfter table true s jobs units items
       → ((n : ℕ) → stage_at s n ≡ Gone) → s.desk.units ≡ [] → IsOutput table units items

@@ -8,9 +8,9 @@ use Rattle.std.specs.Option.{option_and_then}
 use Rattle.rpc_messages.specs.Entry.{SeenEntry}
 use Rattle.rpc_messages.specs.declared.reply.Reply.{Reply}
 use Rattle.method_steps.specs.Steps.{MethodTable, calls_of}
-use Rattle.answer_desk.specs.declared.number.Number.{Number}
-use Rattle.answer_desk.specs.declared.slot.Slot.{Slot}
-use Rattle.answer_desk.specs.declared.slot.Slot.TheVariants.{Empty, Held, Given}
+use Rattle.answer_desk.specs.declared.open_call.OpenCall.{OpenCall}
+use Rattle.answer_desk.specs.declared.replies.Slot.{Slot}
+use Rattle.answer_desk.specs.declared.replies.Slot.TheVariants.{Empty, Held, Given}
 use Rattle.answer_desk.specs.Replies.{slot_at, given_by}
 use Rattle.answer_desk.specs.State.{State, number_at, slot_of, reply_of, without_reply}
 use Rattle.handler_future.specs.Front.{Heard, is_heard, unheard, last_turns}
@@ -154,7 +154,7 @@ module _ (table : MethodTable) (is_over : Bool) (entries passed : List SeenEntry
       let slot = slot_there fits.kept.replies turn low (omega arith) in
       ap (λ b. is_some (given_by b (slot_of desk h.number turn))) closed
       ∙ ap (λ m. is_some (given_by true (slot_of desk m turn))) fits.number
-      ∙ ap (λ o. is_some (given_by true (option_and_then (λ (m : Number). slot_at m.replies turn) o))) fits.is_open
+      ∙ ap (λ o. is_some (given_by true (option_and_then (λ (m : OpenCall). slot_at m.replies turn) o))) fits.is_open
       ∙ ap (λ o. is_some (given_by true o)) slot.1
       ∙ gives_if passed n h turn slot.0 (fits.fits.slots turn slot.0 slot.1) unheard_yet
 

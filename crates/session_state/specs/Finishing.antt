@@ -1,10 +1,10 @@
 -- How numbers are finished: by their fault, with an answer, or by a cancel (LSP 3.17, "Cancellation Support").
-use Rattle.std.specs.Prelude.{◌≡◌, ℕ, ◌+◌, List, length, false, nat_lt, slice_set, Option, Some, None, if◌then◌else◌}
+use Rattle.std.specs.Prelude.{◌≡◌, ℕ, ◌+◌, List, length, nat_lt, slice_set, Option, Some, None, if◌then◌else◌}
 use Rattle.rpc_messages.specs.declared.id.Id.{Id}
 use Rattle.rpc_messages.specs.declared.reply.Reply.{Reply}
 use Rattle.rpc_messages.specs.declared.reply.Reply.TheVariants.{Standard as Fixed}
 use Rattle.rpc_messages.specs.declared.standard.Standard.TheVariants.{Cancelled}
-use Rattle.answer_desk.specs.State.{with_end, with_marks, with_told, is_newly_marked, number_at, IsLowestNewlyMarked}
+use Rattle.answer_desk.specs.State.{with_end, with_reached, IsLowestInReach, NoneInReachBelow}
 use Rattle.handler_future.specs.State.{HandlerState}
 use Rattle.session_stages.specs.declared.stage.Stage.{Stage}
 use Rattle.session_stages.specs.declared.stage.Stage.TheVariants.{Gone, Faulty, Idle, Out, Over, Failed}
@@ -46,12 +46,12 @@ told_at s (Over h written) = s
 told_at s Failed = s
 
 abbrev pub told : Core → ℕ → Core
-told s n = told_at (with_desk s (with_told s.desk (Some n))) (stage_at s n)
+told s k = told_at (with_desk s (with_reached s.desk (Some k))) (stage_at s k)
 
--- All numbers that are newly marked are told of it, the lowest first.
-pub data Tells : Core → Core → Type 0 where
-  none_left : {s : Core} → ((n : ℕ) → is_newly_marked (number_at s.desk n) ≡ false) → Tells s s
-  lowest : {s after : Core} {n : ℕ} → IsLowestNewlyMarked s.desk (Some n) → Tells (told s n) after → Tells s after
+-- A cancel of this id, which is call n of the stream, reaches the requests before it, the lowest first; each is marked and told.
+pub data Reaches : Id → ℕ → Core → Core → Type 0 where
+  none_left : {id : Id} {n : ℕ} {s : Core} → NoneInReachBelow s.desk id n → Reaches id n s s
+  lowest : {id : Id} {n : ℕ} {s after : Core} {k : ℕ} → IsLowestInReach s.desk id n (Some k) → Reaches id n (told s k) after → Reaches id n s after
 
 -- a call that is at fault is finished as its entry is passed
 abbrev pub fault_at : Core → ℕ → Stage → Core
@@ -65,7 +65,7 @@ fault_at s n Failed = s
 abbrev pub fault_passed : Core → ℕ → Core
 fault_passed s n = fault_at s n (stage_at s n)
 
--- a cancel of this id, which is call n of the stream, reaches the requests before it
+-- what call n makes of the session, where it is a cancel of some id
 abbrev pub Cancels : Core → ℕ → Option Id → Core → Type 0
 Cancels s n None after = after ≡ s
-Cancels s n (Some id) after = Tells (with_desk s (with_marks s.desk id n)) after
+Cancels s n (Some id) after = Reaches id n s after

@@ -4,13 +4,11 @@ use Rattle.rpc_messages.specs.Entry.{SeenEntry}
 use Rattle.rpc_messages.specs.Numbering.{units_numbers, numbers_in}
 use Rattle.rpc_messages.specs.Replies.{reply_to}
 use Rattle.method_steps.specs.Steps.{MethodTable, calls_of}
-use Rattle.answer_desk.specs.State.{number_at, is_marked_number, is_newly_marked}
+use Rattle.answer_desk.specs.State.{number_at, is_marked_number}
 use Rattle.answer_desk.specs.Replies.{slot_at}
-use Rattle.answer_desk.specs.declared.mark.Mark.{Mark}
-use Rattle.answer_desk.specs.declared.mark.Mark.TheVariants.{Unmarked, New, Told}
-use Rattle.answer_desk.specs.declared.number.Number.{Number}
-use Rattle.answer_desk.specs.declared.slot.Slot.{Slot}
-use Rattle.answer_desk.specs.declared.slot.Slot.TheVariants.{Empty, Held, Given}
+use Rattle.answer_desk.specs.declared.open_call.OpenCall.{OpenCall}
+use Rattle.answer_desk.specs.declared.replies.Slot.{Slot}
+use Rattle.answer_desk.specs.declared.replies.Slot.TheVariants.{Empty, Held, Given}
 use Rattle.handler_future.specs.Evaluation.{Program}
 use Rattle.handler_future.specs.Front.{is_heard}
 use Rattle.handler_future.specs.State.{HandlerState, new_state, IsWaiting}
@@ -33,21 +31,11 @@ SlotFits passed n h turn (Held reply) = (reply_to n turn passed ≡ Some reply) 
 SlotFits passed n h turn Given = is_heard h.heard turn ≡ true
 
 -- What the desk keeps of an open number whose run is this: its id, its mark where a cancel has reached it, and its replies.
-pub record OpenFits (entries passed : List SeenEntry) (n : ℕ) (h : HandlerState) (number : Number) : Type 0 where
+pub record OpenFits (entries passed : List SeenEntry) (n : ℕ) (h : HandlerState) (number : OpenCall) : Type 0 where
   pub id : number.id ≡ request_id entries n
   pub mark : is_marked_number (Some number) ≡ is_cancelled passed n
   pub turns : length number.replies ≡ calls_of h.program.steps
   pub slots : (turn : ℕ) (slot : Slot) → slot_at number.replies turn ≡ Some slot → SlotFits passed n h turn slot
-
--- whether a cancel has reached the number, and that was told
-abbrev pub is_told_mark : Mark → Bool
-is_told_mark Unmarked = false
-is_told_mark New = false
-is_told_mark Told = true
-
-abbrev pub is_told : Option Number → Bool
-is_told None = false
-is_told (Some number) = is_told_mark number.mark
 
 -- a handler that was never polled, or waits
 abbrev pub IsAtRest : HandlerState → Type 0
@@ -55,14 +43,14 @@ IsAtRest h = ((program : Program) × (h ≡ new_state h.number program)) ⊎ IsW
 
 -- The run of a number that isn't finished: the handler is that of its work, it has heard replies of the stream, and it has sent its
 -- messages.
-pub record RunFits (table : MethodTable) (is_over : Bool) (entries passed : List SeenEntry) (n : ℕ) (h : HandlerState) (desk : Option Number)
+pub record RunFits (table : MethodTable) (is_over : Bool) (entries passed : List SeenEntry) (n : ℕ) (h : HandlerState) (desk : Option OpenCall)
     (sends : List Sending) (took : Option Course) : Type 0 where
   pub number : h.number ≡ n
   pub works : work table entries n ≡ run h.program
   pub heard : IsHeardFrom is_over passed n h.heard
   pub sends_are : sends ≡ made_by h
   pub unfinished : took ≡ None
-  pub kept : Number
+  pub kept : OpenCall
   pub is_open : desk ≡ Some kept
   pub fits : OpenFits entries passed n h kept
 
@@ -78,15 +66,15 @@ pub record OverFits (h : HandlerState) (sends : List Sending) (took : Option Cou
 
 -- A number: its stage, what the desk keeps of it, the job that is out, and its past, which is what it has sent, what of this was
 -- written, and its course.
-abbrev pub NumberFits : MethodTable → Bool → List SeenEntry → List SeenEntry → ℕ → Stage → Option Number → Option HandlerState →
+abbrev pub NumberFits : MethodTable → Bool → List SeenEntry → List SeenEntry → ℕ → Stage → Option OpenCall → Option HandlerState →
     List Sending → List Sending → Option Course → Type 0
 NumberFits table is_over entries passed n Gone desk job sends written took =
     (desk ≡ None) × (job ≡ None) × (written ≡ sends) × IsGone table entries n took
 NumberFits table is_over entries passed n (Faulty error) desk job sends written took =
-    ((kept : Number) × (desk ≡ Some kept) × (is_marked_number desk ≡ false)) × (job ≡ None) × (sends ≡ []) × (took ≡ None)
+    ((kept : OpenCall) × (desk ≡ Some kept) × (is_marked_number desk ≡ false)) × (job ≡ None) × (sends ≡ []) × (took ≡ None)
     × (work table entries n ≡ fault error) × (numbers_in passed < n)
 NumberFits table is_over entries passed n (Idle h so_far) desk job sends written took =
-    RunFits table is_over entries passed n h desk sends took × IsAtRest h × (is_told desk ≡ false) × (job ≡ None) × (written ≡ take so_far sends) × (so_far ≤ length sends)
+    RunFits table is_over entries passed n h desk sends took × IsAtRest h × (is_marked_number desk ≡ false) × (job ≡ None) × (written ≡ take so_far sends) × (so_far ≤ length sends)
 NumberFits table is_over entries passed n (Out so_far) desk job sends written took =
     (h : HandlerState) × (job ≡ Some h) × (h.waits ≡ []) × RunFits table is_over entries passed n h desk sends took
     × (written ≡ take so_far sends) × (so_far ≤ length sends)
@@ -108,7 +96,6 @@ pub record Fits (table : MethodTable) (is_over : Bool) (passed : List SeenEntry)
       (past.sends n) (sent_by n past.items) (past.took n)
   pub no_more_jobs : (n : ℕ) → units_numbers (past_units past) < n → jobs n ≡ None
 
--- A session between two events: all entries were passed, and no cancel is left to be told.
-pub record AtRest (table : MethodTable) (is_over : Bool) (s : Core) (past : Past) (jobs : ℕ → Option HandlerState) : Type 0 where
-  pub fits : Fits table is_over (past_entries past) s past jobs
-  pub told : (n : ℕ) → is_newly_marked (number_at s.desk n) ≡ false
+-- A session between two events: all entries were passed.
+abbrev pub AtRest : MethodTable → Bool → Core → Past → (ℕ → Option HandlerState) → Type 0
+AtRest table is_over s past jobs = Fits table is_over (past_entries past) s past jobs

@@ -6,8 +6,8 @@ use Rattle.rpc_messages.specs.Numbering.{numbers_of, entries_in}
 use Rattle.rpc_messages.specs.Unit.{SeenUnit, unreadable, single, batch}
 use Rattle.method_steps.specs.Steps.{MethodTable, calls_of}
 use Rattle.answer_desk.specs.State.{with_unit, with_reply}
-use Rattle.answer_desk.specs.declared.place.Place.{Place}
-use Rattle.answer_desk.specs.declared.place.Place.TheVariants as places
+use Rattle.answer_desk.specs.declared.shape.Place.{Place}
+use Rattle.answer_desk.specs.declared.shape.Place.TheVariants as places
 use Rattle.answer_desk.specs.declared.shape.Shape.{Shape}
 use Rattle.handler_future.specs.State.{new_state}
 use Rattle.session_stages.specs.declared.stage.Stage.{Stage}

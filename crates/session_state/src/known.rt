@@ -3,8 +3,8 @@
 ghost use Rattle.session_state.specs.Inner.Known.{Known};
 
 use answer_desk::{
-    cancel_reaches_numbers_below_it, end_closes_its_own_number, reply_changes_its_own_number,
-    reply_fills_its_own_slot, taken_reply_leaves_its_slot_given, telling_changes_one_mark,
+    end_closes_its_own_number, reach_marks_one_number, reply_changes_its_own_number,
+    reply_fills_its_own_slot, taken_reply_leaves_its_slot_given,
 };
 use peer_output::{
     cancel_reaches_what_stands_before_it, certain_facts_stay, faults_and_cancels_finish,
@@ -37,7 +37,6 @@ pub(crate) fn known()
     reply_changes_its_own_number();
     reply_fills_its_own_slot();
     taken_reply_leaves_its_slot_given();
-    cancel_reaches_numbers_below_it();
-    telling_changes_one_mark();
+    reach_marks_one_number();
     end_closes_its_own_number();
 }

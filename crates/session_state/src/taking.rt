@@ -6,7 +6,6 @@ ghost use Rattle.rpc_messages.specs.Entry.{SeenEntry};
 ghost use Rattle.rpc_messages.specs.Numbering.{numbers_in};
 ghost use Rattle.rpc_messages.specs.Unit.{SeenUnit};
 ghost use Rattle.method_steps.specs.Steps.{MethodTable};
-ghost use Rattle.answer_desk.specs.State.{number_at, is_newly_marked};
 ghost use Rattle.handler_future.specs.State.{HandlerState};
 ghost use Rattle.session_stages.specs.declared.stage.Stage.TheVariants.{Faulty, Idle};
 ghost use Rattle.peer_output.specs.Cancelled.{Begins, is_cancelled};
@@ -29,26 +28,22 @@ pub fn start_is_at_rest()
 
 /// A unit may be opened while the input goes on: its calls have numbers, and none of its entries is passed yet.
 pub fn units_are_opened()
-    ensures fits { (table : MethodTable) (s : Core) (past : Past) (unit : SeenUnit)
+    ensures { (table : MethodTable) (s : Core) (past : Past) (unit : SeenUnit)
         (jobs : ℕ → Option HandlerState) → AtRest table false s past jobs →
         Fits table false (past_entries past) (opened table s unit) (with_units past (unit ∷ [])) jobs }
-    ensures unmarked { (table : MethodTable) (s : Core) (past : Past) (unit : SeenUnit)
-        (jobs : ℕ → Option HandlerState) → AtRest table false s past jobs →
-        (n : ℕ) → is_newly_marked (number_at (opened table s unit).desk n) ≡ false }
 {
     known();
 }
 
 /// Its entries are passed in their order. Nothing becomes of the past but that numbers are finished, by their fault or by a
-/// cancel; and each cancel is told.
+/// cancel.
 pub fn entries_are_passed()
     ensures { (table : MethodTable) (passed : List SeenEntry) (entry : SeenEntry) (s after : Core)
         (past : Past) (jobs : ℕ → Option HandlerState) → Fits table false passed s past jobs →
-        ((n : ℕ) → is_newly_marked (number_at s.desk n) ≡ false) →
         Begins (passed ++ entry ∷ []) (past_entries past) →
         PassesEntry s (1 + numbers_in passed) entry after →
         (later : Past) × Fits table false (passed ++ entry ∷ []) after later jobs
-        × ((n : ℕ) → is_newly_marked (number_at after.desk n) ≡ false) × Passes s after past later }
+        × Passes s after past later }
 {
     known();
 }

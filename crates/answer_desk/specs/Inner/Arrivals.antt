@@ -1,12 +1,12 @@
 -- What a unit that arrives brings to the desk.
 use Rattle.std.specs.Prelude.{ℕ, ◌+◌, ◌++◌, List, [], ◌∷◌, Option, Some, None, length}
 use Rattle.rpc_messages.specs.declared.id.Id.{Id}
-use Rattle.answer_desk.specs.declared.due.Due.{Due}
-use Rattle.answer_desk.specs.declared.due.Due.TheVariants.{ParseError, InvalidRequest, Nothing, Answer}
+use Rattle.answer_desk.specs.declared.waiting_unit.Due.{Due}
+use Rattle.answer_desk.specs.declared.waiting_unit.Due.TheVariants.{ParseError, InvalidRequest, Nothing, Answer}
 use Rattle.answer_desk.specs.declared.kept.Kept.{Kept}
 use Rattle.answer_desk.specs.declared.kept.Kept.TheVariants.{Open}
-use Rattle.answer_desk.specs.declared.place.Place.{Place}
-use Rattle.answer_desk.specs.declared.place.Place.TheVariants.{Unreadable, Invalid, Silent, Numbered}
+use Rattle.answer_desk.specs.declared.shape.Place.{Place}
+use Rattle.answer_desk.specs.declared.shape.Place.TheVariants.{Unreadable, Invalid, Silent, Numbered}
 use Rattle.answer_desk.specs.Places.{new_number}
 
 -- what is kept for the call of a place, if it is one

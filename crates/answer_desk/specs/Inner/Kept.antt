@@ -6,13 +6,12 @@ use Rattle.rpc_messages.specs.declared.id.Id.{Id}
 use Rattle.rpc_messages.specs.declared.reply.Reply.{Reply}
 use Rattle.answer_desk.specs.declared.kept.Kept.{Kept}
 use Rattle.answer_desk.specs.declared.kept.Kept.TheVariants.{Open, Answered}
-use Rattle.answer_desk.specs.declared.mark.Mark.{Mark}
-use Rattle.answer_desk.specs.declared.number.Number.{Number}
-use Rattle.answer_desk.specs.declared.slot.Slot.{Slot}
-use Rattle.answer_desk.specs.declared.slot.Slot.TheVariants.{Held, Given}
+use Rattle.answer_desk.specs.declared.open_call.OpenCall.{OpenCall}
+use Rattle.answer_desk.specs.declared.replies.Slot.{Slot}
+use Rattle.answer_desk.specs.declared.replies.Slot.TheVariants.{Held, Given}
 use Rattle.answer_desk.specs.Replies.{slot_at, put_into, is_kept, given_by}
 use Rattle.answer_desk.specs.Seen.{open_number}
-use Rattle.answer_desk.specs.State.{number_marked, is_newly_marked, is_marked_number}
+use Rattle.answer_desk.specs.State.{marked, number_marked, is_marked_number}
 
 abbrev pub kept_in : Option (Box Kept) → Option Kept
 kept_in None = None
@@ -22,7 +21,7 @@ abbrev pub kept_if : Bool → Kept → Option Kept
 kept_if some kept = if some then Some kept else None
 
 abbrev pub slot_in : Option Kept → ℕ → Option Slot
-slot_in kept turn = option_and_then (λ (n : Number). slot_at n.replies turn) (open_number kept)
+slot_in kept turn = option_and_then (λ (n : OpenCall). slot_at n.replies turn) (open_number kept)
 
 -- the slots once a reply of this turn was put: the first is kept, any other changes nothing
 abbrev pub slots_with : List Slot → ℕ → Reply → List Slot
@@ -33,25 +32,22 @@ abbrev pub slots_without : Bool → List Slot → ℕ → List Slot
 slots_without closed slots turn = if is_some (given_by closed (slot_at slots turn)) then slice_set slots (turn - 1) Given else slots
 
 -- what stands there after each call
-abbrev pub with_change : (Number → Number) → Option Kept → Option Kept
+abbrev pub with_change : (OpenCall → OpenCall) → Option Kept → Option Kept
 with_change change (Some (Open n)) = Some (Open (change n))
 with_change change (Some (Answered id reply)) = Some (Answered id reply)
 with_change change None = None
 
 abbrev pub with_put : ℕ → Reply → Option Kept → Option Kept
-with_put turn reply kept = with_change (λ (n : Number). record n { replies = slots_with n.replies turn reply }) kept
+with_put turn reply kept = with_change (λ (n : OpenCall). record n { replies = slots_with n.replies turn reply }) kept
 
 abbrev pub with_taken : ℕ → Bool → Option Kept → Option Kept
-with_taken turn is_closed kept = with_change (λ (n : Number). record n { replies = slots_without is_closed n.replies turn }) kept
+with_taken turn is_closed kept = with_change (λ (n : OpenCall). record n { replies = slots_without is_closed n.replies turn }) kept
 
 abbrev pub with_mark : Id → Option Kept → Option Kept
 with_mark id kept = with_change (number_marked id) kept
 
-abbrev pub marked_as : Mark → Option Kept → Option Kept
-marked_as mark kept = with_change (λ (n : Number). record n { mark = mark }) kept
-
-abbrev pub is_new_at : Option Kept → Bool
-is_new_at kept = is_newly_marked (open_number kept)
+abbrev pub with_reach : Option Kept → Option Kept
+with_reach kept = with_change marked kept
 
 abbrev pub is_marked_at : Option Kept → Bool
 is_marked_at kept = is_marked_number (open_number kept)

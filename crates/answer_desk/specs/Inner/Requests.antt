@@ -1,5 +1,5 @@
 -- Which requests a cancel can still reach, and the numbers that are kept for them.
-use Rattle.std.specs.Prelude.{◌≡◌, ℕ, ◌+◌, ◌-◌, ◌<◌, ◌==◌, ◌&&◌, List, [], ◌∷◌, Bool, true, false, if◌then◌else◌, nat_le, is_some, Option, Some, None, MatchOption}
+use Rattle.std.specs.Prelude.{◌≡◌, ℕ, ◌+◌, ◌-◌, ◌<◌, ◌==◌, List, [], ◌∷◌, Bool, true, false, if◌then◌else◌, nat_le, is_some, Option, Some, None, MatchOption}
 use Rattle.std.specs.Ordering.{nat_cmp}
 use Rattle.std.specs.BTreeMap as tree
 use Rattle.std.specs.BTreeSet as sorted
@@ -7,16 +7,14 @@ use Rattle.rpc_messages.specs.declared.id.Id.{Id}
 use Rattle.answer_desk.specs.declared.kept.Kept.{Kept}
 use Rattle.answer_desk.specs.declared.kept.Kept.TheVariants.{Open, Answered}
 use Rattle.answer_desk.specs.declared.requests_by_id.RequestsById.{RequestsById}
-use Rattle.answer_desk.specs.Seen.{kept_at}
+use Rattle.answer_desk.specs.Seen.{kept_at, open_number}
 use Rattle.answer_desk.specs.Inner.Kept.{is_marked_at}
-use Rattle.rpc_messages.specs.Ids.{has_id, id_cmp}
-use Rattle.answer_desk.specs.State.{is_unmarked}
+use Rattle.rpc_messages.specs.Ids.{id_cmp}
+use Rattle.answer_desk.specs.State.{is_in_reach}
 
 -- a cancel of this id would mark the number
 abbrev pub is_reached_by : Id → Option Kept → Bool
-is_reached_by id (Some (Open n)) = has_id id n.id && is_unmarked n.mark
-is_reached_by id (Some (Answered other reply)) = false
-is_reached_by id None = false
+is_reached_by id kept = is_in_reach id (open_number kept)
 
 -- no cancel has reached it, and none can
 pub record IsOutOfReach (kept : Option Kept) : Type 0 where
@@ -24,12 +22,12 @@ pub record IsOutOfReach (kept : Option Kept) : Type 0 where
   pub unreached : (id : Id) → is_reached_by id kept ≡ false
 
 -- a cancel of some id would
-abbrev pub id_if : Bool → Option Id → Option Id
-id_if true id = id
-id_if false id = None
+abbrev pub id_unless : Bool → Option Id → Option Id
+id_unless true id = None
+id_unless false id = id
 
 abbrev pub id_in_reach_of : Option Kept → Option Id
-id_in_reach_of (Some (Open n)) = id_if (is_unmarked n.mark) n.id
+id_in_reach_of (Some (Open n)) = id_unless n.is_marked n.id
 id_in_reach_of (Some (Answered other reply)) = None
 id_in_reach_of None = None
 
@@ -49,7 +47,7 @@ abbrev pub is_listed : RequestsById → Id → ℕ → Bool
 is_listed requests id number = is_in number (tree.get id_cmp requests.numbers id)
 
 abbrev pub IsUnchanged : RequestsById → RequestsById → Type 0
-IsUnchanged now was = ((id : Id) (k : ℕ) → is_listed now id k ≡ is_listed was id k) × (now.len ≡ was.len)
+IsUnchanged now was = (id : Id) (k : ℕ) → is_listed now id k ≡ is_listed was id k
 
 -- what `lowest` answers
 abbrev pub IsLowestListed : RequestsById → Id → Option ℕ → Type 0
@@ -60,9 +58,11 @@ IsLowestListed requests id result =
 -- `now` has what `was` has below this number, and from it on the requests of these calls that a cancel can reach
 pub record IsWithAdded (now was : RequestsById) (number : ℕ) (calls : List (Option Kept)) : Type 0 where
   pub listed : (id : Id) (k : ℕ) → is_listed now id k ≡ (if nat_le number k then is_reached_by id (kept_at calls (k - number)) else is_listed was id k)
-  pub len : now.len ≡ was.len + count_in_reach calls
 
--- `now` is `was` without the number of this kept
-abbrev pub IsWithout : RequestsById → RequestsById → ℕ → Option Kept → Type 0
-IsWithout now was number kept =
-    ((id : Id) (k : ℕ) → is_listed now id k ≡ (if number == k then false else is_listed was id k)) × (now.len ≡ was.len - in_reach kept)
+-- `now` is `was` without this number
+abbrev pub IsWithout : RequestsById → RequestsById → ℕ → Type 0
+IsWithout now was number = (id : Id) (k : ℕ) → is_listed now id k ≡ (if number == k then false else is_listed was id k)
+
+-- `now` has this number too, where a cancel can reach what stands for it
+abbrev pub IsWithMore : RequestsById → RequestsById → ℕ → Option Kept → Type 0
+IsWithMore now was number kept = (id : Id) (k : ℕ) → is_listed now id k ≡ (if number == k then is_reached_by id kept else is_listed was id k)

@@ -2,8 +2,10 @@
 use Rattle.std.specs.Prelude.{ℕ, ◌+◌, ◌≤◌, List, [], ◌∷◌, ◌++◌, length, drop, Result, Ok, Err, Vec, vec_len, vec_capacity}
 use Rattle.std.specs.List.{range_with_len}
 use Rattle.std.specs.declared.alloc.Global.{Global}
-use Rattle.serde_json.specs.Data.{Data, Members, put}
+use Rattle.serde_json.specs.Data.{Data, Members, no_members, put}
 use Rattle.rpc_messages.specs.declared.reply.Reply.{Reply}
+use Rattle.method_steps.specs.declared.frame.Row.{Row}
+use Rattle.method_steps.specs.Frame.{with_lent}
 use Rattle.method_steps.specs.Steps.{Step}
 use Rattle.handler_future.specs.declared.act.Act.{Act}
 use Rattle.handler_future.specs.declared.act.Act.TheVariants as act
@@ -28,16 +30,17 @@ pub record Seen : Type 0 where
   pub heard : Heard
 
 abbrev pub Course : Type 0
-Course = CourseOf Members (Vec Message Global) (Vec (ℕ × Reply) Global)
+Course = CourseOf (List Row) (Vec Message Global) (Vec (ℕ × Reply) Global)
 
 -- there is room for the replies that it waits for
 abbrev pub HasRoom : Course → Type 0
 HasRoom c = vec_len c.heard + length c.waits.items ≤ vec_capacity c.heard
 
-abbrev pub seen : Course → Seen
-seen c = record {
+-- with this value lent to the registers that have none of their own
+abbrev pub seen : Data → Course → Seen
+seen lent c = record {
   place = c.place;
-  registers = c.registers;
+  registers = with_lent lent c.registers;
   turn = c.turn;
   asked = c.asked;
   heard_before = c.heard_before;
@@ -60,13 +63,16 @@ with_notice m c = record c { place = c.place + 1; messages = c.messages ++ m ∷
 abbrev pub asking : Message → ℕ → Seen → Seen
 asking m k c = record c { asked = k; heard_before = length c.heard; messages = c.messages ++ m ∷ []; waits = range_with_len c.turn k }
 
+abbrev pub without_registers : Seen → Seen
+without_registers c = record c { registers = no_members }
+
 abbrev pub after_act : Step → Seen → Act → Seen × Progress
 after_act s c (act.Put d) = (with_value s d c, Going)
 after_act s c (act.Skip n) = (past n c, Going)
 after_act s c (act.Notify o) = (with_notice (message.Notice o) c, Going)
 after_act s c (act.Call o) = (asking (message.Call c.turn o) 1 c, Waiting)
 after_act s c (act.Calls os) = (asking (message.Calls c.turn os) (length os) c, Waiting)
-after_act s c (act.End r) = (c, Ended r)
+after_act s c (act.End r) = (without_registers c, Ended r)
 
 -- ---- after the replies
 

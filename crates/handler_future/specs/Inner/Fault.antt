@@ -2,6 +2,9 @@
 use Rattle.std.specs.Prelude.{◌≡◌, Result, Ok, Err, Vec, List}
 use Rattle.std.specs.declared.alloc.Global.{Global}
 use Rattle.rpc_messages.specs.declared.standard.Standard.{Standard}
+use Rattle.method_steps.specs.declared.filling.FillFault.{FillFault}
+use Rattle.method_steps.specs.declared.filling.FillFault.TheVariants as fault
+use Rattle.handler_future.specs.Act.{error_at}
 use Rattle.handler_future.specs.declared.fault.StepFault.{StepFault}
 use Rattle.handler_future.specs.declared.fault.StepFault.TheVariants.{Ended, Memory}
 
@@ -16,3 +19,9 @@ abbrev pub GivesItems : {A : Type 0} → Result (List A) Standard → Result (Ve
 GivesItems wanted (Ok v) = wanted ≡ Ok v.items
 GivesItems wanted (Err (Ended s)) = wanted ≡ Err s
 GivesItems wanted (Err Memory) = Unit {0}
+
+-- what a template that has no value does to a method
+abbrev pub IsStepFault : FillFault → StepFault → Type 0
+IsStepFault fault.Params f = f ≡ Ended (error_at fault.Params)
+IsStepFault fault.Missing f = f ≡ Ended (error_at fault.Missing)
+IsStepFault fault.Memory f = f ≡ Memory

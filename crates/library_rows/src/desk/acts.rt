@@ -3,7 +3,7 @@
 use super::again::comes_and_goes;
 use super::large::{finishes_all, gives_batch};
 use super::units::{
-    Entry, Name, Said, finishes, frames, marks, numbered, open, opens, releases, requests,
+    Entry, Name, Said, finishes, frames, marks, numbered, open, opens, reaches, releases, requests,
 };
 use crate::rows::is_text;
 use answer_desk::{Desk, Kind, Put};
@@ -36,9 +36,8 @@ pub enum Act {
     /// Cancels the requests of this id before this number.
     Mark(Name, u32),
     Marked(u32, bool),
-    /// These numbers are marked next.
-    TakeMarked(&'static [u32]),
-    NoneMarked,
+    /// A cancel of this id, before this number, reaches these numbers, one after another, and no more.
+    Reach(Name, u32, &'static [u32]),
     /// Requests of one id come and go, up to before this number.
     ComeAndGo(u32),
     Close,
@@ -49,7 +48,7 @@ pub enum Act {
 pub fn comes_out(alloc: Global, desk: &mut Desk, act: &Act) -> Result<bool, Fail> {
     match act {
         Act::Open(kind, entries, number) => opens(alloc, desk, *kind, entries, *number),
-        Act::Requests(id, count) => requests(alloc, desk, *id, *count),
+        Act::Requests(id, count) => requests(desk, *id, *count),
         Act::Batch(first, count, number) => {
             Ok(open(desk, Kind::Batch, numbered(alloc, *first, *count)?)? == *number)
         }
@@ -62,6 +61,7 @@ pub fn comes_out(alloc: Global, desk: &mut Desk, act: &Act) -> Result<bool, Fail
         }
         Act::Frames(count, bytes) => frames(alloc, desk, *count, bytes),
         Act::Mark(name, before) => marks(alloc, desk, name, *before),
+        Act::Reach(name, before, numbers) => reaches(alloc, desk, name, *before, numbers),
         Act::Take(number, turn, want) => Ok(takes(alloc, desk, *number, *turn, want)?),
         Act::ComeAndGo(end) => come_and_go(alloc, desk, *end),
         _ => Ok(looks(desk, act)),
@@ -75,8 +75,6 @@ fn looks(desk: &mut Desk, act: &Act) -> bool {
         Act::Put(number, turn, put) => desk.put_reply(*number, *turn, truth()) == *put,
         Act::Has(number, turn, has) => desk.has_reply(*number, *turn) == *has,
         Act::Marked(number, marked) => desk.is_marked(*number) == *marked,
-        Act::TakeMarked(numbers) => are_marked_next(desk, numbers),
-        Act::NoneMarked => desk.take_marked().is_none(),
         Act::Close => {
             desk.close_board();
             true
@@ -85,15 +83,6 @@ fn looks(desk: &mut Desk, act: &Act) -> bool {
         Act::OpenNumber(number, is_open) => desk.is_open(*number) == *is_open,
         _ => false,
     }
-}
-
-fn are_marked_next(desk: &mut Desk, numbers: &[u32]) -> bool {
-    for number in numbers {
-        if desk.take_marked() != Some(*number) {
-            return false;
-        }
-    }
-    true
 }
 
 fn truth() -> Reply {

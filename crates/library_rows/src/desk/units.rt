@@ -38,6 +38,15 @@ pub fn open(desk: &mut Desk, kind: Kind, places: Vec<Place>) -> Result<u32, Fail
     Ok(desk.open_unit(Shape { kind, places })?)
 }
 
+/// Opens a unit of one entry, and gives its number.
+fn open_one(desk: &mut Desk, place: Place) -> Result<u32, Fail> {
+    if desk.next_number() > 1_000_000 {
+        drop(place);
+        return Err("numbers past the last".into());
+    }
+    Ok(desk.open_single(place)?)
+}
+
 /// Opens a unit of these entries. Whether it has that first number.
 pub fn opens(
     alloc: Global,
@@ -104,9 +113,10 @@ pub fn numbered(alloc: Global, first: u32, count: u32) -> Result<Vec<Place>, All
 }
 
 /// Opens units of one request each, all of this id.
-pub fn requests(alloc: Global, desk: &mut Desk, id: u32, count: u32) -> Result<bool, Fail> {
+pub fn requests(desk: &mut Desk, id: u32, count: u32) -> Result<bool, Fail> {
     for _unit in 0..count {
-        open(desk, Kind::Single, numbered(alloc, id, 1)?)?;
+        let id = Some(Id::Unsigned(id as u64));
+        open_one(desk, Place::Numbered { id, most: 0 })?;
     }
     Ok(true)
 }
@@ -139,6 +149,24 @@ pub fn marks(alloc: Global, desk: &mut Desk, name: &Name, before: u32) -> Result
     Ok(true)
 }
 
+/// Whether a cancel reaches these numbers, one after another, and no more.
+pub fn reaches(
+    alloc: Global,
+    desk: &mut Desk,
+    name: &Name,
+    before: u32,
+    numbers: &[u32],
+) -> Result<bool, Fail> {
+    let id = id(alloc, name)?;
+    let mut is_so = true;
+    for number in numbers {
+        is_so = is_so && desk.reach(&id, before) == Some(*number);
+    }
+    is_so = is_so && desk.reach(&id, before).is_none();
+    drop(id);
+    Ok(is_so)
+}
+
 fn are_texts(texts: &[Items<u8>], want: &[&str]) -> bool {
     let mut index = 0usize;
     for want in want {
@@ -150,12 +178,13 @@ fn are_texts(texts: &[Items<u8>], want: &[&str]) -> bool {
     texts.len() == want.len()
 }
 
-/// Whether the desk gives these answers.
+/// Whether the desk gives these answers, tells that some are due, and then that none is.
 pub fn releases(desk: &mut Desk, want: &[&str]) -> Result<bool, Fail> {
+    let was_due = desk.has_due();
     let texts = desk.release()?;
     let are_texts = are_texts(texts.as_slice(), want);
     drop(texts);
-    Ok(are_texts)
+    Ok(are_texts && (was_due || want.is_empty()) && !desk.has_due())
 }
 
 /// Frames so many answers behind other bytes.

@@ -1,15 +1,22 @@
 -- What has come of the frame under way.
 use Rattle.std.specs.Prelude.{◌≡◌, ℕ, ◌+◌, ◌*◌, ◌<◌, ◌≤◌, ◌==◌, List, [], ◌∷◌, ◌++◌, None, length, position, take}
 use Rattle.lsp_frames.specs.Heads.{HeadRead, Ends, Breaks, Unended, head_from, head_at}
+use Rattle.lsp_frames.specs.Lines.{no_fields}
 use Rattle.lsp_frames.specs.Frames.{Whole, front_of}
 use Rattle.lsp_frames.specs.Decoding.{Known, Open, Broken}
 use Rattle.lsp_frames.specs.declared.frame.Frame.{Frame}
+use Rattle.lsp_frames.specs.declared.limits.TheConstants.{LONGEST_HEAD}
+use Rattle.lsp_frames.specs.declared.partial.Place.{Place}
 use Rattle.lsp_frames.specs.declared.partial.Stage.{Stage}
 use Rattle.lsp_frames.specs.declared.partial.Stage.TheVariants as stages
 use Rattle.lsp_frames.specs.declared.partial.Partial.{Partial}
 use Rattle.lsp_frames.specs.declared.partial.Front.{Front}
 use Rattle.lsp_frames.specs.declared.partial.Taken.{Taken}
 use Rattle.lsp_frames.specs.declared.partial.Taken.TheVariants as takes
+
+-- where a head begins
+abbrev pub first_place : Place
+first_place = record { fields = no_fields; room = LONGEST_HEAD }
 
 -- what was read of a frame, where these bytes have come of the line or the content under way
 abbrev pub read_at : Stage → List ℕ → HeadRead

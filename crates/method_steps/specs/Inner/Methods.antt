@@ -5,15 +5,20 @@ use Rattle.std.specs.declared.sync.Arc.{Arc}
 use Rattle.std.specs.BTreeMap.{BTreeMap, get_by_text}
 use Rattle.method_steps.specs.declared.limits.TheConstants.{MOST_METHODS}
 use Rattle.method_steps.specs.declared.table.Method.{Method}
-use Rattle.method_steps.specs.Steps.{Step, NamedSteps, MethodTable, AreWithinLimits, place_of, shared_steps, unless_empty}
+use Rattle.method_steps.specs.Steps.{Step, NamedSteps, MethodTable, AreWithinLimits, calls_of, place_of, shared_steps, unless_empty}
 
 -- what a method is seen as
 abbrev pub named_steps : Method → NamedSteps
 named_steps m = record { name = m.name; steps = shared_steps m.steps }
 
+-- the number of its calls is that of its steps
+abbrev pub IsCounted : Method → Type 0
+IsCounted m = m.calls ≡ calls_of (shared_steps m.steps)
+
 -- the map finds each name's place, and the methods keep their limits
 pub record IsIndexed (methods : List Method) (places : BTreeMap (String Global) ℕ) : Type 0 where
   pub few : length methods ≤ MOST_METHODS
+  pub counted : All IsCounted methods
   pub within : All (λ m. AreWithinLimits m.steps) (map named_steps methods)
   pub found : (name : List ℕ) → get_by_text places name ≡ place_of name (map named_steps methods)
 

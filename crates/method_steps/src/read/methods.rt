@@ -1,13 +1,13 @@
 //! The opening and the methods of a document, read in order, and the place of each name.
 
-ghost use Rattle.std.specs.Prelude.{◌≡◌, ◌≢◌, ◌<◌, ◌≤◌, ℕ, List, Some, None, length, map, option_map, IfOk, IfErr};
+ghost use Rattle.std.specs.Prelude.{◌≡◌, ◌≢◌, ◌<◌, ◌≤◌, ℕ, List, Some, None, length, map, option_map, All, IfOk, IfErr};
 ghost use Rattle.std.specs.BTreeMap.{get_by_text};
 ghost use Rattle.toml.specs.Data.{no_items};
 ghost use Rattle.toml.specs.View.{view, items_view};
 ghost use Rattle.method_steps.specs.Fault.{in_document};
 ghost use Rattle.method_steps.specs.Judged.{steps_fault, method_fault, methods_fault};
 ghost use Rattle.method_steps.specs.Made.{steps_from, method_from, methods_from};
-ghost use Rattle.method_steps.specs.Inner.Methods.{named_steps};
+ghost use Rattle.method_steps.specs.Inner.Methods.{named_steps, IsCounted};
 ghost use Rattle.method_steps.specs.Steps.{place_of, shared_steps, unless_empty};
 
 use crate::fault::{FaultKind, TableFault, in_method};
@@ -18,7 +18,7 @@ use crate::read::names::is_method_name;
 use crate::read::steps::steps_of;
 use crate::read::version::Version;
 use crate::step::Step;
-use crate::table::Method;
+use crate::table::{Method, calls_of};
 use json_values::Text;
 use std::alloc::{AllocError, Global};
 use std::collections::BTreeMap;
@@ -55,6 +55,7 @@ pub(crate) fn methods_of(
     ensures ok { IfOk result (λ methods.
         (map named_steps methods.items ≡ methods_from (items_view items.now))
         × (methods_fault version no_items (items_view items.now) ≡ None)) }
+    ensures counted { IfOk result (λ methods. All IsCounted methods.items) }
     ensures refused { IfErr result (λ fault. fault ≢ in_document FaultKind.Memory
         → methods_fault version no_items (items_view items.now) ≡ Some fault) }
 {
@@ -78,6 +79,7 @@ fn method_of(
     requires { length earlier.now < MOST_METHODS }
     ensures ok { IfOk result (λ method. (named_steps method ≡ method_from (view item.now))
         × (method_fault version (items_view earlier.now) (view item.now) ≡ None)) }
+    ensures counted { IfOk result IsCounted }
     ensures refused { IfErr result (λ fault. fault ≢ in_document FaultKind.Memory
         → method_fault version (items_view earlier.now) (view item.now) ≡ Some fault) }
 {
@@ -98,9 +100,11 @@ fn method_of(
         return Err(in_method(number, FaultKind::Limit));
     }
     let steps = steps_of(alloc, version, number, steps)?;
+    let calls = calls_of(steps.as_slice());
     Ok(Method {
         name: Text::copy_of(alloc, name)?,
         steps: Arc::new(alloc, steps)?,
+        calls,
     })
 }
 

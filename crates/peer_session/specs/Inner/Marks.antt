@@ -1,8 +1,9 @@
--- How many numbers are newly marked.
+-- How many numbers a cancel can reach yet.
 use Rattle.std.specs.Prelude.{ℕ, ◌+◌, List, [], ◌∷◌, Option, if◌then◌else◌}
-use Rattle.answer_desk.specs.State.{is_newly_marked}
-use Rattle.answer_desk.specs.declared.number.Number.{Number}
+use Rattle.rpc_messages.specs.declared.id.Id.{Id}
+use Rattle.answer_desk.specs.State.{is_in_reach}
+use Rattle.answer_desk.specs.declared.open_call.OpenCall.{OpenCall}
 
-abbrev pub count_new : List (Option Number) → ℕ
-count_new [] = 0
-count_new (number ∷ numbers) = if is_newly_marked number then count_new numbers + 1 else count_new numbers
+abbrev pub count_in_reach : Id → List (Option OpenCall) → ℕ
+count_in_reach id [] = 0
+count_in_reach id (number ∷ numbers) = if is_in_reach id number then count_in_reach id numbers + 1 else count_in_reach id numbers

@@ -1,14 +1,14 @@
 -- What the runs of a session keep true of their numbers, and of the sets of those that are ready and that have something to write.
 use Rattle.std.specs.Prelude.{◌≡◌, ℕ, ◌+◌, nat_lt, List, [], ◌∷◌, length, Bool, true, false, Option, Some, None, if◌then◌else◌}
 use Rattle.number_set.specs.Numbers.{Marked, HasRoom, is_in}
-use Rattle.answer_desk.specs.State.{State, is_open}
+use Rattle.answer_desk.specs.State.{State, is_open, front_texts}
 use Rattle.handler_future.specs.State.{HandlerState}
 use Rattle.session_stages.specs.declared.stage.Stage.{Stage}
 use Rattle.session_stages.specs.declared.stage.Stage.TheVariants.{Gone, Faulty, Idle, Out, Over, Failed}
 use Rattle.session_stages.specs.Stages.{is_gone}
-use Rattle.session_state.specs.Core.{Core, stage_at}
+use Rattle.session_state.specs.Core.{Core, stage_at, with_stage, unwritten_from}
 use Rattle.session_state.specs.Finishing.{told_at}
-use Rattle.session_state.specs.Turning.{is_ready_stage, Leaves}
+use Rattle.session_state.specs.Turning.{is_ready_stage, Leaves, drained}
 
 -- a number whose handler is here
 abbrev pub is_idle : Stage → Bool
@@ -75,3 +75,18 @@ abbrev pub LeavesFrom : Core → Option ℕ → Option HandlerState → Core →
 LeavesFrom core None job after = (job ≡ None) × (after ≡ core)
 LeavesFrom core (Some n) None after = ⊥
 LeavesFrom core (Some n) (Some job) after = Leaves core n job after
+
+-- The handler of a number goes out, where it is here.
+abbrev pub SendsOut : Core → ℕ → Option HandlerState → Core → Type 0
+SendsOut core n None after = (is_idle (stage_at core n) ≡ false) × (after ≡ core)
+SendsOut core n (Some h) after = (written : ℕ) × (stage_at core n ≡ Idle h written) × (after ≡ with_stage core n (Out written)) × (h.number ≡ n) × (is_open core.desk n ≡ true)
+
+-- nothing is due, and a drain changes nothing
+pub record NothingDue (core : Core) : Type 0 where
+  pub sendings : unwritten_from 0 core.stages ≡ []
+  pub answers : front_texts core.desk ≡ []
+  pub same : drained core ≡ core
+
+-- what a desk and stages are together
+abbrev pub core_of : State → List Stage → Core
+core_of desk stages = record { desk = desk; stages = stages }

@@ -73,7 +73,8 @@ fn read_members<'a>(
     Ok(())
 }
 
-fn empty<'a>() -> Envelope<'a>
+#[inline(always)]
+pub(super) fn empty<'a>() -> Envelope<'a>
     ensures { envelope_view result ≡ envelope_of no_members }
 {
     Envelope {
@@ -87,7 +88,7 @@ fn empty<'a>() -> Envelope<'a>
 }
 
 /// Keeps a member, where its name counts, in place of an earlier one of that name.
-fn keep<'a>(envelope: &mut Envelope<'a>, name: &str, member: Piece<'a>)
+pub(super) fn keep<'a>(envelope: &mut Envelope<'a>, name: &str, member: Piece<'a>)
     ensures { envelope_view envelope.new
         ≡ with_member name.now (piece_view member.entry) (envelope_view envelope.old) }
 {

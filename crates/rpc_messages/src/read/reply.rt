@@ -1,4 +1,4 @@
-//! Replies to calls of ours.
+//! The other side's replies to our calls.
 
 ghost use Rattle.std.specs.Prelude.{◌≡◌, IfOk, option_map};
 ghost use Rattle.json_reading.specs.Piece.{piece_view};

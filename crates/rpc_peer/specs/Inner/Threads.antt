@@ -3,7 +3,7 @@ use Rattle.std.specs.Prelude.{ℕ, List, Option, IfOk, OnErr}
 use Rattle.rtrb.specs.Ring.{received}
 use Rattle.method_steps.specs.Steps.{MethodTable}
 use Rattle.peer_session.specs.declared.limits.Limits.{Limits}
-use Rattle.peer_session.specs.Run.{IsRun, IsRunCutShort}
+use Rattle.stream_session.specs.Promise.{IsRun, IsRunCutShort}
 use Rattle.rpc_peer.specs.Clerk.{CountsRun}
 use Rattle.rpc_peer.specs.declared.clerk.Served.{Served}
 use Rattle.rpc_peer.specs.Arriving.{bytes_of, ending_of}

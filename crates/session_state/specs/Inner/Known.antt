@@ -2,7 +2,6 @@
 use Rattle.std.specs.Prelude.{◌≡◌, ◌≢◌, ℕ, ◌+◌, ◌-◌, ◌<◌, ◌≤◌, ◌||◌, List, [], ◌∷◌, ◌++◌, map, length, slice_set, filter, All, Bool, true, false, Option, Some, None}
 use Rattle.std.specs.List.{filter_map}
 use Rattle.std.specs.Option.{option_map, option_map_or}
-use Rattle.rpc_messages.specs.declared.id.Id.{Id}
 use Rattle.rpc_messages.specs.declared.reply.Reply.{Reply}
 use Rattle.rpc_messages.specs.declared.reply.Reply.TheVariants.{Standard as Fixed}
 use Rattle.rpc_messages.specs.declared.standard.Standard.{Standard}
@@ -17,13 +16,12 @@ use Rattle.handler_future.specs.declared.message.Message.{Message}
 use Rattle.handler_future.specs.Evaluation.{Program}
 use Rattle.handler_future.specs.Front.{Heard, last_turns}
 use Rattle.handler_future.specs.State.{HandlerState, IsWaiting, HasEnded, HasFailed}
-use Rattle.answer_desk.specs.declared.mark.Mark.TheVariants.{Told}
-use Rattle.answer_desk.specs.declared.number.Number.{Number}
-use Rattle.answer_desk.specs.declared.put.Put.TheVariants.{Kept}
-use Rattle.answer_desk.specs.declared.slot.Slot.TheVariants.{Held, Given}
+use Rattle.answer_desk.specs.declared.open_call.OpenCall.{OpenCall}
+use Rattle.answer_desk.specs.declared.replies.Put.TheVariants.{Kept}
+use Rattle.answer_desk.specs.declared.replies.Slot.TheVariants.{Held, Given}
 use Rattle.answer_desk.specs.Places.{new_numbers, new_parts}
 use Rattle.answer_desk.specs.Replies.{is_kept}
-use Rattle.answer_desk.specs.State.{State, number_at, slot_of, put_of, with_reply, reply_of, without_reply, number_marked, with_marks, with_told, with_end}
+use Rattle.answer_desk.specs.State.{State, number_at, slot_of, put_of, with_reply, reply_of, without_reply, marked, with_reached, with_end}
 use Rattle.answer_desk.specs.Waiting.{unit_answered, unit_text, whole_front, behind_front}
 use Rattle.peer_output.specs.Work.{nothing, fault, run, work}
 use Rattle.peer_output.specs.Course.{Sending, message, withdrawal, Course, silent}
@@ -114,7 +112,7 @@ pub record Known : Type 0 where
       × (behind_front (units_left took n units) ≡ units_left took (n + units_numbers front) left)
   -- ---- what calls leave of the desk's numbers
   pub reply_here : (s : State) (n turn : ℕ) (reply : Reply) → put_of s n turn ≡ Kept →
-      number_at (with_reply s n turn reply) n ≡ option_map (λ (m : Number). record m { replies = slice_set m.replies (turn - 1) (Held reply) }) (number_at s n)
+      number_at (with_reply s n turn reply) n ≡ option_map (λ (m : OpenCall). record m { replies = slice_set m.replies (turn - 1) (Held reply) }) (number_at s n)
   pub reply_elsewhere : (s : State) (n turn k : ℕ) (reply : Reply) → k ≢ n → number_at (with_reply s n turn reply) k ≡ number_at s k
   pub reply_refused : (s : State) (n turn : ℕ) (reply : Reply) → is_kept (put_of s n turn) ≡ false → with_reply s n turn reply ≡ s
   pub reply_slot : (s : State) (n turn : ℕ) (reply : Reply) → put_of s n turn ≡ Kept → slot_of (with_reply s n turn reply) n turn ≡ Some (Held reply)
@@ -123,9 +121,7 @@ pub record Known : Type 0 where
   pub given_other_slot : (s : State) (n turn t : ℕ) → t ≢ turn → slot_of (without_reply s n turn) n t ≡ slot_of s n t
   pub given_elsewhere : (s : State) (n turn k : ℕ) → k ≢ n → number_at (without_reply s n turn) k ≡ number_at s k
   pub given_none : (s : State) (n turn : ℕ) → reply_of s n turn ≡ None → without_reply s n turn ≡ s
-  pub marked_below : (s : State) (id : Id) (before k : ℕ) → k < before → number_at (with_marks s id before) k ≡ option_map (number_marked id) (number_at s k)
-  pub marked_from : (s : State) (id : Id) (before k : ℕ) → before ≤ k → number_at (with_marks s id before) k ≡ number_at s k
-  pub told_here : (s : State) (n : ℕ) → number_at (with_told s (Some n)) n ≡ option_map (λ (m : Number). record m { mark = Told }) (number_at s n)
-  pub told_elsewhere : (s : State) (n k : ℕ) → k ≢ n → number_at (with_told s (Some n)) k ≡ number_at s k
+  pub reached_here : (s : State) (n : ℕ) → number_at (with_reached s (Some n)) n ≡ option_map marked (number_at s n)
+  pub reached_elsewhere : (s : State) (n k : ℕ) → k ≢ n → number_at (with_reached s (Some n)) k ≡ number_at s k
   pub ended_here : (s : State) (n : ℕ) (reply : Reply) → number_at (with_end s n reply) n ≡ None
   pub ended_elsewhere : (s : State) (n k : ℕ) (reply : Reply) → k ≢ n → number_at (with_end s n reply) k ≡ number_at s k

@@ -8,10 +8,10 @@ use Rattle.handler_future.proofs.course.run.Given as goal
 
 abbrev pub invariant-steps : goal.invariant-steps
 invariant-steps l = record {
-  stands : (program : Program) → program.steps ≡ l.steps → StandsBefore program (seen l.initial.course) → StandsBefore program (seen l.course);
-  stays : Stays (seen l.initial.course) (seen l.course);
+  stands : (program : Program) → program.steps ≡ l.steps → StandsBefore program (seen l.lent l.initial.course) → StandsBefore program (seen l.lent l.course);
+  stays : Stays (seen l.lent l.initial.course) (seen l.lent l.course);
   adds : AddsNotices l.initial.course.messages.items l.course.messages.items [];
-  runnable : IsRunnable l.steps (seen l.course);
+  runnable : IsRunnable l.steps (seen l.lent l.course);
 }
 
 abbrev pub decreases-steps : goal.decreases-steps

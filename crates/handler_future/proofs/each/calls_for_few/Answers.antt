@@ -1,4 +1,4 @@
-use Rattle.std.proofs.Common.{◌≡◌, ◌≤◌, ◌<◌, length, Ok, sym, ◌∙◌, ap}
+use Rattle.std.proofs.Common.{◌≤◌, ◌<◌, length, Ok, sym, ◌∙◌, ap}
 use Rattle.handler_future.proofs.Elements.{few_called, many_refused}
 use Rattle.handler_future.proofs.each.calls_for_few.Goals as goal
 

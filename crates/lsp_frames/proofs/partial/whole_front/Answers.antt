@@ -1,12 +1,6 @@
-use Rattle.std.proofs.Common.{◌≡◌, ℕ, ◌-◌, [], take, drop, ap, refl, sym, ◌∙◌, arith}
-use Rattle.lsp_frames.proofs.Units.{content_completes, line_completes}
+use Rattle.std.proofs.Common.{◌≡◌, ℕ, ◌-◌, [], take, drop, ap, refl, ◌∙◌, arith}
+use Rattle.lsp_frames.proofs.Units.{content_completes}
 use Rattle.lsp_frames.proofs.partial.whole_front.Goals as goal
-
-pub returns-in_ok-end-in-Head-clause-some : goal.returns-in_ok-end-in-Head-clause-some
-returns-in_ok-end-in-Head-clause-some c =
-    let next = line_completes c.args.limit c.args.stage c.in-Head.field-0 [] c.args.bytes.now _ c.behind_line.result c.in_ok-end-in-Head.end
-    c.in-Head.is (sym c.line_end.ensures ∙ c.in_ok-end-in-Head.was) c.behind_line.ensures.read in
-    (c.behind_line.ensures.under_way, next.0, next.1)
 
 pub returns-else-bytes-size-clause-some : goal.returns-else-bytes-size-clause-some
 returns-else-bytes-size-clause-some c =

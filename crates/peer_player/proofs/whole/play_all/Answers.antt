@@ -2,7 +2,7 @@
 use Rattle.std.proofs.Common.{◌≡◌, Err, take, sym, ap, ◌∙◌, subst, arith}
 use Rattle.std.proofs.lemmas.List.{take_all}
 use Rattle.std.proofs.lemmas.Result.{err_from_is_err_and}
-use Rattle.peer_session.specs.Session.{view}
+use Rattle.stream_session.specs.Stream.{stream_of}
 use Rattle.peer_player.specs.Player.{PlaysAfter}
 use Rattle.peer_player.proofs.Counting.{counts-then, counts-error}
 use Rattle.peer_player.proofs.Pieces.{bytes_in, next-bytes, stopped-piece}
@@ -12,7 +12,7 @@ use Rattle.peer_player.proofs.whole.play_all.Goals as goal
 pub loop-piece-preserved : goal.loop-piece-preserved
 loop-piece-preserved g c = (
   (λ table limits before had.
-      subst (λ bytes. PlaysAfter table limits bytes before c.feed.new.self.decoder (view c.feed.new.self.playing.session) (g.S.Sink.bytes_taken c.feed.new.self.playing.sink))
+      subst (λ bytes. PlaysAfter table limits bytes before (stream_of c.feed.new.self.playing.stream) (g.S.Sink.bytes_taken c.feed.new.self.playing.sink))
       (sym (next-bytes c.args.pieces.now c.loop-piece.piece-index c.piece-item.result c.as_slice.result.now c.loop-piece-test.true c.piece-item.is c.as_slice.ensures.value))
       (c.in_ok-feed.ensures.plays table limits (bytes_in (take c.loop-piece.piece-index c.args.pieces.now)) before (c.loop-piece.invariant.0 table limits before had))),
   c.in_ok-feed.ensures.same ∙ c.loop-piece.invariant.1,
@@ -30,27 +30,27 @@ pub returns-clause-ok : goal.returns-clause-ok
 returns-clause-ok g c = λ table limits before had.
     let all : take c.loop-piece.piece-index c.args.pieces.now ≡ c.args.pieces.now = take_all c.loop-piece.piece-index c.args.pieces.now (omega arith) in
     c.end.ensures.ok table limits (bytes_in c.args.pieces.now) before
-    (subst (λ pieces. PlaysAfter table limits (bytes_in pieces) before c.loop-piece.player.decoder (view c.loop-piece.player.playing.session)
+    (subst (λ pieces. PlaysAfter table limits (bytes_in pieces) before (stream_of c.loop-piece.player.playing.stream)
     (g.S.Sink.bytes_taken c.loop-piece.player.playing.sink)) all (c.loop-piece.invariant.0 table limits before had))
 
 pub returns-clause-err : goal.returns-clause-err
 returns-clause-err g c = λ table limits before had.
     let all : take c.loop-piece.piece-index c.args.pieces.now ≡ c.args.pieces.now = take_all c.loop-piece.piece-index c.args.pieces.now (omega arith) in
     c.end.ensures.err table limits (bytes_in c.args.pieces.now) before
-    (subst (λ pieces. PlaysAfter table limits (bytes_in pieces) before c.loop-piece.player.decoder (view c.loop-piece.player.playing.session)
+    (subst (λ pieces. PlaysAfter table limits (bytes_in pieces) before (stream_of c.loop-piece.player.playing.stream)
     (g.S.Sink.bytes_taken c.loop-piece.player.playing.sink)) all (c.loop-piece.invariant.0 table limits before had))
 
 pub returns-in_err-feed-clause-cause : goal.returns-in_err-feed-clause-cause
 returns-in_err-feed-clause-cause g c =
     let told = err_from_is_err_and c.from_residual.result c.from_residual.ensures.1 in
-    counts-error (view c.args.player.now.playing.session) (g.S.Sink.failures c.args.player.now.playing.sink) (g.S.Sink.failures c.feed.new.self.playing.sink)
+    counts-error (stream_of c.args.player.now.playing.stream).session (g.S.Sink.failures c.args.player.now.playing.sink) (g.S.Sink.failures c.feed.new.self.playing.sink)
     c.from_residual.result c.in_err-feed.field-0.0 (told.1 ∙ ap Err told.2)
-    (counts-then {T = Unit {0}} (view c.args.player.now.playing.session) (view c.loop-piece.player.playing.session) (g.S.Sink.failures c.args.player.now.playing.sink)
+    (counts-then {T = Unit {0}} (stream_of c.args.player.now.playing.stream).session (stream_of c.loop-piece.player.playing.stream).session (g.S.Sink.failures c.args.player.now.playing.sink)
     (g.S.Sink.failures c.loop-piece.player.playing.sink) (g.S.Sink.failures c.feed.new.self.playing.sink) (Err c.in_err-feed.field-0.0)
     c.loop-piece.invariant.1 c.loop-piece.invariant.2 c.in_err-feed.ensures.cause)
 
 pub returns-clause-cause : goal.returns-clause-cause
 returns-clause-cause g c =
-    counts-then (view c.args.player.now.playing.session) (view c.loop-piece.player.playing.session) (g.S.Sink.failures c.args.player.now.playing.sink)
+    counts-then (stream_of c.args.player.now.playing.stream).session (stream_of c.loop-piece.player.playing.stream).session (g.S.Sink.failures c.args.player.now.playing.sink)
     (g.S.Sink.failures c.loop-piece.player.playing.sink) (g.S.Sink.failures c.end.new.self.playing.sink) c.end.result
     c.loop-piece.invariant.1 c.loop-piece.invariant.2 c.end.ensures.cause

@@ -1,24 +1,26 @@
--- The number is back in its stage, of which all is written.
-use Rattle.std.proofs.Common.{ap, sym, subst, ◌∙◌}
-use Rattle.session_stages.specs.declared.stage.Stage.TheVariants.{Failed}
-use Rattle.session_state.specs.Core.{Core, stage_at, with_stage}
+-- The number is in its stage again, of which all is written.
+use Rattle.std.proofs.Common.{◌≡◌, max, length, ap, sym, ◌∙◌}
+use Rattle.session_stages.specs.declared.stage.Stage.TheVariants.{Gone, Idle, Over, Failed}
+use Rattle.session_state.specs.Core.{stage_at, with_stage}
 use Rattle.session_state.specs.Turning.{written_stage}
-use Rattle.peer_session.specs.Inner.Runs.{StageFits}
-use Rattle.peer_session.proofs.Puts.{noted, written-fits}
+use Rattle.peer_session.proofs.Puts.{noted}
 use Rattle.peer_session.proofs.writing.note_number.Goals as goal
 
-pub replace-requires-clause-fits : goal.replace-requires-clause-fits
-replace-requires-clause-fits c =
+pub returns-in-Idle : goal.returns-in-Idle
+returns-in-Idle c =
     let runs = c.args.runs.now in
     let n = c.args.number in
-    let made = c.note_stage.ensures ∙ ap written_stage c.replace-stage.ensures.before in
-    subst (λ (s : Core). StageFits s.desk n c.note_stage.new.stage) (sym c.replace-stage.ensures.after)
-    (subst (StageFits runs.desk n) (sym made) (written-fits runs.desk n (stage_at runs n) (c.stages_fit.ensures n)))
+    let h = c.in-Idle.handler in
+    let was : stage_at runs n ≡ Idle h c.in-Idle.so_far = sym c.take_out.ensures.taken ∙ c.in-Idle.is in
+    let written : c.max-written.result ≡ max c.in-Idle.so_far (length h.messages) = c.max-written.ensures ∙ ap (λ ms. max c.in-Idle.so_far (length ms)) c.messages.ensures.value in
+    noted runs c.take_out.new.self c.replace.new.self n Failed (Idle h c.max-written.result) c.take_out.ensures.after c.replace.ensures.after
+    ∙ ap (with_stage runs n) (ap (Idle h) written ∙ sym (ap written_stage was))
 
-pub returns : goal.returns
-returns c =
+pub returns-in-Over : goal.returns-in-Over
+returns-in-Over c =
     let runs = c.args.runs.now in
     let n = c.args.number in
-    let made = c.note_stage.ensures ∙ ap written_stage c.replace-stage.ensures.before in
-    noted runs c.replace-stage.new.self c.replace.new.self n Failed c.note_stage.new.stage c.replace-stage.ensures.after c.replace.ensures.after
-    ∙ ap (with_stage runs n) made
+    let was : stage_at runs n ≡ Over c.in-Over.handler c.in-Over.field-1 = sym c.take_out.ensures.taken ∙ c.in-Over.is in
+    c.keep.ensures
+    ∙ noted runs c.take_out.new.self c.replace-in-Over.new.self n Failed Gone c.take_out.ensures.after c.replace-in-Over.ensures.after
+    ∙ ap (with_stage runs n) (sym (ap written_stage was))

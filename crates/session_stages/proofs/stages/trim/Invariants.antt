@@ -1,11 +1,11 @@
-use Rattle.std.proofs.Common.{◌≡◌, ◌+◌, map}
+use Rattle.std.proofs.Common.{◌≡◌, ◌+◌}
 use Rattle.std.specs.VecDeque.{deque_len}
-use Rattle.session_stages.specs.Stages.{all_stages, stage_in}
+use Rattle.session_stages.specs.Stages.{all_stages}
 use Rattle.session_stages.proofs.stages.trim.Given as goal
 
 abbrev pub invariant-loop-window : goal.invariant-loop-window
 invariant-loop-window l = record {
-  same : all_stages l.first (map stage_in l.window.items) ≡ all_stages l.initial.first (map stage_in l.initial.window.items);
+  same : all_stages l.first l.window.items ≡ all_stages l.initial.first l.initial.window.items;
   end : l.first + deque_len l.window ≡ l.initial.first + deque_len l.initial.window;
 }
 

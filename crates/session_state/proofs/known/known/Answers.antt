@@ -38,10 +38,8 @@ returns c = record {
   given_other_slot = c.taken_reply_leaves_its_slot_given.ensures.another_turn;
   given_elsewhere = c.taken_reply_leaves_its_slot_given.ensures.another_number;
   given_none = c.taken_reply_leaves_its_slot_given.ensures.none;
-  marked_below = c.cancel_reaches_numbers_below_it.ensures.below;
-  marked_from = c.cancel_reaches_numbers_below_it.ensures.from;
-  told_here = c.telling_changes_one_mark.ensures.here;
-  told_elsewhere = c.telling_changes_one_mark.ensures.another;
+  reached_here = c.reach_marks_one_number.ensures.here;
+  reached_elsewhere = c.reach_marks_one_number.ensures.another;
   ended_here = c.end_closes_its_own_number.ensures.here;
   ended_elsewhere = c.end_closes_its_own_number.ensures.another;
 }

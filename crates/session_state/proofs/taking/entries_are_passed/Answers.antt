@@ -4,6 +4,6 @@ use Rattle.session_state.proofs.Takings.{entry-passes}
 use Rattle.session_state.proofs.taking.entries_are_passed.Goals as goal
 
 pub returns : goal.returns
-returns c = λ table passed entry s after past jobs fits none more passes.
-    let told = entry-passes c.known.ensures table passed jobs s past fits none (1 + numbers_in passed) refl entry after more passes in
-    (told.all.later, told.all.fits, told.unmarked, told.all.passes)
+returns c = λ table passed entry s after past jobs fits more passes.
+    let told = entry-passes c.known.ensures table passed jobs s past fits (1 + numbers_in passed) refl entry after more passes in
+    (told.later, told.fits, told.passes)

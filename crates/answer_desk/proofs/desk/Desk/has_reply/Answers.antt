@@ -1,6 +1,6 @@
 use Rattle.std.proofs.Common.{ap, ◌∙◌, sym, is_some}
 use Rattle.std.specs.Option.{option_and_then}
-use Rattle.answer_desk.specs.declared.number.Number.{Number}
+use Rattle.answer_desk.specs.declared.open_call.OpenCall.{OpenCall}
 use Rattle.answer_desk.specs.Desk.{view}
 use Rattle.answer_desk.specs.Replies.{slot_at, given_by}
 use Rattle.answer_desk.proofs.Views.{number-open}
@@ -11,7 +11,7 @@ unfolding view
 returns-in-Some c =
     let self = c.args.self.now in
     c.has.ensures
-    ∙ ap (λ o. is_some (given_by self.is_closed (option_and_then (λ (n : Number). slot_at n.replies c.args.turn) o)))
+    ∙ ap (λ o. is_some (given_by self.is_closed (option_and_then (λ (n : OpenCall). slot_at n.replies c.args.turn) o)))
     (sym (number-open self.numbers c.args.number ∙ c.in-Some.ensures))
 
 pub returns-in-None : goal.returns-in-None
@@ -19,5 +19,5 @@ unfolding view
 returns-in-None c =
     let self = c.args.self.now in
     sym
-    (ap (λ o. is_some (given_by self.is_closed (option_and_then (λ (n : Number). slot_at n.replies c.args.turn) o)))
+    (ap (λ o. is_some (given_by self.is_closed (option_and_then (λ (n : OpenCall). slot_at n.replies c.args.turn) o)))
     (number-open self.numbers c.args.number ∙ c.in-None.ensures))

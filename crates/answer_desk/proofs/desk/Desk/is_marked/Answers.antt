@@ -8,7 +8,7 @@ use Rattle.answer_desk.proofs.desk.Desk.is_marked.Goals as goal
 pub returns-in-Some-clause-marked : goal.returns-in-Some-clause-marked
 unfolding view
 returns-in-Some-clause-marked c =
-    c.is_marked.ensures ∙ ap is_marked_number (sym (number-open c.args.self.now.numbers c.args.number ∙ c.in-Some.ensures))
+    ap is_marked_number (sym (number-open c.args.self.now.numbers c.args.number ∙ c.in-Some.ensures))
 
 pub returns-in-None-clause-marked : goal.returns-in-None-clause-marked
 unfolding view
@@ -17,4 +17,4 @@ returns-in-None-clause-marked c = sym (ap is_marked_number (number-open c.args.s
 pub returns-in-Some-clause-opening : goal.returns-in-Some-clause-opening
 returns-in-Some-clause-opening c first =
     let self = c.args.self.now in
-    c.is_marked.ensures ∙ ap is_marked_number (sym c.in-Some.ensures) ∙ ap (λ n. is_marked_number (open_number (kept_at self.numbers n))) first ∙ self.opening.unmarked
+    ap is_marked_number (sym c.in-Some.ensures) ∙ ap (λ n. is_marked_number (open_number (kept_at self.numbers n))) first ∙ self.opening.unmarked

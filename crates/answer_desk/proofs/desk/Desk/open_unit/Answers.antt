@@ -7,7 +7,7 @@ use Rattle.answer_desk.specs.Places.{new_numbers}
 use Rattle.answer_desk.specs.Inner.Kept.{kept_in}
 use Rattle.answer_desk.specs.Inner.Arrivals.{calls_of, dues_of}
 use Rattle.answer_desk.proofs.Views.{seen}
-use Rattle.answer_desk.proofs.Opening.{length-new, kept-new, unmarked-new, ascends-opened, front-opened, seen-opened, on_err_of}
+use Rattle.answer_desk.proofs.Opening.{length-new, kept-new, ascends-opened, front-opened, seen-opened, on_err_of}
 use Rattle.answer_desk.proofs.OutOfReach.{opening-append}
 use Rattle.answer_desk.proofs.desk.Desk.open_unit.Goals as goal
 
@@ -36,9 +36,6 @@ append-requires-clause-room c =
 pub append-requires-clause-kept : goal.append-requires-clause-kept
 append-requires-clause-kept c = rw (c.in_ok-calls.ensures.calls) (kept-new c.into_vec.result.items)
 
-pub append-requires-clause-unmarked : goal.append-requires-clause-unmarked
-append-requires-clause-unmarked c = λ k below. rw (c.in_ok-calls.ensures.calls) (unmarked-new c.into_vec.result.items k)
-
 pub returns-in_err-append-clause-err : goal.returns-in_err-append-clause-err
 unfolding view
 returns-in_err-append-clause-err c =
@@ -55,9 +52,9 @@ pub invariant_of-self-2 : goal.invariant_of-self-2
 invariant_of-self-2 c =
     let self = c.args.self.now in
     let places = c.args.shape.places in
-    let unit : WaitingUnit = record { kind = c.args.shape.kind; dues = c.from.result } in
+    let unit : WaitingUnit = record { kind = c.args.shape.kind; dues = c.list.result } in
     let dues : unit.dues ≡ dues_of (length self.numbers) places =
-    c.from.ensures ∙ c.in_ok-calls.ensures.dues ∙ ap (λ n. dues_of n c.into_vec.result.items) c.next-number.ensures.next
+    c.list.ensures ∙ c.in_ok-calls.ensures.dues ∙ ap (λ n. dues_of n c.into_vec.result.items) c.next-number.ensures.next
     ∙ ap (dues_of (length self.numbers)) c.into_vec.ensures in
     rw (c.in_ok-append.ensures.ok, c.in_ok-calls.ensures.calls, c.into_vec.ensures, c.push_back_reserved.ensures.items, c.reserve.ensures.items) (record {
       numbers_ascend = ascends-opened self.numbers self.units.items unit places dues self.numbers_ascend;
@@ -69,9 +66,9 @@ pub returns-clause-ok : goal.returns-clause-ok
 unfolding view
 returns-clause-ok c =
     let self = c.args.self.now in
-    let unit : WaitingUnit = record { kind = c.args.shape.kind; dues = c.from.result } in
+    let unit : WaitingUnit = record { kind = c.args.shape.kind; dues = c.list.result } in
     let dues : unit.dues ≡ dues_of (length self.numbers) c.args.shape.places =
-    c.from.ensures ∙ c.in_ok-calls.ensures.dues ∙ ap (λ n. dues_of n c.into_vec.result.items) c.next-number.ensures.next
+    c.list.ensures ∙ c.in_ok-calls.ensures.dues ∙ ap (λ n. dues_of n c.into_vec.result.items) c.next-number.ensures.next
     ∙ ap (dues_of (length self.numbers)) c.into_vec.ensures in
     let numbers : c.append.new.self ≡ self.numbers ++ calls_of c.args.shape.places =
     c.in_ok-append.ensures.ok ∙ ap (λ ns. self.numbers ++ ns) (c.in_ok-calls.ensures.calls ∙ ap calls_of c.into_vec.ensures) in

@@ -1,5 +1,5 @@
 use Rattle.std.proofs.Common.{refl, ap, ◌∙◌}
-use Rattle.answer_desk.specs.declared.number.Number.{Number}
+use Rattle.answer_desk.specs.declared.open_call.OpenCall.{OpenCall}
 use Rattle.answer_desk.specs.Desk.{view}
 use Rattle.answer_desk.specs.Seen.{kept_at}
 use Rattle.answer_desk.specs.Replies.{put_into}
@@ -19,12 +19,12 @@ returns-then-self-clause-after c = rw c.if-self.true refl
 pub invariant_of-self : goal.invariant_of-self
 invariant_of-self c =
     let self = c.args.self.now in
-    let quiet = IsQuiet-changed (λ (m : Number). record m { replies = slots_with m.replies c.args.turn c.args.reply }) (λ m. refl) self.numbers c.args.number in
+    let quiet = IsQuiet-changed (λ (m : OpenCall). record m { replies = slots_with m.replies c.args.turn c.args.reply }) (λ m. refl) self.numbers c.args.number in
     rw c.put_reply.ensures.after (record {
       numbers_ascend = ascending-quiet _ self.numbers self.units.items quiet self.numbers_ascend;
       parts_are_finished = finished-quiet _ self.numbers self.units.items self.finished_parts quiet self.numbers_ascend self.parts_are_finished;
       opening = opening-set self.numbers c.args.number (with_put c.args.turn c.args.reply (kept_at self.numbers c.args.number))
-          (IsOutOfReach-changed (λ (m : Number). record m { replies = slots_with m.replies c.args.turn c.args.reply }) (λ m. refl) (λ m. refl) (kept_at self.numbers c.args.number)) self.opening;
+          (IsOutOfReach-changed (λ (m : OpenCall). record m { replies = slots_with m.replies c.args.turn c.args.reply }) (λ m. refl) (λ m. refl) (kept_at self.numbers c.args.number)) self.opening;
     })
 
 pub returns-clause-put : goal.returns-clause-put

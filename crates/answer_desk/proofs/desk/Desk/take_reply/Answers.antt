@@ -1,5 +1,5 @@
 use Rattle.std.proofs.Common.{refl, ap, ◌∙◌}
-use Rattle.answer_desk.specs.declared.number.Number.{Number}
+use Rattle.answer_desk.specs.declared.open_call.OpenCall.{OpenCall}
 use Rattle.answer_desk.specs.Desk.{view}
 use Rattle.answer_desk.specs.Seen.{kept_at}
 use Rattle.answer_desk.specs.Replies.{given_by}
@@ -11,12 +11,12 @@ use Rattle.answer_desk.proofs.desk.Desk.take_reply.Goals as goal
 pub invariant_of-self : goal.invariant_of-self
 invariant_of-self c =
     let self = c.args.self.now in
-    let quiet = IsQuiet-changed (λ (m : Number). record m { replies = slots_without self.is_closed m.replies c.args.turn }) (λ m. refl) self.numbers c.args.number in
+    let quiet = IsQuiet-changed (λ (m : OpenCall). record m { replies = slots_without self.is_closed m.replies c.args.turn }) (λ m. refl) self.numbers c.args.number in
     rw c.take_reply.ensures.after (record {
       numbers_ascend = ascending-quiet _ self.numbers self.units.items quiet self.numbers_ascend;
       parts_are_finished = finished-quiet _ self.numbers self.units.items self.finished_parts quiet self.numbers_ascend self.parts_are_finished;
       opening = opening-set self.numbers c.args.number (with_taken c.args.turn self.is_closed (kept_at self.numbers c.args.number))
-          (IsOutOfReach-changed (λ (m : Number). record m { replies = slots_without self.is_closed m.replies c.args.turn }) (λ m. refl) (λ m. refl) (kept_at self.numbers c.args.number)) self.opening;
+          (IsOutOfReach-changed (λ (m : OpenCall). record m { replies = slots_without self.is_closed m.replies c.args.turn }) (λ m. refl) (λ m. refl) (kept_at self.numbers c.args.number)) self.opening;
     })
 
 pub returns-clause-reply : goal.returns-clause-reply

@@ -1,18 +1,9 @@
 use Rattle.std.proofs.Common.{◌≡◌, ◌+◌, ◌++◌, true, is_ok, length, map, replicate, arith, ap, ◌∙◌, sym, refl, None}
 use Rattle.std.proofs.lemmas.List.{append_assoc, length-map, map-append}
 use Rattle.answer_desk.specs.Inner.Kept.{kept_in}
-use Rattle.answer_desk.specs.Inner.Numbers.{all_numbers}
-use Rattle.answer_desk.specs.Inner.Requests.{IsWithAdded}
+use Rattle.answer_desk.specs.Inner.Numbers.{all_numbers, IsIndexed}
 use Rattle.answer_desk.proofs.Windows.{IsWindow-appended, length-all}
-use Rattle.answer_desk.proofs.Indexed.{IsIndexed-appended}
-use Rattle.answer_desk.proofs.Reached.{count-le}
 use Rattle.answer_desk.proofs.numbers.Numbers.append.Goals as goal
-
-pub add_all-requires-clause-few : goal.add_all-requires-clause-few
-add_all-requires-clause-few c =
-    let inside = c.self.inside in
-    let entries = all_numbers inside.first (map kept_in inside.window.items) in
-    omega (arith, c.self.invariant.1.counted, count-le entries, ap length c.self.view_is, c.as_slice.ensures.len, c.args.calls.ok, c.requires.room)
 
 pub invariant_of-self : goal.invariant_of-self
 invariant_of-self c = rw c.reserve.ensures.items c.self.invariant
@@ -26,17 +17,15 @@ invariant_of-self-2 c =
     let calls = c.args.calls.items in
     let new = map kept_in calls in
     let long : length entries ≡ inside.first + length window = length-all inside.first window in
-    let number : inside.first + c.len.result ≡ length entries = omega (arith, long, length-map items kept_in, c.len.ensures, inside.window.ok) in
     let done : is_ok c.append.result ≡ true =
-    c.append.ensures.succeeds (omega (arith, c.in_ok-reserve.ensures.ok, c.reserve.ensures.len, c.len-2.ensures, c.from_vec.ensures.len)) in
+    c.append.ensures.succeeds (omega (arith, c.in_ok-reserve.ensures.ok, c.reserve.ensures.len, c.len.ensures, c.from_vec.ensures.len)) in
     let all : c.append.new.self.items ≡ items ++ calls =
     c.append.ensures.items ∙ rw (done, c.reserve.ensures.items, c.from_vec.ensures.items) refl in
     let joined : all_numbers inside.first (window ++ new) ≡ entries ++ new = sym (append_assoc (replicate inside.first None) window new) in
-    let added : IsWithAdded c.add_all.new.self inside.in_reach (length entries) new = rw (number, c.as_slice.ensures.value) at c.in_ok-add_all.ensures.ok in
+    let indexed : IsIndexed (entries ++ new) c.index_with.new.earlier c.index_with.new.recent =
+    rw (c.reserve.ensures.items, c.as_slice.ensures.value) at c.in_ok-index_with.ensures.ok in
     rw (all, map-append kept_in items calls, joined) (
       IsWindow-appended true inside.first window new
           (omega (arith, long, length-map calls kept_in, ap length c.self.view_is, c.requires.room)) c.requires.kept c.self.invariant.0,
-      IsIndexed-appended entries new inside.in_reach c.add_all.new.self inside.new_marks c.reserve-2.new.self (rw (length-map calls kept_in) c.requires.unmarked) added
-          c.reserve-2.ensures.items c.reserve-2.ensures.len
-          (omega (arith, length-map calls kept_in, c.in_ok-reserve-2.ensures.ok, c.len-3.ensures, c.len-4.ensures, c.args.calls.ok)) c.self.invariant.1,
+      indexed,
     )

@@ -1,4 +1,4 @@
-use Rattle.std.proofs.Common.{◌≡◌, ◌+◌, ◌<◌, length, map, arith, ap, sym, ◌∙◌}
+use Rattle.std.proofs.Common.{◌≡◌, ◌+◌, ◌<◌, ◌&&◌, nat_lt, length, map, arith, ap, sym, ◌∙◌}
 use Rattle.std.proofs.lemmas.List.{length-map, length-set}
 use Rattle.answer_desk.specs.Seen.{kept_at}
 use Rattle.answer_desk.specs.Inner.Kept.{kept_in, with_answer}
@@ -25,8 +25,7 @@ invariant_of-self c =
     ap (kept_at entries) (sym place) ∙ all-read inside.first i window was below (place-read items i c.index_mut.result.now c.index_mut.ensures.value) in
     let read : kept_at entries c.args.number ≡ kept_in c.index.result.now =
     ap (kept_at entries) (sym place) ∙ all-read inside.first i window (kept_in c.index.result.now) below (place-read items i c.index.result.now c.index.ensures) in
-    let same : kept_in c.index.result.now ≡ was = sym read ∙ there in
-    let without = rw same at (c.remove_kept.ensures (λ q. c.self.invariant.1.listed q c.args.number ∙ ap (is_reached_by q) read)) in (
+    let without = c.remove_earlier.ensures (λ q. c.self.invariant.1.listed q c.args.number ∙ ap (λ o. nat_lt c.args.number inside.recent && is_reached_by q o) read) in (
       IsWindow-trimmed inside.first c.trim.new.first i window (map kept_in c.trim.new.window.items) was c.trim.ensures.trimmed
           (omega (
             arith,
@@ -39,7 +38,7 @@ invariant_of-self c =
             length-set items i now,
           )) c.self.invariant.0,
       rw (c.trim.ensures.same, place-set items i now (with_answer c.args.reply was) c.answer.ensures)
-          (IsIndexed-finished_at inside.first i c.args.number window was c.args.reply inside.in_reach c.remove_kept.new.self inside.new_marks
+          (IsIndexed-finished_at inside.first i c.args.number window was c.args.reply inside.earlier c.remove_earlier.new.earlier inside.recent
           place below there without c.self.invariant.1),
     )
 

@@ -26,7 +26,7 @@ invariant_of-self c =
     let i = c.in-Some.index in
     let numbers = all_numbers inside.first window in
     let was = kept_in c.index_mut.result.now in
-    let now = c.replace.new.dest in
+    let now = c.give_up.new.place in
     let here = kept_at c.args.self.now c.args.number in
     let place : inside.first + i ≡ c.args.number = omega (arith, c.in-Some.ensures) in
     let inside_items : i < length items = omega (arith, c.in-Some.ensures, c.len.ensures, inside.window.ok) in
@@ -35,7 +35,7 @@ invariant_of-self c =
     let there : here ≡ was = ap (λ ns. kept_at ns c.args.number) (sym c.self.view_is) ∙ ap (kept_at numbers) (sym place) ∙ all-read inside.first i window was below read in
     let closed : is_some (open_number here) ≡ false =
     sym (found-some (λ n. n.now) c.open_number.result (open_number here) c.open_number.ensures) ∙ sym c.is_some.ensures ∙ c.if-is_some.false in
-    let gone = ap kept_in c.replace.ensures.after ∙ sym (answer-gone was (ap (λ k. is_some (open_number k)) (sym there) ∙ closed)) in (
+    let gone = ap kept_in c.give_up.ensures ∙ sym (answer-gone was (ap (λ k. is_some (open_number k)) (sym there) ∙ closed)) in (
       IsWindow-trimmed inside.first c.trim.new.first i window (map kept_in c.trim.new.window.items) was c.trim.ensures.trimmed
           (omega (
             arith,
@@ -48,7 +48,7 @@ invariant_of-self c =
             length-set items i now,
           )) c.self.invariant.0,
       rw (c.trim.ensures.same, place-set items i now (without_answer was) gone)
-          (IsIndexed-unseen_at inside.first i window was (without_answer was) inside.in_reach inside.new_marks below read (IsUnseen-forgotten was) c.self.invariant.1),
+          (IsIndexed-unseen_at inside.first i window was (without_answer was) inside.earlier inside.recent below read (IsUnseen-forgotten was) c.self.invariant.1),
     )
 
 pub returns-in-Some : goal.returns-in-Some
@@ -67,7 +67,7 @@ returns-in-Some c =
     ∙ all-read inside.first i window was (place-below items i below) (place-read items i c.index_mut.result.now read) in
     let closed : is_some (open_number here) ≡ false =
     sym (found-some (λ n. n.now) c.open_number.result (open_number here) c.open_number.ensures) ∙ sym c.is_some.ensures ∙ c.if-is_some.false in
-    let gone = ap kept_in c.replace.ensures.after ∙ sym (answer-gone was (ap (λ k. is_some (open_number k)) (sym there) ∙ closed)) in
+    let gone = ap kept_in c.give_up.ensures ∙ sym (answer-gone was (ap (λ k. is_some (open_number k)) (sym there) ∙ closed)) in
     c.trim.ensures.same
-    ∙ place-changed without_answer inside.first c.args.number i items c.args.self.now c.index_mut.result.now c.replace.new.dest
+    ∙ place-changed without_answer inside.first c.args.number i items c.args.self.now c.index_mut.result.now c.give_up.new.place
     c.in-Some.ensures.0.0 c.in-Some.ensures.1 below read gone c.self.view_is

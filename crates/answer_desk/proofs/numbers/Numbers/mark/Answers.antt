@@ -5,14 +5,15 @@ use Rattle.answer_desk.proofs.numbers.Numbers.mark.Goals as goal
 
 pub loop-preserved : goal.loop-preserved
 loop-preserved c =
-    marks-step c.args.id.now c.args.before c.loop.self c.mark_lowest.new.self (with_marks_below c.args.id.now c.args.before c.args.self.now) c.mark_lowest.result
-    (sym c.is_some.ensures ∙ c.loop-test.true) c.mark_lowest.ensures.some c.loop.invariant
+    marks-step c.args.id.now c.args.before c.loop.self c.reach.new.self (with_marks_below c.args.id.now c.args.before c.args.self.now) c.reach.result
+    (sym c.is_some.ensures ∙ c.loop-test.true) c.reach.ensures.lowest c.reach.ensures.some c.loop.invariant
 
 pub loop-smaller : goal.loop-smaller
 loop-smaller c =
-    marks-fewer c.args.id.now c.args.before c.loop.self c.mark_lowest.new.self c.mark_lowest.result (sym c.is_some.ensures ∙ c.loop-test.true) c.mark_lowest.ensures.some
+    marks-fewer c.args.id.now c.args.before c.loop.self c.reach.new.self c.reach.result (sym c.is_some.ensures ∙ c.loop-test.true)
+    c.reach.ensures.lowest c.reach.ensures.some
 
 pub returns : goal.returns
 returns c =
-    marks-done c.args.id.now c.args.before c.loop.self c.mark_lowest.new.self (with_marks_below c.args.id.now c.args.before c.args.self.now) c.mark_lowest.result
-    (sym c.is_some.ensures ∙ c.loop-test.false) c.mark_lowest.ensures.none c.loop.invariant
+    marks-done c.args.id.now c.args.before c.loop.self c.reach.new.self (with_marks_below c.args.id.now c.args.before c.args.self.now) c.reach.result
+    (sym c.is_some.ensures ∙ c.loop-test.false) c.reach.ensures.lowest c.reach.ensures.none c.loop.invariant

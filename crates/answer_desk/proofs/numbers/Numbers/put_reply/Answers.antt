@@ -1,6 +1,6 @@
 use Rattle.std.proofs.Common.{◌≡◌, ◌-◌, ◌≤◌, ◌<◌, length, refl, arith, ap}
 use Rattle.answer_desk.specs.declared.kept.Kept.TheVariants.{Open}
-use Rattle.answer_desk.specs.declared.number.Number.{Number}
+use Rattle.answer_desk.specs.declared.open_call.OpenCall.{OpenCall}
 use Rattle.answer_desk.specs.Inner.Kept.{slots_with, with_put}
 use Rattle.answer_desk.proofs.InWindow.{place-changed, place-unseen, held-changed, answer-unchanged, none-unchanged}
 use Rattle.answer_desk.proofs.numbers.Numbers.put_reply.Goals as goal
@@ -14,22 +14,22 @@ invariant_of-self c =
     let was = c.index_mut.result.now in
     let read = c.index_mut.ensures.value in
     let below : i < length items = omega (arith, c.in-Some.ensures, c.len.ensures, inside.window.ok) in
-    let change : Number → Number = λ (n : Number). record n { replies = slots_with n.replies c.args.turn c.args.reply } in
+    let change : OpenCall → OpenCall = λ (n : OpenCall). record n { replies = slots_with n.replies c.args.turn c.args.reply } in
     elim c.match-index_mut.branch [
       | in-Some-index_mut+in-Open w ↦
           rw w.self-inside-is
-          (place-unseen change (λ n. refl) (λ n. refl) inside.first i items was _ inside.in_reach inside.new_marks below read
+          (place-unseen change (λ n. refl) (λ n. refl) inside.first i items was _ inside.earlier inside.recent below read
           (held-changed change was w.in-Some-index_mut.kept w.deref_mut.result.now _ w.in-Open.call w.in-Some-index_mut.is w.deref_mut.ensures.value w.in-Open.is
           (ap (λ rs. Open (record w.in-Open.call { replies = rs })) w.put.ensures.after))
           c.self.invariant)
       | in-Some-index_mut+in-Answered w ↦
           rw w.self-inside-is
-          (place-unseen change (λ n. refl) (λ n. refl) inside.first i items was _ inside.in_reach inside.new_marks below read
+          (place-unseen change (λ n. refl) (λ n. refl) inside.first i items was _ inside.earlier inside.recent below read
           (answer-unchanged change was w.in-Some-index_mut.kept w.deref_mut.result.now w.in-Answered.id w.in-Answered.reply w.in-Some-index_mut.is w.deref_mut.ensures.value w.in-Answered.is)
           c.self.invariant)
       | in-None w ↦
           rw w.self-inside-is
-          (place-unseen change (λ n. refl) (λ n. refl) inside.first i items was _ inside.in_reach inside.new_marks below read (none-unchanged change was w.in-None.is) c.self.invariant)
+          (place-unseen change (λ n. refl) (λ n. refl) inside.first i items was _ inside.earlier inside.recent below read (none-unchanged change was w.in-None.is) c.self.invariant)
     ]
 
 pub returns-clause-after : goal.returns-clause-after
@@ -44,7 +44,7 @@ returns-clause-after c =
     let reached : inside.first ≤ number = c.in-Some.ensures.0.0 in
     let place : i ≡ number - inside.first = c.in-Some.ensures.1 in
     let below : i < length items = omega (arith, c.in-Some.ensures, c.len.ensures, inside.window.ok) in
-    let change : Number → Number = λ (n : Number). record n { replies = slots_with n.replies c.args.turn c.args.reply } in
+    let change : OpenCall → OpenCall = λ (n : OpenCall). record n { replies = slots_with n.replies c.args.turn c.args.reply } in
     elim c.match-index_mut.branch [
       | in-Some-index_mut+in-Open w ↦
           rw w.self-inside-is

@@ -1,5 +1,5 @@
 use Rattle.std.proofs.Common.{◌≡◌, replicate}
-use Rattle.answer_desk.specs.declared.slot.Slot.TheVariants.{Empty}
+use Rattle.answer_desk.specs.declared.replies.Slot.TheVariants.{Empty}
 use Rattle.answer_desk.proofs.replies.Replies.with_room.Given as goal
 
 -- the turns so far have empty slots

@@ -11,5 +11,5 @@ returns-clause-listed c =
     let copy : c.in_ok-clone.field-0 ≡ c.args.id.now = search rules in
     let put = listed-put was c.insert-2.new.self c.args.id.now (Some c.insert.new.self) (rw copy at c.in_ok-insert-2.ensures.updates) in
     listed-changed was c.insert-2.new.self c.args.id.now c.new-numbers.result c.insert.new.self c.args.number true
-    (λ j. c.requires.none j ∙ sym (ap (list_any (is_at (nat_cmp j))) c.new-numbers.ensures.empty))
+    (λ j. c.requires j ∙ sym (ap (list_any (is_at (nat_cmp j))) c.new-numbers.ensures.empty))
     put c.in_ok-insert.ensures.updates

@@ -25,5 +25,5 @@ loop-left-preserved c =
       added = λ was fresh added.
           let so_far : IsWithAdded c.loop-left.self was c.args.number (take (suc i) calls) = rw next at (c.loop-left.invariant.added was fresh added) in
           let without = c.remove_kept.ensures (λ q. listed-last c.loop-left.self was c.args.number i calls q so_far ∙ ap (λ e. is_reached_by q e) there) in
-          IsWithAdded-fewer c.remove_kept.new.self c.loop-left.self was c.args.number i calls call there without.0 without.1 so_far;
+          IsWithAdded-fewer c.remove_kept.new.self c.loop-left.self was c.args.number i calls call there without so_far;
     }

@@ -1,6 +1,6 @@
 use Rattle.std.proofs.Common.{◌≤◌, List, [], ◌∷◌, length, arith}
-use Rattle.answer_desk.specs.declared.place.Place.{Place}
-use Rattle.answer_desk.specs.declared.place.Place.TheVariants.{Unreadable, Invalid, Silent, Numbered}
+use Rattle.answer_desk.specs.declared.shape.Place.{Place}
+use Rattle.answer_desk.specs.declared.shape.Place.TheVariants.{Unreadable, Invalid, Silent, Numbered}
 use Rattle.answer_desk.specs.Places.{new_numbers}
 use Rattle.library_rows.proofs.desk.units.open.Goals as goal
 

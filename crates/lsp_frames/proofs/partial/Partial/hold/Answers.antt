@@ -1,8 +1,9 @@
-use Rattle.std.proofs.Common.{◌-◌, ℕ, List, length, ap, ◌∙◌, subst, sym, arith}
+use Rattle.std.proofs.Common.{◌≡◌, ◌-◌, ℕ, List, [], length, ap, ◌∙◌, subst, sym, arith}
+use Rattle.std.proofs.lemmas.Grind.{common_steps}
 use Rattle.lsp_frames.specs.Heads.{Unended}
-use Rattle.lsp_frames.specs.Inner.Partials.{HasNoFrame, IsPartial, IsShort, read_at}
+use Rattle.lsp_frames.specs.Inner.Partials.{HasNoFrame, IsPartial, IsShort, read_at, read_on}
 use Rattle.lsp_frames.specs.declared.partial.Stage.{Stage}
-use Rattle.lsp_frames.proofs.Units.{line_goes_on, line_too_long}
+use Rattle.lsp_frames.proofs.Units.{line_goes_on, line_too_long, none_taken}
 use Rattle.lsp_frames.proofs.partial.Partial.hold.Goals as goal
 
 pub returns-in_ok-extend_from_slice-in-Head-clause-ok : goal.returns-in_ok-extend_from_slice-in-Head-clause-ok
@@ -25,3 +26,12 @@ returns-else-bytes-place-clause-ok c =
       ap (λ (s : Stage). read_at s c.new.result.held.items) c.new.ensures.stage
           ∙ line_too_long limit c.args.self.now.stage c.in-Head.place c.args.self.now.held.items c.args.bytes.now c.in-Head.is (subst P c.in-Head.is c.requires.short) c.if-bytes-place.false (subst R c.in-Head.is c.requires.partial),
     )
+
+pub returns-then-is_empty-clause-ok : goal.returns-then-is_empty-clause-ok
+returns-then-is_empty-clause-ok c limit =
+    let stage = c.args.self.now.stage in
+    let held = c.args.self.now.held.items in
+    let none : c.args.bytes.now ≡ [] = grind (arith, common_steps) in
+    let short : IsShort stage held [] = subst (λ (bs : List ℕ). IsShort stage held bs) none c.requires.short in
+    let done = none_taken limit stage held c.requires.partial short in
+    (done.0, done.1, done.2 ∙ ap (read_on limit (read_at stage held)) (sym none))

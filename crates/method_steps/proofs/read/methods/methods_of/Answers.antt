@@ -1,9 +1,10 @@
 use Rattle.std.proofs.Common.{◌≡◌, [], ◌∷◌, None, take, drop, map, ap, sym, ◌∙◌, arith}
 use Rattle.std.proofs.lemmas.Grind.{common_steps}
 use Rattle.std.proofs.lemmas.List.{map-append}
+use Rattle.std.proofs.lemmas.List.Elements.{All-push}
 use Rattle.toml.specs.Data.{no_items}
 use Rattle.toml.specs.View.{view, items_view}
-use Rattle.method_steps.specs.Inner.Methods.{named_steps}
+use Rattle.method_steps.specs.Inner.Methods.{named_steps, IsCounted}
 use Rattle.method_steps.specs.Judged.{methods_fault}
 use Rattle.method_steps.specs.Made.{method_from}
 use Rattle.method_steps.proofs.ItemsLaws.{methods_fault-next, methods_fault-found}
@@ -19,6 +20,7 @@ loop-place-preserved c =
     record {
       made = ap (map named_steps) c.in_ok-push-in-Ok.ensures.items ∙ map-append named_steps done (c.in-Ok.method ∷ [])
           ∙ made_last (λ v. method_from (view v)) vs i v (map named_steps done) (named_steps c.in-Ok.method) c.loop-place-test.true c.index-items-place.is c.loop-place.invariant.made c.in-Ok.ensures.ok.0;
+      counted = rw c.in_ok-push-in-Ok.ensures.items (All-push IsCounted done c.in-Ok.method c.loop-place.invariant.counted c.in-Ok.ensures.counted);
       judged = sym (methods_fault-next c.args.version vs i v c.loop-place-test.true c.index-items-place.is c.in-Ok.ensures.ok.1) ∙ c.loop-place.invariant.judged;
     }
 

@@ -28,6 +28,7 @@ invariant_of-result c =
     let made : map named_steps ms ≡ methods_from ds = c.in_ok-methods.ensures.ok.0 in (
       record {
         few = omega (arith, few, ap length made, length-map ms named_steps, length-methods_from ds);
+        counted = c.in_ok-methods.ensures.counted;
         within = rw made (methods_within c.args.version no_items ds c.in_ok-methods.ensures.ok.1);
         found = rw c.deref.ensures.value at c.in_ok-places.ensures;
       },

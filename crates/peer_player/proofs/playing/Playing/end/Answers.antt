@@ -1,33 +1,37 @@
--- The end of the input is one more event, after which all is done.
-use Rattle.std.proofs.Common.{◌≡◌, Some, Err, refl, sym, ap, ◌∙◌}
-use Rattle.std.proofs.lemmas.Result.{err_from_is_err_and}
-use Rattle.rpc_messages.specs.Numbering.{taken}
-use Rattle.peer_session.specs.Session.{view}
-use Rattle.peer_player.proofs.Counting.{counts-then, counts-error, ended-same}
-use Rattle.peer_player.proofs.Ending.{close_with, ended-written, ended-whole}
+-- The input ends and is taken, and once all is settled that was a whole run.
+use Rattle.std.proofs.Common.{◌≢◌, None, refl, sym, subst, ◌∙◌}
+use Rattle.stream_session.specs.Promise.{IsPlay}
+use Rattle.stream_session.specs.Stream.{stream_of, with_end}
+use Rattle.stream_session.specs.declared.next.InputEnd.TheVariants.{Finished}
 use Rattle.peer_player.proofs.Results.{on-err}
+use Rattle.peer_player.proofs.Steps.{cut-at-end}
 use Rattle.peer_player.proofs.playing.Playing.end.Goals as goal
 
-pub returns-in_err-settle-clause-err : goal.returns-in_err-settle-clause-err
-returns-in_err-settle-clause-err g c = λ table limits units before had.
+pub returns-in_err-take_contents-clause-err : goal.returns-in_err-take_contents-clause-err
+returns-in_err-take_contents-clause-err g c = λ fed goes_on had.
     on-err c.from_residual.result
-    (c.in_err-settle.ensures.err table limits (Some (close_with limits.numbers units c.args.close)) (taken limits.numbers units) before
-    (ended-written table limits units c.args.close before c.known.ensures (view c.args.self.now.session) (view c.end.new.self)
-    (g.S.Sink.bytes_taken c.args.self.now.sink) c.end.ensures had)
-    (taken limits.numbers units) refl)
+    (cut-at-end (with_end fed Finished) (g.S.Sink.bytes_taken c.take_contents.new.self.sink) refl
+    (c.in_err-take_contents.ensures.err (with_end fed Finished)
+    (c.end.ensures.ended fed (λ n. None) (g.S.Sink.bytes_taken c.args.self.now.sink) had goes_on)))
+
+pub returns-in_err-settle-clause-err : goal.returns-in_err-settle-clause-err
+returns-in_err-settle-clause-err g c = λ fed goes_on had.
+    on-err c.from_residual-in_err-settle.result
+    (cut-at-end (with_end fed Finished) (g.S.Sink.bytes_taken c.settle.new.self.sink) refl
+    (c.in_err-settle.ensures.err (with_end fed Finished)
+    (c.in_ok-take_contents.ensures.ok (with_end fed Finished)
+    (c.end.ensures.ended fed (λ n. None) (g.S.Sink.bytes_taken c.args.self.now.sink) had goes_on))))
 
 pub returns-clause-ok : goal.returns-clause-ok
-returns-clause-ok g c = λ table limits units before had.
-    ended-whole table limits units c.args.close before (view c.settle.new.self.session) c.report.result (g.S.Sink.bytes_taken c.settle.new.self.sink) c.report.ensures
-    (c.in_ok-settle.ensures.ok table limits (Some (close_with limits.numbers units c.args.close)) (taken limits.numbers units) before
-    (ended-written table limits units c.args.close before c.known.ensures (view c.args.self.now.session) (view c.end.new.self)
-    (g.S.Sink.bytes_taken c.args.self.now.sink) c.end.ensures had))
-
-pub returns-in_err-settle-clause-cause : goal.returns-in_err-settle-clause-cause
-returns-in_err-settle-clause-cause g c =
-    let told = err_from_is_err_and c.from_residual.result c.from_residual.ensures.1 in
-    counts-error (view c.args.self.now.session) (g.S.Sink.failures c.args.self.now.sink) (g.S.Sink.failures c.settle.new.self.sink)
-    c.from_residual.result c.in_err-settle.field-0.0 (told.1 ∙ ap Err told.2)
-    (counts-then {T = Unit {0}} (view c.args.self.now.session) (view c.end.new.self) (g.S.Sink.failures c.args.self.now.sink) (g.S.Sink.failures c.args.self.now.sink)
-    (g.S.Sink.failures c.settle.new.self.sink) (Err c.in_err-settle.field-0.0)
-    (ended-same (view c.args.self.now.session) (view c.end.new.self) c.args.close c.end.ensures) refl c.in_err-settle.ensures.cause)
+returns-clause-ok g c = λ fed goes_on had.
+    let all = with_end fed Finished in
+    let told = c.end.ensures.ended fed (λ n. None) (g.S.Sink.bytes_taken c.args.self.now.sink) had goes_on in
+    let settled = c.in_ok-settle.ensures.ok all (c.in_ok-take_contents.ensures.ok all told) in
+    let s = stream_of c.settle.new.self.stream in
+    let sink = g.S.Sink.bytes_taken c.settle.new.self.sink in
+    let over : s.session.close ≢ None = λ none.
+    c.in_ok-take_contents.ensures.taken.is_closed (λ last. c.end.ensures.last (sym c.take_contents.ensures.last ∙ last)) (sym c.settle.ensures.input.close ∙ none) in
+    let done = c.what_sessions_wrote.ensures.done fed.table s.session (λ n. None) settled.written.drained settled.none_ready (λ n. refl) over
+    settled.written.plays.session.unbroken in
+    subst (IsPlay fed.table fed.limits fed.bytes fed.before sink) (sym c.report.ensures)
+    (c.what_a_stream_wrote.ensures.whole all (λ n. None) s sink settled.written.plays done settled.written.drained.well)

@@ -1,17 +1,13 @@
 -- A unit is opened where there is room for its numbers.
-use Rattle.std.proofs.Common.{◌≡◌, length, map, take, sym, ap, subst, ◌∙◌, arith}
-use Rattle.std.proofs.Math.Seq.{take-append_seam}
+use Rattle.std.proofs.Common.{◌≡◌, length, sym, ap, subst, arith}
 use Rattle.number_set.specs.Numbers.{Marked, HasRoom, is_in}
-use Rattle.rpc_messages.specs.Numbering.{entries_in}
 use Rattle.rpc_messages.specs.Unit.{unit_seen}
-use Rattle.answer_desk.specs.declared.shape.Shape.{Shape}
 use Rattle.answer_desk.specs.Desk.{view as desk_view}
-use Rattle.answer_desk.specs.Places.{new_numbers}
-use Rattle.session_stages.specs.Stages.{stage_in}
 use Rattle.session_state.specs.Core.{Core, stage_at}
+use Rattle.session_state.specs.Taking.{opened}
 use Rattle.session_state.specs.Turning.{is_ready_stage}
-use Rattle.peer_session.specs.Inner.Runs.{AreRuns}
-use Rattle.peer_session.proofs.Opening.{arrived-many, numbers-many, AreRuns-roomed, AreRuns-opened, given-here, opened-same}
+use Rattle.peer_session.specs.Inner.Runs.{AreRuns, core_of}
+use Rattle.peer_session.proofs.Opening.{AreRuns-roomed, AreRuns-opened, given-here}
 use Rattle.peer_session.proofs.runs.Runs.open.Goals as goal
 
 pub overflow_cast-end : goal.overflow_cast-end
@@ -26,18 +22,11 @@ make_room-requires-clause-most c = omega (arith, c.requires, ap (λ core. length
 pub make_room-requires-2-clause-most : goal.make_room-requires-2-clause-most
 make_room-requires-2-clause-most c = omega (arith, c.requires, ap (λ core. length core.stages) c.self.view_is, c.numbers_of.ensures, c.len-first.ensures.len)
 
-pub make-requires-clause-room : goal.make-requires-clause-room
-make-requires-clause-room c = omega (arith, c.requires, ap (λ core. length core.stages) c.self.view_is, c.len-first.ensures.len)
+pub enter-requires-clause-numbers : goal.enter-requires-clause-numbers
+enter-requires-clause-numbers c = c.self.invariant.numbers
 
-pub append-requires : goal.append-requires
-append-requires c =
-    let many = arrived-many stage_in c.args.table.now c.len-first.result (entries_in (unit_seen c.args.unit.now)) c.in_ok-shape.field-0.stages.items c.in_ok-shape.ensures.stages in
-    omega (arith, many, c.requires, ap (λ core. length core.stages) c.self.view_is)
-
-pub open_unit-requires : goal.open_unit-requires
-open_unit-requires c =
-    let places = ap (λ (s : Shape). length (new_numbers s.places)) c.in_ok-shape.ensures.shape ∙ numbers-many c.args.table.now (unit_seen c.args.unit.now) in
-    omega (arith, places, c.requires, ap (λ core. length core.stages) c.self.view_is, c.self.invariant.numbers)
+pub enter-requires-clause-room : goal.enter-requires-clause-room
+enter-requires-clause-room c = omega (arith, c.requires, ap (λ core. length core.stages) c.self.view_is)
 
 pub invariant_of-self-in_err-make_room-2 : goal.invariant_of-self-in_err-make_room-2
 invariant_of-self-in_err-make_room-2 c =
@@ -49,44 +38,16 @@ invariant_of-self-in_err-make_room-2 c =
     ))
     c.self.invariant
 
-pub invariant_of-self-in_err-shape : goal.invariant_of-self-in_err-shape
-invariant_of-self-in_err-shape c =
-    AreRuns-roomed (record { desk = desk_view c.self.inside.desk; stages = c.self.inside.stages }) c.self.inside.ready c.self.inside.unwritten c.make_room.new.set c.make_room-2.new.set
-    c.make_room.ensures.same c.make_room-2.ensures.same
-    (λ k here. let h = given-here c.self.inside.stages c.first-lowest.result k c.first-lowest.ensures.gone here in (
-      c.in_ok-make_room.ensures.room k h.0 (omega (arith, h.1, c.len-first.ensures.len)),
-      c.in_ok-make_room-2.ensures.room k h.0 (omega (arith, h.1, c.len-first.ensures.len)),
-    ))
-    c.self.invariant
-
-pub invariant_of-self-in_err-append : goal.invariant_of-self-in_err-append
-invariant_of-self-in_err-append c =
-    let before : Core = record { desk = desk_view c.self.inside.desk; stages = c.self.inside.stages } in
-    subst (λ l. AreRuns (record before { stages = l }) c.make_room.new.set c.make_room-2.new.set) (sym c.in_err-append.ensures.err)
-    (AreRuns-roomed before c.self.inside.ready c.self.inside.unwritten c.make_room.new.set c.make_room-2.new.set
+pub invariant_of-self-in_err-enter : goal.invariant_of-self-in_err-enter
+invariant_of-self-in_err-enter c =
+    subst (λ (core : Core). AreRuns core c.make_room.new.set c.make_room-2.new.set) (sym c.in_err-enter.ensures.err)
+    (AreRuns-roomed (record { desk = desk_view c.self.inside.desk; stages = c.self.inside.stages }) c.self.inside.ready c.self.inside.unwritten c.make_room.new.set c.make_room-2.new.set
     c.make_room.ensures.same c.make_room-2.ensures.same
     (λ k here. let h = given-here c.self.inside.stages c.first-lowest.result k c.first-lowest.ensures.gone here in (
       c.in_ok-make_room.ensures.room k h.0 (omega (arith, h.1, c.len-first.ensures.len)),
       c.in_ok-make_room-2.ensures.room k h.0 (omega (arith, h.1, c.len-first.ensures.len)),
     ))
     c.self.invariant)
-
-pub invariant_of-self-in-Err : goal.invariant_of-self-in-Err
-invariant_of-self-in-Err c =
-    let before : Core = record { desk = desk_view c.self.inside.desk; stages = c.self.inside.stages } in
-    let items = map stage_in c.in_ok-shape.field-0.stages.items in
-    let back : c.truncate.new.self ≡ c.self.inside.stages =
-    c.truncate.ensures ∙ ap (λ k. take k c.append.new.self) c.len-first.ensures.len ∙ ap (take (length c.self.inside.stages)) c.in_ok-append.ensures.ok
-    ∙ take-append_seam c.self.inside.stages items in
-    subst (λ l. AreRuns (record { desk = desk_view c.open_unit.new.self; stages = l }) c.make_room.new.set c.make_room-2.new.set) (sym back)
-    (subst (λ d. AreRuns (record { desk = d; stages = c.self.inside.stages }) c.make_room.new.set c.make_room-2.new.set) (sym c.in-Err.ensures.err)
-    (AreRuns-roomed before c.self.inside.ready c.self.inside.unwritten c.make_room.new.set c.make_room-2.new.set
-    c.make_room.ensures.same c.make_room-2.ensures.same
-    (λ k here. let h = given-here c.self.inside.stages c.first-lowest.result k c.first-lowest.ensures.gone here in (
-      c.in_ok-make_room.ensures.room k h.0 (omega (arith, h.1, c.len-first.ensures.len)),
-      c.in_ok-make_room-2.ensures.room k h.0 (omega (arith, h.1, c.len-first.ensures.len)),
-    ))
-    c.self.invariant))
 
 pub mark_ready-requires-clause-room : goal.mark_ready-requires-clause-room
 mark_ready-requires-clause-room c = λ n low high ready. c.in_ok-make_room.ensures.room n (omega (arith, low, c.first-lowest.ensures.within, c.len-first.ensures.len)) high
@@ -96,9 +57,7 @@ invariant_of-self-2 c =
     let before : Core = record { desk = desk_view c.self.inside.desk; stages = c.self.inside.stages } in
     let u = unit_seen c.args.unit.now in
     let table = c.args.table.now in
-    let items = c.in_ok-shape.field-0.stages.items in
-    let same = opened-same table (desk_view c.self.inside.desk) (desk_view c.open_unit.new.self) c.self.inside.stages c.append.new.self (map stage_in items) u c.in_ok-shape.field-0.shape c.len-first.result
-    c.in_default.ensures.ok c.in_ok-shape.ensures.shape c.in_ok-append.ensures.ok c.in_ok-shape.ensures.stages c.len-first.ensures.len in
+    let same : core_of (desk_view c.enter.new.desk) c.enter.new.stages ≡ opened table before u = c.in_ok-enter.ensures.ok in
     let roomed = AreRuns-roomed before c.self.inside.ready c.self.inside.unwritten c.make_room.new.set c.make_room-2.new.set
     c.make_room.ensures.same c.make_room-2.ensures.same
     (λ k here. let h = given-here c.self.inside.stages c.first-lowest.result k c.first-lowest.ensures.gone here in (

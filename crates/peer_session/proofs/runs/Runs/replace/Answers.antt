@@ -1,11 +1,11 @@
 use Rattle.std.proofs.Common.{◌≡◌, false, subst, ap, sym, ◌∙◌}
 use Rattle.number_set.specs.Numbers.{with_mark}
 use Rattle.answer_desk.specs.Desk.{view as desk_view}
-use Rattle.session_stages.specs.Stages.{is_gone, stage_at as stage_in_list}
+use Rattle.session_stages.specs.Stages.{is_gone}
 use Rattle.session_state.specs.Core.{Core, stage_at, with_stage}
 use Rattle.session_state.specs.Turning.{is_ready_stage}
 use Rattle.peer_session.specs.Inner.Runs.{AreRuns, StageFits, has_unwritten}
-use Rattle.peer_session.proofs.Changes.{AreRuns-replaced}
+use Rattle.peer_session.proofs.Changes.{AreRuns-replaced, stage-there}
 use Rattle.peer_session.proofs.runs.Runs.replace.Goals as goal
 
 pub invariant_of-self : goal.invariant_of-self
@@ -16,10 +16,11 @@ invariant_of-self c =
     let here : is_gone (stage_at core n) ≡ false = ap (λ s. is_gone (stage_at s n)) c.self.view_is ∙ c.requires.here in
     let fits : StageFits core.desk n c.args.stage = subst (λ s. StageFits s.desk n c.args.stage) (sym c.self.view_is) c.requires.fits in
     let stage = stage_at (with_stage core n c.args.stage) n in
+    let there : stage ≡ c.args.stage = stage-there core n c.args.stage here in
     let ready : c.set_mark.new.set ≡ with_mark (is_ready_stage core.desk stage) n inside.ready =
-    c.set_mark.ensures ∙ ap (λ b. with_mark b n inside.ready) (c.is_ready_at-is_ready.ensures ∙ ap (λ ss. is_ready_stage core.desk (stage_in_list ss n)) c.replace-before.ensures.after) in
+    c.set_mark.ensures ∙ ap (λ b. with_mark b n inside.ready) (c.is_ready_stage-is_ready.ensures ∙ ap (is_ready_stage core.desk) (sym there)) in
     let unwritten : c.set_mark-2.new.set ≡ with_mark (has_unwritten stage) n inside.unwritten =
-    c.set_mark-2.ensures ∙ ap (λ b. with_mark b n inside.unwritten) (c.is_unwritten_at-is_unwritten.ensures ∙ ap (λ ss. has_unwritten (stage_in_list ss n)) c.replace-before.ensures.after) in
+    c.set_mark-2.ensures ∙ ap (λ b. with_mark b n inside.unwritten) (c.has_unwritten-is_unwritten.ensures ∙ ap has_unwritten (sym there)) in
     let marked : AreRuns (with_stage core n c.args.stage) c.set_mark.new.set c.set_mark-2.new.set =
     rw (ready, unwritten) (AreRuns-replaced core inside.ready inside.unwritten n c.args.stage here fits c.self.invariant) in
-    subst (λ ss. AreRuns (record { desk = core.desk; stages = ss }) c.set_mark.new.set c.set_mark-2.new.set) (sym c.replace-before.ensures.after) marked
+    subst (λ ss. AreRuns (record { desk = core.desk; stages = ss }) c.set_mark.new.set c.set_mark-2.new.set) (sym c.replace.ensures.after) marked

@@ -1,11 +1,11 @@
 -- What is due is put, and then written, all of it or some.
-use Rattle.std.proofs.Common.{◌≡◌, ℕ, ◌+◌, ◌-◌, ◌^◌, ◌<◌, List, ◌++◌, length, min, take, refl, sym, ap, subst, ◌∙◌}
+use Rattle.std.proofs.Common.{◌≡◌, ℕ, ◌+◌, ◌-◌, ◌^◌, ◌<◌, List, ◌++◌, length, min, take, refl, sym, ap, subst, ◌∙◌, arith}
 use Rattle.std.specs.Io.KnownBytes.{Appends}
 use Rattle.session_state.specs.Turning.{due_bytes}
 use Rattle.peer_session.specs.Events.{broken}
 use Rattle.peer_session.specs.Session.{view}
 use Rattle.peer_session.specs.SessionState.{with_core}
-use Rattle.peer_session.proofs.Drains.{broken-fails, nothing-written, put-drained, some-written, still-broken, now-broken, told-true, told-false}
+use Rattle.peer_session.proofs.Drains.{broken-fails, nothing-written, no-bytes, drained-nothing, appends-nothing, put-drained, some-written, still-broken, now-broken, told-true, told-false}
 use Rattle.peer_session.proofs.session.Session.drain.Goals as goal
 
 pub returns-then-self-clause-drains : goal.returns-then-self-clause-drains
@@ -71,3 +71,20 @@ returns-then-is_written-clause-handed_on g c = λ some.
     let due = due_bytes c.args.self.now.runs in
     let out : c.as_slice.result.now ≡ due = c.as_slice.ensures.value ∙ c.in-Ok.ensures.bytes ∙ ap (λ l. l ++ due) c.clear.ensures.items in
     c.write-is_written.ensures.handed_on c.if-is_written.true (subst (λ (l : List ℕ). 0 < length l) (sym out) some)
+
+pub returns-then-not-has_due-clause-drains : goal.returns-then-not-has_due-clause-drains
+unfolding view
+returns-then-not-has_due-clause-drains g c =
+    let none = c.has_due.ensures c.if-not-has_due.true in
+    record {
+      not_broken = c.if-self.false;
+      not_failed = c.if-self-2.false;
+      bytes = appends-nothing (g.S.Sink.bytes_taken c.args.sink.now) (due_bytes c.args.self.now.runs) (no-bytes c.args.self.now.runs none);
+      after_is = drained-nothing (view c.args.self.now) none c.counts_fit.ensures.messages c.counts_fit.ensures.call_frames c.counts_fit.ensures.answers;
+    }
+
+pub returns-then-not-has_due-clause-handed_on : goal.returns-then-not-has_due-clause-handed_on
+unfolding view
+returns-then-not-has_due-clause-handed_on g c = λ some.
+    let none = c.has_due.ensures c.if-not-has_due.true in
+    absurd (omega (arith, some, ap length (no-bytes c.args.self.now.runs none)))

@@ -13,16 +13,8 @@ returns-clause-ring g c =
     ring-of taken failures
     (record { table = clerk.table.now; limits = clerk.limits; ring = clerk.ring; taken = taken clerk.sink; failures = failures clerk.sink })
     c.serve-outcome.new.self c.serve-outcome.result
-    (c.serve-outcome.ensures.ok _ (record {
-      after = starts-new c.known.ensures clerk c.requires (taken clerk.sink) c.new.result c.new.ensures.limit c.new.ensures.start;
-      ring = same-ring clerk.ring;
-      unfailing = refl;
-    }))
-    (c.serve-outcome.ensures.err _ (record {
-      after = starts-new c.known.ensures clerk c.requires (taken clerk.sink) c.new.result c.new.ensures.limit c.new.ensures.start;
-      ring = same-ring clerk.ring;
-      unfailing = refl;
-    }))
+    (c.serve-outcome.ensures.ok _ (record { after = starts-new clerk c.requires (taken clerk.sink); ring = same-ring clerk.ring; unfailing = refl }))
+    (c.serve-outcome.ensures.err _ (record { after = starts-new clerk c.requires (taken clerk.sink); ring = same-ring clerk.ring; unfailing = refl }))
 
 pub returns-clause-ok : goal.returns-clause-ok
 returns-clause-ok g c =
@@ -32,11 +24,7 @@ returns-clause-ok g c =
     run-of taken failures
     (record { table = clerk.table.now; limits = clerk.limits; ring = clerk.ring; taken = taken clerk.sink; failures = failures clerk.sink })
     c.serve-outcome.new.self c.serve-outcome.result
-    (c.serve-outcome.ensures.ok _ (record {
-      after = starts-new c.known.ensures clerk c.requires (taken clerk.sink) c.new.result c.new.ensures.limit c.new.ensures.start;
-      ring = same-ring clerk.ring;
-      unfailing = refl;
-    }))
+    (c.serve-outcome.ensures.ok _ (record { after = starts-new clerk c.requires (taken clerk.sink); ring = same-ring clerk.ring; unfailing = refl }))
 
 pub returns-clause-err : goal.returns-clause-err
 returns-clause-err g c =
@@ -46,11 +34,7 @@ returns-clause-err g c =
     part-of taken failures
     (record { table = clerk.table.now; limits = clerk.limits; ring = clerk.ring; taken = taken clerk.sink; failures = failures clerk.sink })
     c.serve-outcome.new.self c.serve-outcome.result
-    (c.serve-outcome.ensures.err _ (record {
-      after = starts-new c.known.ensures clerk c.requires (taken clerk.sink) c.new.result c.new.ensures.limit c.new.ensures.start;
-      ring = same-ring clerk.ring;
-      unfailing = refl;
-    }))
+    (c.serve-outcome.ensures.err _ (record { after = starts-new clerk c.requires (taken clerk.sink); ring = same-ring clerk.ring; unfailing = refl }))
 
 pub returns-clause-cause : goal.returns-clause-cause
 returns-clause-cause g c =
@@ -60,13 +44,5 @@ returns-clause-cause g c =
     cause-of taken failures
     (record { table = clerk.table.now; limits = clerk.limits; ring = clerk.ring; taken = taken clerk.sink; failures = failures clerk.sink })
     c.serve-outcome.new.self c.serve-outcome.result
-    (c.serve-outcome.ensures.ok _ (record {
-      after = starts-new c.known.ensures clerk c.requires (taken clerk.sink) c.new.result c.new.ensures.limit c.new.ensures.start;
-      ring = same-ring clerk.ring;
-      unfailing = refl;
-    }))
-    (c.serve-outcome.ensures.err _ (record {
-      after = starts-new c.known.ensures clerk c.requires (taken clerk.sink) c.new.result c.new.ensures.limit c.new.ensures.start;
-      ring = same-ring clerk.ring;
-      unfailing = refl;
-    }))
+    (c.serve-outcome.ensures.ok _ (record { after = starts-new clerk c.requires (taken clerk.sink); ring = same-ring clerk.ring; unfailing = refl }))
+    (c.serve-outcome.ensures.err _ (record { after = starts-new clerk c.requires (taken clerk.sink); ring = same-ring clerk.ring; unfailing = refl }))

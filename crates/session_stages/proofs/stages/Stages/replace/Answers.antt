@@ -1,10 +1,19 @@
-use Rattle.std.proofs.Common.{◌≡◌, ◌≤◌, ◌-◌, map, ap, sym, ◌∙◌, arith}
-use Rattle.session_stages.specs.Stages.{stage_in, all_stages}
+use Rattle.std.proofs.Common.{set, ap, ◌∙◌}
+use Rattle.session_stages.specs.Stages.{all_stages}
 use Rattle.session_stages.proofs.Windows.{place-changed}
 use Rattle.session_stages.proofs.stages.Stages.replace.Goals as goal
 
-pub returns-clause-after : goal.returns-clause-after
-returns-clause-after c =
+pub returns-then-is_gone-clause-after : goal.returns-then-is_gone-clause-after
+returns-then-is_gone-clause-after c =
+    let inside = c.self.inside in
     c.trim.ensures.same
-    ∙ place-changed c.self.inside.first c.args.number c.in-Some.index c.self.inside.window.items c.put-before.new.place c.args.stage c.args.self.now
-    c.in-Some.ensures.0.0 c.in-Some.ensures.1 c.put-before.ensures.after c.self.view_is
+    ∙ ap (λ stage. all_stages inside.first (set inside.window.items c.in-Some.index stage)) c.replace-before.ensures.after
+    ∙ place-changed inside.first c.args.number c.in-Some.index inside.window.items c.args.stage c.args.self.now
+    c.in-Some.ensures.0.0 c.in-Some.ensures.1 c.self.view_is
+
+pub returns-else-is_gone-clause-after : goal.returns-else-is_gone-clause-after
+returns-else-is_gone-clause-after c =
+    let inside = c.self.inside in
+    ap (λ stage. all_stages inside.first (set inside.window.items c.in-Some.index stage)) c.replace-before.ensures.after
+    ∙ place-changed inside.first c.args.number c.in-Some.index inside.window.items c.args.stage c.args.self.now
+    c.in-Some.ensures.0.0 c.in-Some.ensures.1 c.self.view_is

@@ -1,0 +1,58 @@
+"""What one sum takes in `play`, sent by itself and in batches of 100, is what docs/performance.md has, or less: its instructions, by
+callgrind, and how often the program asks for memory for it. Both are the difference of 3,000 sums and 1,000, so what the program's own
+start takes is left out, and no load of the machine moves them."""
+import os
+import re
+import subprocess
+import sys
+import tempfile
+
+from support import ran
+from support import refusals
+
+sys.path.insert(0, os.path.join(ran.TOP, "bench"))
+
+from measures import inputs  # noqa: E402 (it stands in bench/)
+
+FEW, MANY = 1_000, 3_000
+PLAY = ("play", "--table", os.path.join(ran.TOP, "bench", "baseline", "methods.toml"))
+# What was reached (the figures of docs/performance.md), by the way that sums come: instructions, and requests for memory.
+REACHED = {"single": (inputs.adds, 8_663, 6.1), "in batches of 100": (inputs.batches_of_adds, 7_840, 4.3)}
+# So much more is taken for a change of the C library or of the compiler, and not for one of ours.
+SPARE = 1.05
+
+
+def instructions(given):
+    """How many instructions a run takes, by callgrind; None where it fails."""
+    with tempfile.TemporaryDirectory() as room:
+        tool = ["valgrind", "--tool=callgrind", f"--callgrind-out-file={os.path.join(room, 'out')}", ran.BUILT, *PLAY]
+        ended = subprocess.run(tool, input=given, stdout=subprocess.DEVNULL, stderr=subprocess.PIPE, timeout=900, check=False)
+    found = re.search(rb"Collected : (\d+)", ended.stderr)
+    return int(found[1]) if found and ended.returncode == 0 else None
+
+
+def requests(given):
+    """How often a run asks for memory; None where it fails."""
+    status, *_, number = refusals.counted([ran.BUILT, *PLAY], given)
+    return number if status == 0 else None
+
+
+def check_each(count, name, what, counted, make, reached):
+    few, many = counted(make(FEW)), counted(make(MANY))
+    if few is None or many is None:
+        count.check(f"sums {name}: {what} are counted", False)
+        return
+    each = (many - few) / (MANY - FEW)
+    print(f"a sum {name}: {each:,.1f} {what}, {reached:,} on the page", flush=True)
+    count.check(f"sums {name}: {what}", 0 < each <= reached * SPARE, f"{each:,.1f}, at most {reached * SPARE:,.1f}")
+
+
+def check_all(count):
+    for name, (make, most_instructions, most_requests) in REACHED.items():
+        if not ran.lacks("valgrind", "it counts the instructions"):
+            check_each(count, name, "instructions", instructions, make, most_instructions)
+        if not ran.lacks("cc", refusals.WHY):
+            check_each(count, name, "requests for memory", requests, make, most_requests)
+
+
+ran.script(check_all)

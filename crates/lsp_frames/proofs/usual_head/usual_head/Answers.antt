@@ -1,0 +1,61 @@
+use Rattle.std.proofs.Common.{◌≡◌, ℕ, ◌-◌, ◌<◌, ◌≤◌, ◌^◌, List, ◌++◌, true, nat_eq, get_or, length, take, drop, codes, sym, ap, ◌∙◌, arith}
+use Rattle.std.proofs.Math.Nat.{pow-le-pow_right}
+use Rattle.std.proofs.lemmas.List.{take_rest}
+use Rattle.std.specs.Char.{is_ascii_digit}
+use Rattle.std.specs.List.{starts_with}
+use Rattle.lsp_frames.proofs.Digits.{value_of_digit, number_more, small_more, digits_more}
+use Rattle.lsp_frames.proofs.Choices.{starts_is}
+use Rattle.lsp_frames.proofs.Writings.{usual_is}
+use Rattle.lsp_frames.proofs.usual_head.usual_head.Goals as goal
+
+-- so many digits write no more than this
+few_digits : (n k : ℕ) → n < 10 ^ k → k < 8 → n < 10000000
+few_digits n k small few =
+    let at_most : k ≤ 7 = omega (arith, few) in
+    let ten : 0 < 10 = omega arith in
+    let most : 10 ^ k ≤ 10000000 = pow-le-pow_right ten at_most in
+    omega (arith, small, most)
+
+pub overflow_mul-size : goal.overflow_mul-size
+overflow_mul-size c =
+    let small = few_digits c.loop-digits.size c.loop-digits.digits c.loop-digits.invariant.small c.loop-digits-test.true in
+    omega (arith, small)
+
+pub overflow_add-size : goal.overflow_add-size
+overflow_add-size c =
+    let value = take (length c.args.bytes.now - 16) (drop 16 c.args.bytes.now) in
+    let digit : is_ascii_digit (get_or value c.loop-digits.digits 0) ≡ true = sym c.is_ascii_digit.ensures.value ∙ c.if-is_ascii_digit.true in
+    let is = value_of_digit (get_or value c.loop-digits.digits 0) digit in
+    let small = few_digits c.loop-digits.size c.loop-digits.digits c.loop-digits.invariant.small c.loop-digits-test.true in
+    let byte = c.from.ensures in
+    omega (arith, small, is, byte)
+
+pub loop-digits-preserved : goal.loop-digits-preserved
+loop-digits-preserved c =
+    let value = take (length c.args.bytes.now - 16) (drop 16 c.args.bytes.now) in
+    let l = c.loop-digits in
+    let inside : l.digits < length value = c.if-digits-value.true in
+    let digit : is_ascii_digit (get_or value l.digits 0) ≡ true = sym c.is_ascii_digit.ensures.value ∙ c.if-is_ascii_digit.true in
+    let is = value_of_digit (get_or value l.digits 0) digit in
+    let byte = c.from.ensures in
+    record {
+      few = omega arith;
+      within = omega (arith, inside);
+      number = number_more value l.digits _ _ inside digit l.invariant.number byte;
+      small = small_more l.digits _ _ l.invariant.small (omega (arith, is, byte));
+      all = digits_more value l.digits inside l.invariant.all digit;
+    }
+
+pub returns-then-starts_with-clause-head : goal.returns-then-starts_with-clause-head
+returns-then-starts_with-clause-head c =
+    let bytes = c.args.bytes.now in
+    let value = take (length bytes - 16) (drop 16 bytes) in
+    let l = c.loop-digits in
+    let k = l.digits in
+    let is : value ≡ drop 16 bytes = take_rest bytes 16 in
+    let first : bytes ≡ codes "Content-Length: " ++ drop 16 bytes = starts_is bytes (codes "Content-Length: ") (sym c.starts_with.ensures.value ∙ c.if-not-starts_with.false) in
+    let slice : take (length value - k) (drop k value) ≡ drop k value = take_rest value k in
+    let last : drop k value ≡ codes "\r\n\r\n" ++ drop 4 (drop k value) =
+    starts_is (drop k value) (codes "\r\n\r\n") (ap (λ (xs : List ℕ). starts_with nat_eq xs (codes "\r\n\r\n")) (sym slice) ∙ sym c.starts_with-2.ensures.value ∙ c.if-starts_with.true) in
+    let some = c.if-digits-eq0.false in
+    usual_is c.args.limit l.size k bytes value is first last c.if-size-limit.false l.invariant.all (omega (arith, some)) l.invariant.few l.invariant.within (sym l.invariant.number)

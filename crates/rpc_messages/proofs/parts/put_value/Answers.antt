@@ -1,0 +1,24 @@
+-- A value's text is read back.
+use Rattle.std.proofs.Common.{◌≡◌, ◌<◌, ◌++◌, ◌^◌, Some, ap, sym, ◌∙◌, arith}
+use Rattle.std.specs.Prelude.{option_and_then}
+use Rattle.serde_json.specs.Data.{number, unsigned}
+use Rattle.serde_json.specs.Find.{as_number, as_u64}
+use Rattle.serde_json.specs.Written.{compact_text}
+use Rattle.rpc_messages.proofs.AnswerTexts.{always, OnOk-map, unsigned_is, unsigned_is_read_back, unsigned_text}
+use Rattle.rpc_messages.proofs.parts.put_value.Goals as goal
+
+pub returns-in-Some-clause-text : goal.returns-in-Some-clause-text
+returns-in-Some-clause-text c =
+    let d = c.args.value.now in
+    let n = c.in-Some.number in
+    let found : Some n ≡ option_and_then as_u64 (as_number d) = sym c.in-Some.is ∙ c.as_u64.ensures ∙ ap (λ v. option_and_then as_u64 (as_number v)) c.as_value.ensures.value in
+    let is : d ≡ number (unsigned n) = unsigned_is d n found in
+    OnOk-map c.put_decimal.result (λ put. put ∙ ap (λ t. c.args.bytes.now.items ++ t) (unsigned_text n ∙ ap compact_text (sym is))) c.put_decimal.ensures.text
+
+pub returns-in-Some-clause-reads_back : goal.returns-in-Some-clause-reads_back
+returns-in-Some-clause-reads_back c =
+    let d = c.args.value.now in
+    let n = c.in-Some.number in
+    let found : Some n ≡ option_and_then as_u64 (as_number d) = sym c.in-Some.is ∙ c.as_u64.ensures ∙ ap (λ v. option_and_then as_u64 (as_number v)) c.as_value.ensures.value in
+    let fits : n < 2 ^ 64 = omega arith in
+    always c.put_decimal.result (unsigned_is_read_back d n (unsigned_is d n found) fits)

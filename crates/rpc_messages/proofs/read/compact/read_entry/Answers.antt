@@ -1,0 +1,17 @@
+use Rattle.std.proofs.Common.{◌-◌, ◌<◌, subst}
+use Rattle.std.proofs.lemmas.Result.{IfOk-weaker}
+use Rattle.rpc_messages.specs.Inner.Compact.{MembersAreRead}
+use Rattle.rpc_messages.proofs.Compact.{object_read}
+use Rattle.rpc_messages.proofs.read.compact.read_entry.Goals as goal
+
+pub returns-clause-entry : goal.returns-clause-entry
+returns-clause-entry c =
+    let text = c.args.text.now in
+    let at = c.args.at.now in
+    let levels = c.args.levels in
+    let end = c.read_object.new.at in
+    let some : 0 < levels = c.requires in
+    let opened = c.in_ok-pass.ensures in
+    IfOk-weaker c.read_object.result _ _
+    (λ e found. (found.0, object_read levels text at end found.0 some opened.byte (subst (λ k. MembersAreRead (levels - 1) text k end found.0) opened.place found.1), found.2))
+    c.read_object.ensures.entry

@@ -1,0 +1,20 @@
+use Rattle.std.proofs.Common.{sym, subst}
+use Rattle.std.specs.Prelude.{IfErr}
+use Rattle.std.proofs.lemmas.Result.{err_from_is_err_and}
+use Rattle.rpc_peer.specs.Serving.{Stops}
+use Rattle.rpc_peer.proofs.clerk.Clerk.settle.Goals as goal
+
+pub returns-in_err-came_in-clause-err : goal.returns-in_err-came_in-clause-err
+returns-in_err-came_in-clause-err g c = λ start had.
+    let refused = err_from_is_err_and c.from_residual.result c.from_residual.ensures.1 in
+    subst (λ r. IfErr r (Stops g.K.Sink.bytes_taken g.K.Sink.failures start c.take_in_if_few_wait.new.self)) (sym refused.1)
+    (subst (Stops g.K.Sink.bytes_taken g.K.Sink.failures start c.take_in_if_few_wait.new.self) (sym refused.2)
+    (c.in_err-came_in.ensures.err start (c.bring_home-came_home.ensures start had)))
+
+pub returns-then-came_home-clause-ok : goal.returns-then-came_home-clause-ok
+returns-then-came_home-clause-ok g c = λ start had.
+    c.in_ok-drain.ensures.ok start (c.in_ok-came_in.ensures.ok start (c.bring_home-came_home.ensures start had))
+
+pub returns-else-came_home-clause-ok : goal.returns-else-came_home-clause-ok
+returns-else-came_home-clause-ok g c = λ start had.
+    c.in_ok-drain.ensures.ok start (c.in_ok-came_in.ensures.ok start (c.bring_home-came_home.ensures start had))

@@ -1,0 +1,9 @@
+pub mod Draining
+pub mod Failing
+pub mod Jobs
+pub mod Lasts
+pub mod Shorts
+pub mod Streams
+pub mod Unfailing
+pub mod Units
+pub mod Written

@@ -1,0 +1,4 @@
+pub mod Inner
+pub mod Promise
+pub mod Standing
+pub mod Stream
