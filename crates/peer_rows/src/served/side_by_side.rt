@@ -112,7 +112,16 @@ fn is_served_by<R: Threads + Wait + Sync>(
         yields: 0,
     };
     let sink = MemSink::new(alloc, None);
-    match serve_by(rt, alloc, table, Limits::standard(), crew, gate, source, sink) {
+    match serve_by(
+        rt,
+        alloc,
+        table,
+        Limits::standard(),
+        crew,
+        gate,
+        source,
+        sink,
+    ) {
         Ok((report, sink)) => {
             drop(sink);
             report.end == Close::Clean && report.answers == requests
