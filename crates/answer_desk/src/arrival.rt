@@ -18,19 +18,26 @@ pub struct Arrival {
 }
 
 impl Arrival {
-    /// The calls take the numbers from `number` on.
-    pub fn make(alloc: Global, number: u32, places: Vec<Place>) -> Result<Arrival, AllocError>
-        requires { number + length (calls_of places.items) ≤ MOST_NUMBERS + 1 }
+    /// The calls will take the numbers behind these.
+    pub fn make(
+        alloc: Global,
+        numbers: &mut Numbers,
+        places: Vec<Place>,
+    ) -> Result<Arrival, AllocError>
+        requires { length numbers.old + length (calls_of places.items) ≤ MOST_NUMBERS + 1 }
         ensures calls { IfOk result (λ arrival.
             map kept_in arrival.calls.items ≡ calls_of places.items) }
-        ensures dues { IfOk result (λ arrival. arrival.dues.items ≡ dues_of number places.items) }
+        ensures dues { IfOk result (λ arrival.
+            arrival.dues.items ≡ dues_of (length numbers.old) places.items) }
+        ensures same { numbers.new ≡ numbers.old }
     {
+        let number = numbers.next();
         let mut calls = Vec::new(alloc);
         let mut dues = Vec::with_capacity(alloc, places.len())?;
         let mut rest = VecDeque::from_vec(places);
         while let Some(place) = rest.pop_front() {
             dues.push(due_of(number + calls.len() as u32, &place))?;
-            push_call(alloc, &mut calls, place)?;
+            push_call(alloc, numbers, &mut calls, place)?;
         }
         Ok(Arrival { calls, dues })
     }
@@ -73,14 +80,16 @@ pub(crate) fn due_of(number: u32, place: &Place) -> Due
 
 fn push_call(
     alloc: Global,
+    numbers: &mut Numbers,
     calls: &mut Vec<Option<Box<Kept>>>,
     place: Place,
 ) -> Result<(), AllocError>
-    ensures { OnOk result (map kept_in calls.new.items ≡
+    ensures calls { OnOk result (map kept_in calls.new.items ≡
         map kept_in calls.old.items ++ calls_of_place place) }
+    ensures same { numbers.new ≡ numbers.old }
 {
     if let Place::Numbered { id, most } = place {
-        calls.push(Some(Kept::open(alloc, id, most)?))?;
+        calls.push(Some(numbers.block(alloc, id, most)?))?;
     }
     Ok(())
 }

@@ -122,7 +122,11 @@ impl Desk {
     {
         let number = self.numbers.next();
         let Shape { kind, places } = shape;
-        let Arrival { calls, dues } = Arrival::make(self.alloc, number, places.into_vec())?;
+        let Arrival { calls, dues } = Arrival::make(
+            self.alloc,
+            &mut self.numbers,
+            places.into_vec(),
+        )?;
         self.units.reserve(1)?;
         self.numbers.append(calls)?;
         self.units.push_back_reserved(WaitingUnit {

@@ -144,6 +144,7 @@ impl Numbers {
         ensures ok { OnOk result (self.new ≡ self.old ++ map kept_in calls.items) }
         ensures err { OnErr result (self.new ≡ self.old) }
     {
+        make_room(&mut self.spare)?;
         self.window.reserve(calls.len())?;
         index_with(
             &mut self.earlier,

@@ -139,7 +139,7 @@ impl Arrival {
     {
         let mut arrival = Arrival {
             places: Vec::with_capacity(alloc, entries.len())?,
-            stages: Vec::new(alloc),
+            stages: Vec::with_capacity(alloc, entries.len())?,
             next: first,
         };
         for entry in entries {

@@ -1,7 +1,7 @@
-use Rattle.std.proofs.Common.{◌≡◌, ◌+◌, List, length, map, arith}
+use Rattle.std.proofs.Common.{◌≡◌, ◌+◌, length, map, arith}
 use Rattle.std.proofs.lemmas.List.{length-map}
 use Rattle.answer_desk.specs.Inner.Kept.{kept_in}
-use Rattle.answer_desk.specs.Inner.Numbers.{all_numbers, IsIndexed}
+use Rattle.answer_desk.specs.Inner.Numbers.{all_numbers}
 use Rattle.answer_desk.specs.Inner.Requests.{IsWithAdded}
 use Rattle.answer_desk.proofs.Windows.{length-all}
 use Rattle.answer_desk.proofs.Indexed.{IsIndexed-appended}

@@ -6,6 +6,7 @@ use Rattle.answer_desk.proofs.arrival.Arrival.make.Given as goal
 
 abbrev pub invariant-loop-place : goal.invariant-loop-place
 invariant-loop-place l = record {
+  numbers : l.numbers ≡ l.initial.numbers;
   calls : map kept_in l.calls.items ++ calls_of l.rest.items ≡ calls_of l.initial.rest.items;
   dues : l.dues.items ++ dues_of (l.number + length l.calls.items) l.rest.items ≡ dues_of l.number l.initial.rest.items;
 }

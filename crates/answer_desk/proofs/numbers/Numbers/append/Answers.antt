@@ -5,8 +5,8 @@ use Rattle.answer_desk.specs.Inner.Numbers.{all_numbers, IsIndexed}
 use Rattle.answer_desk.proofs.Windows.{IsWindow-appended, length-all}
 use Rattle.answer_desk.proofs.numbers.Numbers.append.Goals as goal
 
-pub invariant_of-self : goal.invariant_of-self
-invariant_of-self c = rw c.reserve.ensures.items c.self.invariant
+pub invariant_of-self-in_err-reserve : goal.invariant_of-self-in_err-reserve
+invariant_of-self-in_err-reserve c = rw c.reserve.ensures.items c.self.invariant
 
 pub invariant_of-self-2 : goal.invariant_of-self-2
 invariant_of-self-2 c =
