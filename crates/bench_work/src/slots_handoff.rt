@@ -27,6 +27,7 @@ impl<'a> Owner<Hand<'a>> for Clerk<'a> {
             Ok(seat) => Ok(Hand {
                 slots: self.slots,
                 seat,
+                last: 0,
             }),
             Err(_) => Err(Failure::Memory),
         }
@@ -53,13 +54,18 @@ impl<'a> Owner<Hand<'a>> for Clerk<'a> {
 struct Hand<'a> {
     slots: &'a JobSlots<Job>,
     seat: WorkerSeat<Job>,
+    /// The slot of its last job, from which it looks on as a server's worker does.
+    last: u32,
     ghost same_table: { IsWorkerOf slots.now seat },
 }
 
 impl Worker for Hand<'_> {
     fn run_one<R: Wait>(&mut self, _rt: &R) -> bool {
-        match self.slots.run_one(&mut self.seat) {
-            Ran::One(_) => true,
+        match self.slots.run_one_from(&mut self.seat, self.last) {
+            Ran::One(slot) => {
+                self.last = slot;
+                true
+            }
             Ran::Nothing => false,
         }
     }

@@ -112,7 +112,37 @@ impl<J: Turns> JobSlots<J> {
             shut_of worker.new ≡ shut_of worker.old ++ slot ∷ [] }
         ensures nothing { result ≡ Nothing → shut_of worker.new ≡ shut_of worker.old }
     {
-        for slot in 0..self.count {
+        self.run_among(worker, 0, self.count)
+    }
+
+    /// The same from a slot on, and then from the first one up to it: a worker that looks on from where it found a job finds
+    /// the next one in a few steps.
+    pub fn run_one_from(&self, worker: &mut WorkerSeat<J>, from: u32) -> Ran
+        requires { IsWorkerOf self.now worker.old }
+        ensures table { IsWorkerOf self.now worker.new }
+        ensures within { (slot : ℕ) → result ≡ One slot → slot < slot_count self.now }
+        ensures one { (slot : ℕ) → result ≡ One slot →
+            shut_of worker.new ≡ shut_of worker.old ++ slot ∷ [] }
+        ensures nothing { result ≡ Nothing → shut_of worker.new ≡ shut_of worker.old }
+    {
+        let from = from.min(self.count);
+        match self.run_among(worker, from, self.count) {
+            Ran::One(slot) => Ran::One(slot),
+            Ran::Nothing => self.run_among(worker, 0, from),
+        }
+    }
+
+    /// Tries the slots from one on and before another, and turns the first job that it claims.
+    fn run_among(&self, worker: &mut WorkerSeat<J>, from: u32, to: u32) -> Ran
+        requires worker { IsWorkerOf self.now worker.old }
+        requires to { to ≤ slot_count self.now }
+        ensures table { IsWorkerOf self.now worker.new }
+        ensures within { (slot : ℕ) → result ≡ One slot → slot < slot_count self.now }
+        ensures one { (slot : ℕ) → result ≡ One slot →
+            shut_of worker.new ≡ shut_of worker.old ++ slot ∷ [] }
+        ensures nothing { result ≡ Nothing → shut_of worker.new ≡ shut_of worker.old }
+    {
+        for slot in from..to {
             if run_at(&self.table.shared, &mut worker.seat, slot as usize) {
                 return Ran::One(slot);
             }

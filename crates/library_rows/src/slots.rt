@@ -75,6 +75,20 @@ fn run(rt: &impl Abort, slots: &JobSlots<Counted>, worker: &mut WorkerSeat<Count
     assert!(rt; slots.run_one(worker) == want);
 }
 
+// The same from a slot on.
+fn run_from(
+    rt: &impl Abort,
+    slots: &JobSlots<Counted>,
+    worker: &mut WorkerSeat<Counted>,
+    from: u32,
+    want: Ran,
+)
+    requires { IsWorkerOf slots.now worker.old }
+    ensures { IsWorkerOf slots.now worker.new }
+{
+    assert!(rt; slots.run_one_from(worker, from) == want);
+}
+
 // Collects from that slot, which gives this.
 fn collect_from(
     rt: &impl Abort,
@@ -128,6 +142,23 @@ fn a_job_comes_home_turned_once_and_its_slot_is_filled_again(rt: HostRuntime) ->
     offer(&rt, &slots, &mut clerk, 12, Ok(0));
     slots.join(&mut clerk, worker);
     close_with(&rt, slots, clerk, &[fresh(12), fresh(11)]);
+    Ok(())
+}
+
+#[test]
+fn a_worker_looks_on_from_a_slot_and_then_from_the_first(rt: HostRuntime) -> Result<(), Fail> {
+    let (slots, mut clerk) = JobSlots::make(rt.alloc(), 3)?;
+    let mut worker = seat(&rt, &slots, &mut clerk);
+    offer_each(&rt, &slots, &mut clerk, 3);
+    run_from(&rt, &slots, &mut worker, 1, Ran::One(1));
+    run_from(&rt, &slots, &mut worker, 1, Ran::One(2));
+    run_from(&rt, &slots, &mut worker, 2, Ran::One(0));
+    run_from(&rt, &slots, &mut worker, 0, Ran::Nothing);
+    collect_from(&rt, &slots, &mut clerk, 1, Some(turned(1)));
+    offer(&rt, &slots, &mut clerk, 3, Ok(1));
+    run_from(&rt, &slots, &mut worker, u32::MAX, Ran::One(1));
+    slots.join(&mut clerk, worker);
+    close_with(&rt, slots, clerk, &[turned(0), turned(3), turned(2)]);
     Ok(())
 }
 

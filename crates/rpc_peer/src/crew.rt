@@ -2,11 +2,12 @@
 
 ghost use Rattle.std.specs.Prelude.{◌≡◌};
 
-/// How many workers a server has, and how often a thread that finds nothing to do yields before it sleeps.
+/// How many workers a server has, and how often a thread that finds nothing to do looks again before it sleeps.
 #[derive(Clone, Copy, Debug, PartialEq, Eq)]
 pub struct Crew {
     /// The threads that turn jobs, 1 to 64.
     pub workers: u32,
+    /// The looks: the first 32 at once, the others after a yield.
     pub yields: u32,
 }
 

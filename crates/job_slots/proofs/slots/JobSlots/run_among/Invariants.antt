@@ -1,5 +1,5 @@
 use Rattle.std.proofs.Common.{◌≡◌}
-use Rattle.job_slots.proofs.slots.JobSlots.run_one.Given as goal
+use Rattle.job_slots.proofs.slots.JobSlots.run_among.Given as goal
 
 -- no job was claimed so far
 abbrev pub invariant-loop-slot : goal.invariant-loop-slot
