@@ -76,7 +76,8 @@ impl<'a> StreamSession<'a> {
     /// closed the piece is let go.
     ///
     /// # Errors
-    /// Where there is no memory. Nothing of the piece was taken, and it may be fed again.
+    /// Where there is no memory. Contents that waited may have been taken by then; nothing of the piece was, and it may be fed
+    /// again.
     pub fn feed(&mut self, piece: &[u8]) -> Result<(), AllocError>
         ensures fed { (fed : Fed) (jobs : ℕ → Option HandlerState) (sink : Option (List ℕ)) →
             StreamStands fed jobs (stream_of self.old) sink → fed.ending ≡ Unfinished →
