@@ -17,7 +17,7 @@ from measures import inputs  # noqa: E402 (it stands in bench/)
 FEW, MANY = 1_000, 3_000
 PLAY = ("play", "--table", os.path.join(ran.TOP, "bench", "baseline", "methods.toml"))
 # What was reached (the figures of docs/performance.md), by the way that sums come: instructions, and requests for memory.
-REACHED = {"single": (inputs.adds, 8_663, 6.1), "in batches of 100": (inputs.batches_of_adds, 7_840, 4.3)}
+REACHED = {"single": (inputs.adds, 8_182, 4.1), "in batches of 100": (inputs.batches_of_adds, 7_529, 3.3)}
 # So much more is taken for a change of the C library or of the compiler, and not for one of ours.
 SPARE = 1.05
 
