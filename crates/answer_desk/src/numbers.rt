@@ -2,7 +2,7 @@ ghost use Rattle.std.specs.Prelude.{◌≡◌, ◌+◌, ◌-◌, ◌<◌, ◌≤
 ghost use Rattle.std.specs.VecDeque.{deque_len};
 ghost use Rattle.rpc_messages.specs.declared.key.TheConstants.{MOST_NUMBERS};
 ghost use Rattle.answer_desk.specs.declared.kept.Kept.TheVariants.{Open};
-ghost use Rattle.rpc_messages.specs.declared.id.Id.{Id};
+ghost use Rattle.message_ids.specs.declared.id.Id.{Id};
 ghost use Rattle.answer_desk.specs.Places.{new_number};
 ghost use Rattle.answer_desk.specs.Replies.{put_into, given_by};
 ghost use Rattle.answer_desk.specs.Seen.{kept_at, open_number};

@@ -2,7 +2,7 @@
 //! order.
 
 ghost use Rattle.std.specs.Prelude.{◌≡◌, ◌≤◌, ◌<◌, ◌+◌, ◌-◌, ◌^◌, ◌++◌, ◌∷◌, [], length, flat_map, false, IfOk, OnOk, OnErr};
-ghost use Rattle.rpc_messages.specs.declared.id.Id.TheVariants.{Null};
+ghost use Rattle.message_ids.specs.declared.id.Id.TheVariants.{Null};
 ghost use Rattle.connection_messages.specs.declared.answer.Answer.TheVariants.{Standard as standard_answer};
 ghost use Rattle.connection_messages.specs.Texts.{answer_text};
 ghost use Rattle.connection_history.specs.Stream.{call_in, calls_in, entries_in};
@@ -21,9 +21,9 @@ use crate::tally::Tally;
 use crate::unit_slots::UnitSlots;
 use connection_history::Order;
 use connection_messages::{Answer, Entry, Unit, write_answer};
+use message_ids::{Id, Standard};
 use open_calls::{OwedAnswers, TheirCalls};
 use outbox::Outbox;
-use rpc_messages::{Id, Standard};
 use std::alloc::{AllocError, Global};
 
 /// The slots of a batch.

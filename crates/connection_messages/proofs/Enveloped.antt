@@ -15,8 +15,8 @@ use Rattle.json.proofs.Printed.Decimals.{IsNumber-decimal}
 use Rattle.json.proofs.Printed.Tokens.{tokens-print}
 use Rattle.json.proofs.Printed.Trees.{value-json_tokens, ArePrintable-json_tokens}
 use Rattle.json_texts.specs.Texts.{json_text}
-use Rattle.rpc_messages.specs.declared.id.Id.{Id}
-use Rattle.rpc_messages.specs.declared.id.Id.TheVariants.{Null, Text, Unsigned}
+use Rattle.message_ids.specs.declared.id.Id.{Id}
+use Rattle.message_ids.specs.declared.id.Id.TheVariants.{Null, Text, Unsigned}
 use Rattle.connection_messages.specs.Envelope.{IsMember, MemberHasNumbers, GivesId, GivesParams}
 use Rattle.connection_messages.specs.Numbers.{unsigned_of, negative_of}
 use Rattle.connection_messages.specs.Params.{is_structured}

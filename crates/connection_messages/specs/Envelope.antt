@@ -6,7 +6,7 @@ use Rattle.json.specs.Find.{get, as_str}
 use Rattle.json.specs.Tree.{members_depth, HasNumbers, MembersHaveNumbers}
 use Rattle.json_texts.specs.Standing.{Stands}
 use Rattle.json_texts.specs.Texts.{json_text, value_of}
-use Rattle.rpc_messages.specs.declared.id.Id.{Id}
+use Rattle.message_ids.specs.declared.id.Id.{Id}
 use Rattle.connection_messages.specs.Reading.{is_version_2, call_id, call_params, call_in, entry_of, entries_of}
 use Rattle.connection_messages.specs.declared.call.Call.{Call}
 use Rattle.connection_messages.specs.declared.entry.Entry.{Entry}

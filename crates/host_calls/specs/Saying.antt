@@ -2,7 +2,7 @@
 use Rattle.std.specs.Prelude.{◌≡◌, ◌≢◌, ◌⊎◌, ℕ, ℤ, ◌+◌, ◌==◌, List, [], ◌∷◌, Bool, true, false, Option, Some, None, Ok, Err, is_some, option_map, if◌then◌else◌}
 use Rattle.content_streams.specs.declared.ending.HowEnded.{HowEnded}
 use Rattle.content_streams.specs.declared.ending.HowEnded.TheVariants.{Closed, ReadFailed}
-use Rattle.rpc_messages.specs.declared.standard.Standard.TheVariants.{Cancelled}
+use Rattle.message_ids.specs.declared.standard.Standard.TheVariants.{Cancelled}
 use Rattle.connection_messages.specs.declared.answer.Answer.{Answer}
 use Rattle.connection_messages.specs.declared.answer.Answer.TheVariants.{Result, Error, Standard}
 use Rattle.connection_messages.specs.declared.outgoing.Outgoing.{Outgoing}

@@ -9,7 +9,7 @@ use crate::outlet::Outlet;
 use crate::texts::{failure_of, json_of, outgoing_of};
 use connection::{Answer, Connection, HowEnded, Refused};
 use json_texts::TextReader;
-use rpc_messages::Standard;
+use message_ids::Standard;
 
 impl Outlet {
     pub fn end(&mut self, how: u32) -> Result<(), Why>

@@ -17,7 +17,7 @@ use crate::reply::Reply;
 use crate::unit::Unit;
 use json_texts::plain_end;
 use json_values::{Items, Text};
-use rpc_messages::Id;
+use message_ids::Id;
 use std::alloc::{AllocError, Global};
 
 /// The unit of a content that is seen to be one compact call or result, or a batch of such.

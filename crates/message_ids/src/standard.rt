@@ -1,10 +1,6 @@
-//! The errors that this peer answers with.
+//! The fixed errors.
 
-use crate::error_value::ErrorValue;
-use json_values::Text;
-use std::alloc::{AllocError, Global};
-
-/// The fixed errors.
+/// An error with a fixed code and message.
 #[derive(Debug, Clone, Copy, PartialEq, Eq)]
 pub enum Standard {
     /// The content is not JSON (JSON-RPC 2.0, section 5.1).
@@ -27,21 +23,7 @@ pub enum Standard {
 
 impl Standard {
     ghost use Rattle.std.specs.Prelude.{◌≡◌};
-    ghost use Rattle.rpc_messages.specs.Standard.{code_of, message_of};
-    ghost use Rattle.std.specs.Prelude.{IfOk};
-    ghost use Rattle.serde_json.specs.Written.{compact_text};
-    ghost use Rattle.rpc_messages.specs.Texts.{error_data, standard_error};
-
-    /// The error with its code and message, and no `data`.
-    pub fn to_error(self, alloc: Global) -> Result<ErrorValue, AllocError>
-        ensures { IfOk result (λ error. error ≡ standard_error self) }
-    {
-        Ok(ErrorValue {
-            code: self.code(),
-            message: Text::copy_of(alloc, self.message())?,
-            extra: None,
-        })
-    }
+    ghost use Rattle.message_ids.specs.Standard.{code_of, message_of};
 
     /// The member `code` (JSON-RPC 2.0, section 5.1).
     pub fn code(self) -> i64
@@ -72,22 +54,6 @@ impl Standard {
             Standard::Cancelled => "Request cancelled",
             Standard::NoReply => "No reply",
             Standard::InvalidReply => "Invalid reply",
-        }
-    }
-
-    /// The error object's text, with no space (JSON-RPC 2.0, section 5.1).
-    pub fn text(self) -> &'static str
-        ensures { result.now ≡ compact_text (error_data (standard_error self)) }
-    {
-        match self {
-            Standard::ParseError => r#"{"code":-32700,"message":"Parse error"}"#,
-            Standard::InvalidRequest => r#"{"code":-32600,"message":"Invalid Request"}"#,
-            Standard::MethodNotFound => r#"{"code":-32601,"message":"Method not found"}"#,
-            Standard::InvalidParams => r#"{"code":-32602,"message":"Invalid params"}"#,
-            Standard::InternalError => r#"{"code":-32603,"message":"Internal error"}"#,
-            Standard::Cancelled => r#"{"code":-32800,"message":"Request cancelled"}"#,
-            Standard::NoReply => r#"{"code":-32000,"message":"No reply"}"#,
-            Standard::InvalidReply => r#"{"code":-32603,"message":"Invalid reply"}"#,
         }
     }
 }
