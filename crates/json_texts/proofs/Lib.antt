@@ -1,4 +1,5 @@
 pub mod Lanes
+pub mod Lexed
 pub mod Placed
 pub mod ReadBack
 pub mod Runs
