@@ -15,7 +15,7 @@ use crate::call::Call;
 use crate::entry::Entry;
 use crate::reply::Reply;
 use crate::unit::Unit;
-use json_texts::plain_end;
+use json_texts::{compacted, plain_end};
 use json_values::{Items, Text};
 use message_ids::Id;
 use std::alloc::{AllocError, Global};
@@ -31,6 +31,20 @@ pub(crate) fn read_compact(
     match text.as_bytes().first() {
         Some(b'[') => read_batch(alloc, cancels, text),
         _ => read_single(alloc, cancels, text),
+    }
+}
+
+/// The same of a content whose text isn't compact, once it is made so.
+pub(crate) fn read_compacted(
+    alloc: Global,
+    cancels: bool,
+    text: &str,
+) -> Result<Option<Unit>, AllocError>
+    ensures { IfOk result (λ u. IfSome u (λ unit. unit ≡ unit_of cancels false text.now)) }
+{
+    match compacted(alloc, text)? {
+        Some(compact) => read_compact(alloc, cancels, compact.as_str()),
+        None => Ok(None),
     }
 }
 
