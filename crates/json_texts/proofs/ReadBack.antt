@@ -50,7 +50,6 @@ IfOk-follows (Err e) f h = h
 
 -- ---- texts with the same tokens
 
-pub compact_text-same : (levels : ℕ) (text compact : List ℕ) → IsUtf8 text → IsUtf8 compact → tokens compact ≡ tokens text → compact_text levels text ≡ compact_text levels compact
-compact_text-same levels text compact utf8 compact_utf8 same =
-    ap (option_map json_text)
-    (sym (value_of_text levels text text utf8 refl) ∙ ap (λ ts. option_and_then (λ p. if_last p.0 p.1) (value levels ts)) (sym same) ∙ value_of_text levels compact compact compact_utf8 refl)
+pub value_of-same : (levels : ℕ) (text compact : List ℕ) → IsUtf8 text → IsUtf8 compact → tokens compact ≡ tokens text → value_of levels text ≡ value_of levels compact
+value_of-same levels text compact utf8 compact_utf8 same =
+    sym (value_of_text levels text text utf8 refl) ∙ ap (λ ts. option_and_then (λ p. if_last p.0 p.1) (value levels ts)) (sym same) ∙ value_of_text levels compact compact compact_utf8 refl

@@ -189,10 +189,18 @@ pub(crate) fn number_end(text: &[u8], from: usize) -> Option<usize>
     ensures number { IfSome result (λ end. HasNumber text.now from end) }
     ensures bounds { IfSome result (λ end. (from < end) × (end ≤ length text.now)) }
 {
+    if !begins_number(byte_at(text, from)) {
+        return None;
+    }
     match whole_end(text, from) {
         Some(end) => Some(end),
         None => any_number_end(text, from),
     }
+}
+
+#[inline(always)]
+fn begins_number(byte: u8) -> bool {
+    (byte >= b'0') & (byte <= b'9') | (byte == b'-')
 }
 
 /// The end of a whole number. There is none where a fraction or an exponent may follow.

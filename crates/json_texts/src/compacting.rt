@@ -18,7 +18,7 @@ use std::alloc::{AllocError, Global};
 pub fn compacted(alloc: Global, text: &str) -> Result<Option<Text>, AllocError>
     ensures { IfOk result (λ r. IfSome r (λ compact. tokens compact ≡ tokens text.now)) }
 {
-    let mut out = String::with_capacity(alloc, text.len())?;
+    let mut out = String::new(alloc);
     if append_tokens(text, &mut out)? {
         Ok(Some(Text::from(out)))
     } else {
@@ -218,7 +218,7 @@ fn is_punctuation(byte: u8) -> bool
         | (byte == b',')
 }
 
-/// Appends this part of the text.
+/// Appends this part of the text. What a whole text takes is asked for at once, and only where something is appended.
 #[inline(always)]
 fn append(text: &str, from: usize, to: usize, out: &mut String) -> Result<(), AllocError>
     requires bounds { from ≤ to }
@@ -228,6 +228,9 @@ fn append(text: &str, from: usize, to: usize, out: &mut String) -> Result<(), Al
 {
     if from == to {
         return Ok(());
+    }
+    if out.is_empty() {
+        out.reserve(text.len())?;
     }
     out.push_str(&text[from..to])
 }
