@@ -1,3 +1,4 @@
 pub mod Cutting
 pub mod Packed
+pub mod SaidSoFar
 pub mod Telling
