@@ -1,5 +1,6 @@
 -- How many events the entries of a unit tell at most.
 use Rattle.std.proofs.Common.{◌≡◌, ℕ, suc, ◌+◌, ◌<◌, ◌≤◌, ◌&&◌, not, nat_le, Bool, true, false, cond, if◌then◌else◌, List, [], ◌∷◌, ◌++◌, length, map, refl, ap, ◌∙◌, arith, length-append}
+use Rattle.std.specs.Prelude.{count_by}
 use Rattle.std.proofs.lemmas.List.{length-map}
 use Rattle.message_ids.specs.declared.id.Id.{Id}
 use Rattle.message_ids.specs.Ids.{has_id}
@@ -12,7 +13,7 @@ use Rattle.open_calls.specs.declared.their_call.TheirCall.{TheirCall}
 use Rattle.open_calls.specs.Own.{OwnState}
 use Rattle.open_calls.specs.Theirs.{is_reached, cancelled}
 use Rattle.connection_states.specs.Steps.{own_after}
-use Rattle.connection_desk.specs.Inner.{reached_to, cancelled_to, told_along, has_cancel, most_events}
+use Rattle.connection_desk.specs.Inner.{reached_to, cancelled_to, told_along, has_cancel, may_be_told, most_events}
 use Rattle.connection_desk.proofs.Reached.{numbers_cons}
 
 -- how many calls no cancel has reached
@@ -54,27 +55,27 @@ reply_step : {X : Type 0} (b : Bool) (x : X) (xs : List X) (m : ℕ) → length 
 reply_step true x xs m lt = omega arith
 reply_step false x xs m lt = omega arith
 
-cancel_step : (ks : List ℕ) (told : List Event) (m now was : ℕ) → length told ≤ m + now → length ks + now ≡ was → length (map event.Cancelled ks ++ told) ≤ suc m + was
+cancel_step : (ks : List ℕ) (told : List Event) (m now was : ℕ) → length told ≤ m + now → length ks + now ≡ was → length (map event.Cancelled ks ++ told) ≤ m + was
 cancel_step ks told m now was le is = omega (arith, length-append (map event.Cancelled ks) told, length-map ks event.Cancelled)
 
-told_reachable : (n : ℕ) (own : OwnState) (calls : List (ℕ × TheirCall)) (es : List Entry) → length (told_along n own calls es) ≤ length es + reachable calls
+told_reachable : (n : ℕ) (own : OwnState) (calls : List (ℕ × TheirCall)) (es : List Entry) → length (told_along n own calls es) ≤ count_by may_be_told es + reachable calls
 told_reachable n own calls [] = omega arith
 told_reachable n own calls (Call c ∷ es) = let le = told_reachable (n + length (call_in (Call c))) own calls es in omega (arith, le)
 told_reachable n own calls (Cancel id ∷ es) =
-    cancel_step (reached_to n id calls) (told_along (n + length (call_in (Cancel id))) own (cancelled_to n id calls) es) (length es) (reachable (cancelled_to n id calls)) (reachable calls)
+    cancel_step (reached_to n id calls) (told_along (n + length (call_in (Cancel id))) own (cancelled_to n id calls) es) (count_by may_be_told es) (reachable (cancelled_to n id calls)) (reachable calls)
     (told_reachable (n + length (call_in (Cancel id))) own (cancelled_to n id calls) es) (spent n id calls)
 told_reachable n own calls (Reply k r ∷ es) =
-    reply_step _ (event.Replied k r) (told_along (n + length (call_in (Reply k r))) (own_after (Reply k r) own) calls es) (suc (length es) + reachable calls)
+    reply_step _ (event.Replied k r) (told_along (n + length (call_in (Reply k r))) (own_after (Reply k r) own) calls es) (suc (count_by may_be_told es) + reachable calls)
     (let le = told_reachable (n + length (call_in (Reply k r))) (own_after (Reply k r) own) calls es in omega (arith, le))
 told_reachable n own calls (Stray ∷ es) = let le = told_reachable (n + length (call_in Stray)) own calls es in omega (arith, le)
 told_reachable n own calls (Invalid ∷ es) = let le = told_reachable (n + length (call_in Invalid)) own calls es in omega (arith, le)
 
-told_each : (n : ℕ) (own : OwnState) (calls : List (ℕ × TheirCall)) (es : List Entry) → has_cancel es ≡ false → length (told_along n own calls es) ≤ length es
+told_each : (n : ℕ) (own : OwnState) (calls : List (ℕ × TheirCall)) (es : List Entry) → has_cancel es ≡ false → length (told_along n own calls es) ≤ count_by may_be_told es
 told_each n own calls [] none = omega arith
 told_each n own calls (Call c ∷ es) none = let le = told_each (n + length (call_in (Call c))) own calls es none in omega (arith, le)
 told_each n own calls (Cancel id ∷ es) none = absurd (cc)
 told_each n own calls (Reply k r ∷ es) none =
-    reply_step _ (event.Replied k r) (told_along (n + length (call_in (Reply k r))) (own_after (Reply k r) own) calls es) (suc (length es))
+    reply_step _ (event.Replied k r) (told_along (n + length (call_in (Reply k r))) (own_after (Reply k r) own) calls es) (suc (count_by may_be_told es))
     (let le = told_each (n + length (call_in (Reply k r))) (own_after (Reply k r) own) calls es none in omega (arith, le))
 told_each n own calls (Stray ∷ es) none = let le = told_each (n + length (call_in Stray)) own calls es none in omega (arith, le)
 told_each n own calls (Invalid ∷ es) none = let le = told_each (n + length (call_in Invalid)) own calls es none in omega (arith, le)
@@ -85,6 +86,6 @@ most_step false told m count le each = let less : told ≤ m = each refl in omeg
 
 pub told_most : (n : ℕ) (own : OwnState) (calls : List (ℕ × TheirCall)) (es : List Entry) → length (told_along n own calls es) ≤ most_events (length calls) es
 told_most n own calls es =
-    most_step (has_cancel es) (length (told_along n own calls es)) (length es) (length calls)
+    most_step (has_cancel es) (length (told_along n own calls es)) (count_by may_be_told es) (length calls)
     (let le = told_reachable n own calls es in let few = reachable_most calls in omega (arith, le, few))
     (told_each n own calls es)

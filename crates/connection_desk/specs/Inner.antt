@@ -1,5 +1,5 @@
 -- What a desk keeps.
-use Rattle.std.specs.Prelude.{◌≡◌, ℕ, ◌<◌, ◌≤◌, ◌+◌, ◌-◌, ◌&&◌, nat_le, List, [], ◌∷◌, ◌++◌, Bool, true, false, map, length, Option, Some, None, is_some, if◌then◌else◌}
+use Rattle.std.specs.Prelude.{◌≡◌, ℕ, ◌<◌, ◌≤◌, ◌+◌, ◌-◌, ◌&&◌, nat_le, List, [], ◌∷◌, ◌++◌, Bool, true, false, map, length, count_by, Option, Some, None, is_some, if◌then◌else◌}
 use Rattle.std.specs.List.{list_any}
 use Rattle.std.specs.VecDeque.{deque_capacity, deque_len}
 use Rattle.message_ids.specs.declared.id.Id.{Id}
@@ -127,9 +127,18 @@ is_cancel Invalid = false
 abbrev pub has_cancel : List Entry → Bool
 has_cancel es = list_any is_cancel es
 
--- at most so many events come with these entries, where so many calls are open then
+-- A call is told, and a reply that is waited for.
+abbrev pub may_be_told : Entry → Bool
+may_be_told (Call c) = true
+may_be_told (Cancel id) = false
+may_be_told (Reply k r) = true
+may_be_told Stray = false
+may_be_told Invalid = false
+
+-- At most so many events come with these entries, where so many calls are open then: one with each call and each reply, and with cancels
+-- one with each call that is open.
 abbrev pub most_events : ℕ → List Entry → ℕ
-most_events count es = length es + (if has_cancel es then count else 0)
+most_events count es = count_by may_be_told es + (if has_cancel es then count else 0)
 
 -- ---- what entries do then: a cancel reaches the calls that came before it alone
 

@@ -1,7 +1,7 @@
 //! Units that come. What needs memory is done first, for the whole unit; what its entries do is settled then, in their
 //! order.
 
-ghost use Rattle.std.specs.Prelude.{◌≡◌, ◌≤◌, ◌<◌, ◌+◌, ◌-◌, ◌^◌, ◌++◌, ◌∷◌, [], length, flat_map, false, IfOk, OnOk, OnErr};
+ghost use Rattle.std.specs.Prelude.{◌≡◌, ◌≤◌, ◌<◌, ◌+◌, ◌-◌, ◌^◌, ◌++◌, ◌∷◌, [], length, count_by, flat_map, false, IfOk, OnOk, OnErr};
 ghost use Rattle.message_ids.specs.declared.id.Id.TheVariants.{Null};
 ghost use Rattle.connection_messages.specs.declared.answer.Answer.TheVariants.{Standard as standard_answer};
 ghost use Rattle.connection_messages.specs.Texts.{answer_text};
@@ -11,7 +11,7 @@ ghost use Rattle.open_calls.specs.Theirs.{new_call};
 ghost use Rattle.connection_states.specs.States.{is_batch};
 ghost use Rattle.connection_states.specs.Steps.{leaving, staying, new_call_slots, new_slots, new_unit_slots};
 ghost use Rattle.connection_desk.specs.Desks.{answer_texts, with_answers, with_texts};
-ghost use Rattle.connection_desk.specs.Inner.{HaveSlots, IsLonger, IsOpenEnded, added_call, added_calls, are_several, has_cancel as has_cancel_in, most_events as most_events_in, owed_in, room_of, slots_in, untold_of};
+ghost use Rattle.connection_desk.specs.Inner.{HaveSlots, IsLonger, IsOpenEnded, added_call, added_calls, are_several, has_cancel as has_cancel_in, may_be_told, most_events as most_events_in, owed_in, room_of, slots_in, untold_of};
 
 use crate::desk::Desk;
 use crate::events::Events;
@@ -25,6 +25,9 @@ use message_ids::{Id, Standard};
 use open_calls::{OwedAnswers, TheirCalls};
 use outbox::Outbox;
 use std::alloc::{AllocError, Global};
+
+/// The room for the text of an error with the id null, which takes 78 bytes at most here. A batch may have millions of them.
+const ERROR_ROOM: usize = 80;
 
 /// The slots of a batch.
 type Slots = Vec<Option<Vec<u8>>>;
@@ -207,24 +210,35 @@ fn admit_all(
 fn most_events(unit: &Unit, count: u64) -> Result<usize, AllocError>
     ensures { IfOk result (λ most. most ≡ most_events_in count (entries_in unit.now)) }
 {
-    let entries = entry_count(unit);
+    let told = told_at_most(unit);
     if !has_cancel(unit) {
-        return Ok(entries);
+        return Ok(told);
     }
-    match entries.checked_add(count as usize) {
+    match told.checked_add(count as usize) {
         Some(most) => Ok(most),
         None => Err(AllocError),
     }
 }
 
-fn entry_count(unit: &Unit) -> usize
-    ensures { result ≡ length (entries_in unit.now) }
+/// How many entries may be told. An invalid one costs no room: a batch of a few megabytes can hold millions.
+fn told_at_most(unit: &Unit) -> usize
+    ensures { result ≡ count_by may_be_told (entries_in unit.now) }
 {
     match unit {
         Unit::Unreadable => 0,
-        Unit::Single(_) => 1,
-        Unit::Batch(entries) => entries.len(),
+        Unit::Single(entry) => may_be_told(entry) as usize,
+        Unit::Batch(entries) => entries
+            .as_slice()
+            .iter()
+            .filter(|entry| may_be_told(entry))
+            .count(),
     }
+}
+
+fn may_be_told(entry: &Entry) -> bool
+    ensures { result ≡ may_be_told entry.now }
+{
+    matches!(entry, Entry::Call(_) | Entry::Reply { .. })
 }
 
 fn has_cancel(unit: &Unit) -> bool
@@ -385,7 +399,7 @@ fn admit_call(
 fn error_text(alloc: Global, standard: Standard) -> Result<Vec<u8>, AllocError>
     ensures { IfOk result (λ text. text.items ≡ answer_text Null (standard_answer standard)) }
 {
-    let mut text = Vec::new(alloc);
+    let mut text = Vec::with_capacity(alloc, ERROR_ROOM)?;
     write_answer(alloc, &mut text, &Id::Null, &Answer::Standard(standard))?;
     Ok(text)
 }

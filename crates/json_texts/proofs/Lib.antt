@@ -2,3 +2,4 @@ pub mod Lanes
 pub mod Placed
 pub mod ReadBack
 pub mod Runs
+pub mod Whole

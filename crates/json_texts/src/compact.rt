@@ -1,6 +1,8 @@
 //! Compact values, told apart from others without a look at their tokens.
 
-ghost use Rattle.std.specs.Prelude.{◌≡◌, ◌≤◌, ◌<◌, ◌+◌, ◌-◌, IfSome, IsTrue, length, get_or};
+ghost use Rattle.std.specs.Prelude.{◌≡◌, ◌≤◌, ◌<◌, ◌+◌, ◌-◌, IfSome, IsTrue, ◌∷◌, length, get_or, drop, slice_range};
+ghost use Rattle.std.specs.List.{prefix_len};
+ghost use Rattle.std.specs.Char.{is_ascii_digit};
 ghost use Rattle.std.specs.Str.{IsUtf8};
 ghost use Rattle.json.specs.Print.{IsNumber, escape};
 ghost use Rattle.json_texts.specs.Texts.{IsJsonText};
@@ -166,6 +168,66 @@ fn word_end(text: &[u8], from: usize, word: &[u8]) -> Option<usize>
 }
 
 fn number_end(text: &[u8], from: usize) -> Option<usize>
+    requires { from ≤ length text.now }
+    ensures number { IfSome result (λ end. HasNumber text.now from end) }
+    ensures bounds { IfSome result (λ end. (from < end) × (end ≤ length text.now)) }
+{
+    match whole_end(text, from) {
+        Some(end) => Some(end),
+        None => any_number_end(text, from),
+    }
+}
+
+/// The end of a whole number. There is none where a fraction or an exponent may follow.
+#[inline(always)]
+fn whole_end(text: &[u8], from: usize) -> Option<usize>
+    requires { from ≤ length text.now }
+    ensures number { IfSome result (λ end. HasNumber text.now from end) }
+    ensures bounds { IfSome result (λ end. (from < end) × (end ≤ length text.now)) }
+{
+    if byte_at(text, from) == b'-' {
+        return natural_end(text, from + 1);
+    }
+    natural_end(text, from)
+}
+
+/// The same of one without a sign.
+#[inline(always)]
+fn natural_end(text: &[u8], from: usize) -> Option<usize>
+    requires { from ≤ length text.now }
+    ensures number { IfSome result (λ end. IsNumber (slice_range text.now from end)) }
+    ensures signed { IfSome result (λ end. IsNumber (45 ∷ slice_range text.now from end)) }
+    ensures bounds { IfSome result (λ end. (from < end) × (end ≤ length text.now)) }
+{
+    let end = digits_end(text, from);
+    if end == from {
+        return None;
+    }
+    if byte_at(text, from) == b'0' && end != from + 1 {
+        return None;
+    }
+    match byte_at(text, end) {
+        b'.' | b'e' | b'E' => None,
+        _ => Some(end),
+    }
+}
+
+#[inline(always)]
+fn digits_end(text: &[u8], from: usize) -> usize
+    requires { from ≤ length text.now }
+    ensures value { result ≡ from + prefix_len is_ascii_digit (drop from text.now) }
+    ensures bound { result ≤ length text.now }
+{
+    let mut at = from;
+    while at < text.len() && text[at] >= b'0' && text[at] <= b'9' {
+        at += 1;
+    }
+    at
+}
+
+/// Apart, since few numbers have a fraction or an exponent.
+#[inline(never)]
+fn any_number_end(text: &[u8], from: usize) -> Option<usize>
     requires { from ≤ length text.now }
     ensures number { IfSome result (λ end. HasNumber text.now from end) }
     ensures bounds { IfSome result (λ end. (from < end) × (end ≤ length text.now)) }

@@ -9,6 +9,7 @@ ghost use Rattle.json_texts.specs.declared.json_text.TheConstants.{MOST_LEVELS};
 
 use crate::compact::is_compact;
 use crate::json_text::{JsonText, MOST_LEVELS};
+use crate::utf8::utf8_text;
 use json::{Error, Reader, Scratch, Value};
 use json_values::Text;
 use std::alloc::{AllocError, Global};
@@ -28,7 +29,7 @@ pub fn read_value<'a>(
     ensures writable { IfOk result (λ v. IfSome v (λ j. HasNumbers (value_view j))) }
     ensures nests { IfOk result (λ v. IfSome v (λ j. depth (value_view j) ≤ levels)) }
 {
-    let Ok(text) = simdutf8::compat::from_utf8(bytes) else {
+    let Some(text) = utf8_text(bytes) else {
         return Ok(None);
     };
     read_str(alloc, text, levels, scratch)
@@ -105,7 +106,7 @@ impl TextReader {
     pub fn read(&mut self, bytes: &[u8]) -> Result<Option<JsonText>, AllocError>
         ensures { IfOk result (λ text. text ≡ compact_text MOST_LEVELS bytes.now) }
     {
-        let Ok(text) = simdutf8::compat::from_utf8(bytes) else {
+        let Some(text) = utf8_text(bytes) else {
             return Ok(None);
         };
         if is_compact(text) {

@@ -2,7 +2,7 @@ use Rattle.std.proofs.Common.{◌-◌, ◌≤◌, refl, length, take, drop, subs
 use Rattle.std.proofs.lemmas.Str.{IsUtf8-from_ascii}
 use Rattle.json.specs.Print.{IsNumber}
 use Rattle.json_texts.proofs.Placed.{ascii_part, part_stands, number_is_some}
-use Rattle.json_texts.proofs.compact.number_end.Goals as goal
+use Rattle.json_texts.proofs.compact.any_number_end.Goals as goal
 
 pub from_utf8_unchecked-number-requires : goal.from_utf8_unchecked-number-requires
 from_utf8_unchecked-number-requires c =

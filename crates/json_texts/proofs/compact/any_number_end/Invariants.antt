@@ -1,5 +1,5 @@
 use Rattle.std.proofs.Common.{ℕ, ◌-◌, ◌<◌, ◌≤◌, length, get_or}
-use Rattle.json_texts.proofs.compact.number_end.Given as goal
+use Rattle.json_texts.proofs.compact.any_number_end.Given as goal
 
 abbrev pub invariant-loop-at : goal.invariant-loop-at
 invariant-loop-at l = (l.from ≤ l.at) × (l.at ≤ length l.text) × ((k : ℕ) → l.from ≤ k → k < l.at → get_or l.text k 0 < 128)
