@@ -1,4 +1,4 @@
+pub mod AtHand
 pub mod Cutting
-pub mod Packed
+pub mod PackedSoFar
 pub mod SaidSoFar
-pub mod Telling

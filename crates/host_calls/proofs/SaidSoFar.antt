@@ -99,7 +99,9 @@ module _ (a : Outlet) (hs : List Saying) (bytes : List ℕ) where
     where
       plus_zero : (n : ℕ) → n + 0 ≡ n
       plus_zero n = omega arith
+
       drop_all : (i : ℕ) (xs : List Saying) → length xs ≤ i → drop i xs ≡ []
       drop_all i xs h = grind (arith, common_steps)
+
       whole : (i : ℕ) (xs : List Saying) → length xs ≤ i → take i xs ≡ xs
       whole i xs h = grind (arith, common_steps)

@@ -30,14 +30,14 @@ loop-place-preserved c =
             below l.invariant.same w.if-passed-gt0.true w.self-is w.sayings-is w.passed-is w.refused-is c.cut.ensures.behind l.invariant.said;
       }
       | else-passed-gt0 w ↦
-        let g = w.say_one-said.result in record {
-          end = l.invariant.end ∙ sym (length-set ss i g) ∙ ap (λ (xs : List Saying). length xs) (sym w.sayings-is);
-          few = omega (arith, w.refused-is, w.refused_of-refused.ensures, refused-most g, l.invariant.few);
-          same = ap (λ (xs : List Saying). drop (i + 1) xs) w.sayings-is ∙ drop-set-lt (i + 1) ss i g (omega arith) ∙ drop-more i ss hs l.invariant.same;
-          said = said-one a hs bytes l.self on.self w.say_one-said.new.self l.passed on.passed i l.refused on.refused ss on.sayings l.rest.now c.cut.result.behind.now g none
-              below l.invariant.same (omega (arith, w.if-passed-gt0.false)) (subst (λ others. SaysOne l.self w.say_one-said.new.self (get_or ss i none) others l.rest.now g) (others_are (i + 1) ss) w.say_one-said.ensures) w.self-is w.sayings-is
-              (w.passed-is ∙ w.calls_of-passed.ensures) (w.refused-is ∙ ap (λ n. l.refused + n) w.refused_of-refused.ensures) c.cut.ensures.behind l.invariant.said;
-        }
+          let g = w.say_one-said.result in record {
+            end = l.invariant.end ∙ sym (length-set ss i g) ∙ ap (λ (xs : List Saying). length xs) (sym w.sayings-is);
+            few = omega (arith, w.refused-is, w.refused_of-refused.ensures, refused-most g, l.invariant.few);
+            same = ap (λ (xs : List Saying). drop (i + 1) xs) w.sayings-is ∙ drop-set-lt (i + 1) ss i g (omega arith) ∙ drop-more i ss hs l.invariant.same;
+            said = said-one a hs bytes l.self on.self w.say_one-said.new.self l.passed on.passed i l.refused on.refused ss on.sayings l.rest.now c.cut.result.behind.now g none
+                below l.invariant.same (omega (arith, w.if-passed-gt0.false)) (subst (λ others. SaysOne l.self w.say_one-said.new.self (get_or ss i none) others l.rest.now g) (others_are (i + 1) ss) w.say_one-said.ensures) w.self-is w.sayings-is
+                (w.passed-is ∙ w.calls_of-passed.ensures) (w.refused-is ∙ ap (λ n. l.refused + n) w.refused_of-refused.ensures) c.cut.ensures.behind l.invariant.said;
+          }
     ]
 
 pub returns : goal.returns

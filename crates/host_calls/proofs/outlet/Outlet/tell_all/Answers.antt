@@ -6,7 +6,7 @@ use Rattle.host_calls.specs.declared.asking.Packed.TheVariants as packed
 use Rattle.host_calls.specs.Outlets.{Packs, Stops, HasPackedAll}
 use Rattle.event_rooms.specs.Events.{bytes_of}
 use Rattle.event_rooms.specs.Rooms.{aligned}
-use Rattle.host_calls.proofs.Packed.{packed-zero}
+use Rattle.host_calls.proofs.PackedSoFar.{packed-zero}
 use Rattle.host_calls.proofs.outlet.Outlet.tell_all.Goals as goal
 
 -- it isn't that one more was packed
