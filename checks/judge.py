@@ -149,6 +149,43 @@ def check_static(count: ran.Count, room: str) -> None:
     count.check("the libraries below", trees.below == {"low": [], "toy": ["low"], "staticlib": ["low"]}, f"{trees.below}")
 
 
+def put(file: str, text: str = "") -> None:
+    os.makedirs(os.path.dirname(file), exist_ok=True)
+    with open(file, "w", encoding="utf-8") as it:
+        it.write(text)
+
+
+def check_over_gate(count: ran.Count, room: str) -> None:
+    """Crates are proved over the gate's libraries where all of them are there, of these sources; else those below are proved again."""
+    put(f"{room}/crates.txt", "low:\nmiddle: low\ntoy: middle low\nother: low\n")
+    stamp, source = f"{room}/crates/middle/out/rlib/stamp", f"{room}/crates/low/src/lib.rt"
+    for name in ("low", "middle", "toy", "other"):
+        put(f"{room}/crates/{name}/src/lib.rt")
+    made = {name: f"{room}/crates/{name}/out/rlib/{name}.rlib" for name in ("low", "middle")}
+
+    def look(name: str, is_over_gate: bool, wanted: bool) -> None:
+        with tempfile.TemporaryDirectory(dir=room) as folder:
+            trees = Trees(room, folder, {"toy": {}}, 60, is_over_gate)
+            needed = ["toy"] if wanted else ["low", "middle", "toy"]
+            count.same(name, (trees.is_over_gate, trees.needed, trees.is_ready("toy")), (wanted, needed, wanted))
+            words = trees.words("toy", folder, 1) if wanted else []
+            count.check(f"{name}: where they lie", all(f"{it}={folder}/gate/{it}/{it}.rlib" in words for it in made if wanted), f"{words}")
+            count.check(f"{name}: what they hold", not wanted or os.path.isfile(f"{folder}/gate/low/low.rlib/format"), f"{trees.libraries}")
+
+    put(f"{made['low']}/format")
+    look("one of the gate's libraries is missing", True, False)
+    put(f"{made['middle']}/format")
+    look("the gate's libraries", True, True)
+    look("the gate's libraries that aren't asked for", False, False)
+    put(stamp)
+    look("a library of other commands", True, False)
+    os.remove(stamp)
+    os.utime(source, (os.path.getmtime(made["low"]) + 10,) * 2)
+    look("a source that is newer", True, False)
+    os.utime(source, (1, 1))
+    look("no source that is newer", True, True)
+
+
 def labels(trial: Trial) -> list[str]:
     return [it.label for it in trial.waiting]
 
@@ -221,6 +258,8 @@ def main() -> None:
         check_control(count, room)
         check_last_lines(count)
         check_static(count, room)
+    with tempfile.TemporaryDirectory(prefix="judge-") as room:
+        check_over_gate(count, room)
     count.end()
 
 

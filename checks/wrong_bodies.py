@@ -38,6 +38,7 @@ def arguments() -> argparse.Namespace:
     parser.add_argument("names", nargs="*", metavar="NAME", help="a crate, a body, or CRATE/BODY; none: the crates that checks/tried.txt doesn't have as they stand")
     parser.add_argument("--stands", action="store_true", help="only look whether each old text stands once, in the function that is named, and whether docs/proofs.md names bodies that there are; proves nothing")
     parser.add_argument("--kept", action="store_true", help="use what is kept in crates/*/out where the crate is proved there, and prove the others")
+    parser.add_argument("--gate", action="store_true", help="try them over the libraries that the gate has just built in crates/*/out, as bin/test does; where one is missing, as with --kept")
     parser.add_argument("--anew", action="store_true", help="try all, also the crates that checks/tried.txt has as they stand")
     parser.add_argument("--record", action="store_true", help="write checks/tried.txt, the line of each crate as soon as all of its bodies are tried; of those that are named it tries the ones that the file doesn't have as they stand")
     parser.add_argument("--jobs", type=int, metavar="N", default=default_jobs(), help="checks side by side (default: %(default)s), each with up to 2.5 GB")
@@ -46,6 +47,8 @@ def arguments() -> argparse.Namespace:
     given = parser.parse_args()
     if given.record and not {*given.names} <= {*listing().lines}:
         parser.error("--record takes whole crates")
+    if given.record and given.gate:
+        parser.error("--record wants libraries that are known to be of these sources: leave out --gate")
     return given
 
 
@@ -128,8 +131,10 @@ def attempt(crates: list[Crate], given: argparse.Namespace, record: Record) -> f
         # (it ends as after an interrupt from the keyboard: what runs is stopped, and the folder is removed)
         for it in (signal.SIGTERM, signal.SIGHUP):
             signal.signal(it, lambda number, _: sys.exit(128 + number))
-        trees = Trees(TOP, folder, {it.name: it.control for it in crates}, given.minutes * 60)
-        if given.kept:
+        trees = Trees(TOP, folder, {it.name: it.control for it in crates}, given.minutes * 60, given.gate)
+        if trees.is_over_gate:
+            say(f"== the gate's libraries of: {', '.join(trees.libraries)}")
+        elif given.kept or given.gate:
             kept = [it for it in trees.needed if trees.take_kept(it)]
             say(f"== kept work of: {', '.join(kept) or 'no crate'}")
 

@@ -150,11 +150,16 @@ def link_program(prover):
     return prover.made
 
 
-def left_by_gate(of):
-    """The libraries that the gate built for what is built here: all of them, or none. One with a stamp beside it is of other commands."""
-    found = {it: f"{TOP}/crates/{it}/out/rlib/{it}.rlib" for it in listing().below(of)[:-1]}
-    is_whole = all(os.path.isdir(it) and not os.path.isfile(f"{os.path.dirname(it)}/stamp") for it in found.values())
-    return found if is_whole else {}
+def left_by_gate(names, top=TOP):
+    """The libraries that the gate built of these crates: all of them, or none, since those of other commands don't fit beside them. One
+    with a stamp beside it is of other commands, and one that is older than a source is of another source."""
+
+    def is_there(name, made):
+        is_gates = os.path.isdir(made) and not os.path.isfile(f"{os.path.dirname(made)}/stamp")
+        return is_gates and all(os.path.getmtime(it) <= os.path.getmtime(made) for it in sources.files_of(f"{top}/crates/{name}"))
+
+    found = {it: f"{top}/crates/{it}/out/rlib/{it}.rlib" for it in names}
+    return found if all(is_there(*it) for it in found.items()) else {}
 
 
 @contextlib.contextmanager
