@@ -122,8 +122,7 @@ class Tries:
 
 def main() -> None:
     count = ran.Count()
-    program = ran.gates_program("connection_bench")
-    count.check("the gate built connection_bench", program is not None)
+    program = count.built("connection_bench", ran.gates_program("connection_bench"))
     if program is None or ran.lacks("cc", refusals.WHY):
         count.end()
     tries = Tries(program)

@@ -53,7 +53,7 @@ def main(words: list[str]) -> None:
     options = words_of(words)
     ran.built()
     fuzzer = fuzzing.Fuzzer(partial(cases.run, options.player))
-    fuzzer.count.check("the gate built peer_bench", options.player is not None)
+    fuzzer.count.built("peer_bench", options.player)
     if options.player and options.replay:
         why = fuzzer.breaks(fuzzing.trial_in(options.replay))
         fuzzer.count.check(options.replay, why is None, why or "")

@@ -175,9 +175,7 @@ def check_all(count):
     """Counts the instructions of all sizes, as many side by side as there are processors, and compares them."""
     if ran.lacks("valgrind", "it counts the instructions"):
         return
-    bench, connection = ran.gates_program("peer_bench"), ran.gates_program("connection_bench")
-    count.check("the gate built peer_bench", bench is not None)
-    count.check("the gate built connection_bench", connection is not None)
+    bench, connection = (count.built(it, ran.gates_program(it)) for it in ("peer_bench", "connection_bench"))
     measured = [*inputs(), *(orders(bench) if bench else ()), *(connections(connection) if connection else ())]
     counts = iter(ran.side_by_side(partial(counted, it) for _, size, counted in measured for it in (0, size // 2, size)))
     for label, size, _ in measured:

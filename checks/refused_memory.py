@@ -70,8 +70,7 @@ class Refused:
 
     def test(self, name: str, is_well: Callable[[int, bytes, bytes, bool], bool], ways: tuple[str, ...]) -> None:
         """A test that the gate built."""
-        test = ran.test_named(name)
-        self.count.check(f"the gate built the test {name}", test is not None)
+        test = self.count.built(f"the test {name}", ran.test_named(name))
         if test:
             self.each(name, list(test), b"", is_well, ways)
 

@@ -13,8 +13,7 @@ count = ran.Count()
 
 def check_tests():
     for threaded in THREADED:
-        test = ran.test_named(threaded)
-        count.check(f"the gate built {threaded}", test is not None)
+        test = count.built(threaded, ran.test_named(threaded))
         for turn in range(1, TURNS + 1 if test else 1):
             status, _ = ran.told_by(test, 60)
             count.check(f"{threaded}, run {turn}", status == 0, f"{status}")
@@ -40,8 +39,7 @@ def check_wake_ups(bench):
 
 
 check_tests()
-BENCH = ran.gates_program("peer_bench")
-count.check("the gate built peer_bench", BENCH is not None)
+BENCH = count.built("peer_bench", ran.gates_program("peer_bench"))
 if BENCH:
     check_jobs(BENCH)
     check_wake_ups(BENCH)

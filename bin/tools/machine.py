@@ -2,11 +2,16 @@
 import os
 import shutil
 import subprocess
+import sys
 
 # The most that one check is likely to take, in bytes.
 MEMORY = 2_500_000_000
 # What has to be there, and Debian's packages that bring it.
 TOOLS = {"cc": ["gcc", "libc6-dev"], "valgrind": ["valgrind"], "/usr/bin/time": ["time"]}
+PYTEST, PYTEST_PACKAGES = "pytest with xdist", ["python3-pytest", "python3-pytest-xdist"]
+# The interpreters that may have it: the one that runs this, and Debian's own, for which its packages are.
+PYTHONS = [sys.executable, "/usr/bin/python3"]
+FITS = "import sys, pytest, xdist; sys.exit(sys.version_info < (3, 11))"
 
 
 def processors():
@@ -18,8 +23,24 @@ def memory():
     return os.sysconf("SC_PHYS_PAGES") * os.sysconf("SC_PAGE_SIZE")
 
 
+def python_with_pytest():
+    """The interpreter that runs the tests, or None: one of Python 3.11 or later that has pytest and xdist."""
+    quiet = {"stdin": subprocess.DEVNULL, "stdout": subprocess.DEVNULL, "stderr": subprocess.DEVNULL, "check": False}
+    return next((it for it in PYTHONS if shutil.which(it) and subprocess.run([it, "-c", FITS], **quiet).returncode == 0), None)
+
+
 def lacking():
-    return [it for it in TOOLS if shutil.which(it) is None]
+    missing = [it for it in TOOLS if shutil.which(it) is None]
+    return missing if python_with_pytest() else [*missing, PYTEST]
+
+
+def packages_of(missing):
+    return [package for it in missing for package in {**TOOLS, PYTEST: PYTEST_PACKAGES}[it]]
+
+
+def to_install(missing):
+    """The command that brings these."""
+    return f"apt-get install -y {' '.join(packages_of(missing))}"
 
 
 def set_up(say):
@@ -27,9 +48,9 @@ def set_up(say):
     missing = lacking()
     if not missing:
         return []
-    packages = [package for it in missing for package in TOOLS[it]]
+    packages = packages_of(missing)
     if os.geteuid() or shutil.which("apt-get") is None:
-        say(f"{', '.join(missing)} missing; as root on Debian they would be installed: apt-get install -y {' '.join(packages)}")
+        say(f"{', '.join(missing)} missing; as root on Debian they would be installed: {to_install(missing)}")
         return missing
     say(f"installing {' '.join(packages)}")
     quiet = {"stdin": subprocess.DEVNULL, "stdout": subprocess.DEVNULL, "stderr": subprocess.STDOUT, "check": False}

@@ -55,9 +55,13 @@ def build(count: ran.Count, library: str, room: str, file: str, way: str, more: 
     return made
 
 
+def has_cjson() -> bool:
+    return said([*C99, "-fsyntax-only", "-x", "c", "-"], HAS_CJSON)[0] == 0
+
+
 def lacks_cjson() -> bool:
     """Whether cJSON isn't there; what is skipped for want of it is told."""
-    is_missing = said([*C99, "-fsyntax-only", "-x", "c", "-"], HAS_CJSON)[0] != 0
+    is_missing = not has_cjson()
     if is_missing:
         print("SKIPPED: the language server in C, since cJSON (libcjson-dev) isn't here", flush=True)
     return is_missing

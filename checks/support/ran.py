@@ -39,6 +39,14 @@ class Count:
     def same(self, name, found, wanted):
         self.check(name, found == wanted, f"{str(found)[:900]} in place of {str(wanted)[:900]}")
 
+    def built(self, what, found):
+        """Counts whether the gate built something, and gives it. In a run without the gate what is missing is told, and doesn't count."""
+        if found is None and is_without_gate():
+            print(f"SKIPPED: what {os.path.relpath(sys.argv[0], TOP)} does with {what}, which the gate builds", flush=True)
+        else:
+            self.check(f"the gate built {what}", found is not None)
+        return found
+
     def end(self):
         print(f"{self.passed} passed, {self.failed} failed")
         sys.exit(1 if self.failed else 0)
@@ -116,13 +124,25 @@ def run_on_broken(words, given, program=None):
     return ended.returncode, ended.stdout, ended.stderr
 
 
-def built():
+class Unbuilt(Exception):
+    """Why there is no program of the sources that lie here."""
+
+
+def build():
     """Builds the program where it isn't built yet."""
     global BUILT
     status, said = told_by([PROGRAM, "--version"], None)
     BUILT = None if status else programs.current(sources.stamp())
     if BUILT is None:
-        print(f"{said.decode(errors='replace')[-2000:]}\n0 passed, 1 failed")
+        raise Unbuilt(said.decode(errors="replace")[-2000:])
+
+
+def built():
+    """The same in a script, which ends where there is none."""
+    try:
+        build()
+    except Unbuilt as fault:
+        print(f"{fault}\n0 passed, 1 failed")
         sys.exit(1)
 
 
@@ -132,6 +152,11 @@ def lacks(tool, why):
     if is_missing:
         print(f"SKIPPED: what {os.path.relpath(sys.argv[0], TOP)} does with {tool}, which isn't there: {why}", flush=True)
     return is_missing
+
+
+def is_without_gate():
+    """Whether this run goes without the gate, as `bin/test --only` does: then what only the gate builds may be missing."""
+    return bool(os.environ.get("WITHOUT_GATE"))
 
 
 def gates_program(name):

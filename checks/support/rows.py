@@ -110,7 +110,7 @@ HELLO = '{"id":"0.1","jsonrpc":"2.0","method":"hello"}'
 # The tables by which rows are played.
 TABLES = {"none": None, "methods": METHODS, "opening": OPENING, "each": EACH}
 OPTIONS = {"eager": [], "lazy": ["--lazy"], "last": ["--last"]}
-# Of a peer without methods: name, input, output, how the input ends ("" where it ends clean). (Long streams are for played_rows.py alone.)
+# Of a peer without methods: name, input, output, how the input ends ("" where it ends clean). (Long streams are for test_played_rows.py alone.)
 ROWS = [
     (it.name, it.stream, it.outputs[0], it.end.replace("Clean", ""))
     for file in ("messages", "heads", "depths")

@@ -34,9 +34,7 @@ SPARE_BLOCKS = 256 * (120 + 8)
 MOST_REQUESTS = 8
 
 count = ran.Count()
-BENCH, HOST = ran.gates_program("peer_bench"), ran.gates_program("connection_bench")
-count.check("the gate built peer_bench", BENCH is not None)
-count.check("the gate built connection_bench", HOST is not None)
+BENCH, HOST = (count.built(it, ran.gates_program(it)) for it in ("peer_bench", "connection_bench"))
 
 
 def check_work(words, name, number, outcome):
