@@ -1,7 +1,7 @@
 """How the tests of this folder run: the program is there before the first, and the last line is 'N passed, M failed'.
 
-Where a tool is missing a test is skipped, and told in a line 'SKIPPED: ..', as the scripts of this folder do. Tests that measure time or memory
-have the mark `alone`: bin/test runs them while nothing else runs."""
+Where a tool is missing a test is skipped, and told in a line 'SKIPPED: ..', as the scripts of this folder do. Tests
+that measure time or memory have the mark `alone`: bin/test runs them while nothing else runs."""
 from collections import Counter
 
 import pytest
@@ -24,8 +24,14 @@ def is_worker(config):
 
 
 def pytest_addoption(parser):
-    parser.addoption("--player", metavar="FILE", help="the program that plays the rows of played_rows/, in place of the peer_bench that the gate built")
-    parser.addoption("--rows", metavar="FILE", action="append", help="a file of rows to play in place of those of played_rows/")
+    parser.addoption(
+        "--player",
+        metavar="FILE",
+        help="the program that plays the rows of played_rows/, in place of the peer_bench that the gate built",
+    )
+    parser.addoption(
+        "--rows", metavar="FILE", action="append", help="a file of rows to play in place of those of played_rows/"
+    )
 
 
 def pytest_configure(config):
@@ -63,7 +69,9 @@ def pytest_unconfigure(config):
     found = {kind: len(reporter.stats.get(kind, [])) for kind in ("passed", "failed", "error")}
     # (a run that was interrupted, or found no test, failed too)
     failed = found["failed"] + found["error"] or int(TALLY.status != 0)
-    for why, times in Counter(it.longrepr[2].removeprefix("Skipped: ") for it in reporter.stats.get("skipped", [])).items():
+    for why, times in Counter(
+        it.longrepr[2].removeprefix("Skipped: ") for it in reporter.stats.get("skipped", [])
+    ).items():
         print(f"SKIPPED: {why}{f' ({times} tests)' if times > 1 else ''}")
     print(f"{TALLY.comparisons + expecting.Made.number:,} comparisons in {found['passed'] + found['failed']:,} tests")
     print(f"{found['passed']} passed, {failed} failed", flush=True)

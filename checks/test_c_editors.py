@@ -1,7 +1,8 @@
-"""Whole sessions of editors with the language server in C (examples/c/language_server.c, over the static library): Neovim's own client, and
-Eglot in Emacs. Each shows a diagnostic and takes it away again, hovers through a setting that the server asks it for, cancels a hover, makes
-500 calls at once, asks for what the server doesn't know, and shuts it down; the server then ends with the status 0. What it wrote is looked at
-too: a cancelled hover is answered once, and each other once."""
+"""Whole sessions of editors with the language server in C (examples/c/language_server.c, over the static library):
+Neovim's own client, and Eglot in Emacs. Each shows a diagnostic and takes it away again, hovers through a setting that
+the server asks it for, cancels a hover, makes 500 calls at once, asks for what the server doesn't know, and shuts it
+down; the server then ends with the status 0. What it wrote is looked at too: a cancelled hover is answered once, and
+each other once."""
 import os
 import re
 import subprocess
@@ -46,7 +47,12 @@ def written(file: Path) -> str:
 
 
 def needs_eglot(room: Path) -> None:
-    how = {"env": {**os.environ, "HOME": str(room)}, "stdin": subprocess.DEVNULL, "capture_output": True, "check": False}
+    how = {
+        "env": {**os.environ, "HOME": str(room)},
+        "stdin": subprocess.DEVNULL,
+        "capture_output": True,
+        "check": False,
+    }
     if subprocess.run(["emacs", "--batch", "--eval", "(require 'eglot)"], **how).returncode:
         pytest.skip("a session of Eglot, which emacs lacks (elpa-eglot)")
 

@@ -1,6 +1,7 @@
-"""The proved program `connection_bench`, by its command `host`, hosts over pipes as docs/connection.md says, with methods in its own code:
-sums, calls back, unknown methods, notifications, cancels, batches, broken contents, inputs that end early, and devices that fail. Each row is
-worked out by hand from the page, and is played whole, cut, and while the other side waits for each line."""
+"""The proved program `connection_bench`, by its command `host`, hosts over pipes as docs/connection.md says, with
+methods in its own code: sums, calls back, unknown methods, notifications, cancels, batches, broken contents, inputs
+that end early, and devices that fail. Each row is worked out by hand from the page, and is played whole, cut, and while
+the other side waits for each line."""
 import subprocess
 from typing import IO, Callable, NamedTuple
 
@@ -25,7 +26,12 @@ def error(number: str, code: int, message: str) -> str:
 
 
 NO_METHOD, NO_PARAMS = (-32601, "Method not found"), (-32602, "Invalid params")
-CANCELLED, NO_REPLY, INVALID, PARSE = (-32800, "Request cancelled"), (-32000, "No reply"), (-32600, "Invalid Request"), (-32700, "Parse error")
+CANCELLED, NO_REPLY, INVALID, PARSE = (
+    (-32800, "Request cancelled"),
+    (-32000, "No reply"),
+    (-32600, "Invalid Request"),
+    (-32700, "Parse error"),
+)
 FAULT, INTERNAL = (-32603, "Invalid reply"), (-32603, "Internal error")
 SPACED, A_1, TEXT_A = '{ "a" : 1.0}', '{"a":1.0}', '"a"'
 UNKNOWN = (("nope", "1"), ("", "null"), ("Add", '"x"'))
@@ -97,7 +103,10 @@ ROWS = (
     Row("no sums", no_sums()),
     Row("a call back", lines(FIRST, f"< {replied(1, SPACED)}", f"> {answered('7', A_1)}")),
     Row("a call back that fails", lines(FIRST, f"< {FAILED}", f"> {FAILED_7}")),
-    Row("a call back with a faulty reply", lines(FIRST, f"< {FAULTY}", f"> {error('7', *FAULT)}", f"< {replied(1, '1')}")),
+    Row(
+        "a call back with a faulty reply",
+        lines(FIRST, f"< {FAULTY}", f"> {error('7', *FAULT)}", f"< {replied(1, '1')}"),
+    ),
     Row(
         "calls back without params, with an object, and with what nests too deep",
         lines(
@@ -114,9 +123,22 @@ ROWS = (
             f"< {replied(1, '6')}",
         ),
     ),
-    Row("a reply that nests too deep to be said again", lines(FIRST, f"< {replied(1, DEEP)}", f"> {error('7', *INTERNAL)}")),
-    Row("unknown methods", lines(*(it for method, id_ in UNKNOWN for it in (f"< {asked(method, '[1]', id_)}", f"> {error(id_, *NO_METHOD)}")))),
-    Row("notifications", lines(f"< {NOTICE}", '< {"jsonrpc":"2.0","method":"add","params":[1]}', '< {"jsonrpc":"2.0","method":"ask"}', ONE)),
+    Row(
+        "a reply that nests too deep to be said again",
+        lines(FIRST, f"< {replied(1, DEEP)}", f"> {error('7', *INTERNAL)}"),
+    ),
+    Row(
+        "unknown methods",
+        lines(
+            *(it for method, id_ in UNKNOWN for it in (f"< {asked(method, '[1]', id_)}", f"> {error(id_, *NO_METHOD)}"))
+        ),
+    ),
+    Row(
+        "notifications",
+        lines(
+            f"< {NOTICE}", '< {"jsonrpc":"2.0","method":"add","params":[1]}', '< {"jsonrpc":"2.0","method":"ask"}', ONE
+        ),
+    ),
     Row(
         "a cancel",
         lines(
@@ -162,7 +184,14 @@ ROWS = (
     ),
     Row(
         "calls back without a reply",
-        lines(FIRST, f"< {ASK}", f"> {confirm(2, PARAMS)}", "$", f"> {error('7', *NO_REPLY)}", f"> {error('7', *NO_REPLY)}"),
+        lines(
+            FIRST,
+            f"< {ASK}",
+            f"> {confirm(2, PARAMS)}",
+            "$",
+            f"> {error('7', *NO_REPLY)}",
+            f"> {error('7', *NO_REPLY)}",
+        ),
     ),
     Row("nothing", ""),
 )
@@ -181,7 +210,10 @@ def lined(content: bytes) -> bytes:
     return content + b"\n"
 
 
-FORMS: dict[str, tuple[list[str], Callable[[bytes], bytes]]] = {"frames": (["host"], framed), "lines": (["host", "--lines"], lined)}
+FORMS: dict[str, tuple[list[str], Callable[[bytes], bytes]]] = {
+    "frames": (["host"], framed),
+    "lines": (["host", "--lines"], lined),
+}
 ROW = pytest.mark.parametrize("row", named(ROWS))
 IN_FORM = pytest.mark.parametrize("form", FORMS)
 
@@ -207,7 +239,9 @@ def test_row(program: str, row: Row, form: str) -> None:
 
 
 def opened(program: str, words: list[str]) -> "subprocess.Popen[bytes]":
-    return subprocess.Popen([program, *words], stdin=subprocess.PIPE, stdout=subprocess.PIPE, stderr=subprocess.PIPE, bufsize=0)
+    return subprocess.Popen(
+        [program, *words], stdin=subprocess.PIPE, stdout=subprocess.PIPE, stderr=subprocess.PIPE, bufsize=0
+    )
 
 
 @ROW

@@ -1,6 +1,7 @@
-"""The proved program `connection_bench`, by its command `script`, gives what the rows of checks/connection_rows have, which are worked out by
-hand from docs/connection.md, and what a host without methods gives for the rows of the peer without methods; also where each feed of frames
-and lines comes byte by byte, or is cut at any one place. It refuses lines that can't be read, and what it said before one goes out."""
+"""The proved program `connection_bench`, by its command `script`, gives what the rows of checks/connection_rows have,
+which are worked out by hand from docs/connection.md, and what a host without methods gives for the rows of the peer
+without methods; also where each feed of frames and lines comes byte by byte, or is cut at any one place. It refuses
+lines that can't be read, and what it said before one goes out."""
 import pytest
 
 from support import connection_fuzzing as fuzzing
@@ -29,7 +30,10 @@ def gives(program: str, row: rows.Row) -> None:
         same([], [])
         return
     at = next((at for at, it in enumerate(zip(row.gives, found)) if it[0] != it[1]), min(len(row.gives), len(found)))
-    lines = [[f"{action.line[:300]} => {it[:600]}" for action, it in zip(row.actions[: at + 1], of)][-10:] for of in (found, row.gives)]
+    lines = [
+        [f"{action.line[:300]} => {it[:600]}" for action, it in zip(row.actions[: at + 1], of)][-10:]
+        for of in (found, row.gives)
+    ]
     same(lines[0], lines[1], why)
     check(False, why)
 
@@ -51,7 +55,8 @@ def test_all_rows_one_behind_another(program: str) -> None:
     gives(program, rows.Row("all rows", tuple(together), tuple(it for row in found for it in row.gives)))
 
 
-# A line that can't be read, one before the settings, and one without its LF end the program; what came before has gone out.
+# A line that can't be read, one before the settings, and one without its LF end the program; what came before has gone
+# out.
 
 
 @pytest.mark.parametrize("line", named((*(it.encode() for it in rows.UNREADABLE), b"feed \xff", b"\xc3\xa9"), repr))

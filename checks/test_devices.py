@@ -1,5 +1,6 @@
-"""Streams that fail at each byte, and streams that give or take few bytes at a time: `play` and `serve` write the row's very bytes, or the
-front of them that was taken, and say why they ended. What is waited for ends within 20 seconds, and a server's threads end with it."""
+"""Streams that fail at each byte, and streams that give or take few bytes at a time: `play` and `serve` write the row's
+very bytes, or the front of them that was taken, and say why they ended. What is waited for ends within 20 seconds, and
+a server's threads end with it."""
 import errno
 import random
 import time
@@ -64,7 +65,9 @@ def test_output_that_stops_at_byte(narrowed: Narrowed, command: str, stop: int) 
 ERRORS_OF_OUTPUTS = [*((command, it) for command in ("play", "serve") for it in WRITE_ERRORS), ("serve", errno.EINTR)]
 
 
-@pytest.mark.parametrize("command, number", ERRORS_OF_OUTPUTS, ids=[f"{command}-{errno.errorcode[it]}" for command, it in ERRORS_OF_OUTPUTS])
+@pytest.mark.parametrize(
+    "command, number", ERRORS_OF_OUTPUTS, ids=[f"{command}-{errno.errorcode[it]}" for command, it in ERRORS_OF_OUTPUTS]
+)
 def test_error_of_an_output(narrowed: Narrowed, command: str, number: int) -> None:
     expect(narrowed, command, (1, REPLIED[:90], WRITE), write_stop=90, stream_error=number)
 
@@ -156,7 +159,11 @@ def test_threads_after_a_frame_fault(narrowed: Narrowed, workers: int, goes_on: 
     with Client(words_of("serve", workers)[1:]) as it:
         it.send(rows.ask())
         it.send_bytes(b"x\r\n")
-        same([it.receive(narrow.PATIENCE) for _ in range(2)], [rows.called("1.1"), error(7, -32000, "No reply")], "what came before is answered")
+        same(
+            [it.receive(narrow.PATIENCE) for _ in range(2)],
+            [rows.called("1.1"), error(7, -32000, "No reply")],
+            "what came before is answered",
+        )
         check(threads_become(it, 2), f"the workers don't end: {it.threads()} threads")
         same(end_after(it, goes_on), (1, b"input ended: BadHead\n"))
 

@@ -1,5 +1,6 @@
-"""Runs the clients that editors have of their own on the language server of examples/language_server: each starts it, asks for a hover,
-for which the server calls the editor back, cancels a request, asks for what the server doesn't know, and ends it."""
+"""Runs the clients that editors have of their own on the language server of examples/language_server: each starts it,
+asks for a hover, for which the server calls the editor back, cancels a request, asks for what the server doesn't know,
+and ends it."""
 import os
 import time
 from pathlib import Path

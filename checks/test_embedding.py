@@ -1,5 +1,5 @@
-"""A stranger with docs/embedding.md: its commands are run in a copy of what the repository has for hosts, without the Rattle kit on the PATH,
-and print what stands below them. What it shows of an example stands there."""
+"""A stranger with docs/embedding.md: its commands are run in a copy of what the repository has for hosts, without the
+Rattle kit on the PATH, and print what stands below them. What it shows of an example stands there."""
 import os
 import shutil
 import subprocess
@@ -19,7 +19,9 @@ BLOCKS = [it for it in pages.read_blocks(*PAGE) if it[0]]
 
 def without_kit() -> str:
     """The PATH without the folders that have the kit's command."""
-    return os.pathsep.join(it for it in os.environ["PATH"].split(os.pathsep) if not os.path.exists(os.path.join(it, "rt")))
+    return os.pathsep.join(
+        it for it in os.environ["PATH"].split(os.pathsep) if not os.path.exists(os.path.join(it, "rt"))
+    )
 
 
 def test_blocks_of_page() -> None:
@@ -53,7 +55,9 @@ def run_commands(room: Path, of_cargo: bool) -> None:
     for (mark, text), (_, printed) in zip(BLOCKS, BLOCKS[1:]):
         if mark == "sh" and ("cargo" in text) == of_cargo:
             env = {**os.environ, "PATH": path}
-            ended = subprocess.run(["sh", "-ec", text], cwd=room, env=env, capture_output=True, timeout=300, check=False)
+            ended = subprocess.run(
+                ["sh", "-ec", text], cwd=room, env=env, capture_output=True, timeout=300, check=False
+            )
             got = (ended.returncode, ended.stdout.decode(errors="replace"))
             same(got, (0, printed), f"{text.splitlines()[0]} ..: {ended.stderr[-500:]!r}")
 

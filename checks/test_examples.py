@@ -1,6 +1,7 @@
-"""Plays each stream of examples/ with the table there, read as it comes, lazily, and with the last method first, and compares what is
-printed with the file beside the stream; and runs the commands of its page, of the first one and of the page on commands. The page on
-connections shows the host that the gate runs. Each link of a page leads somewhere, and the page on changes begins with the program's version."""
+"""Plays each stream of examples/ with the table there, read as it comes, lazily, and with the last method first, and
+compares what is printed with the file beside the stream; and runs the commands of its page, of the first one and of the
+page on commands. The page on connections shows the host that the gate runs. Each link of a page leads somewhere, and
+the page on changes begins with the program's version."""
 import glob
 import os
 import re
@@ -31,7 +32,9 @@ def test_stream(name: str) -> None:
         own = os.path.join(FOLDER, name + ending)
         output = ran.text_of(own if os.path.exists(own) else os.path.join(FOLDER, f"{name}.out"))
         for piece in ("1", "7", "65536"):
-            pages.check_play(COUNT, name, ["--table", TABLE, *words, "--piece", piece], ran.text_of(FOLDER, f"{name}.in"), output)
+            pages.check_play(
+                COUNT, name, ["--table", TABLE, *words, "--piece", piece], ran.text_of(FOLDER, f"{name}.in"), output
+            )
 
 
 def test_there_are_streams() -> None:

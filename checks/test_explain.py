@@ -1,5 +1,6 @@
-"""What `--explain` adds to the one line on standard error: for each cause its lines, which are those of the table of docs/commands.md, in its
-order; without the option the line stands alone. And what else the program says to its user: help, and refused words."""
+"""What `--explain` adds to the one line on standard error: for each cause its lines, which are those of the table of
+docs/commands.md, in its order; without the option the line stands alone. And what else the program says to its user:
+help, and refused words."""
 import errno
 import os
 import re
@@ -23,7 +24,8 @@ Ended = tuple[int, bytes, bytes]
 
 
 class Row(NamedTuple):
-    """What runs the program, given some more words; the line that it says, and those that `--explain` adds; and the status."""
+    """What runs the program, given some more words; the line that it says, and those that `--explain` adds; and the
+    status."""
 
     name: str
     run: Callable[[list[str]], Ended]
@@ -46,17 +48,26 @@ def section_of(page: str, heading: str, level: str = "##") -> str:
 
 
 def table_of_page() -> list[tuple[list[str], list[str]]]:
-    """For each first line that standard error may have, the lines that may stand after it, as docs/commands.md has them."""
-    found = [it.strip("|").split("|") for it in section_of("commands.md", "More lines").splitlines() if it.startswith("| `")]
-    return [([pattern_of(it) for it in re.findall(r"`(.+?)`", first)], re.findall(r"`(\w+: .+?)`", added)) for first, added in found]
+    """For each first line that standard error may have, the lines that may stand after it, as docs/commands.md has
+    them."""
+    found = [
+        it.strip("|").split("|") for it in section_of("commands.md", "More lines").splitlines() if it.startswith("| `")
+    ]
+    return [
+        ([pattern_of(it) for it in re.findall(r"`(.+?)`", first)], re.findall(r"`(\w+: .+?)`", added))
+        for first, added in found
+    ]
 
 
 PAGE = table_of_page()
 
 
 def lines_on_page(row: Row) -> list[tuple[int | None, str | None]]:
-    """Where the page has each of a row's added lines, in its order: by the number of the first line, and the line there; None where it hasn't."""
-    number = next((it for it, (firsts, _) in enumerate(PAGE) if any(re.fullmatch(pattern, row.first) for pattern in firsts)), None)
+    """Where the page has each of a row's added lines, in its order: by the number of the first line, and the line
+    there; None where it hasn't."""
+    number = next(
+        (it for it, (firsts, _) in enumerate(PAGE) if any(re.fullmatch(pattern, row.first) for pattern in firsts)), None
+    )
     templates = iter(PAGE[number][1] if number is not None else [])
     return [(number, next((it for it in templates if re.fullmatch(pattern_of(it), line)), None)) for line in row.added]
 
@@ -89,7 +100,9 @@ def on_streams(*words: str, given: bytes | None = None, **opened: Callable[[], i
     return after(run, *words)
 
 
-def with_file(name: str, text: str, run: Callable[[list[str]], Ended], size: int | None = None) -> Callable[[list[str]], Ended]:
+def with_file(
+    name: str, text: str, run: Callable[[list[str]], Ended], size: int | None = None
+) -> Callable[[list[str]], Ended]:
     """What runs the program once a file has this text, and so many bytes; the file is gone afterwards."""
 
     def written(more: list[str]) -> Ended:
@@ -167,7 +180,9 @@ def limits() -> Iterator[Row]:
         name = " ".join(command)
         # (the line with the length has 20 bytes)
         limited = words_of(*command, "--content", "39", given=FRAME)
-        yield Row(f"{name}, a lower limit", limited, "input ended: TooLarge", ("frame: from byte 1", "fault: at byte 20"))
+        yield Row(
+            f"{name}, a lower limit", limited, "input ended: TooLarge", ("frame: from byte 1", "fault: at byte 20")
+        )
         full = words_of(*command, "--calls", "2", given=FRAME * 3)
         yield Row(f"{name}, too many calls", full, "input ended: Full", ("limit: 2 calls",))
     for given, number in ((LINE, 1), (b"\n{}\r\n" + LINE + b"{}\n", 3), (b"\n" * 70_000 + LINE[:-1], 70_001)):
@@ -175,28 +190,49 @@ def limits() -> Iterator[Row]:
         yield Row(f"a long line, {number}", run, "input ended: TooLarge", (f"line: {number}",))
 
 
-# Streams that fail: an input that is a folder, one that would block, and one that is reset; a full device, and an output of five bytes.
+# Streams that fail: an input that is a folder, one that would block, and one that is reset; a full device, and an
+# output of five bytes.
 
 PLAYED, SERVED = "failed: Read", "input ended: Read"
 LONG = LINE + b"[1" + b",1" * 210_000 + b"]\n"
 
 
 def streams() -> Iterator[Row]:
-    for command, given, first in ((["play"], FRAME, PLAYED), (["play", "--lines"], LINE, PLAYED), (["serve"], FRAME, SERVED)):
+    for command, given, first in (
+        (["play"], FRAME, PLAYED),
+        (["play", "--lines"], LINE, PLAYED),
+        (["serve"], FRAME, SERVED),
+    ):
         name = " ".join(command)
-        yield Row(f"{name} of a folder", on_streams(*command, stdin=folder), first, (STANDARD_INPUT, system_says(errno.EISDIR)))
-        yield Row(f"{name} of what doesn't block", on_streams(*command, stdin=idle), first, (STANDARD_INPUT, system_says(errno.EAGAIN)))
+        yield Row(
+            f"{name} of a folder",
+            on_streams(*command, stdin=folder),
+            first,
+            (STANDARD_INPUT, system_says(errno.EISDIR)),
+        )
+        yield Row(
+            f"{name} of what doesn't block",
+            on_streams(*command, stdin=idle),
+            first,
+            (STANDARD_INPUT, system_says(errno.EAGAIN)),
+        )
         broken = partial(ran.run_on_broken, given=given)
-        yield Row(f"{name} of what is reset", after(broken, *command), first, (STANDARD_INPUT, system_says(errno.ECONNRESET)))
+        yield Row(
+            f"{name} of what is reset", after(broken, *command), first, (STANDARD_INPUT, system_says(errno.ECONNRESET))
+        )
     for command, given in ((["play", "--lines"], LINE), (["serve"], FRAME)):
         name, full = " ".join(command), on_streams(*command, given=given, stdout=full_device)
         yield Row(f"{name} into a full device", full, "failed: Write", (STANDARD_OUTPUT, system_says(errno.ENOSPC)))
         narrow = after(partial(ran.run_into, 5, given=given), *command)
-        yield Row(f"{name} into an output of five bytes", narrow, "failed: Write", (STANDARD_OUTPUT, system_says(errno.EFBIG)))
+        yield Row(
+            f"{name} into an output of five bytes", narrow, "failed: Write", (STANDARD_OUTPUT, system_says(errno.EFBIG))
+        )
     full = lambda more: on_streams("check", "--table", rows.file_of(rows.METHODS), given=b"", stdout=full_device)(more)
     yield Row("check into a full device", full, "failed: Write", (STANDARD_OUTPUT, system_says(errno.ENOSPC)))
     narrow = lambda more: ran.run_into(5, ["check", "--table", rows.file_of(rows.METHODS), *more])
-    yield Row("check into an output of five bytes", narrow, "failed: Write", (STANDARD_OUTPUT, system_says(errno.EFBIG)))
+    yield Row(
+        "check into an output of five bytes", narrow, "failed: Write", (STANDARD_OUTPUT, system_says(errno.EFBIG))
+    )
     limit = "limit: 16777216 bytes a line; frames have none"
     yield Row("an answer that is no line", words_of("play", "--lines", given=LONG), "failed: Long", (limit,))
 
@@ -238,7 +274,8 @@ def unread_tables() -> Iterator[Row]:
     yield Row("a table of too many bytes", run, CANT_READ, (f"file: {endless}", ENDLESS), 2)
 
 
-# Tables that are refused: text, fault and place, and the lines after the file's. Those of steps are of the second method's first.
+# Tables that are refused: text, fault and place, and the lines after the file's. Those of steps are of the second
+# method's first.
 
 METHODS = 'version = 2\n[[method]]\nname = "first"\n[[method]]\nname = "seco\\nnd"\n'
 SECOND = r"method: seco\nnd"
@@ -247,11 +284,22 @@ NAME = "cause: the name is empty, too long or reserved, or an earlier method has
 REFUSED = [
     ("version = 3\n", "Version, method 0, step 0", "field: version", "cause: the version is neither 1 nor 2"),
     ("version = 1\nopening = []\n", "Field, method 0, step 0", "field: opening", UNKNOWN),
-    ("version = 2\nmethod = 1\n", "Field, method 0, step 0", "field: method", "cause: the field isn't a list of tables"),
+    (
+        "version = 2\nmethod = 1\n",
+        "Field, method 0, step 0",
+        "field: method",
+        "cause: the field isn't a list of tables",
+    ),
     ("version = 1\n[[method]]\n", "Field, method 1, step 0", "field: name", MISSING),
     (METHODS + "stop = 1\n", "Field, method 2, step 0", SECOND, "field: stop", UNKNOWN),
     (METHODS.replace("seco\\nnd", "first"), "Name, method 2, step 0", "method: first", "field: name", NAME),
-    ('version = 2\n[[opening]]\nkind = "notify"\n', "Field, method 0, step 1", "kind: notify", "field: method", MISSING),
+    (
+        'version = 2\n[[opening]]\nkind = "notify"\n',
+        "Field, method 0, step 1",
+        "kind: notify",
+        "field: method",
+        MISSING,
+    ),
 ]
 # kind, its other fields, fault, the field at fault, what is wrong
 STEPS = [
@@ -261,17 +309,42 @@ STEPS = [
     ("call", 'to = 1, method = "m"', "Field", "to", "the field isn't a string"),
     ("skip", 'left = 1, right = 1, count = "2"', "Field", "count", "the field isn't a whole number"),
     ("set", 'to = "r", value = [{ a = 0.5 }]', "Field", "value", "a float or a date stands in the field"),
-    ("each", 'to = "r", over = [], method = "m", on_error = "x"', "Field", "on_error", 'the field is neither "fail" nor "keep"'),
-    ("calls", 'to = "r", list = [{ method = "m" }, { params = 1 }]', "Field", "list", "the field isn't a list of calls"),
+    (
+        "each",
+        'to = "r", over = [], method = "m", on_error = "x"',
+        "Field",
+        "on_error",
+        'the field is neither "fail" nor "keep"',
+    ),
+    (
+        "calls",
+        'to = "r", list = [{ method = "m" }, { params = 1 }]',
+        "Field",
+        "list",
+        "the field isn't a list of calls",
+    ),
     ("fail", 'code = -32100, message = "m"', "Code", "code", "JSON-RPC reserves the codes from -32768 to -32100"),
-    ("answer", 'value = "$r"', "Register", "", "a register or a reference breaks its rule, or no earlier step sets the register"),
+    (
+        "answer",
+        'value = "$r"',
+        "Register",
+        "",
+        "a register or a reference breaks its rule, or no earlier step sets the register",
+    ),
     ("skip", "left = 1, right = 1, count = 65", "Limit", "", "a number, a length or a depth is out of its range"),
 ]
 
 
 def of_step(kind: str, fields: str, fault: str, field: str, cause: str) -> tuple[str, ...]:
     text = METHODS + "step = [{ " + ", ".join(filter(None, (f'kind = "{kind}"', fields))) + " }]\n"
-    return (text, f"{fault}, method 2, step 1", SECOND, f"kind: {kind}", *([f"field: {field}"] if field else []), f"cause: {cause}")
+    return (
+        text,
+        f"{fault}, method 2, step 1",
+        SECOND,
+        f"kind: {kind}",
+        *([f"field: {field}"] if field else []),
+        f"cause: {cause}",
+    )
 
 
 def refused_tables() -> Iterator[Row]:
@@ -279,7 +352,9 @@ def refused_tables() -> Iterator[Row]:
     for number, (text, fault, *added) in enumerate([*REFUSED, *(of_step(*it) for it in STEPS)], 1):
         for command in ("check", "play", "serve"):
             run = with_file("refused.toml", text, words_of(command, "--table", path))
-            yield Row(f"{command}, refused table {number}, {fault}", run, f"table: {fault}", (f"file: {path}", *added), 2)
+            yield Row(
+                f"{command}, refused table {number}, {fault}", run, f"table: {fault}", (f"file: {path}", *added), 2
+            )
 
 
 ROWS = [it for of in (faults, limits, streams, memory, unread_tables, refused_tables) for it in of()]
@@ -358,9 +433,14 @@ def test_refused_words_are_shown_escaped(words: list[str]) -> None:
     status, output, errors = ran.run(words, LINE)
     escaped = ["".join(ESCAPED.get(it, it) for it in word) for word in words]
     is_plain = not re.search(r"[\x00-\x09\x0b-\x1f\x7f-\x9f]", errors.decode())
-    well = is_plain and errors.startswith(b"error: ") and (status, output, errors) == (2, b"", ran.run(escaped, LINE)[2])
+    well = (
+        is_plain and errors.startswith(b"error: ") and (status, output, errors) == (2, b"", ran.run(escaped, LINE)[2])
+    )
     check(well, f"{status}, {output!r}, {errors!r}")
-    check([it for it in escaped if "\\" in it and it.split("=")[-1] in errors.decode()], f"what was refused isn't shown: {errors!r}")
+    check(
+        [it for it in escaped if "\\" in it and it.split("=")[-1] in errors.decode()],
+        f"what was refused isn't shown: {errors!r}",
+    )
 
 
 # Help has each status with its line, and what a caller has to know.
@@ -377,7 +457,9 @@ def test_page_has_the_ends_of_a_run() -> None:
     check(len(ENDS) >= 8, f"{ENDS}")
 
 
-TOLD = [it for it in ENDS if it[1] != "input ended: X"] + [("1", f"input ended: {it}") for it in (*FAULT_NAMES, "Read", "Full")]
+TOLD = [it for it in ENDS if it[1] != "input ended: X"] + [
+    ("1", f"input ended: {it}") for it in (*FAULT_NAMES, "Read", "Full")
+]
 
 
 @pytest.mark.parametrize("row", named(TOLD, lambda it: it[1]))
@@ -387,7 +469,9 @@ def test_help_tells_of_each_end(row: tuple[str, str]) -> None:
     check(re.search(rf"^  {status}  {re.escape(line)}  +\w", told, re.M), told)
 
 
-@pytest.mark.parametrize("text", named(("must be blocking", "CR LF is a content", "as Long. Frames have no such limit", "--explain"), str))
+@pytest.mark.parametrize(
+    "text", named(("must be blocking", "CR LF is a content", "as Long. Frames have no such limit", "--explain"), str)
+)
 def test_help_says(text: str) -> None:
     told = ran.run(["--help"])[1].decode()
     check(text in told, told)

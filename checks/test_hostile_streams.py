@@ -1,6 +1,6 @@
-"""Hostile streams, by a peer with methods: heads and contents at their limits, cut at each place; thousands of replies that nobody waits for;
-batches of 10,000 requests; values as deep as they may be; and cancels by ids of every kind. They are played, eagerly and lazily, and served
-by two workers."""
+"""Hostile streams, by a peer with methods: heads and contents at their limits, cut at each place; thousands of replies
+that nobody waits for; batches of 10,000 requests; values as deep as they may be; and cancels by ids of every kind. They
+are played, eagerly and lazily, and served by two workers."""
 import random
 import zlib
 from functools import partial
@@ -20,8 +20,18 @@ DEEP = "[" * 126 + "]" * 126
 SUM = '{"jsonrpc":"2.0","method":"add","params":[%d,1],"id":%d}'
 
 Stream = tuple[str, bytes, bytes, str]  # name, input, output, how the input ends ("" where it ends clean)
-BATCH = ("a batch with a sum", rows.frames(rows.MIXED), rows.frames(rows.batch(rows.answered("5", 1), rows.INVALID, rows.NOT_FOUND_X)), "")
-CALL = ("a call and its reply", rows.frames(rows.ask(), rows.replied("1.1")), rows.frames(rows.called("1.1"), rows.answered("true")), "")
+BATCH = (
+    "a batch with a sum",
+    rows.frames(rows.MIXED),
+    rows.frames(rows.batch(rows.answered("5", 1), rows.INVALID, rows.NOT_FOUND_X)),
+    "",
+)
+CALL = (
+    "a call and its reply",
+    rows.frames(rows.ask(), rows.replied("1.1")),
+    rows.frames(rows.called("1.1"), rows.answered("true")),
+    "",
+)
 NOTICES = ("a batch of notifications", rows.frames(rows.NOTICES), b"", "")
 DEEP_REPLY = (
     "a deep reply in a batch",
@@ -116,7 +126,10 @@ def test_replies_to_no_call() -> None:
 
 
 def test_replies_with_ids_that_no_call_has() -> None:
-    given = rows.frames(rows.ask()) + rows.frames(*(rows.replied(key) for key in ("1.0", "1.1025", "1000001.1", "01.1", "1", "", "1.1.1"))) * 1_000
+    given = (
+        rows.frames(rows.ask())
+        + rows.frames(*(rows.replied(key) for key in ("1.0", "1.1025", "1000001.1", "01.1", "1", "", "1.1.1"))) * 1_000
+    )
     by_all(given, rows.frames(rows.called("1.1"), rows.NO_REPLY))
 
 
@@ -163,7 +176,9 @@ def served_contents(given: bytes, contents: list[str]) -> None:
 
 def test_batch_that_cancels_itself() -> None:
     cancels = rows.batch(*map(rows.ask, NUMBERS), *map(rows.cancel, reversed(NUMBERS)))
-    by_all(rows.frames(cancels), rows.frames(rows.batch(*(rows.failed(-32800, "Request cancelled", it) for it in NUMBERS))))
+    by_all(
+        rows.frames(cancels), rows.frames(rows.batch(*(rows.failed(-32800, "Request cancelled", it) for it in NUMBERS)))
+    )
 
 
 # An id of a request as it comes and as it goes out, the params of a cancel, and whether these cancel it.
@@ -260,4 +275,7 @@ def test_request_of_that_name(row: tuple[str, str, str, bool]) -> None:
     """It isn't a cancel."""
     it = Cancelling(*row)
     request = it.cancel.replace('"params"', '"id":0,"params"')
-    by_all(rows.frames(it.asked, request), rows.frames(rows.called("1.1"), it.waits, rows.NOT_FOUND.replace('"id":1', '"id":0')))
+    by_all(
+        rows.frames(it.asked, request),
+        rows.frames(rows.called("1.1"), it.waits, rows.NOT_FOUND.replace('"id":1', '"id":0')),
+    )

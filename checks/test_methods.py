@@ -1,5 +1,5 @@
-"""Takes each table out of the page on tables of methods, has the program judge it and play the lines that stand below it, and compares
-what it prints with the page."""
+"""Takes each table out of the page on tables of methods, has the program judge it and play the lines that stand below
+it, and compares what it prints with the page."""
 import os
 from dataclasses import dataclass, field
 
@@ -23,7 +23,8 @@ class Table:
 
 
 def tables_of_page() -> list[Table]:
-    """A block `toml` is followed by one `text`, and then by any number of pairs `in` (with words of `play`) and `out`."""
+    """A block `toml` is followed by one `text`, and then by any number of pairs `in` (with words of `play`) and
+    `out`."""
     tables, given = list[Table](), (list[str](), "")
     for mark, text in pages.read_blocks(*PAGE):
         kind, *words = mark.split() or [""]

@@ -1,4 +1,5 @@
-"""Plays what the left side sends in each picture of the page on the protocol: up to each message, what is written is the picture's."""
+"""Plays what the left side sends in each picture of the page on the protocol: up to each message, what is written is
+the picture's."""
 import re
 from typing import Iterator
 

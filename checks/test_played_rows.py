@@ -1,8 +1,10 @@
-"""Plays the rows of checks/played_rows, or those of `--rows FILE`, by the proved program peer_bench, or by `--player FILE`.
+"""Plays the rows of checks/played_rows, or those of `--rows FILE`, by the proved program peer_bench, or by `--player
+FILE`.
 
-A row says what the peer writes for a stream, byte for byte, how its input ends and what is counted. It is played by each of its schedules,
-and served where it says so, in one process: whole and byte by byte, and where it is played eagerly, cut in two at each place and, if it is
-short, in three at each pair of places. checks/support/row_files.py has the format of the files."""
+A row says what the peer writes for a stream, byte for byte, how its input ends and what is counted. It is played by
+each of its schedules, and served where it says so, in one process: whole and byte by byte, and where it is played
+eagerly, cut in two at each place and, if it is short, in three at each pair of places. checks/support/row_files.py has
+the format of the files."""
 import glob
 import os
 from typing import Iterator, NamedTuple

@@ -1,5 +1,5 @@
-"""Runs the program as a user does: the rows however they are cut, with methods and without, large inputs, lines, command lines, tables
-that are refused, and devices that fail."""
+"""Runs the program as a user does: the rows however they are cut, with methods and without, large inputs, lines,
+command lines, tables that are refused, and devices that fail."""
 import os
 import socket
 import subprocess
@@ -43,7 +43,8 @@ def test_first_line() -> None:
 
 @pytest.mark.parametrize("row", named(rows.ROWS))
 def test_row(row: tuple[str, bytes, bytes, str]) -> None:
-    """A stream that comes to a peer without methods, in pieces; and to one with methods that the stream doesn't name."""
+    """A stream that comes to a peer without methods, in pieces; and to one with methods that the stream doesn't
+    name."""
     _, given, output, end = row
     for piece in PIECES:
         expect_end(["play", "--piece", piece], given, output, end)
@@ -140,7 +141,10 @@ class Calls(NamedTuple):
     def made(cls) -> "Calls":
         numbers = range(1, 10_001)
         keys = [f"{it}.1" for it in numbers]
-        answers = ([rows.answered("true", it) for it in numbers], [rows.failed(-32800, "Request cancelled", it) for it in numbers])
+        answers = (
+            [rows.answered("true", it) for it in numbers],
+            [rows.failed(-32800, "Request cancelled", it) for it in numbers],
+        )
         return cls([rows.ask(it) for it in numbers], [*map(rows.replied, keys)], [*map(rows.called, keys)], *answers)
 
     @property
@@ -176,7 +180,8 @@ def test_10_000_calls(row: tuple[str, list[str], Callable[[Calls], tuple[list[st
 
 # Lower limits. REQUEST has 40 bytes. What is left out has no effect, and nothing behind it is read.
 
-# Two calls in one content; entries that are no calls and a request, and their answers; and a reply that stands behind a call too many.
+# Two calls in one content; entries that are no calls and a request, and their answers; and a reply that stands behind a
+# call too many.
 NOTICE_TWICE = rows.batch(rows.NOTICE, rows.NOTICE)
 NO_CALLS = rows.frames(rows.batch(rows.INVALID, rows.INVALID), rows.NOT_FOUND, rows.UNREADABLE, rows.INVALID)
 REPLIED_LATE = rows.frames(rows.ask(), rows.REQUEST, rows.replied("1.1"))
@@ -187,17 +192,41 @@ TABLE = "TABLE"  # (stands for the file with the methods)
 LIMITED = [
     ("a content of the limit", ["--content", "40"], TWO, BOTH, ""),
     ("a content over the limit", ["--content", "39"], TWO, b"", "TooLarge"),
-    ("a content over the limit behind one of it", ["--content=40"], TWO + rows.frames(rows.REQUEST + " ", rows.REQUEST), BOTH, "TooLarge"),
-    ("a head that promises a byte too much", ["--content", "40"], rows.frames(rows.REQUEST) + b"Content-Length: 41\r\n", ONE, "TooLarge"),
+    (
+        "a content over the limit behind one of it",
+        ["--content=40"],
+        TWO + rows.frames(rows.REQUEST + " ", rows.REQUEST),
+        BOTH,
+        "TooLarge",
+    ),
+    (
+        "a head that promises a byte too much",
+        ["--content", "40"],
+        rows.frames(rows.REQUEST) + b"Content-Length: 41\r\n",
+        ONE,
+        "TooLarge",
+    ),
     ("a content of one byte", ["--content", "1"], rows.frames("1", "[]"), rows.frames(rows.INVALID), "TooLarge"),
     ("as many calls as may come", ["--calls", "2"], TWO, BOTH, ""),
     ("a call more", ["--calls", "1"], TWO, ONE, "Full"),
-    ("a batch with a call too many", ["--calls", "2"], rows.frames(rows.REQUEST, rows.batch(rows.REQUEST, rows.REQUEST), rows.REQUEST), ONE, "Full"),
+    (
+        "a batch with a call too many",
+        ["--calls", "2"],
+        rows.frames(rows.REQUEST, rows.batch(rows.REQUEST, rows.REQUEST), rows.REQUEST),
+        ONE,
+        "Full",
+    ),
     ("a batch of the last calls", ["--calls", "2"], rows.frames(NOTICE_TWICE, rows.REQUEST), b"", "Full"),
     ("entries that are no calls", ["--calls", "1"], rows.frames("[1,1]", rows.REQUEST, "{", "1"), NO_CALLS, ""),
     ("a cancel is a call", ["--calls", "1"], rows.frames(rows.cancel(1), rows.REQUEST), b"", "Full"),
     ("a reply is none", ["--calls", "1", "--table", TABLE], ASKED, CALLED_BACK, ""),
-    ("a reply behind the end", ["--calls", "1", "--table", TABLE], REPLIED_LATE, rows.frames(rows.called("1.1"), rows.NO_REPLY), "Full"),
+    (
+        "a reply behind the end",
+        ["--calls", "1", "--table", TABLE],
+        REPLIED_LATE,
+        rows.frames(rows.called("1.1"), rows.NO_REPLY),
+        "Full",
+    ),
     ("both limits", ["--calls", "1", "--content", "40"], TWO, ONE, "Full"),
     ("the standard limits", ["--calls", "1000000", "--content", "16777216"], TWO, BOTH, ""),
 ]
@@ -208,7 +237,13 @@ CUT = ("a content of the limit", "a content over the limit", "a call more", "a b
 def test_limit(row: tuple[str, list[str], bytes, bytes, str]) -> None:
     name, words, given, output, end = row
     words = [methods() if it == TABLE else it for it in words]
-    for command in (["play"], ["play", "--piece", "1"], ["play", "--lazy", "--piece", "7"], ["serve"], ["serve", "--workers", "1"]):
+    for command in (
+        ["play"],
+        ["play", "--piece", "1"],
+        ["play", "--lazy", "--piece", "7"],
+        ["serve"],
+        ["serve", "--workers", "1"],
+    ):
         expect_end([*command, *words], given, output, end)
     # (the first piece ends at each place of the stream)
     for size in range(2, len(given)) if name in CUT else ():
@@ -343,7 +378,11 @@ def test_refused_table(command: list[str]) -> None:
 
 
 FIRST_METHODS = rows.METHODS[: rows.METHODS.index('[[method]]\nname = "ask"')]
-COUNTED = [("methods", rows.METHODS, 6), ("the first of them alone", FIRST_METHODS, 1), ("an opening, which isn't counted", rows.OPENING, 0)]
+COUNTED = [
+    ("methods", rows.METHODS, 6),
+    ("the first of them alone", FIRST_METHODS, 1),
+    ("an opening, which isn't counted", rows.OPENING, 0),
+]
 
 
 @pytest.mark.parametrize("row", named(COUNTED))
@@ -376,7 +415,8 @@ def test_table_is_judged_before_the_input() -> None:
 
 
 def fed(words: list[str], packets: int, ours: int, its: int, **how: object) -> tuple[int, bytes, bytes]:
-    """Runs the program, each read of which gives one packet of this many, and gives its status and what it wrote to its two outputs."""
+    """Runs the program, each read of which gives one packet of this many, and gives its status and what it wrote to its
+    two outputs."""
 
     def write() -> None:
         try:
@@ -395,7 +435,11 @@ def fed(words: list[str], packets: int, ours: int, its: int, **how: object) -> t
     return child.returncode, output, errors
 
 
-@pytest.mark.parametrize("packets, wanted", [(999_999, (0, b"", b"")), (1_000_000, (1, b"", b"failed: Read\n"))], ids=["999_999", "1_000_000"])
+@pytest.mark.parametrize(
+    "packets, wanted",
+    [(999_999, (0, b"", b"")), (1_000_000, (1, b"", b"failed: Read\n"))],
+    ids=["999_999", "1_000_000"],
+)
 def test_reads_of_an_input(packets: int, wanted: tuple[int, bytes, bytes]) -> None:
     ours, its = socket.socketpair(socket.AF_UNIX, socket.SOCK_SEQPACKET)
     same(fed(["play", "--lines"], packets, ours.detach(), its.fileno(), stdin=its.detach()), wanted)
@@ -407,7 +451,9 @@ READS_OF_A_TABLE = [(999_999, (2, b"", b"table: Version, method 0, step 0\n")), 
 @pytest.mark.parametrize("packets, wanted", READS_OF_A_TABLE, ids=["999_999", "1_000_000"])
 def test_reads_of_a_table(packets: int, wanted: tuple[int, bytes, bytes]) -> None:
     its, ours = os.pipe2(os.O_DIRECT)
-    same(fed(["play", "--table", f"/dev/fd/{its}"], packets, ours, its, stdin=subprocess.DEVNULL, pass_fds=[its]), wanted)
+    same(
+        fed(["play", "--table", f"/dev/fd/{its}"], packets, ours, its, stdin=subprocess.DEVNULL, pass_fds=[its]), wanted
+    )
 
 
 # Devices that fail. Of a failed read nothing is played; a failed write stands in place of how the input ended.
@@ -417,7 +463,9 @@ READ, WRITE = b"failed: Read\n", b"failed: Write\n"
 
 def test_full_device() -> None:
     with open("/dev/full", "wb") as full:
-        ended = subprocess.run([ran.BUILT, "play", "--lines"], input=LINE, stdout=full, stderr=subprocess.PIPE, timeout=60, check=False)
+        ended = subprocess.run(
+            [ran.BUILT, "play", "--lines"], input=LINE, stdout=full, stderr=subprocess.PIPE, timeout=60, check=False
+        )
     same((ended.returncode, ended.stderr), (1, WRITE))
 
 
@@ -446,7 +494,16 @@ NARROW = [
     ("where the input ended badly", 0, ["play"], rows.frames(rows.REQUEST) + b"Content-Length: 1\r\n", b""),
     ("all but the last byte of what check says", 13, ["check", "--table", TABLE], b"", b"ok: 6 methods\n"),
     *((f"{words} into an output that takes nothing", 0, words, b"", b"") for words in (["--help"], ["--version"])),
-    *((f"{it} bytes of a call and its answer", it, ["play", "--lines", "--table", TABLE], rows.lines(rows.ask()), CALL) for it in (0, 62, 63, 100)),
+    *(
+        (
+            f"{it} bytes of a call and its answer",
+            it,
+            ["play", "--lines", "--table", TABLE],
+            rows.lines(rows.ask()),
+            CALL,
+        )
+        for it in (0, 62, 63, 100)
+    ),
 ]
 
 

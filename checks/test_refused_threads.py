@@ -1,5 +1,6 @@
-"""Refuses each thread that a server starts in turn, until a run meets no refusal: with one worker and with more, each refused run ends with
-`failed: Memory`, has read nothing and has written nothing, whichever of its workers or its reader it was; then the row's bytes are written."""
+"""Refuses each thread that a server starts in turn, until a run meets no refusal: with one worker and with more, each
+refused run ends with `failed: Memory`, has read nothing and has written nothing, whichever of its workers or its reader
+it was; then the row's bytes are written."""
 import os
 import tempfile
 
@@ -20,7 +21,9 @@ def refusing() -> refusals.Refusals:
     return refusals.Refusals("refuse_threads")
 
 
-@pytest.mark.parametrize("workers, number", THREADS, ids=[f"{workers}_workers-thread_{number}" for workers, number in THREADS])
+@pytest.mark.parametrize(
+    "workers, number", THREADS, ids=[f"{workers}_workers-thread_{number}" for workers, number in THREADS]
+)
 def test_thread(refusing: refusals.Refusals, workers: int, number: int) -> None:
     words = [ran.BUILT, "serve", "--workers", str(workers)]
     with tempfile.TemporaryFile() as stream:

@@ -1,5 +1,5 @@
-"""Runs the server as its clients do: rows by 1 to 64 workers, messages that go back and forth while the input is open, devices that fail at
-each byte, a client that doesn't read, and nothing to do."""
+"""Runs the server as its clients do: rows by 1 to 64 workers, messages that go back and forth while the input is open,
+devices that fail at each byte, a client that doesn't read, and nothing to do."""
 import os
 import signal
 import subprocess
@@ -146,7 +146,9 @@ def test_input_that_fails() -> None:
 
 
 def test_closed_output() -> None:
-    with subprocess.Popen([ran.BUILT, "serve"], stdin=subprocess.PIPE, stdout=subprocess.PIPE, stderr=subprocess.PIPE) as process:
+    with subprocess.Popen(
+        [ran.BUILT, "serve"], stdin=subprocess.PIPE, stdout=subprocess.PIPE, stderr=subprocess.PIPE
+    ) as process:
         process.stdout.close()
         process.stdin.write(rows.frames(UNKNOWN))
         process.stdin.flush()
@@ -175,7 +177,8 @@ def resident(process: "subprocess.Popen[bytes]") -> int:
 
 
 def taken_of(process: "subprocess.Popen[bytes]", most: int) -> tuple[int, int]:
-    """How many bytes of those that are offered a server takes, until it takes none for two seconds; and the most memory that it had."""
+    """How many bytes of those that are offered a server takes, until it takes none for two seconds; and the most memory
+    that it had."""
     offered = rows.frames(*[UNKNOWN] * 1000)
     taken, left, still, sizes = 0, b"", time.monotonic(), []
     while taken < most and time.monotonic() - still < 2:
@@ -193,10 +196,14 @@ def taken_of(process: "subprocess.Popen[bytes]", most: int) -> tuple[int, int]:
 @pytest.mark.alone
 def test_client_that_doesnt_read_holds_the_server_back() -> None:
     """It takes no more, and its memory stays."""
-    with subprocess.Popen([ran.BUILT, "serve"], stdin=subprocess.PIPE, stdout=subprocess.PIPE, stderr=subprocess.PIPE) as process:
+    with subprocess.Popen(
+        [ran.BUILT, "serve"], stdin=subprocess.PIPE, stdout=subprocess.PIPE, stderr=subprocess.PIPE
+    ) as process:
         os.set_blocking(process.stdin.fileno(), False)
         taken, most = taken_of(process, 100_000_000)
-        print(f"of 100 MB that were offered to a server whose output nobody reads it took {taken:,} bytes; at most {most / 1e6:.1f} MB were resident")
+        print(
+            f"of 100 MB that were offered to a server whose output nobody reads it took {taken:,} bytes; at most {most / 1e6:.1f} MB were resident"
+        )
         check(taken < 8_000_000 and most < 32_000_000, f"{taken:,} taken, {most:,} resident")
         process.stdout.close()
         os.set_blocking(process.stdin.fileno(), True)
@@ -210,7 +217,11 @@ def peak_of(requests: int) -> int:
         for first in range(1, requests + 1, 100):
             numbers = range(first, first + 100)
             it.send(*(request(number, "add", [number, 1]) for number in numbers))
-            same([it.receive() for _ in numbers], [result(number, number + 1) for number in numbers], f"requests from {first} on")
+            same(
+                [it.receive() for _ in numbers],
+                [result(number, number + 1) for number in numbers],
+                f"requests from {first} on",
+            )
         return it.peak()
 
 
@@ -245,6 +256,8 @@ def test_nothing_to_do_costs_nothing(workers: str) -> None:
             pauses.append((time.monotonic() - start) * 1000)
         pauses.sort()
         median, late = pauses[PINGS // 2], pauses[PINGS * 99 // 100]
-        print(f"{workers} workers: {used:.2%} of a processor with nothing to do; after a pause a median of {median:.3f} ms, the 99th of 100 {late:.3f} ms")
+        print(
+            f"{workers} workers: {used:.2%} of a processor with nothing to do; after a pause a median of {median:.3f} ms, the 99th of 100 {late:.3f} ms"
+        )
         it.close_input()
         same(it.end(), ([], 0, b""), "its end")

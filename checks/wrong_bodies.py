@@ -1,17 +1,18 @@
 #!/usr/bin/env python3
 """Has the prover refuse each wrong body of crates/*/wrong-bodies, many in one check, and accept the right ones.
 
-A wrong body is a change of a function's text after which a promise no longer holds, so the check must refuse that function. The
-wrong bodies of different functions are tried at once, in rounds, in copies of the crate. A round looks at the functions that it changes
-and at what these call: each changed function must fall for a reason of its own, and every other is proved, or falls only because it
-calls one of those. What hurts more than that is tried singly, and what isn't refused on the whole crate. Control: right bodies, which
-are written differently, and a comment in each other function that has bodies must be proved, and the rounds stand on what that proof
-kept. checks/tried.txt tells of which crates all bodies were tried as they stand, on whatever machine: these aren't tried again, unless
-they are named, or with --anew.
+A wrong body is a change of a function's text after which a promise no longer holds, so the check must refuse that
+function. The wrong bodies of different functions are tried at once, in rounds, in copies of the crate. A round looks at
+the functions that it changes and at what these call: each changed function must fall for a reason of its own, and every
+other is proved, or falls only because it calls one of those. What hurts more than that is tried singly, and what isn't
+refused on the whole crate. Control: right bodies, which are written differently, and a comment in each other function
+that has bodies must be proved, and the rounds stand on what that proof kept. checks/tried.txt tells of which crates all
+bodies were tried as they stand, on whatever machine: these aren't tried again, unless they are named, or with --anew.
 
-For each wrong body a line says how it was refused: by which clauses or goals, or only because an answer by hand no longer fits
-(which says less: a right body could be refused so too). One that is proved is a failure, and so is one that doesn't compile, whose
-old text no longer stands, or that the check did not judge. The last line is 'N passed, M failed'; the status is 0 only where M is."""
+For each wrong body a line says how it was refused: by which clauses or goals, or only because an answer by hand no
+longer fits (which says less: a right body could be refused so too). One that is proved is a failure, and so is one that
+doesn't compile, whose old text no longer stands, or that the check did not judge. The last line is 'N passed, M
+failed'; the status is 0 only where M is."""
 import argparse
 import glob
 import os
@@ -34,15 +35,52 @@ from tools.repository import listing
 
 def arguments() -> argparse.Namespace:
     summary, _, more = __doc__.partition("\n\n")
-    parser = argparse.ArgumentParser(description=summary, epilog=more, formatter_class=argparse.RawDescriptionHelpFormatter)
-    parser.add_argument("names", nargs="*", metavar="NAME", help="a crate, a body, or CRATE/BODY; none: the crates that checks/tried.txt doesn't have as they stand")
-    parser.add_argument("--stands", action="store_true", help="only look whether each old text stands once, in the function that is named, and whether docs/proofs.md names bodies that there are; proves nothing")
-    parser.add_argument("--kept", action="store_true", help="use what is kept in crates/*/out where the crate is proved there, and prove the others")
-    parser.add_argument("--gate", action="store_true", help="try them over the libraries that the gate has just built in crates/*/out, as bin/test does; where one is missing, as with --kept")
-    parser.add_argument("--anew", action="store_true", help="try all, also the crates that checks/tried.txt has as they stand")
-    parser.add_argument("--record", action="store_true", help="write checks/tried.txt, the line of each crate as soon as all of its bodies are tried; of those that are named it tries the ones that the file doesn't have as they stand")
-    parser.add_argument("--jobs", type=int, metavar="N", default=default_jobs(), help="checks side by side (default: %(default)s), each with up to 2.5 GB")
-    parser.add_argument("--minutes", type=float, metavar="M", default=120, help="the most that one check may take (default: %(default)s)")
+    parser = argparse.ArgumentParser(
+        description=summary, epilog=more, formatter_class=argparse.RawDescriptionHelpFormatter
+    )
+    parser.add_argument(
+        "names",
+        nargs="*",
+        metavar="NAME",
+        help="a crate, a body, or CRATE/BODY; none: the crates that checks/tried.txt doesn't have as they stand",
+    )
+    parser.add_argument(
+        "--stands",
+        action="store_true",
+        help="only look whether each old text stands once, in the function that is named, and whether docs/proofs.md names bodies that there are; proves nothing",
+    )
+    parser.add_argument(
+        "--kept",
+        action="store_true",
+        help="use what is kept in crates/*/out where the crate is proved there, and prove the others",
+    )
+    parser.add_argument(
+        "--gate",
+        action="store_true",
+        help="try them over the libraries that the gate has just built in crates/*/out, as bin/test does; where one is missing, as with --kept",
+    )
+    parser.add_argument(
+        "--anew", action="store_true", help="try all, also the crates that checks/tried.txt has as they stand"
+    )
+    parser.add_argument(
+        "--record",
+        action="store_true",
+        help="write checks/tried.txt, the line of each crate as soon as all of its bodies are tried; of those that are named it tries the ones that the file doesn't have as they stand",
+    )
+    parser.add_argument(
+        "--jobs",
+        type=int,
+        metavar="N",
+        default=default_jobs(),
+        help="checks side by side (default: %(default)s), each with up to 2.5 GB",
+    )
+    parser.add_argument(
+        "--minutes",
+        type=float,
+        metavar="M",
+        default=120,
+        help="the most that one check may take (default: %(default)s)",
+    )
     parser.add_argument("--logs", metavar="FOLDER", help="keep the output of each check there")
     given = parser.parse_args()
     if given.record and not {*given.names} <= {*listing().lines}:
@@ -74,7 +112,9 @@ def read_crates(names: list[str]) -> tuple[list[Crate], list[str]]:
         problems += [it for it in unfit if asked or any(f": {word.rpartition('/')[2]}: " in it for word in names)]
         if crate.bodies:
             crates.append(crate)
-    problems += [f"{it} names no crate with wrong bodies, and no body that can be tried" for it in names if it not in found]
+    problems += [
+        f"{it} names no crate with wrong bodies, and no body that can be tried" for it in names if it not in found
+    ]
     return crates, problems
 
 
@@ -119,14 +159,22 @@ def unknown_in_proofs() -> list[str]:
     known = {os.path.basename(it).removesuffix(".edit") for it in glob.glob(f"{TOP}/crates/*/must-fail/*.edit")}
     for name in listing().lines:
         known |= {it.name for it in read_bodies(Sources(f"{TOP}/crates/{name}"))[0]}
-    rows = [line.split("|")[-2] for line in text_of("docs", "proofs.md").split("\n") if line.startswith("|") and line.endswith("|")]
+    rows = [
+        line.split("|")[-2]
+        for line in text_of("docs", "proofs.md").split("\n")
+        if line.startswith("|") and line.endswith("|")
+    ]
     named = [word for cell in rows for word in re.findall(r"`(\w+)`", cell)]
-    return [f"docs/proofs.md tells of {it}, and no wrong body has that name" for it in dict.fromkeys(named) if it not in known]
+    return [
+        f"docs/proofs.md tells of {it}, and no wrong body has that name"
+        for it in dict.fromkeys(named)
+        if it not in known
+    ]
 
 
 def attempt(crates: list[Crate], given: argparse.Namespace, record: Record) -> float:
-    """Tries the crates' bodies in a folder of this run, and writes the record where that is asked for; gives the processor seconds that it
-    took."""
+    """Tries the crates' bodies in a folder of this run, and writes the record where that is asked for; gives the
+    processor seconds that it took."""
     with tempfile.TemporaryDirectory(prefix="wrong-bodies-") as folder:
         # (it ends as after an interrupt from the keyboard: what runs is stopped, and the folder is removed)
         for it in (signal.SIGTERM, signal.SIGHUP):

@@ -1,8 +1,9 @@
-"""Proves the crates that the program or the C library stands on, side by side where they don't stand on each other, and builds it.
+"""Proves the crates that the program or the C library stands on, side by side where they don't stand on each other, and
+builds it.
 
-All is proved from nothing, in a copy of exactly the files that the stamp covers, but for the crates whose libraries are given, as the gate
-has proved and built them. The later a crate can come, the further its proof stands
-back behind others; those that can't wait share the processors."""
+All is proved from nothing, in a copy of exactly the files that the stamp covers, but for the crates whose libraries are
+given, as the gate has proved and built them. The later a crate can come, the further its proof stands back behind
+others; those that can't wait share the processors."""
 import contextlib
 import fcntl
 import os
@@ -22,10 +23,11 @@ from tools.repository import TOP, Fault, listing, read_bytes, read_text
 EACH, LOOK = 15, 0.2
 # The memory that each further job of a check takes more than its first.
 FURTHER_JOB = 1_000_000_000
-# What a check costs however small its crate is, in lines; and a line of a proof costs as much as a tenth of one of the code.
+# What a check costs however small its crate is, in lines; and a line of a proof costs as much as a tenth of one of the
+# code.
 FIXED_LINES, PROOF_LINES = 400, 10
-# A crate that can come later by this part of the longest way holds up nothing, and takes one processor; any other two at least. By how far
-# each stands back.
+# A crate that can come later by this part of the longest way holds up nothing, and takes one processor; any other two
+# at least. By how far each stands back.
 SPARE, LEAST, MOST_NICE = 1 / 5, 2, 19
 
 
@@ -123,10 +125,18 @@ class Building:
 
     def start_ready(self):
         """Starts each proof that can start now, as memory allows, first those that can wait the least."""
-        ready = [it for it in self.runs if it.process is None and it.name not in self.done and {*self.listed.below(it.name)} - {it.name} <= self.done]
+        ready = [
+            it
+            for it in self.runs
+            if it.process is None
+            and it.name not in self.done
+            and {*self.listed.below(it.name)} - {it.name} <= self.done
+        ]
         running = [it for it in self.runs if it.is_running()]
         # (a check by several jobs takes a sixth more for each: what others have work for is lost by that)
-        share = max(min(LEAST, processors()), processors() // max(1, sum(not it.can_wait() for it in (*ready, *running))))
+        share = max(
+            min(LEAST, processors()), processors() // max(1, sum(not it.can_wait() for it in (*ready, *running)))
+        )
         for run in sorted(ready, key=lambda it: it.spare):
             free = self.memory - sum(MEMORY + FURTHER_JOB * (it.jobs - 1) for it in running)
             jobs = min(1 if run.can_wait() else share, 1 + (free - MEMORY) // FURTHER_JOB)
@@ -151,12 +161,15 @@ def link_program(prover):
 
 
 def left_by_gate(names, top=TOP):
-    """The libraries that the gate built of these crates: all of them, or none, since those of other commands don't fit beside them. One
-    with a stamp beside it is of other commands, and one that is older than a source is of another source."""
+    """The libraries that the gate built of these crates: all of them, or none, since those of other commands don't fit
+    beside them. One with a stamp beside it is of other commands, and one that is older than a source is of another
+    source."""
 
     def is_there(name, made):
         is_gates = os.path.isdir(made) and not os.path.isfile(f"{os.path.dirname(made)}/stamp")
-        return is_gates and all(os.path.getmtime(it) <= os.path.getmtime(made) for it in sources.files_of(f"{top}/crates/{name}"))
+        return is_gates and all(
+            os.path.getmtime(it) <= os.path.getmtime(made) for it in sources.files_of(f"{top}/crates/{name}")
+        )
 
     found = {it: f"{top}/crates/{it}/out/rlib/{it}.rlib" for it in names}
     return found if all(is_there(*it) for it in found.items()) else {}
@@ -174,8 +187,8 @@ def alone(file):
 
 
 def build(log, say, keep, of=sources.PROGRAM, link=link_program, given=None):
-    """Proves and builds the program or the library, and hands what `link` makes of it to `keep` with its stamp. What the prover said goes to
-    the file `log`."""
+    """Proves and builds the program or the library, and hands what `link` makes of it to `keep` with its stamp. What
+    the prover said goes to the file `log`."""
     if shutil.which("rt") is None:
         raise Fault("the Rattle kit's command rt isn't on the PATH, and nothing that lies here is of these sources")
     say(f"proving and building, which takes some minutes (what the prover says is then in {os.path.relpath(log, TOP)})")

@@ -14,7 +14,12 @@ def git(*words):
 def last_landing():
     """The branch that changes land on, as the remote has it where there is one."""
     for name in ("origin/main", "main"):
-        if subprocess.run(["git", "rev-parse", "-q", "--verify", name], cwd=TOP, capture_output=True, check=False).returncode == 0:
+        if (
+            subprocess.run(
+                ["git", "rev-parse", "-q", "--verify", name], cwd=TOP, capture_output=True, check=False
+            ).returncode
+            == 0
+        ):
             return name
     raise Fault("there is no branch main: name the commit to compare with, as in bin/test --changed HEAD~1")
 
@@ -26,7 +31,8 @@ def files_since(base):
 
 
 def crates_since(reference):
-    """The crates of today that have changed since a commit: a file of theirs, or their line of crates.txt; and the commit."""
+    """The crates of today that have changed since a commit: a file of theirs, or their line of crates.txt; and the
+    commit."""
     base = git("merge-base", reference, "HEAD").strip()
     files, now = files_since(base), listing()
     if "HANDLES" in files:

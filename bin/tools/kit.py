@@ -11,7 +11,9 @@ ANEW = "--anew"
 
 def asked(*words):
     """What the command rt says, and how it ended."""
-    ended = subprocess.run(["rt", *words], stdin=subprocess.DEVNULL, stdout=subprocess.PIPE, stderr=subprocess.STDOUT, check=False)
+    ended = subprocess.run(
+        ["rt", *words], stdin=subprocess.DEVNULL, stdout=subprocess.PIPE, stderr=subprocess.STDOUT, check=False
+    )
     return ended.stdout.decode(errors="replace").strip(), ended.returncode
 
 
@@ -26,8 +28,8 @@ def version():
 
 
 def logic(version):
-    """The logic by which a kit proves, as its version tells it: two kits of one logic accept the same proofs. A version that tells none
-    stands for itself."""
+    """The logic by which a kit proves, as its version tells it: two kits of one logic accept the same proofs. A version
+    that tells none stands for itself."""
     return version.partition(" logic ")[2] or version
 
 
@@ -37,5 +39,6 @@ def folder():
 
 
 def gate(is_anew):
-    """The words of the gate. Some kits keep what it has proved, and have a word to take nothing of that; others keep nothing."""
+    """The words of the gate. Some kits keep what it has proved, and have a word to take nothing of that; others keep
+    nothing."""
     return ["rt", "ci", *([ANEW] if is_anew and ANEW in asked("help")[0] else [])]

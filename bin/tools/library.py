@@ -1,8 +1,9 @@
-"""The C library: a shared and a static library and their header, as built here in out/library/ or as released in release/.
+"""The C library: a shared and a static library and their header, as built here in out/library/ or as released in
+release/.
 
-Both libraries hold the same compiled code: that of the crate, for any x86-64, and the few lines of C by which it takes memory. They are
-made by the kit's own linker, from the kit's own C library, so they are the same byte for byte wherever they are made, and need no kit to
-be used."""
+Both libraries hold the same compiled code: that of the crate, for any x86-64, and the few lines of C by which it takes
+memory. They are made by the kit's own linker, from the kit's own C library, so they are the same byte for byte wherever
+they are made, and need no kit to be used."""
 import hashlib
 import os
 import subprocess
@@ -25,9 +26,27 @@ def say(text):
 
 
 def shared(prover, made):
-    """The words that make the shared library: of what it has only the calls can be seen, and it needs libc.so.6 alone."""
-    words = [f"{prover.kit}/toolchain/bin/ld.lld", "-shared", "-soname", SHARED, f"--version-script={prover.room}/include/bullmyrtle.map"]
-    words += ["-z", "relro", "-z", "now", "-z", "noexecstack", "--build-id=none", "--gc-sections", "--strip-all", "--no-undefined"]
+    """The words that make the shared library: of what it has only the calls can be seen, and it needs libc.so.6
+    alone."""
+    words = [
+        f"{prover.kit}/toolchain/bin/ld.lld",
+        "-shared",
+        "-soname",
+        SHARED,
+        f"--version-script={prover.room}/include/bullmyrtle.map",
+    ]
+    words += [
+        "-z",
+        "relro",
+        "-z",
+        "now",
+        "-z",
+        "noexecstack",
+        "--build-id=none",
+        "--gc-sections",
+        "--strip-all",
+        "--no-undefined",
+    ]
     words += ["--whole-archive", f"{prover.made}.a", "--no-whole-archive", f"{prover.kit}/c/liblibc_c.a"]
     return [*words, f"{prover.kit}/toolchain/lib/libc.so.6", "-o", made]
 
@@ -76,23 +95,30 @@ def keep(made, stamp):
 def is_whole(folder, stamp):
     """Whether a folder has the library of the sources with this stamp, as its sums have it."""
     has_all = all(os.path.isfile(f"{folder}/{it}") for it in (*FILES, SUMS))
-    return has_all and sources.is_stamped(f"{folder}/{STAMP}", stamp) and read_text(f"{folder}/{SUMS}") == sums_of(folder)
+    return (
+        has_all and sources.is_stamped(f"{folder}/{STAMP}", stamp) and read_text(f"{folder}/{SUMS}") == sums_of(folder)
+    )
 
 
 def compared():
-    """Compares the files in out/library/ with the released ones: whether they are the same, or None where nothing can be compared, and what
-    to say."""
+    """Compares the files in out/library/ with the released ones: whether they are the same, or None where nothing can
+    be compared, and what to say."""
     lacking = [it for it in (*FILES, SUMS, STAMP) if not os.path.isfile(f"{RELEASED}/{it}")]
     if lacking:
         return None, f"there is no released library to compare with: release/ has no {', '.join(lacking)}"
-    (released, released_kit), (built, built_kit) = (read_text(f"{it}/{STAMP}").split("\n")[:2] for it in (RELEASED, BUILT))
+    (released, released_kit), (built, built_kit) = (
+        read_text(f"{it}/{STAMP}").split("\n")[:2] for it in (RELEASED, BUILT)
+    )
     if released != built:
         return None, "release/ has the library of other sources, and it isn't compared: bin/release writes it anew"
     if read_text(f"{RELEASED}/{SUMS}") != sums_of(RELEASED):
         return False, "release/ has other sums than those of its files"
     other = [it for it in FILES if read_bytes(f"{RELEASED}/{it}") != read_bytes(f"{BUILT}/{it}")]
     if other and released_kit != built_kit:
-        return None, f"release/ has a library that was built by another kit, {released_kit}, and differs from what this one makes: bin/release writes it anew"
+        return (
+            None,
+            f"release/ has a library that was built by another kit, {released_kit}, and differs from what this one makes: bin/release writes it anew",
+        )
     if other:
         return False, f"release/ has the stamp of these sources, and DIFFERS from what they give: {', '.join(other)}"
     return True, "the released library is the one that these sources give, byte for byte"

@@ -26,7 +26,9 @@ def memory():
 def python_with_pytest():
     """The interpreter that runs the tests, or None: one of Python 3.11 or later that has pytest and xdist."""
     quiet = {"stdin": subprocess.DEVNULL, "stdout": subprocess.DEVNULL, "stderr": subprocess.DEVNULL, "check": False}
-    return next((it for it in PYTHONS if shutil.which(it) and subprocess.run([it, "-c", FITS], **quiet).returncode == 0), None)
+    return next(
+        (it for it in PYTHONS if shutil.which(it) and subprocess.run([it, "-c", FITS], **quiet).returncode == 0), None
+    )
 
 
 def lacking():

@@ -1,4 +1,5 @@
-"""What checks/ has, by the parts that `bin/test --only` names: tests that pytest runs (test_*.py), and scripts that end with a tally."""
+"""What checks/ has, by the parts that `bin/test --only` names: tests that pytest runs (test_*.py), and scripts that end
+with a tally."""
 import glob
 import os
 import re
@@ -21,7 +22,9 @@ def part_of(file):
 
 def files_of(parts):
     """The tests and the scripts of these parts."""
-    found = [it for it in sorted(glob.glob(f"{TOP}/checks/*.py")) if part_of(it) in parts and not it.endswith("/conftest.py")]
+    found = [
+        it for it in sorted(glob.glob(f"{TOP}/checks/*.py")) if part_of(it) in parts and not it.endswith("/conftest.py")
+    ]
     tests = [it for it in found if os.path.basename(it).startswith("test_")]
     return tests, [it for it in found if it not in tests]
 

@@ -73,15 +73,21 @@ def release(stamp):
 
 
 def compared():
-    """Compares the program in out/ with the released one: whether they are the same, or None where nothing can be compared, and what to say."""
+    """Compares the program in out/ with the released one: whether they are the same, or None where nothing can be
+    compared, and what to say."""
     if not os.path.isfile(RELEASED) or not os.path.isfile(RELEASED_STAMP):
         return None, "there is no released program to compare with: bin/release writes it"
-    (released, released_kit), (built, built_kit) = ([*read_text(it).split("\n"), ""][:2] for it in (RELEASED_STAMP, BUILT_STAMP))
+    (released, released_kit), (built, built_kit) = (
+        [*read_text(it).split("\n"), ""][:2] for it in (RELEASED_STAMP, BUILT_STAMP)
+    )
     if released != built:
         return None, "release/ is of other sources, and isn't compared: bin/release writes it anew"
     if read_bytes(RELEASED) != read_bytes(BUILT):
         if released_kit != built_kit:
-            return None, f"release/rpc_tool was built by another kit, {released_kit}, and differs from what this one makes: bin/release writes it anew"
+            return (
+                None,
+                f"release/rpc_tool was built by another kit, {released_kit}, and differs from what this one makes: bin/release writes it anew",
+            )
         return False, "release/rpc_tool has the stamp of these sources, and DIFFERS from the program that they give"
     if read_text(CHECKSUM) != checksum_line(BUILT):
         return False, "release/ has another checksum than that of its program"

@@ -1,16 +1,20 @@
-"""The words by which the kit's prover is called for a crate that lies in a room, over the libraries that were built there.
+"""The words by which the kit's prover is called for a crate that lies in a room, over the libraries that were built
+there.
 
-The kit's commands prove one crate after another in a checkout, or choose themselves how many processors each check gets."""
+The kit's commands prove one crate after another in a checkout, or choose themselves how many processors each check
+gets."""
 import os
 
 from tools import kit, sources
 
-# What the C library is compiled for: it runs on every x86-64, and unlike a program it doesn't check for more as it starts.
+# What the C library is compiled for: it runs on every x86-64, and unlike a program it doesn't check for more as it
+# starts.
 PROCESSOR = "x86-64"
 
 
 class Prover:
-    """Crates in a folder of their own, and beside them the libraries that are built of them, but for those that are given."""
+    """Crates in a folder of their own, and beside them the libraries that are built of them, but for those that are
+    given."""
 
     def __init__(self, room, listed, of, given):
         self.room, self.listed, self.of, self.given, self.kit = room, listed, of, given, kit.folder()
@@ -24,8 +28,8 @@ class Prover:
         return self.given.get(name, f"{self.room}/libraries/{name}.rlib")
 
     def build(self, name, jobs):
-        """A check of a crate from nothing by so many processors, which builds its library, of statements alone, or the program, or what the C
-        library holds of Rattle."""
+        """A check of a crate from nothing by so many processors, which builds its library, of statements alone, or the
+        program, or what the C library holds of Rattle."""
         is_program = name == sources.PROGRAM
         used = ["std", *self.listed.libraries[name]]
         at = {it: self.library(it) if it in self.listed.lines else f"{self.kit}/rlibs/{it}.rlib" for it in used}
@@ -33,7 +37,12 @@ class Prover:
         words += [word for it in used for word in ("--extern", f"{it}={at[it]}")]
         folders = [f"{self.kit}/rlibs", f"{self.room}/libraries", *map(os.path.dirname, self.given.values())]
         words += [word for it in folders for word in ("-L", f"dependency={it}")]
-        words += ["--antt-project", f"{self.kit}/rattle/logic/antt-project.json", "--logic-built", f"{self.kit}/logic_built"]
+        words += [
+            "--antt-project",
+            f"{self.kit}/rattle/logic/antt-project.json",
+            "--logic-built",
+            f"{self.kit}/logic_built",
+        ]
         words += ["--links", f"{name}=", "--jobs", str(jobs)]
         if name != self.of:
             return [*words, "--statements", "-o", self.library(name)]
@@ -44,5 +53,11 @@ class Prover:
 
     def link(self):
         """Makes the program of what was built of it."""
-        words = [f"{self.kit}/bin/rattle-link", "--target", "x86_64-unknown-linux-gnu", "--toolchain", f"{self.kit}/toolchain"]
+        words = [
+            f"{self.kit}/bin/rattle-link",
+            "--target",
+            "x86_64-unknown-linux-gnu",
+            "--toolchain",
+            f"{self.kit}/toolchain",
+        ]
         return [*words, "-o", self.made, f"{self.made}.o", f"{self.kit}/c/libos_c.a", f"{self.kit}/c/liblibc_c.a"]

@@ -16,8 +16,8 @@ SHOWN = 10
 
 
 class Part(NamedTuple):
-    """A command of the test. One that tallies ends with the line 'N passed, M failed', and passes at least so many; another counts by its
-    status."""
+    """A command of the test. One that tallies ends with the line 'N passed, M failed', and passes at least so many;
+    another counts by its status."""
 
     name: str
     words: List[str]
@@ -27,7 +27,8 @@ class Part(NamedTuple):
 
 
 def tally(part, status, lines):
-    """What a part that ended counts as: passed and failed. One that dies, lacks its last line or passes too few counts as failed."""
+    """What a part that ended counts as: passed and failed. One that dies, lacks its last line or passes too few counts
+    as failed."""
     if not part.tallies:
         return (0, 1) if status else (1, 0)
     told = TALLY.fullmatch(lines[-1]) if lines else None
@@ -56,7 +57,8 @@ class Report:
         self.say(f"{SKIPPED}{text}")
 
     def run(self, part, is_shown_at_once=True):
-        """Runs a part, and gives whether all of it passed. What it prints is shown line by line, or whole once it has ended."""
+        """Runs a part, and gives whether all of it passed. What it prints is shown line by line, or whole once it has
+        ended."""
         begun, lines = time.monotonic(), []
         if is_shown_at_once:
             self.say(part.name)
@@ -93,6 +95,8 @@ class Report:
     def print_slowest(self):
         used, minutes = os.times(), (time.monotonic() - self.begun) / 60
         work = used.children_user + used.children_system
-        print(f"\nThe slowest parts of {minutes:.1f} minutes, in seconds; {work:,.0f} seconds of {processors()} processors:")
+        print(
+            f"\nThe slowest parts of {minutes:.1f} minutes, in seconds; {work:,.0f} seconds of {processors()} processors:"
+        )
         for name, seconds in sorted(self.seconds.items(), key=lambda it: -it[1])[:SHOWN]:
             print(f"{seconds:8.0f}  {name}")

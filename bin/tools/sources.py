@@ -1,5 +1,5 @@
-"""What the program and the C library are built from, and their stamps: the files of the crates that each stands on without those of their
-tests, these crates' lines of crates.txt, HANDLES, and of the library what lies in include/."""
+"""What the program and the C library are built from, and their stamps: the files of the crates that each stands on
+without those of their tests, these crates' lines of crates.txt, HANDLES, and of the library what lies in include/."""
 import hashlib
 import os
 
@@ -25,8 +25,8 @@ def files_below(folder):
 
 
 def files_of(crate):
-    """The files that a crate is built from: src/ without its tests, specs/, and proofs/ without those of the tests. Tests stand in the
-    module `tests`."""
+    """The files that a crate is built from: src/ without its tests, specs/, and proofs/ without those of the tests.
+    Tests stand in the module `tests`."""
     if not any(os.path.isfile(f"{crate}/src/{it}.rt") for it in ("lib", "main")):
         raise Fault(f"{crate} has neither src/lib.rt nor src/main.rt")
     tests = tuple(f"{crate}/{it}" for it in ("src/tests.rt", "src/tests/", "proofs/tests/"))
@@ -58,8 +58,8 @@ def stamp(top=TOP, of=PROGRAM):
 
 
 def is_stamped(file, wanted):
-    """Whether a file holds this stamp. Of the kit's version only the logic is compared, and only where the stamp has one: by one logic the
-    same sources are proved, whatever the kit around it is called."""
+    """Whether a file holds this stamp. Of the kit's version only the logic is compared, and only where the stamp has
+    one: by one logic the same sources are proved, whatever the kit around it is called."""
     if not os.path.isfile(file):
         return False
     held = read_text(file).split("\n")

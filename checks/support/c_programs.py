@@ -34,7 +34,9 @@ def said(words: list[str], given: bytes = b"", **more) -> tuple[int, bytes, byte
 
 def said_slowly(words: list[str], given: bytes) -> tuple[int, bytes, bytes]:
     """The same with the input written byte by byte."""
-    with subprocess.Popen(words, stdin=subprocess.PIPE, stdout=subprocess.PIPE, stderr=subprocess.PIPE, bufsize=0) as it:
+    with subprocess.Popen(
+        words, stdin=subprocess.PIPE, stdout=subprocess.PIPE, stderr=subprocess.PIPE, bufsize=0
+    ) as it:
         for at in range(len(given)):
             it.stdin.write(given[at : at + 1])
         output, errors = it.communicate(timeout=60)
@@ -47,7 +49,15 @@ def linked(library: str, way: str) -> list[str]:
     return [f"{library}/libbullmyrtle.so.1", f"-Wl,-rpath,{library}"]
 
 
-def build(count: ran.Count, library: str, room: str, file: str, way: str, more: Iterable[str] = (), words: Optional[list[str]] = None) -> str:
+def build(
+    count: ran.Count,
+    library: str,
+    room: str,
+    file: str,
+    way: str,
+    more: Iterable[str] = (),
+    words: Optional[list[str]] = None,
+) -> str:
     """Builds a program in C with the library, shared or static, and gives its file."""
     made = f"{room}/{os.path.basename(file).removesuffix('.c')}-{way}"
     got = said([*(words or C99), f"-I{library}", file, *linked(library, way), *more, "-o", made])

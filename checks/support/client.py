@@ -70,7 +70,8 @@ class Client:
         self.process.stdin.flush()
 
     def receive(self, patience=PATIENCE):
-        """The next content that comes: None where no more does, and a text that tells so where it was waited for in vain."""
+        """The next content that comes: None where no more does, and a text that tells so where it was waited for in
+        vain."""
         try:
             return self.came.get(timeout=patience)
         except queue.Empty:

@@ -1,11 +1,13 @@
 """What tests compare by: each comparison is counted, and one that fails shows the lines in which the two differ.
 
-Outputs may have megabytes. Of those that differ only a part about the first difference is shown, a frame's head or a line in each line."""
+Outputs may have megabytes. Of those that differ only a part about the first difference is shown, a frame's head or a
+line in each line."""
 import difflib
 import threading
 from typing import Any, Iterable, Iterator
 
-# So many bytes or characters are shown before the first difference of two texts, and behind it; and so many lines in all.
+# So many bytes or characters are shown before the first difference of two texts, and behind it; and so many lines in
+# all.
 BEFORE, BEHIND, LINES = 300, 1_500, 60
 
 

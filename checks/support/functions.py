@@ -57,7 +57,8 @@ def last_name(path: str) -> str:
 
 
 def owner_of(header: str) -> tuple[str, str]:
-    """The type that an impl or a trait is about, and a pattern of what the check calls it: `Text`, and `TextPartialEq`."""
+    """The type that an impl or a trait is about, and a pattern of what the check calls it: `Text`, and
+    `TextPartialEq`."""
     trait = re.match(r"(?:pub(?:\([^)]*\))? )?(?:unsafe )?trait (\w+)", header)
     if trait:
         return trait[1], trait[1]

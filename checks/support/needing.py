@@ -13,11 +13,10 @@ def tool(name: str, why: str) -> None:
 
 
 def gates_program(name: str) -> str:
-    """A program of the repository as the gate built it. Where there is none the test fails, or is skipped in a run that goes without the gate."""
+    """A program of the repository as the gate built it. Where there is none the test fails, or is skipped in a run that
+    goes without the gate."""
     file = ran.gates_program(name)
     if file is None and ran.is_without_gate():
         pytest.skip(f"what needs {name}, which the gate builds, or rt run in crates/{name}")
     assert file is not None, f"the gate built no {name}: rt run in crates/{name} does too"
     return file
-
-

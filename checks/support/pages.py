@@ -15,7 +15,9 @@ def read_blocks(*place: str) -> list[Block]:
 def check_fences(count: Any, *place: str) -> None:
     """Each block begins and ends."""
     fences, blocks = len(re.findall(r"^\s*```", ran.text_of(*place), re.M)), len(read_blocks(*place))
-    count.check(f"each block of {'/'.join(place)} begins and ends", fences == 2 * blocks, f"{fences} fences round {blocks}")
+    count.check(
+        f"each block of {'/'.join(place)} begins and ends", fences == 2 * blocks, f"{fences} fences round {blocks}"
+    )
 
 
 def blocks_of(count: Any, *place: str) -> list[Block]:
@@ -26,4 +28,6 @@ def blocks_of(count: Any, *place: str) -> list[Block]:
 
 def check_play(count: Any, name: str, words: list[str], given: str, output: str) -> None:
     """Plays lines with a table, and compares what is printed; the input ends clean."""
-    count.same(f"{name}: {' '.join(words)}", ran.run(["play", "--lines", *words], given.encode()), (0, output.encode(), b""))
+    count.same(
+        f"{name}: {' '.join(words)}", ran.run(["play", "--lines", *words], given.encode()), (0, output.encode(), b"")
+    )

@@ -19,7 +19,8 @@ from tools import sources  # noqa: E402
 
 # Where a script's files lie, as long as it runs.
 ROOM = tempfile.TemporaryDirectory(prefix="check-")
-# The program of the sources that lie here, once built() has been called: the released one, or the one that was built here.
+# The program of the sources that lie here, once built() has been called: the released one, or the one that was built
+# here.
 BUILT = programs.BUILT
 
 
@@ -40,9 +41,12 @@ class Count:
         self.check(name, found == wanted, f"{str(found)[:900]} in place of {str(wanted)[:900]}")
 
     def built(self, what, found):
-        """Counts whether the gate built something, and gives it. In a run without the gate what is missing is told, and doesn't count."""
+        """Counts whether the gate built something, and gives it. In a run without the gate what is missing is told, and
+        doesn't count."""
         if found is None and is_without_gate():
-            print(f"SKIPPED: what {os.path.relpath(sys.argv[0], TOP)} does with {what}, which the gate builds", flush=True)
+            print(
+                f"SKIPPED: what {os.path.relpath(sys.argv[0], TOP)} does with {what}, which the gate builds", flush=True
+            )
         else:
             self.check(f"the gate built {what}", found is not None)
         return found
@@ -89,7 +93,14 @@ def run(words, given=b"", program=None, env=None, **more):
 
 def told_by(words, seconds, **more):
     """The status of any command, or that it didn't end, and what it wrote to both outputs."""
-    how = {"stdin": subprocess.DEVNULL, "stdout": subprocess.PIPE, "stderr": subprocess.STDOUT, "timeout": seconds, "check": False, **more}
+    how = {
+        "stdin": subprocess.DEVNULL,
+        "stdout": subprocess.PIPE,
+        "stderr": subprocess.STDOUT,
+        "timeout": seconds,
+        "check": False,
+        **more,
+    }
     try:
         ended = subprocess.run(words, **how)
     except subprocess.TimeoutExpired:
@@ -98,7 +109,8 @@ def told_by(words, seconds, **more):
 
 
 def run_into(room, words, given=b"", program=None):
-    """Runs the program with an output that takes `room` bytes and then fails, and gives its status and what it wrote to its two outputs."""
+    """Runs the program with an output that takes `room` bytes and then fails, and gives its status and what it wrote to
+    its two outputs."""
 
     def narrow():
         # (a write over the limit gives an error, as on a full device, in place of the signal)
@@ -113,7 +125,8 @@ def run_into(room, words, given=b"", program=None):
 
 
 def run_on_broken(words, given, program=None):
-    """Runs the program on an input that gives these bytes and then fails, and gives its status and what it wrote to its two outputs."""
+    """Runs the program on an input that gives these bytes and then fails, and gives its status and what it wrote to its
+    two outputs."""
     ours, its = socket.socketpair()
     with its:
         # (a peer that closes with bytes unread resets the connection, so the read behind the bytes given fails)
@@ -150,12 +163,15 @@ def lacks(tool, why):
     """Whether a tool isn't there; what is skipped for want of it is told."""
     is_missing = shutil.which(tool) is None
     if is_missing:
-        print(f"SKIPPED: what {os.path.relpath(sys.argv[0], TOP)} does with {tool}, which isn't there: {why}", flush=True)
+        print(
+            f"SKIPPED: what {os.path.relpath(sys.argv[0], TOP)} does with {tool}, which isn't there: {why}", flush=True
+        )
     return is_missing
 
 
 def is_without_gate():
-    """Whether this run goes without the gate, as `bin/test --only` does: then what only the gate builds may be missing."""
+    """Whether this run goes without the gate, as `bin/test --only` does: then what only the gate builds may be
+    missing."""
     return bool(os.environ.get("WITHOUT_GATE"))
 
 
@@ -176,7 +192,8 @@ def names_of(tests):
 
 
 def test_named(ending):
-    """The one test whose name ends so, of whatever crate, as the gate built it: its program and its whole name; or None."""
+    """The one test whose name ends so, of whatever crate, as the gate built it: its program and its whole name; or
+    None."""
     programs_of_tests = sorted(glob.glob(f"{TOP}/crates/*/out/*_tests"))
     found = [(tests, it) for tests in programs_of_tests for it in names_of(tests) if it.split("::")[-1] == ending]
     return found[0] if len(found) == 1 else None

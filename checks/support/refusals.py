@@ -22,7 +22,8 @@ def compiled(name):
 
 
 class Held:
-    """What a program holds that runs with `how`, of the arguments of Popen. With `lose` it loses 24 bytes behind each so many requests."""
+    """What a program holds that runs with `how`, of the arguments of Popen. With `lose` it loses 24 bytes behind each
+    so many requests."""
 
     def __init__(self, lose=0):
         self.told = tempfile.TemporaryFile()
@@ -32,8 +33,8 @@ class Held:
         self.how = {"env": {**env, **({"HELD_LOSE": str(lose)} if lose else {})}, "pass_fds": [self.told.fileno()]}
 
     def numbers(self):
-        """The most bytes that it held so far, those that it held behind its last request, those that it holds now, and how many requests for
-        memory it has made."""
+        """The most bytes that it held so far, those that it held behind its last request, those that it holds now, and
+        how many requests for memory it has made."""
         return struct.unpack("QQQQ", os.pread(self.told.fileno(), 32, 0))
 
     def trim(self):
@@ -42,8 +43,8 @@ class Held:
 
 
 def counted(words, given=b""):
-    """Runs a program: its status, the most bytes that it held, the bytes that it held behind its last request and at its end, and how often
-    it asked for memory."""
+    """Runs a program: its status, the most bytes that it held, the bytes that it held behind its last request and at
+    its end, and how often it asked for memory."""
     held = Held()
     ended = subprocess.run(words, input=given, capture_output=True, timeout=600, check=False, **held.how)
     return ended.returncode, *held.numbers()
@@ -56,8 +57,9 @@ class Refusals:
         self.library = compiled(name)
 
     def run(self, words, given, how, number):
-        """Runs a program under refusals: its status, what it wrote to its two outputs, and whether anything was refused. `how` is
-        REFUSE_NTH, REFUSE_FROM or REFUSE_OVER, as refuse_malloc.c says; of threads it is REFUSE_NTH. The input is bytes, or a file."""
+        """Runs a program under refusals: its status, what it wrote to its two outputs, and whether anything was
+        refused. `how` is REFUSE_NTH, REFUSE_FROM or REFUSE_OVER, as refuse_malloc.c says; of threads it is REFUSE_NTH.
+        The input is bytes, or a file."""
         told, tell = os.pipe()
         env = {**os.environ, "LD_PRELOAD": self.library, how: str(number), "REFUSE_TELL": str(tell)}
         stream = {"input": given} if isinstance(given, bytes) else {"stdin": given}

@@ -110,7 +110,8 @@ HELLO = '{"id":"0.1","jsonrpc":"2.0","method":"hello"}'
 # The tables by which rows are played.
 TABLES = {"none": None, "methods": METHODS, "opening": OPENING, "each": EACH}
 OPTIONS = {"eager": [], "lazy": ["--lazy"], "last": ["--last"]}
-# Of a peer without methods: name, input, output, how the input ends ("" where it ends clean). (Long streams are for test_played_rows.py alone.)
+# Of a peer without methods: name, input, output, how the input ends ("" where it ends clean). (Long streams are for
+# test_played_rows.py alone.)
 ROWS = [
     (it.name, it.stream, it.outputs[0], it.end.replace("Clean", ""))
     for file in ("messages", "heads", "depths")
@@ -120,7 +121,8 @@ ROWS = [
 
 
 def plays_of(file):
-    """Of a file's rows those of contents alone: name, table, the options under which it holds, contents in, contents out."""
+    """Of a file's rows those of contents alone: name, table, the options under which it holds, contents in, contents
+    out."""
     (table,), found = rows_of(file)
     ways = [(it, [OPTIONS[way] for way in it.ways if way in OPTIONS]) for it in found if it.is_of_contents]
     return [(it.name, TABLES[table], options, it.given, it.contents) for it, options in ways if options]

@@ -33,7 +33,13 @@ class Ran:
 def run(words: list[str], folder: str, limit: float) -> Ran:
     """Runs a command to its end, or for at most `limit` seconds."""
     with tempfile.TemporaryFile("w+", errors="replace") as out:
-        how = {"cwd": folder, "stdin": subprocess.DEVNULL, "stdout": out, "stderr": subprocess.STDOUT, "process_group": 0}
+        how = {
+            "cwd": folder,
+            "stdin": subprocess.DEVNULL,
+            "stdout": out,
+            "stderr": subprocess.STDOUT,
+            "process_group": 0,
+        }
         began, started = time.monotonic(), subprocess.Popen(words, **how)
         RUNNING.add(started.pid)
         late = threading.Timer(limit, kill, [started.pid])
@@ -59,15 +65,18 @@ def stop_all() -> None:
 
 
 class Trees:
-    """Copies of the crates that are needed, as they are and as they are proved, and the libraries of those that others stand on.
+    """Copies of the crates that are needed, as they are and as they are proved, and the libraries of those that others
+    stand on.
 
-    Each crate is proved and built in a folder of its own with the crates below it, since two runs of rt in one folder would wait for one
-    another. A crate is proved with the texts that are given for it in place of its own.
+    Each crate is proved and built in a folder of its own with the crates below it, since two runs of rt in one folder
+    would wait for one another. A crate is proved with the texts that are given for it in place of its own.
 
-    Where the gate's libraries are to be taken, and it built all of those below, no library is built: each crate with texts is proved over
-    the gate's, and none waits for another."""
+    Where the gate's libraries are to be taken, and it built all of those below, no library is built: each crate with
+    texts is proved over the gate's, and none waits for another."""
 
-    def __init__(self, root: str, folder: str, texts: dict[str, dict[str, str]], limit: float, is_over_gate: bool = False) -> None:
+    def __init__(
+        self, root: str, folder: str, texts: dict[str, dict[str, str]], limit: float, is_over_gate: bool = False
+    ) -> None:
         self.root, self.folder, self.limit = root, folder, limit
         self.listed = listing(root)
         self.below = {name: self.listed.below(name)[:-1] for name in self.listed.lines}
@@ -91,7 +100,8 @@ class Trees:
         return f"{self.folder}/homes/{name}"
 
     def put_home(self, name: str, texts: dict[str, dict[str, str]]) -> None:
-        """Makes the folder in which a crate is proved, with these texts in place of its own and of those of the crates below it."""
+        """Makes the folder in which a crate is proved, with these texts in place of its own and of those of the crates
+        below it."""
         together = [name] if self.is_over_gate else [*self.below[name], name]
         for it in together:
             self.put_sources(it, f"{self.home(name)}/crates/{it}", texts.get(it, {}))
@@ -117,7 +127,8 @@ class Trees:
         return [it for it in self.needed if name in self.below[it]]
 
     def take_gates(self, names: Iterable[str]) -> dict[str, str]:
-        """Takes the libraries that the gate built of these crates, where all of them are there, and gives the folder of each."""
+        """Takes the libraries that the gate built of these crates, where all of them are there, and gives the folder of
+        each."""
         found = left_by_gate(names, self.root)
         for name, library in found.items():
             copy_folder(library, f"{self.folder}/gate/{name}/{name}.rlib", link)
@@ -176,8 +187,8 @@ class Trees:
             yield folder
 
     def check(self, name: str, texts: dict[str, str], jobs: int, only: Iterable[str] = ()) -> Ran:
-        """Checks a crate with these texts in place of its own, over what its proof kept: all of it, or only some functions and what
-        these call."""
+        """Checks a crate with these texts in place of its own, over what its proof kept: all of it, or only some
+        functions and what these call."""
         with self.room(name, texts) as folder:
             return run(self.words(name, folder, jobs, only), folder, self.limit)
 
@@ -191,12 +202,14 @@ def link(source: str, to: str) -> None:
 
 
 def link_modules(source: str, to: str) -> None:
-    """Links a module that a check has kept, in whose place another check puts a new one; copies any other file, into which it may write."""
+    """Links a module that a check has kept, in whose place another check puts a new one; copies any other file, into
+    which it may write."""
     (os.link if source.endswith(".oantt") else shutil.copy2)(source, to)
 
 
 def copy_folder(source: str, to: str, copied: Callable[[str, str], object] = shutil.copyfile, late: str = "") -> None:
-    """Copies a folder, if there is one, each file by `copied`; the one named `late` comes last, so that it stands only beside the rest."""
+    """Copies a folder, if there is one, each file by `copied`; the one named `late` comes last, so that it stands only
+    beside the rest."""
     if not os.path.isdir(source):
         return
     ignored = shutil.ignore_patterns(late) if late else None
