@@ -61,7 +61,8 @@ def check_refusals(count: ran.Count, library: str, room: str) -> None:
         program = build(count, library, room, f"{SUPPORT}/bad_use.c", way)
         got = said([program])
         count.check(f"what hosts do wrong is refused, {way}", got[0] == 0 and not got[2], f"{got}")
-        told = dict(map(int, it) for it in re.findall(r"^code (\d+): (\d+) refusals$", got[1].decode(), re.M))
+        found = re.findall(r"^code (\d+): (\d+) refusals$", got[1].decode(), re.M)
+        told = {int(code): int(refusals) for code, refusals in found}
         for code in CODES:
             count.check(f"the code {code} is given, {way}", told.get(code, 0) > 0, f"{told}")
     watched(count, "what hosts do wrong", [program])

@@ -3,6 +3,7 @@
 Where a tool is missing a test is skipped, and told in a line 'SKIPPED: ..', as the scripts of this folder do. Tests
 that measure time or memory have the mark `alone`: bin/test runs them while nothing else runs."""
 from collections import Counter
+from typing import Any
 
 import pytest
 
@@ -12,18 +13,24 @@ from support import expecting, ran
 class Tally:
     """What is told at the end by the process that runs the tests, or has others run them."""
 
-    def __init__(self):
+    def __init__(self) -> None:
         self.comparisons, self.status = 0, 0
 
 
 TALLY = Tally()
 
 
-def is_worker(config):
+def is_worker(config: pytest.Config) -> bool:
     return hasattr(config, "workerinput")
 
 
-def pytest_addoption(parser):
+def shared(config: pytest.Config, way: str) -> dict[str, Any]:
+    """What a worker is told, or tells, by the process that has it run."""
+    found: dict[str, Any] = getattr(config, way)
+    return found
+
+
+def pytest_addoption(parser: pytest.Parser) -> None:
     parser.addoption(
         "--player",
         metavar="FILE",
@@ -34,10 +41,10 @@ def pytest_addoption(parser):
     )
 
 
-def pytest_configure(config):
+def pytest_configure(config: pytest.Config) -> None:
     """Builds the program where it isn't built yet; the workers are told where it is."""
     if is_worker(config):
-        ran.BUILT = config.workerinput["program"]
+        ran.BUILT = shared(config, "workerinput")["program"]
     elif not config.option.collectonly and not config.option.help:
         try:
             ran.build()
@@ -45,23 +52,23 @@ def pytest_configure(config):
             pytest.exit(f"there is no program: {fault}", 1)
 
 
-@pytest.hookimpl(optionalhook=True)
-def pytest_configure_node(node):
+@pytest.hookimpl(optionalhook=True)  # type: ignore[misc]
+def pytest_configure_node(node: Any) -> None:
     node.workerinput["program"] = ran.BUILT
 
 
-@pytest.hookimpl(optionalhook=True)
-def pytest_testnodedown(node, error):
+@pytest.hookimpl(optionalhook=True)  # type: ignore[misc]
+def pytest_testnodedown(node: Any, error: object) -> None:
     TALLY.comparisons += getattr(node, "workeroutput", {}).get("comparisons", 0)
 
 
-def pytest_sessionfinish(session, exitstatus):
+def pytest_sessionfinish(session: pytest.Session, exitstatus: int) -> None:
     TALLY.status = exitstatus
     if is_worker(session.config):
-        session.config.workeroutput["comparisons"] = expecting.Made.number
+        shared(session.config, "workeroutput")["comparisons"] = expecting.Made.number
 
 
-def pytest_unconfigure(config):
+def pytest_unconfigure(config: pytest.Config) -> None:
     """The last lines: what was skipped, and the tally."""
     reporter = config.pluginmanager.get_plugin("terminalreporter")
     if is_worker(config) or reporter is None or config.option.collectonly or config.option.help:

@@ -69,7 +69,7 @@ def words_of(words: Iterable[str]) -> argparse.Namespace:
 def bugs_in(folder: str, count: ran.Count) -> dict[str, tuple[Body, Sources]]:
     """The wrong bodies that stand in a folder, with CRATE for the name of the crate that they are of, by their
     labels."""
-    found = {}
+    found: dict[str, tuple[Body, Sources]] = {}
     for crate in listing().below(PLAYER):
         sources = Sources(f"{ran.TOP}/crates/{crate}")
         bodies, unfit = read_bodies(sources, folder.replace("CRATE", crate))

@@ -9,6 +9,7 @@ import shutil
 import subprocess
 import tempfile
 from functools import partial
+from typing import Any
 
 from support import c_interface as interface
 from support import connection_fuzzing as fuzzing
@@ -133,7 +134,7 @@ def check_library(count: ran.Count) -> None:
         os.mkdir(f"{room}/named")
         for it in ("libbullmyrtle.a", "bullmyrtle.h"):
             shutil.copy(f"{ran.TOP}/release/{it}", f"{room}/named/{it}")
-        how = {"CARGO_TARGET_DIR": f"{room}/target"}
+        how: dict[str, Any] = {"CARGO_TARGET_DIR": f"{room}/target"}
         status, text = cargo("build", "--offline", BULLMYRTLE_LIB_DIR=f"{room}/empty", **how)
         missing = f"{room}/empty/libbullmyrtle.a isn't there; set BULLMYRTLE_LIB_DIR to the folder of libbullmyrtle.a"
         count.check("a folder without the library is told", status != 0 and missing in text, text[-500:])

@@ -10,6 +10,7 @@ import time
 from pathlib import Path
 
 import pytest
+from typing import Any
 
 from support import needing, ran
 from support.c_programs import EXAMPLES, build, default_library, has_cjson, is_whole
@@ -47,7 +48,7 @@ def written(file: Path) -> str:
 
 
 def needs_eglot(room: Path) -> None:
-    how = {
+    how: dict[str, Any] = {
         "env": {**os.environ, "HOME": str(room)},
         "stdin": subprocess.DEVNULL,
         "capture_output": True,

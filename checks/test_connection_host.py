@@ -252,7 +252,7 @@ def test_row_cut(program: str, row: Row, form: str, size: int) -> None:
     given, wanted = streams(row, form)
     with opened(program, FORMS[form][0]) as it:
         for at in range(0, len(given), size):
-            it.stdin.write(given[at : at + size])
+            ran.pipe(it.stdin).write(given[at : at + size])
         output, errors = it.communicate(timeout=60)
     same((it.returncode, output, errors), (0, wanted, b""))
 
@@ -265,15 +265,15 @@ def test_row_waited_for(program: str, row: Row, form: str) -> None:
     with opened(program, words) as it:
         for mark, content in messages(row):
             if mark == "<":
-                it.stdin.write(put(content))
+                ran.pipe(it.stdin).write(put(content))
             elif mark == "$":
-                it.stdin.close()
+                ran.pipe(it.stdin).close()
             else:
                 wanted = put(content)
-                same(exactly(it.stdout, len(wanted)), wanted, "waited for")
-        if not it.stdin.closed:
-            it.stdin.close()
-        rest, errors = it.stdout.read(), it.stderr.read()
+                same(exactly(ran.pipe(it.stdout), len(wanted)), wanted, "waited for")
+        if not ran.pipe(it.stdin).closed:
+            ran.pipe(it.stdin).close()
+        rest, errors = ran.pipe(it.stdout).read(), ran.pipe(it.stderr).read()
         same((it.wait(60), rest, errors), (0, b"", b""), "its end")
 
 

@@ -113,7 +113,14 @@ def test_words_that_are_answered(program: str, words: list[str]) -> None:
     check(status == 0 and b"connection_bench" in output and errors == b"", f"{status}, {errors!r}")
 
 
-REFUSED = ([], ["frobnicate"], ["script", "more"], ["script", "--lines"], ["host", "more"], ["host", "--frames"])
+REFUSED: tuple[list[str], ...] = (
+    [],
+    ["frobnicate"],
+    ["script", "more"],
+    ["script", "--lines"],
+    ["host", "more"],
+    ["host", "--frames"],
+)
 
 
 @pytest.mark.parametrize("words", named(REFUSED, " ".join))

@@ -19,7 +19,7 @@ TABLE = os.path.join(FOLDER, "toolbox.toml")
 # The files that a page has its reader write.
 FILES = {"toml": "first.toml", "python": "first.py"}
 # The ways to play, and the endings of their outputs: where there is none of a way's own, it is as for the first.
-WAYS = [([], ".out"), (["--lazy"], ".lazy.out"), (["--last"], ".last.out")]
+WAYS: list[tuple[list[str], str]] = [([], ".out"), (["--lazy"], ".lazy.out"), (["--last"], ".last.out")]
 
 # Streams
 

@@ -7,7 +7,7 @@ import re
 import resource
 import subprocess
 from functools import partial
-from typing import Callable, Iterator, NamedTuple
+from typing import Any, Callable, Iterator, NamedTuple
 
 import pytest
 
@@ -89,9 +89,10 @@ def on_streams(*words: str, given: bytes | None = None, **opened: Callable[[], i
 
     def run(all_words: list[str]) -> Ended:
         streams = {name: open_it() for name, open_it in opened.items()}
-        how = {"stdout": subprocess.PIPE, **streams, "stderr": subprocess.PIPE, "timeout": 60, "check": False}
+        how: dict[str, Any] = {"stdout": subprocess.PIPE, **streams, "stderr": subprocess.PIPE}
+        how |= {} if given is None else {"input": given}
         try:
-            ended = subprocess.run([ran.BUILT, *all_words], **how, **({} if given is None else {"input": given}))
+            ended = subprocess.run([ran.BUILT, *all_words], timeout=60, check=False, **how)
         finally:
             for it in streams.values():
                 os.close(it)
@@ -239,7 +240,7 @@ def streams() -> Iterator[Row]:
 
 # What could not be made, in little room: the tree of a content, the text of a table, and the stacks of threads.
 
-SMALL = {"preexec_fn": lambda: resource.setrlimit(resource.RLIMIT_AS, (100 << 20, 100 << 20))}
+SMALL: dict[str, Any] = {"preexec_fn": lambda: resource.setrlimit(resource.RLIMIT_AS, (100 << 20, 100 << 20))}
 MEMORY = "failed: Memory"
 
 

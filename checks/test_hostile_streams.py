@@ -63,7 +63,7 @@ def expect(words: list[str], given: bytes, output: bytes, end: str = "") -> None
 
 def by_all(given: bytes, output: bytes, lazily: bytes | None = None) -> None:
     """An input, played eagerly and lazily and with the last first, and served."""
-    for words in ([], ["--last"], ["--piece", "1000"]):
+    for words in ((), ("--last",), ("--piece", "1000")):
         expect(play(*words), given, output)
     expect(play("--lazy"), given, output if lazily is None else lazily)
     expect(serve(), given, output)
@@ -85,7 +85,7 @@ def test_played_in_pieces(row: Stream) -> None:
     """Pieces of each size, eagerly and lazily."""
     _, given, output, end = row
     for place in places(len(given)):
-        for words in ([], ["--lazy"]):
+        for words in ((), ("--lazy",)):
             expect(play("--piece", str(place), *words), given, output, end)
 
 

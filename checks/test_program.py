@@ -4,13 +4,14 @@ import os
 import socket
 import subprocess
 import threading
-from typing import Callable, NamedTuple
+from typing import Any, Callable, NamedTuple
 
 import pytest
 
 from support import ran, rows
 from support.expecting import check, same
 from support.naming import named
+from support.row_files import frame
 
 LINE = (rows.REQUEST + "\n").encode()
 ANSWER, UNREADABLE = f"{rows.NOT_FOUND}\n".encode(), f"{rows.UNREADABLE}\n".encode()
@@ -77,7 +78,7 @@ def test_reply_behind_a_fault() -> None:
 
 
 def greatest() -> bytes:
-    return rows.frame(b'"' + b"a" * 16_777_214 + b'"')
+    return frame(b'"' + b"a" * 16_777_214 + b'"')
 
 
 def notices() -> bytes:
@@ -414,7 +415,7 @@ def test_table_is_judged_before_the_input() -> None:
 # What doesn't end after 1,000,000 reads
 
 
-def fed(words: list[str], packets: int, ours: int, its: int, **how: object) -> tuple[int, bytes, bytes]:
+def fed(words: list[str], packets: int, ours: int, its: int, **how: Any) -> tuple[int, bytes, bytes]:
     """Runs the program, each read of which gives one packet of this many, and gives its status and what it wrote to its
     two outputs."""
 

@@ -149,13 +149,13 @@ def test_closed_output() -> None:
     with subprocess.Popen(
         [ran.BUILT, "serve"], stdin=subprocess.PIPE, stdout=subprocess.PIPE, stderr=subprocess.PIPE
     ) as process:
-        process.stdout.close()
-        process.stdin.write(rows.frames(UNKNOWN))
-        process.stdin.flush()
+        ran.pipe(process.stdout).close()
+        ran.pipe(process.stdin).write(rows.frames(UNKNOWN))
+        ran.pipe(process.stdin).flush()
         time.sleep(0.2)
         # (the server waits for the read that its reader is in the middle of)
         same(process.poll(), None, "while the input is open")
-        process.stdin.close()
+        ran.pipe(process.stdin).close()
         same(ended(process), (1, WRITE))
 
 
@@ -180,11 +180,11 @@ def taken_of(process: "subprocess.Popen[bytes]", most: int) -> tuple[int, int]:
     """How many bytes of those that are offered a server takes, until it takes none for two seconds; and the most memory
     that it had."""
     offered = rows.frames(*[UNKNOWN] * 1000)
-    taken, left, still, sizes = 0, b"", time.monotonic(), []
+    taken, left, still, sizes = 0, b"", time.monotonic(), list[tuple[float, int]]()
     while taken < most and time.monotonic() - still < 2:
         left = left or offered
         try:
-            went = os.write(process.stdin.fileno(), left)
+            went = os.write(ran.pipe(process.stdin).fileno(), left)
             taken, left, still = taken + went, left[went:], time.monotonic()
         except BlockingIOError:
             time.sleep(0.01)
@@ -199,15 +199,15 @@ def test_client_that_doesnt_read_holds_the_server_back() -> None:
     with subprocess.Popen(
         [ran.BUILT, "serve"], stdin=subprocess.PIPE, stdout=subprocess.PIPE, stderr=subprocess.PIPE
     ) as process:
-        os.set_blocking(process.stdin.fileno(), False)
+        os.set_blocking(ran.pipe(process.stdin).fileno(), False)
         taken, most = taken_of(process, 100_000_000)
         print(
             f"of 100 MB that were offered to a server whose output nobody reads it took {taken:,} bytes; at most {most / 1e6:.1f} MB were resident"
         )
         check(taken < 8_000_000 and most < 32_000_000, f"{taken:,} taken, {most:,} resident")
-        process.stdout.close()
-        os.set_blocking(process.stdin.fileno(), True)
-        process.stdin.close()
+        ran.pipe(process.stdout).close()
+        os.set_blocking(ran.pipe(process.stdin).fileno(), True)
+        ran.pipe(process.stdin).close()
         same(ended(process), (1, WRITE), "one that then closes both ends ends it")
 
 

@@ -125,12 +125,15 @@ def report(crates: list[Crate], names: list[str]) -> tuple[int, list[str]]:
         for it in sorted(crate.judged, key=lambda it: crate.bodies.index(it.body)):
             if it.is_well:
                 passed += 1
-                how = {"refused": "refused by", "by hand answer": "refused only because a hand answer no longer fits:"}
+                how = {
+                    "refused": "refused by",
+                    "by hand answer": "refused only because a hand answer no longer fits:",
+                }
                 say(f"{it.body.label} ({it.body.said}): {it.why if it.body.is_right else how[it.word] + ' ' + it.why}")
             else:
                 failures.append(f"{it.body.label}: {'PROVED' if it.word == 'proved' else it.word}: {it.why}")
-        lost = [it.body for it in crate.judged]
-        lost = [it.name for it in crate.bodies if lost.count(it) != 1 and not crate.is_recorded]
+        judged = [it.body for it in crate.judged]
+        lost = [it.name for it in crate.bodies if judged.count(it) != 1 and not crate.is_recorded]
         failures += [f"{crate.name}: {len(lost)} bodies were not judged: {', '.join(lost)}"] if lost else []
         failures += crate.failures
         passed += crate.comments == "proved" or crate.is_recorded
@@ -196,13 +199,19 @@ def attempt(crates: list[Crate], given: argparse.Namespace, record: Record) -> f
         return trial.seconds
 
 
+def looked_at(names: list[str]) -> tuple[list[Crate], list[str]]:
+    """The same, and what docs/proofs.md tells of and no file has, where all crates are asked for."""
+    crates, problems = read_crates(names)
+    return crates, problems + ([] if names else unknown_in_proofs())
+
+
 def main() -> int:
     given, began, seconds = arguments(), time.monotonic(), 0.0
-    record = None if given.stands else Record(TOP)
-    crates, problems = read_crates(given.names)
-    problems += [] if given.names else unknown_in_proofs()
     if given.stands:
+        crates, problems = looked_at(given.names)
         return end(sum(len(it.bodies) for it in crates), problems)
+    record = Record(TOP)
+    crates, problems = looked_at(given.names)
     if not shutil.which("rt"):
         problems, crates = ["the command rt of the Rattle kit isn't on the PATH"], []
     for it in crates:

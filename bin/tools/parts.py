@@ -1,8 +1,11 @@
 """What checks/ has, by the parts that `bin/test --only` names: tests that pytest runs (test_*.py), and scripts that end
 with a tally."""
+from __future__ import annotations
+
 import glob
 import os
 import re
+from typing import Iterable
 
 from tools.repository import TOP, read_text
 
@@ -14,13 +17,13 @@ OF = {
 }
 
 
-def part_of(file):
+def part_of(file: str) -> str:
     name = os.path.basename(file).removesuffix(".py").removeprefix("test_")
     first = name.partition("_")[0]
     return OF.get(name) or (first if first in PARTS else "rows")
 
 
-def files_of(parts):
+def files_of(parts: Iterable[str]) -> tuple[list[str], list[str]]:
     """The tests and the scripts of these parts."""
     found = [
         it for it in sorted(glob.glob(f"{TOP}/checks/*.py")) if part_of(it) in parts and not it.endswith("/conftest.py")
@@ -29,6 +32,6 @@ def files_of(parts):
     return tests, [it for it in found if it not in tests]
 
 
-def measures(test):
+def measures(test: str) -> bool:
     """Whether a file has tests that measure, and so run while nothing else does."""
     return re.search(r"^@pytest\.mark\.alone$", read_text(test), re.M) is not None

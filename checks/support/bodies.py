@@ -17,6 +17,7 @@ import os
 import re
 import tomllib
 from dataclasses import dataclass
+from typing import Any
 
 from support.functions import Function, functions_of
 
@@ -109,7 +110,7 @@ def change_of(sources: Sources, named: list[str], file: str, old: str, new: str)
     return Change(file, found[0].start(), found[0].end(), new.strip())
 
 
-def texts_of(table: dict, file: str) -> list[tuple[str, str, str]]:
+def texts_of(table: dict[str, Any], file: str) -> list[tuple[str, str, str]]:
     """The file, the old text and the new of each change that a body makes."""
     pairs = [table, *table.get("also", [])]
     for it in pairs:
@@ -118,7 +119,7 @@ def texts_of(table: dict, file: str) -> list[tuple[str, str, str]]:
     return [(it.get("file", file), it["old"], it["new"]) for it in pairs]
 
 
-def body_of(sources: Sources, file: str, table: dict, is_right: bool) -> Body:
+def body_of(sources: Sources, file: str, table: dict[str, Any], is_right: bool) -> Body:
     """Reads one table, and finds its texts and its functions in the crate's files."""
     lacking = {"name", "function", "what"} - {*table}
     if lacking or {*table} - KEYS:

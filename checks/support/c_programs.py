@@ -2,7 +2,7 @@
 import os
 import shutil
 import subprocess
-from typing import Iterable, Optional
+from typing import Any, Iterable, Optional
 
 from support import ran
 
@@ -27,7 +27,7 @@ def is_whole(library: str) -> bool:
     return all(os.path.isfile(f"{library}/{it}") for it in ("libbullmyrtle.so.1", "libbullmyrtle.a", "bullmyrtle.h"))
 
 
-def said(words: list[str], given: bytes = b"", **more) -> tuple[int, bytes, bytes]:
+def said(words: list[str], given: bytes = b"", **more: Any) -> tuple[int, bytes, bytes]:
     ended = subprocess.run(words, input=given, capture_output=True, timeout=600, check=False, **more)
     return ended.returncode, ended.stdout, ended.stderr
 
@@ -38,7 +38,7 @@ def said_slowly(words: list[str], given: bytes) -> tuple[int, bytes, bytes]:
         words, stdin=subprocess.PIPE, stdout=subprocess.PIPE, stderr=subprocess.PIPE, bufsize=0
     ) as it:
         for at in range(len(given)):
-            it.stdin.write(given[at : at + 1])
+            ran.pipe(it.stdin).write(given[at : at + 1])
         output, errors = it.communicate(timeout=60)
     return it.returncode, output, errors
 
@@ -50,7 +50,7 @@ def linked(library: str, way: str) -> list[str]:
 
 
 def build(
-    count: ran.Count,
+    count: Any,
     library: str,
     room: str,
     file: str,

@@ -39,11 +39,12 @@ def ran_from(records: bytes) -> list[Ran]:
     """The records that are whole."""
     found, at = [], 0
     while (line_end := records.find(b"\n", at)) >= 0:
-        end, *counts, length = records[at:line_end].decode().split(" ")
+        end, numbers, messages, calls, answers, polls, length = records[at:line_end].decode().split(" ")
         at = line_end + 1 + int(length)
         if at > len(records):
             break
-        found.append(Ran(end, *map(int, counts), records[line_end + 1 : at]))
+        counts = int(numbers), int(messages), int(calls), int(answers), int(polls)
+        found.append(Ran(end, *counts, records[line_end + 1 : at]))
     return found
 
 

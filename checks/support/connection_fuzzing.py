@@ -208,7 +208,7 @@ def shrunk(player: Player, actions: tuple[Action, ...]) -> tuple[Action, ...]:
 def tried(player: Player, seed: int, numbers: range) -> tuple[list[Found], Counter[str]]:
     """Which sessions of these numbers fail, and what came about."""
     pairs = [made(seed, number) for number in numbers]
-    seen = sum((it for _, it in pairs), Counter())
+    seen: Counter[str] = sum((it for _, it in pairs), Counter())
     trials = [trial for trial, _ in pairs]
     why_all = fails(player, trials)
     if why_all is None:

@@ -4,7 +4,8 @@ from dataclasses import dataclass, field
 from typing import Any, Callable, NamedTuple, Optional
 
 from support import connection_reading as reading
-from support.connection_reading import ABSENT, SAID_DEPTH, Entry, Error, Frame, Input, Members
+from support.connection_reading import SAID_DEPTH, Entry, Error, Input, Members
+from support.reading import ABSENT, Frame
 
 PARSE_ERROR = Error(-32700, "Parse error")
 INVALID_REQUEST = Error(-32600, "Invalid Request")

@@ -27,7 +27,7 @@ class Ends(Exception):
         self.error = error
 
 
-def text_of(value):
+def text_of(value: object) -> str:
     return json.dumps(value, sort_keys=True, separators=(",", ":"), ensure_ascii=False)
 
 

@@ -14,6 +14,6 @@ def first(row: Any) -> str:
     return str(row[0])
 
 
-def named(rows: Iterable[Any], name: Callable[[Any], str] = first) -> list[Any]:
+def named(rows: Iterable[Any], name: Callable[[Any], object] = first) -> list[Any]:
     """Rows as the values of one parameter, each under its name."""
-    return [pytest.param(it, id=word_of(name(it))) for it in rows]
+    return [pytest.param(it, id=word_of(str(name(it)))) for it in rows]

@@ -32,7 +32,8 @@ def rounds_of(bodies: Iterable[Body]) -> list[list[Body]]:
         fitting = (it for it in rounds if not any({*body.functions} & {*other.functions} for other in it))
         found = next(fitting, None)
         if found is None:
-            rounds.append(found := [])
+            found = []
+            rounds.append(found)
         found.append(body)
     return rounds + apart
 
@@ -64,10 +65,8 @@ def lines_of(output: Output, function: Function) -> list[Verdict]:
 
 def names_of(output: Output, functions: Iterable[Function]) -> dict[Function, list[str]]:
     """What the check calls each of these functions."""
-    named = lambda function: [
-        it.name for it in output.verdicts.values() if it.kind == "fn" and function.printed.fullmatch(it.name)
-    ]
-    return {function: named(function) for function in functions}
+    named = [it.name for it in output.verdicts.values() if it.kind == "fn"]
+    return {function: [it for it in named if function.printed.fullmatch(it)] for function in functions}
 
 
 def commented(functions: Iterable[Function]) -> list[Change]:

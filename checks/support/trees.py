@@ -8,7 +8,7 @@ import tempfile
 import threading
 import time
 from dataclasses import dataclass
-from typing import Callable, Iterable, Iterator
+from typing import Any, Callable, Iterable, Iterator
 
 from support import prover
 from tools.building import left_by_gate  # (it stands in bin/)
@@ -33,7 +33,7 @@ class Ran:
 def run(words: list[str], folder: str, limit: float) -> Ran:
     """Runs a command to its end, or for at most `limit` seconds."""
     with tempfile.TemporaryFile("w+", errors="replace") as out:
-        how = {
+        how: dict[str, Any] = {
             "cwd": folder,
             "stdin": subprocess.DEVNULL,
             "stdout": out,
@@ -204,7 +204,10 @@ def link(source: str, to: str) -> None:
 def link_modules(source: str, to: str) -> None:
     """Links a module that a check has kept, in whose place another check puts a new one; copies any other file, into
     which it may write."""
-    (os.link if source.endswith(".oantt") else shutil.copy2)(source, to)
+    if source.endswith(".oantt"):
+        os.link(source, to)
+    else:
+        shutil.copy2(source, to)
 
 
 def copy_folder(source: str, to: str, copied: Callable[[str, str], object] = shutil.copyfile, late: str = "") -> None:

@@ -221,7 +221,7 @@ class Trial:
         if why and (is_late or len(bodies) == 1):
             self.settle(turn, [Judged(it, False, "unfit", why) for it in bodies])
         elif len(bodies) == 1:
-            self.settle(turn, [judge_wrong(bodies[0], output, True)])
+            self.settle(turn, [it for it in [judge_wrong(bodies[0], output, True)] if it])
         elif why or beside:
             say(
                 f"== {crate.name} {turn.label} hurts more than it should, so each is tried alone: {(why or ', '.join(beside))[:300]}"

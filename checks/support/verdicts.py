@@ -161,7 +161,7 @@ def verdict_of(logic: list[str]) -> tuple[bool, bool]:
     if only := ONLY.fullmatch(logic[0]):
         return only["asked"] == only["proved"] != "0", True
     told = LOGIC.fullmatch(logic[0].rstrip())
-    return bool(told) and told["word"] == "proved", bool(told)
+    return told is not None and told["word"] == "proved", told is not None
 
 
 def read_output(text: str) -> Output:

@@ -27,7 +27,8 @@ class Item:
 
     @property
     def entries(self) -> list[dict[str, Any]]:
-        return self.value if self.is_batch else [self.value]
+        found: list[dict[str, Any]] = self.value if self.is_batch else [self.value]
+        return found
 
 
 def contents_of(output: bytes) -> list[str]:
