@@ -12,8 +12,8 @@
 #include <string.h>
 
 /* The texts of the codes, as scripts have them. */
-static const char *const refusals[] = {"",        "memory",   "not_open", "not_waiting", "over", "not_json",
-                                       "not_text", "small", "settings", "empty",       "full"};
+static const char *const refusals[] = {"",         "memory", "not_open", "not_waiting", "over", "not_json",
+                                       "not_text", "small",  "settings", "empty",       "full"};
 static const char *const endings[] = {"Clean",    "BadHead",     "BadLength", "TwoLengths", "TooLarge",
                                       "NoLength", "HeadTooLong", "Truncated", "Read",       "Full"};
 

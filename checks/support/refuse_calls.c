@@ -136,8 +136,8 @@ static void refused_call(const char *line)
     state before = seen(connection);                                                                                   \
     int32_t code = INSIDE(true, call);                                                                                 \
     if (code == BM_NO_MEMORY) {                                                                                        \
-        check(!has_changed(&before, connection), name, "was refused memory, and has changed something");              \
-        check(kept, name, "was refused memory, and has written something");                                           \
+        check(!has_changed(&before, connection), name, "was refused memory, and has changed something");               \
+        check(kept, name, "was refused memory, and has written something");                                            \
         refused_call(name "\n");                                                                                       \
         code = INSIDE(false, call);                                                                                    \
         check(code != BM_NO_MEMORY, name, "is still refused memory");                                                  \

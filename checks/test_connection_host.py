@@ -1,10 +1,15 @@
-"""The proved program `connection_bench`, by its command `host`, hosts over pipes as docs/connection.md says, with methods in its own code:
-sums, calls back, unknown methods, notifications, cancels, batches, broken contents, inputs that end early, and devices that fail. Each row is
-worked out by hand from the page, and is played whole, cut, and while the other side waits for each line."""
+"""The proved program `connection_bench`, by its command `host`, hosts over pipes as docs/connection.md says, with
+methods in its own code: sums, calls back, unknown methods, notifications, cancels, batches, broken contents, inputs
+that end early, and devices that fail. Each row is worked out by hand from the page, and is played whole, cut, and while
+the other side waits for each line."""
 import subprocess
-from typing import NamedTuple
+from typing import IO, Callable, NamedTuple
 
-from support import ran
+import pytest
+
+from support import needing, ran
+from support.expecting import same
+from support.naming import named
 
 SMALL = 7
 
@@ -21,7 +26,12 @@ def error(number: str, code: int, message: str) -> str:
 
 
 NO_METHOD, NO_PARAMS = (-32601, "Method not found"), (-32602, "Invalid params")
-CANCELLED, NO_REPLY, INVALID, PARSE = (-32800, "Request cancelled"), (-32000, "No reply"), (-32600, "Invalid Request"), (-32700, "Parse error")
+CANCELLED, NO_REPLY, INVALID, PARSE = (
+    (-32800, "Request cancelled"),
+    (-32000, "No reply"),
+    (-32600, "Invalid Request"),
+    (-32700, "Parse error"),
+)
 FAULT, INTERNAL = (-32603, "Invalid reply"), (-32603, "Internal error")
 SPACED, A_1, TEXT_A = '{ "a" : 1.0}', '{"a":1.0}', '"a"'
 UNKNOWN = (("nope", "1"), ("", "null"), ("Add", '"x"'))
@@ -93,7 +103,10 @@ ROWS = (
     Row("no sums", no_sums()),
     Row("a call back", lines(FIRST, f"< {replied(1, SPACED)}", f"> {answered('7', A_1)}")),
     Row("a call back that fails", lines(FIRST, f"< {FAILED}", f"> {FAILED_7}")),
-    Row("a call back with a faulty reply", lines(FIRST, f"< {FAULTY}", f"> {error('7', *FAULT)}", f"< {replied(1, '1')}")),
+    Row(
+        "a call back with a faulty reply",
+        lines(FIRST, f"< {FAULTY}", f"> {error('7', *FAULT)}", f"< {replied(1, '1')}"),
+    ),
     Row(
         "calls back without params, with an object, and with what nests too deep",
         lines(
@@ -110,9 +123,22 @@ ROWS = (
             f"< {replied(1, '6')}",
         ),
     ),
-    Row("a reply that nests too deep to be said again", lines(FIRST, f"< {replied(1, DEEP)}", f"> {error('7', *INTERNAL)}")),
-    Row("unknown methods", lines(*(it for method, id_ in UNKNOWN for it in (f"< {asked(method, '[1]', id_)}", f"> {error(id_, *NO_METHOD)}")))),
-    Row("notifications", lines(f"< {NOTICE}", '< {"jsonrpc":"2.0","method":"add","params":[1]}', '< {"jsonrpc":"2.0","method":"ask"}', ONE)),
+    Row(
+        "a reply that nests too deep to be said again",
+        lines(FIRST, f"< {replied(1, DEEP)}", f"> {error('7', *INTERNAL)}"),
+    ),
+    Row(
+        "unknown methods",
+        lines(
+            *(it for method, id_ in UNKNOWN for it in (f"< {asked(method, '[1]', id_)}", f"> {error(id_, *NO_METHOD)}"))
+        ),
+    ),
+    Row(
+        "notifications",
+        lines(
+            f"< {NOTICE}", '< {"jsonrpc":"2.0","method":"add","params":[1]}', '< {"jsonrpc":"2.0","method":"ask"}', ONE
+        ),
+    ),
     Row(
         "a cancel",
         lines(
@@ -158,7 +184,14 @@ ROWS = (
     ),
     Row(
         "calls back without a reply",
-        lines(FIRST, f"< {ASK}", f"> {confirm(2, PARAMS)}", "$", f"> {error('7', *NO_REPLY)}", f"> {error('7', *NO_REPLY)}"),
+        lines(
+            FIRST,
+            f"< {ASK}",
+            f"> {confirm(2, PARAMS)}",
+            "$",
+            f"> {error('7', *NO_REPLY)}",
+            f"> {error('7', *NO_REPLY)}",
+        ),
     ),
     Row("nothing", ""),
 )
@@ -177,46 +210,74 @@ def lined(content: bytes) -> bytes:
     return content + b"\n"
 
 
-def check_row(count: ran.Count, program: str, row: Row) -> None:
-    for words, form in ((["host"], framed), (["host", "--lines"], lined)):
-        given = b"".join(form(it) for mark, it in messages(row) if mark == "<")
-        wanted = b"".join(form(it) for mark, it in messages(row) if mark == ">")
-        got = ran.run(words, given, program=program)
-        # (what is written for the contents of one piece is that of one after the other)
-        count.check(f"{row.name}, {words}", got == (0, wanted, b""), f"{got}, and not {wanted}")
-        check_waiting(count, program, row, words, form)
-        for size in (1, SMALL):
-            check_cut(count, program, row, words, given, wanted, size)
+FORMS: dict[str, tuple[list[str], Callable[[bytes], bytes]]] = {
+    "frames": (["host"], framed),
+    "lines": (["host", "--lines"], lined),
+}
+ROW = pytest.mark.parametrize("row", named(ROWS))
+IN_FORM = pytest.mark.parametrize("form", FORMS)
 
 
-def check_cut(count: ran.Count, program: str, row: Row, words: list[str], given: bytes, wanted: bytes, size: int) -> None:
+@pytest.fixture(scope="session")
+def program() -> str:
+    return needing.gates_program("connection_bench")
+
+
+def streams(row: Row, form: str) -> tuple[bytes, bytes]:
+    """All that comes, and all that is written."""
+    put = FORMS[form][1]
+    given, wanted = (b"".join(put(it) for mark, it in messages(row) if mark == way) for way in "<>")
+    return given, wanted
+
+
+@ROW
+@IN_FORM
+def test_row(program: str, row: Row, form: str) -> None:
+    """What is written for the contents of one piece is that of one after the other."""
+    given, wanted = streams(row, form)
+    same(ran.run(FORMS[form][0], given, program=program), (0, wanted, b""))
+
+
+def opened(program: str, words: list[str]) -> "subprocess.Popen[bytes]":
+    return subprocess.Popen(
+        [program, *words], stdin=subprocess.PIPE, stdout=subprocess.PIPE, stderr=subprocess.PIPE, bufsize=0
+    )
+
+
+@ROW
+@IN_FORM
+@pytest.mark.parametrize("size", (1, SMALL))
+def test_row_cut(program: str, row: Row, form: str, size: int) -> None:
     """The input comes in pieces of so many bytes."""
-    with subprocess.Popen([program, *words], stdin=subprocess.PIPE, stdout=subprocess.PIPE, stderr=subprocess.PIPE, bufsize=0) as it:
+    given, wanted = streams(row, form)
+    with opened(program, FORMS[form][0]) as it:
         for at in range(0, len(given), size):
-            it.stdin.write(given[at : at + size])
+            ran.pipe(it.stdin).write(given[at : at + size])
         output, errors = it.communicate(timeout=60)
-    count.check(f"{row.name}, {words}, {size} bytes at a time", (it.returncode, output, errors) == (0, wanted, b""), f"{output!r}, {errors!r}")
+    same((it.returncode, output, errors), (0, wanted, b""))
 
 
-def check_waiting(count: ran.Count, program: str, row: Row, words: list[str], form) -> None:
+@ROW
+@IN_FORM
+def test_row_waited_for(program: str, row: Row, form: str) -> None:
     """The other side reads what is written for each content before it sends the next."""
-    with subprocess.Popen([program, *words], stdin=subprocess.PIPE, stdout=subprocess.PIPE, stderr=subprocess.PIPE, bufsize=0) as it:
+    words, put = FORMS[form]
+    with opened(program, words) as it:
         for mark, content in messages(row):
             if mark == "<":
-                it.stdin.write(form(content))
+                ran.pipe(it.stdin).write(put(content))
             elif mark == "$":
-                it.stdin.close()
+                ran.pipe(it.stdin).close()
             else:
-                wanted = form(content)
-                got = exactly(it.stdout, len(wanted))
-                count.check(f"{row.name}, {words}, waited for", got == wanted, f"{got!r}, and not {wanted!r}")
-        if not it.stdin.closed:
-            it.stdin.close()
-        rest, errors = it.stdout.read(), it.stderr.read()
-        count.check(f"{row.name}, {words}, waited for to its end", (it.wait(60), rest, errors) == (0, b"", b""), f"{rest!r}, {errors!r}")
+                wanted = put(content)
+                same(exactly(ran.pipe(it.stdout), len(wanted)), wanted, "waited for")
+        if not ran.pipe(it.stdin).closed:
+            ran.pipe(it.stdin).close()
+        rest, errors = ran.pipe(it.stdout).read(), ran.pipe(it.stderr).read()
+        same((it.wait(60), rest, errors), (0, b"", b""), "its end")
 
 
-def exactly(stream, length: int) -> bytes:
+def exactly(stream: IO[bytes], length: int) -> bytes:
     came = b""
     while len(came) < length:
         piece = stream.read(length - len(came))
@@ -226,49 +287,50 @@ def exactly(stream, length: int) -> bytes:
     return came
 
 
-def check_ends(count: ran.Count, program: str) -> None:
-    """An input that ends early or is broken: what came before is answered, and what was asked back is answered too."""
-    call, key = framed(ASK.encode()), framed(confirm(1, PARAMS).encode())
-    gone = framed(error("7", *NO_REPLY).encode())
-    for name, given, end in (
-        ("the input ends inside a head", call + b"Content-Le", "Truncated"),
-        ("the input ends inside a content", call + b"Content-Length: 5\r\n\r\n{", "Truncated"),
-        ("a broken head", call + b"Content-Length: x\r\n\r\n" + call, "BadLength"),
-        ("a content of 16 MiB and a byte", call + b"Content-Length: 16777217\r\n\r\n", "TooLarge"),
-    ):
-        got = ran.run(["host"], given, program=program)
-        count.check(name, got == (1, key + gone, f"input ended: {end}\n".encode()), f"{got}")
+# An input that ends early or is broken: what came before is answered, and what was asked back is answered too.
+
+CALL, KEY, GONE = framed(ASK.encode()), framed(confirm(1, PARAMS).encode()), framed(error("7", *NO_REPLY).encode())
+ENDS = [
+    ("the input ends inside a head", CALL + b"Content-Le", "Truncated"),
+    ("the input ends inside a content", CALL + b"Content-Length: 5\r\n\r\n{", "Truncated"),
+    ("a broken head", CALL + b"Content-Length: x\r\n\r\n" + CALL, "BadLength"),
+    ("a content of 16 MiB and a byte", CALL + b"Content-Length: 16777217\r\n\r\n", "TooLarge"),
+]
+
+
+@pytest.mark.parametrize("row", named(ENDS))
+def test_end(program: str, row: tuple[str, bytes, str]) -> None:
+    _, given, end = row
+    same(ran.run(["host"], given, program=program), (1, KEY + GONE, f"input ended: {end}\n".encode()))
+
+
+def test_last_line_without_lf(program: str) -> None:
     got = ran.run(["host", "--lines"], asked("add", "[1]", "1").encode(), program=program)
-    count.check("a last line without LF", got == (0, lined(answered("1", "1").encode()), b""), f"{got}")
-    got = ran.run_on_broken(["host"], call, program=program)
-    count.check("an input that breaks off", got == (1, key + gone, b"input ended: ReadFailed\n"), f"{got}")
-    for room in (0, 1, len(key)):
-        got = ran.run_into(room, ["host"], call, program=program)
-        count.check(f"an output that takes {room} bytes", got == (1, (key + gone)[:room], b"failed: Write\n"), f"{got}")
+    same(got, (0, lined(answered("1", "1").encode()), b""))
 
 
-def check_large(count: ran.Count, program: str) -> None:
-    """A param of 8 MB there and back, and 20,000 open calls, replied to from the last."""
+def test_input_that_breaks_off(program: str) -> None:
+    same(ran.run_on_broken(["host"], CALL, program=program), (1, KEY + GONE, b"input ended: ReadFailed\n"))
+
+
+@pytest.mark.parametrize("room", (0, 1, len(KEY)))
+def test_output_that_takes_so_many_bytes(program: str, room: int) -> None:
+    same(ran.run_into(room, ["host"], CALL, program=program), (1, (KEY + GONE)[:room], b"failed: Write\n"))
+
+
+def test_param_of_8_MB(program: str) -> None:
+    """There and back."""
     text = '"' + "a" * 8_000_000 + '"'
-    given = framed(asked("ask", f"[{text}]", "1").encode()) + framed(f'{{"jsonrpc":"2.0","id":1,"result":{text}}}'.encode())
-    wanted = framed(f'{{"id":1,"jsonrpc":"2.0","method":"confirm","params":[{text}]}}'.encode()) + framed(answered("1", text).encode())
-    status, output, errors = ran.run(["host"], given, program=program)
-    count.check("a param of 8 MB", (status, output == wanted, errors) == (0, True, b""), f"{status}, {len(output)} bytes, {errors!r}")
+    given = framed(asked("ask", f"[{text}]", "1").encode()) + framed(replied(1, text).encode())
+    wanted = framed(confirm(1, f"[{text}]").encode()) + framed(answered("1", text).encode())
+    same(ran.run(["host"], given, program=program), (0, wanted, b""))
+
+
+def test_20_000_open_calls(program: str) -> None:
+    """Replied to from the last."""
     numbers = range(1, 20_001)
     given = b"".join(framed(asked("ask", f"[{it}]", f"{it}").encode()) for it in numbers)
-    given += b"".join(framed(f'{{"jsonrpc":"2.0","id":{it},"result":{it}}}'.encode()) for it in reversed(numbers))
-    wanted = b"".join(framed(f'{{"id":{it},"jsonrpc":"2.0","method":"confirm","params":[{it}]}}'.encode()) for it in numbers)
+    given += b"".join(framed(replied(it, f"{it}").encode()) for it in reversed(numbers))
+    wanted = b"".join(framed(confirm(it, f"[{it}]").encode()) for it in numbers)
     wanted += b"".join(framed(answered(f"{it}", f"{it}").encode()) for it in reversed(numbers))
-    status, output, errors = ran.run(["host"], given, program=program)
-    count.check("20,000 open calls", (status, output == wanted, errors) == (0, True, b""), f"{status}, {len(output)} bytes, {errors!r}")
-
-
-count = ran.Count()
-PROGRAM = ran.gates_program("connection_bench")
-count.check("the gate built connection_bench", PROGRAM is not None)
-for row in ROWS if PROGRAM else ():
-    check_row(count, PROGRAM, row)
-if PROGRAM:
-    check_ends(count, PROGRAM)
-    check_large(count, PROGRAM)
-count.end()
+    same(ran.run(["host"], given, program=program), (0, wanted, b""))

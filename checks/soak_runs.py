@@ -1,5 +1,6 @@
-"""Runs the soak of bench/ for 20 seconds: a server under traffic of all kinds, each of whose answers is checked; two servers after each
-other, of which the first is filled up to its last call; and, where there is `cc`, one that loses some 20 bytes a call, which it has to see."""
+"""Runs the soak of bench/ for 20 seconds: a server under traffic of all kinds, each of whose answers is checked; two
+servers after each other, of which the first is filled up to its last call; and, where there is `cc`, one that loses
+some 20 bytes a call, which it has to see."""
 import os
 import re
 import sys
@@ -36,7 +37,9 @@ def check_runs(count: ran.Count) -> None:
         check_run(count, words, servers)
     if not ran.lacks("cc", refusals.WHY):
         status, told = soaked(LOSES)
-        count.check("a loss is seen", status == 1 and re.search(r"DIFFERS: .* are kept", told) is not None, f"status {status}")
+        count.check(
+            "a loss is seen", status == 1 and re.search(r"DIFFERS: .* are kept", told) is not None, f"status {status}"
+        )
 
 
 ran.script(check_runs)

@@ -1,8 +1,8 @@
 #!/usr/bin/env python3
 """The judge of wrong bodies takes only what is a refusal for one: on outputs of the prover that are written by hand.
 
-A function that falls since it calls another that falls is tried alone, and one that the prover has no rule for is unfit. The last line is
-'N passed, M failed'; the status is 0 only where M is."""
+A function that falls since it calls another that falls is tried alone, and one that the prover has no rule for is
+unfit. The last line is 'N passed, M failed'; the status is 0 only where M is."""
 import os
 import tempfile
 from types import SimpleNamespace
@@ -58,11 +58,31 @@ TRUSTED = "sum=dac8208d650f15bf native=nat,char,string logic-built=trusted libra
 AXIOMS = "axioms libc: libc::heap::rattle_alloc, libc::heap::rattle_dealloc (2 of the 128 declared)\naxioms os: none reached of the 22 declared\n"
 LAST_LINES = [
     ("a library", f"logic=proved functions=2 {TRUSTED}", True, True),
-    ("a static library", f"{AXIOMS}logic=proved functions=2 axioms=2 target=x86_64-unknown-linux-gnu cpu=x86-64-v2 {TRUSTED}", True, True),
-    ("a static library that reaches no axiom", f"logic=proved functions=2 target=x86_64-unknown-linux-gnu cpu=x86-64-v2 {TRUSTED}", True, True),
-    ("a program", f"{AXIOMS}logic=proved functions=2 axioms=2 target=x86_64-unknown-linux-gnu cpu=x86-64-v2 main=Wait {TRUSTED}", True, True),
+    (
+        "a static library",
+        f"{AXIOMS}logic=proved functions=2 axioms=2 target=x86_64-unknown-linux-gnu cpu=x86-64-v2 {TRUSTED}",
+        True,
+        True,
+    ),
+    (
+        "a static library that reaches no axiom",
+        f"logic=proved functions=2 target=x86_64-unknown-linux-gnu cpu=x86-64-v2 {TRUSTED}",
+        True,
+        True,
+    ),
+    (
+        "a program",
+        f"{AXIOMS}logic=proved functions=2 axioms=2 target=x86_64-unknown-linux-gnu cpu=x86-64-v2 main=Wait {TRUSTED}",
+        True,
+        True,
+    ),
     ("what isn't proved", "logic=not-proved", False, True),
-    ("a static library that isn't proved", f"{AXIOMS}logic=not-proved axioms=2 target=x86_64-unknown-linux-gnu cpu=x86-64-v2", False, True),
+    (
+        "a static library that isn't proved",
+        f"{AXIOMS}logic=not-proved axioms=2 target=x86_64-unknown-linux-gnu cpu=x86-64-v2",
+        False,
+        True,
+    ),
     ("some functions", "only=2 proved=2", True, True),
     ("some functions, one not proved", "only=2 proved=1", False, True),
     ("no function", "only=0 proved=0", False, True),
@@ -74,8 +94,8 @@ LAST_LINES = [
     ("two that differ", "logic=not-proved\nlogic=proved functions=2", False, False),
 ]
 
-# What the prover says of a function, and what that makes of its wrong body: in a round, where another body is wrong beside it, and alone.
-# None: it is to be tried alone.
+# What the prover says of a function, and what that makes of its wrong body: in a round, where another body is wrong
+# beside it, and alone. None: it is to be tried alone.
 CASES = [
     ("a proved body", PROVED, "proved", "proved"),
     ("an open clause", CLAUSE, "refused", "refused"),
@@ -122,18 +142,26 @@ def check_verdicts(count: ran.Count, crate: Crate) -> None:
             found = judged and judged.word
             count.check(f"{name}, {where}", found == wanted, f"{found}, and not {wanted}: {judged and judged.why}")
             is_refusal = found in ("refused", "by hand answer")
-            count.check(f"{name}, {where}, is as it should be", judged is None or judged.is_well == is_refusal, f"{judged}")
+            count.check(
+                f"{name}, {where}, is as it should be", judged is None or judged.is_well == is_refusal, f"{judged}"
+            )
         right = judge_right(outer, output)
         count.check(f"{name}, of a right body", right.is_well == (line == PROVED), f"{right}")
 
 
 def check_last_lines(count: ran.Count) -> None:
-    """What the last line says, behind lines on functions; with none of these nothing is said. Hints of the kit's commands may follow it."""
+    """What the last line says, behind lines on functions; with none of these nothing is said. Hints of the kit's
+    commands may follow it."""
     lines = "".join(f"{PROVED.format(it)}\n" for it in ("inner", "outer"))
     for name, last, is_proved, has_verdict in LAST_LINES:
-        for where, text in (("", f"{lines}{last}\n"), (", and hints behind it", f"{lines}{last}\nrt: rt lemma WORD.. finds a lemma\n")):
+        for where, text in (
+            ("", f"{lines}{last}\n"),
+            (", and hints behind it", f"{lines}{last}\nrt: rt lemma WORD.. finds a lemma\n"),
+        ):
             output = read_output(text)
-            count.check(f"{name}{where}", (output.is_proved, output.has_verdict) == (is_proved, has_verdict), f"{output}")
+            count.check(
+                f"{name}{where}", (output.is_proved, output.has_verdict) == (is_proved, has_verdict), f"{output}"
+            )
         count.check(f"{name}, without a function", not read_output(f"{last}\n").has_verdict, last)
 
 
@@ -145,8 +173,60 @@ def check_static(count: ran.Count, room: str) -> None:
     trees.libraries["low"] = "LOW"
     for name, is_static in (("low", False), ("toy", True), ("staticlib", False)):
         words = trees.words(name, room, 1, ["f"])
-        count.check(f"{name} is checked as what it is", ("--crate-type" in words) == is_static and words[-2:] == ["--only", "f"], f"{words}")
-    count.check("the libraries below", trees.below == {"low": [], "toy": ["low"], "staticlib": ["low"]}, f"{trees.below}")
+        count.check(
+            f"{name} is checked as what it is",
+            ("--crate-type" in words) == is_static and words[-2:] == ["--only", "f"],
+            f"{words}",
+        )
+    count.check(
+        "the libraries below", trees.below == {"low": [], "toy": ["low"], "staticlib": ["low"]}, f"{trees.below}"
+    )
+
+
+def put(file: str, text: str = "") -> None:
+    os.makedirs(os.path.dirname(file), exist_ok=True)
+    with open(file, "w", encoding="utf-8") as it:
+        it.write(text)
+
+
+def check_over_gate(count: ran.Count, room: str) -> None:
+    """Crates are proved over the gate's libraries where all of them are there, of these sources; else those below are
+    proved again."""
+    put(f"{room}/crates.txt", "low:\nmiddle: low\ntoy: middle low\nother: low\n")
+    stamp, source = f"{room}/crates/middle/out/rlib/stamp", f"{room}/crates/low/src/lib.rt"
+    for name in ("low", "middle", "toy", "other"):
+        put(f"{room}/crates/{name}/src/lib.rt")
+    made = {name: f"{room}/crates/{name}/out/rlib/{name}.rlib" for name in ("low", "middle")}
+
+    def look(name: str, is_over_gate: bool, wanted: bool) -> None:
+        with tempfile.TemporaryDirectory(dir=room) as folder:
+            trees = Trees(room, folder, {"toy": {}}, 60, is_over_gate)
+            needed = ["toy"] if wanted else ["low", "middle", "toy"]
+            count.same(name, (trees.is_over_gate, trees.needed, trees.is_ready("toy")), (wanted, needed, wanted))
+            words = trees.words("toy", folder, 1) if wanted else []
+            count.check(
+                f"{name}: where they lie",
+                all(f"{it}={folder}/gate/{it}/{it}.rlib" in words for it in made if wanted),
+                f"{words}",
+            )
+            count.check(
+                f"{name}: what they hold",
+                not wanted or os.path.isfile(f"{folder}/gate/low/low.rlib/format"),
+                f"{trees.libraries}",
+            )
+
+    put(f"{made['low']}/format")
+    look("one of the gate's libraries is missing", True, False)
+    put(f"{made['middle']}/format")
+    look("the gate's libraries", True, True)
+    look("the gate's libraries that aren't asked for", False, False)
+    put(stamp)
+    look("a library of other commands", True, False)
+    os.remove(stamp)
+    os.utime(source, (os.path.getmtime(made["low"]) + 10,) * 2)
+    look("a source that is newer", True, False)
+    os.utime(source, (1, 1))
+    look("no source that is newer", True, True)
 
 
 def labels(trial: Trial) -> list[str]:
@@ -168,7 +248,8 @@ def word_of(crate: Crate, body: Body) -> Optional[str]:
 
 
 def check_rounds(count: ran.Count, room: str) -> None:
-    """A round's body that falls with another is tried alone; a comment that is tried so is proved, and so counts as a failure."""
+    """A round's body that falls with another is tried alone; a comment that is tried so is proved, and so counts as a
+    failure."""
     for name, line, in_round, _ in CASES[1:]:
         trial, crate = judged_in_round(room, line)
         inner, outer = crate.bodies
@@ -177,12 +258,19 @@ def check_rounds(count: ran.Count, room: str) -> None:
         count.check(f"{name}: what is tried again", labels(trial) == wanted, f"{labels(trial)}")
         count.check(f"{name}: what is settled", word_of(crate, outer) == in_round, f"{crate.judged}")
         if in_round is None:
-            trial.judge_round(Turn(crate, [outer], "alone-outer_is_wrong", is_whole=True), said(PROVED, PROVED), None, False)
-            count.check(f"{name}: alone it is proved", word_of(crate, outer) == "proved" and not crate.is_well, f"{crate.judged}")
+            trial.judge_round(
+                Turn(crate, [outer], "alone-outer_is_wrong", is_whole=True), said(PROVED, PROVED), None, False
+            )
+            count.check(
+                f"{name}: alone it is proved",
+                word_of(crate, outer) == "proved" and not crate.is_well,
+                f"{crate.judged}",
+            )
 
 
 def check_control(count: ran.Count, room: str) -> None:
-    """Rounds come once the crate is proved with its comments, whatever kind of crate it is; and else it fails, and none comes."""
+    """Rounds come once the crate is proved with its comments, whatever kind of crate it is; and else it fails, and none
+    comes."""
     proved = "".join(f"{PROVED.format(it)}\n" for it in ("inner", "outer"))
     fallen = f"{CLAUSE.format('inner')}\n{PROVED.format('outer')}\n"
     library, static = LAST_LINES[0][1], LAST_LINES[1][1]
@@ -221,6 +309,8 @@ def main() -> None:
         check_control(count, room)
         check_last_lines(count)
         check_static(count, room)
+    with tempfile.TemporaryDirectory(prefix="judge-") as room:
+        check_over_gate(count, room)
     count.end()
 
 
