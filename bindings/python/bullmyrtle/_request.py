@@ -8,6 +8,7 @@ from . import _json, events
 from .errors import Error, NotJson
 
 if TYPE_CHECKING:
+    from ._asking import Asking
     from ._session import Session
 
 # A call of ours: its method and its params.
@@ -43,7 +44,7 @@ def words_of(text: str) -> str:
 class Reply(asyncio.Future):  # type: ignore[type-arg]
     """The reply to a call of ours. If it is cancelled, the other side is told that it isn't wanted any more."""
 
-    def __init__(self, session: Session, key: int) -> None:
+    def __init__(self, session: Asking, key: int) -> None:
         super().__init__(loop=session.loop)
         self._session = session
         self.key = key
@@ -60,8 +61,8 @@ class Request:
 
     __slots__ = ("session", "number", "method", "id_text", "is_cancelled", "is_later", "keys", "kind", "task")
 
-    def __init__(self, session: Session, event: events.Call, kind: str) -> None:
-        self.session = session
+    def __init__(self, session: Any, event: events.Call, kind: str) -> None:
+        self.session: Session = session
         self.number = event.number
         self.method = event.method
         self.id_text = event.id
