@@ -14,6 +14,7 @@ if not (_sys.platform.startswith("linux") and _machine == "x86_64" and _sys.maxs
     )
 
 from . import events  # noqa: E402 (where the library can't run, that is said before anything else)
+from ._marks import method  # noqa: E402
 from ._request import LATER, Reply, Request  # noqa: E402
 from ._session import Session  # noqa: E402
 from .client import Client  # noqa: E402
@@ -63,4 +64,5 @@ __all__ = [
     "Session",
     "Unanswered",
     "events",
+    "method",
 ]

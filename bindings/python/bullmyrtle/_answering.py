@@ -7,13 +7,14 @@ import functools
 import inspect
 import logging
 import threading
-from typing import Any, Callable, Dict, List, Mapping, Optional, Set, Tuple
+from typing import Any, Callable, Dict, List, Optional, Set, Tuple
 
 from . import _json, events
 from ._asking import Asking
-from ._params import ASYNC, PLAIN, THREAD, Method
+from ._params import ASYNC, PLAIN, THREAD, Method, Methods
 from ._pool import Pool
 from ._request import LATER, Request, optional_text, text_of, words_of
+from ._threads import T, in_thread
 from .errors import INTERNAL_ERROR, METHOD_NOT_FOUND, Closed, Error, InvalidParams, NotOpen, Unanswered
 
 log = logging.getLogger("bullmyrtle")
@@ -29,7 +30,7 @@ class Answering(Asking):
     _change: Optional["asyncio.Future[None]"]
     _changed: Callable[[], None]
 
-    def __init__(self, methods: Mapping[str, Method], workers: Optional[int]) -> None:
+    def __init__(self, methods: Methods, workers: Optional[int]) -> None:
         super().__init__()
         self._methods = methods
         self._pool = Pool(workers)
@@ -48,6 +49,8 @@ class Answering(Asking):
         method = self._methods.get(event.method)
         if self._takes_tool_cancels and event.method == self._cancel_by:
             self._cancel_by_id(event)
+        if method is None and event.method != self._cancel_by:
+            method = self._methods.otherwise(event.method)
         if method is None:
             self._connection.fail(number, METHOD_NOT_FOUND, f"Method not found: {event.method}")
             return False
@@ -159,6 +162,10 @@ class Answering(Asking):
             self._close_notification(request.number, request)
         else:
             self._answer(request.number, request.method, result, request)
+
+    def in_thread(self, function: Callable[..., T], *given: Any, **named: Any) -> "asyncio.Future[T]":
+        """Runs any function in a thread of the pool: gives what is to be awaited, or returned by a method."""
+        return in_thread(self, functools.partial(function, *given, **named))
 
     def _run_in_thread(self, method: Method, given: Any, request: Request) -> None:
         if request.number not in self._open:

@@ -1,11 +1,14 @@
 """What a server and a client have in common: methods, settings, and the sessions that use them."""
 from __future__ import annotations
 
-from typing import Any, Callable, Dict, Iterable, Literal, Optional, TypeVar, Union
+import asyncio
+import functools
+from typing import Any, Callable, Dict, Iterable, Literal, Optional, TypeVar, Union, overload
 
 from ._channels import Channel
 from ._library import ORDERS
-from ._params import Method
+from ._marks import marked, name_of
+from ._params import Method, Methods
 from ._request import Said
 from ._session import LSP_CANCEL, TOOL_CANCEL, Session
 from ._trace import Trace, Traced
@@ -13,6 +16,7 @@ from .connection import Connection, Order
 from .errors import BadSettings, Closed
 
 F = TypeVar("F", bound=Callable[..., Any])
+T = TypeVar("T")
 
 #: The cancel that belongs to the framing.
 BY_FRAMING = "by framing"
@@ -60,24 +64,70 @@ class Peer:
         self._grace = grace
         self._workers = workers
         self._trace = trace
-        self._methods: Dict[str, Method] = {}
+        self._methods = Methods()
         self._sessions: Dict[Session, None] = {}
 
-    def method(self, name: str, *, thread: bool = False) -> Callable[[F], F]:
-        """Register a function as the method of this name.
+    # Methods
 
-        The function takes the params and, where it has a second parameter, the `Request`. A plain function runs on the
-        loop's thread, when its call comes; an `async def` starts then, and others may come while it awaits; one with
-        `thread=True` runs in a thread of its own. What it returns is the result. A notification's result is nothing.
+    @overload
+    def method(self, name: F) -> F:
+        ...
+
+    @overload
+    def method(self, name: Optional[str] = None, *, thread: bool = False) -> Callable[[F], F]:
+        ...
+
+    def method(self, name: Union[Callable[..., Any], str, None] = None, *, thread: bool = False) -> Any:
+        """Register a function as the method of this name, or of its own where none is given.
+
+        What its parameters get:
+
+        - one parameter gets the params whole, and so does a first one that is named `params`;
+        - the second one gets the `Request`, where it is named `request` or annotated so, and then the first one gets
+          the params whole; one that has to be named, as in `def m(a, b, *, request)`, gets it too;
+        - otherwise an array fills the parameters by their places, and an object by their names.
+
+        A plain function runs on the loop's thread, when its call comes; an `async def` starts then, and others may come
+        while it awaits; one with `thread=True` runs in a thread of its own. What it returns is the result. A
+        notification's result is nothing.
         """
+        if callable(name):
+            return self.method()(name)
+        given: Optional[str] = name
 
         def register(function: F) -> F:
-            if name in self._methods:
-                raise ValueError(f"there is a method {name!r} already")
-            self._methods[name] = Method(name, function, thread)
+            self._methods.add(Method(name_of(function) if given is None else given, function, thread))
             return function
 
         return register
+
+    def register(self, instance: T) -> T:
+        """Register what is marked of an instance by `@bullmyrtle.method("name")`, and give it back."""
+        self._methods.add(*(Method(it.name, function, it.thread) for it, function in marked(instance)))
+        return instance
+
+    @overload
+    def fallback(self, function: F, *, thread: bool = False, dollar: bool = False) -> F:
+        ...
+
+    @overload
+    def fallback(self, *, thread: bool = False, dollar: bool = False) -> Callable[[F], F]:
+        ...
+
+    def fallback(
+        self, function: Optional[Callable[..., Any]] = None, *, thread: bool = False, dollar: bool = False
+    ) -> Any:
+        """Register what answers names that nobody registered; `request.method` says which it is.
+
+        Names that begin with `$/` are answered, or closed, without it, unless `dollar=True`.
+        """
+        if function is None:
+            return functools.partial(self.fallback, thread=thread, dollar=dollar)
+        if self._methods.fallback is not None:
+            raise ValueError("there is a fallback already")
+        self._methods.fallback = Method("fallback", function, thread)
+        self._methods.takes_dollar = dollar
+        return function
 
     # Sessions
 
@@ -120,3 +170,7 @@ class Peer:
     def notify(self, method: str, params: Any = None) -> None:
         """Send the other side a notification. Any thread may do that."""
         self.session.notify(method, params)
+
+    def in_thread(self, function: Callable[..., T], *given: Any, **named: Any) -> "asyncio.Future[T]":
+        """Run any function in a thread of the session's own pool: gives what is to be awaited, or returned."""
+        return self.session.in_thread(function, *given, **named)

@@ -2,7 +2,7 @@
 from __future__ import annotations
 
 import asyncio
-from typing import TYPE_CHECKING, Any, Iterable, List, Optional, Tuple, Union
+from typing import TYPE_CHECKING, Any, Callable, Iterable, List, Optional, Tuple, TypeVar, Union
 
 from . import _json, events
 from .errors import Error, NotJson
@@ -10,6 +10,8 @@ from .errors import Error, NotJson
 if TYPE_CHECKING:
     from ._asking import Asking
     from ._session import Session
+
+T = TypeVar("T")
 
 # A call of ours: its method and its params.
 Said = Tuple[str, Any]
@@ -106,6 +108,13 @@ class Request:
     def notify(self, method: str, params: Any = None) -> None:
         """Send the other side a notification. Any thread may do that."""
         self.session.notify(method, params)
+
+    def in_thread(self, function: Callable[..., T], *given: Any, **named: Any) -> "asyncio.Future[T]":
+        """Run any function in a thread of the session's own pool: gives what is to be awaited, or returned.
+
+        One that hasn't begun when the request is cancelled never does.
+        """
+        return self.session.in_thread(function, *given, **named)
 
     def answer(self, result: Any = None) -> None:
         """Answer the request now, or later where its method returned LATER. Any thread may do that.

@@ -6,13 +6,13 @@ import contextlib
 import logging
 import threading
 from collections import deque
-from typing import Any, Callable, Deque, Mapping, Optional, Union
+from typing import Any, Callable, Deque, Optional, Union
 
 from . import _json, events
 from ._answering import VALUES, Answering
 from ._asking import settle
 from ._channels import Channel
-from ._params import Method
+from ._params import Methods
 from ._trace import Traced
 from .connection import Connection
 from .errors import INTERNAL_ERROR, Closed, Error, InputOver, NoMemory, Unanswered
@@ -28,7 +28,7 @@ class Session(Answering):
 
     def __init__(
         self,
-        methods: Mapping[str, Method],
+        methods: Methods,
         channel: Channel,
         connection: Union[Connection, Traced],
         cancel_by: Optional[str],

@@ -345,7 +345,7 @@ class Registering(Case):
                 self.assertEqual(await client.call("partial", [1]), [1, [1]])
                 self.assertEqual(await client.call("default", [1]), [[1], 5])
                 self.assertEqual(await client.call("named", [1]), "named")
-                self.assertEqual(await client.call("star", [1]), [])
+                self.assertEqual(await client.call("star", [1]), [1])
                 self.assertEqual(await client.call("awaitable", [1]), [1])
 
         self.wait(main())
@@ -359,7 +359,7 @@ class Registering(Case):
         with self.assertRaises(TypeError):
             server.method("x", thread=True)(later)
         with self.assertRaises(TypeError):
-            server.method("x")(lambda a, b, c: None)
+            server.method("x")(lambda params, b, c: None)
         with self.assertRaises(TypeError):
             server.method(5)(lambda a: None)
 
