@@ -31,7 +31,7 @@ class Asking:
         self._lock = threading.Lock()
         self._blocked: Set["concurrent.futures.Future[Any]"] = set()
 
-    def call(
+    def say_calls(
         self,
         calls: Sequence[Said],
         is_batch: bool,
@@ -48,7 +48,7 @@ class Asking:
     def call_one(self, method: str, params: Any, request: Optional[Request] = None) -> Any:
         """The same for one call, which is what most are."""
         if threading.get_ident() != self._thread:
-            return self.call([(method, params)], False, request)
+            return self.say_calls([(method, params)], False, request)
         text = None if params is None else text_of(params)
         self._check_that_it_can_wait(request)
         try:

@@ -3,23 +3,41 @@ from __future__ import annotations
 
 import asyncio
 import functools
-from typing import Any, Callable, Dict, Iterable, Literal, Optional, TypeVar, Union, overload
+import inspect
+from typing import (
+    Any,
+    Callable,
+    Dict,
+    Iterable,
+    List,
+    Literal,
+    NoReturn,
+    Optional,
+    Tuple,
+    TypeVar,
+    Union,
+    overload,
+)
 
+from . import _settings
 from ._channels import Channel
 from ._library import ORDERS
 from ._marks import marked, name_of
 from ._params import Method, Methods
-from ._request import Said
+from ._request import Reply, Said
 from ._session import LSP_CANCEL, TOOL_CANCEL, Session
 from ._trace import Trace, Traced
 from .connection import Connection, Order
-from .errors import BadSettings, Closed
+from .errors import Closed
 
 F = TypeVar("F", bound=Callable[..., Any])
 T = TypeVar("T")
 
+CancelBy = Literal["$/cancelRequest", "notifications/cancelled", "by framing"]
+Framing = Literal["frames", "lines"]
+
 #: The cancel that belongs to the framing.
-BY_FRAMING = "by framing"
+BY_FRAMING: CancelBy = "by framing"
 
 
 class Peer:
@@ -28,16 +46,17 @@ class Peer:
     def __init__(
         self,
         *,
-        framing: Literal["frames", "lines"] = "frames",
+        framing: Framing = "frames",
         order: Order = "as-answered",
-        cancel_by: Optional[str] = BY_FRAMING,
+        cancel_by: Optional[CancelBy] = BY_FRAMING,
         content: Optional[int] = None,
         calls: Optional[int] = None,
         grace: float = 5.0,
         workers: Optional[int] = None,
         trace: Optional[Trace] = None,
+        **unknown: NoReturn,
     ) -> None:
-        """Make one, without methods yet.
+        """Make one, without methods yet. Raises `BadSettings` where there are no such settings.
 
         framing -- "frames", as in LSP, or "lines", as in MCP
         order -- whether answers go out "as-answered", or in the order in which the requests came ("as-came")
@@ -49,23 +68,35 @@ class Peer:
         workers -- how many threads there may be for methods with `thread=True`
         trace -- where a log of the messages goes: a file's name, a file, or a function that takes lines
         """
-        if framing not in ("frames", "lines") or order not in ORDERS:
-            raise BadSettings(f"there are no such settings: framing {framing!r}, order {order!r}")
-        by_framing = LSP_CANCEL if framing == "frames" else TOOL_CANCEL
+        _settings.no_more(unknown, self._setting_names())
+        _settings.one_of("framing", framing, ("frames", "lines"))
+        _settings.one_of("order", order, ORDERS)
+        if cancel_by != BY_FRAMING:
+            _settings.one_of("cancel_by", cancel_by, (LSP_CANCEL, TOOL_CANCEL, None))
+        _settings.whole("content", content, _settings.MOST_CONTENT)
+        _settings.whole("calls", calls, _settings.MOST_CALLS)
+        _settings.whole("workers", workers)
+        _settings.seconds("grace", grace)
+        _settings.trace(trace)
         self._settings: Dict[str, Any] = {
             "framing": framing,
             "order": order,
             "content": content,
             "calls": calls,
         }
-        self._cancel_by = by_framing if cancel_by == BY_FRAMING else cancel_by
-        if self._cancel_by not in (LSP_CANCEL, TOOL_CANCEL, None):
-            raise ValueError(f"there is no such way to cancel: {cancel_by!r}")
+        by_framing: CancelBy = "$/cancelRequest" if framing == "frames" else "notifications/cancelled"
+        self._cancel_by: Optional[CancelBy] = by_framing if cancel_by == BY_FRAMING else cancel_by
         self._grace = grace
         self._workers = workers
         self._trace = trace
         self._methods = Methods()
         self._sessions: Dict[Session, None] = {}
+        self._has_served = False
+
+    @classmethod
+    def _setting_names(cls) -> List[str]:
+        parameters = inspect.signature(cls.__init__).parameters.values()
+        return [it.name for it in parameters if it.kind is inspect.Parameter.KEYWORD_ONLY]
 
     # Methods
 
@@ -131,14 +162,16 @@ class Peer:
 
     # Sessions
 
-    def _session_over(self, channel: Channel) -> Session:
+    def _session_over(self, channel: Channel, **other: Any) -> Session:
+        """A new session; `other` settings take the place of the peer's."""
         cancels = self._cancel_by == LSP_CANCEL
-        plain = Connection(cancels=cancels, **self._settings)
+        plain = Connection(cancels=cancels, **{**self._settings, **other})
         connection: Union[Connection, Traced] = plain
         if self._trace is not None:
             connection = Traced(plain, self._trace, cancels)
         session = Session(self._methods, channel, connection, self._cancel_by, self._grace, self._workers)
         self._sessions[session] = None
+        self._has_served = True
         return session
 
     async def _serve(self, session: Session) -> int:
@@ -148,29 +181,54 @@ class Peer:
             self._sessions.pop(session, None)
 
     @property
-    def session(self) -> Session:
-        """The session that runs. Raises `Closed` where there is none."""
-        if not self._sessions:
-            raise Closed("no session runs")
-        if len(self._sessions) > 1:
-            raise RuntimeError("several sessions run: use that of a request")
-        return next(iter(self._sessions))
+    def sessions(self) -> Tuple[Session, ...]:
+        """The sessions that run, in the order in which they began."""
+        return tuple(self._sessions)
 
-    def call(self, method: str, params: Any = None) -> Any:
+    @property
+    def session(self) -> Session:
+        """The session that runs. Raises `Closed` where there is none, and RuntimeError where there are several."""
+        return self._single("request.session")
+
+    def _single(self, instead: str) -> Session:
+        """The session that runs; `instead` is what to write where several do."""
+        if len(self._sessions) == 1:
+            return next(iter(self._sessions))
+        if not self._sessions:
+            raise Closed(self._nothing_runs())
+        raise RuntimeError(
+            f"{len(self._sessions)} sessions run, and this says to none of them in particular. "
+            f"Write {instead} in a method, or take one of server.sessions"
+        )
+
+    def _nothing_runs(self) -> str:
+        return "the session is over" if self._has_served else "no session runs yet"
+
+    def call(self, method: str, params: Any = None) -> Reply:
         """Call the other side, on behalf of no request: gives what is to be awaited.
 
-        In another thread than the loop's it blocks, and gives the result.
+        In another thread than the loop's it blocks, and gives the result, as `call_and_wait` does.
         """
-        return self.session.call_one(method, params)
+        return self._single("request.call(..)").call(method, params)
 
-    def call_batch(self, calls: Iterable[Said], return_exceptions: bool = False) -> Any:
+    def call_and_wait(self, method: str, params: Any = None) -> Any:
+        """Call the other side in another thread than the loop's: it blocks, and gives the result."""
+        return self._single("request.call_and_wait(..)").call_and_wait(method, params)
+
+    def call_batch(
+        self, calls: Iterable[Said], return_exceptions: bool = False
+    ) -> "asyncio.Future[List[Any]]":
         """Call the other side several times, in one message. The results come as a list, as with asyncio.gather."""
-        return self.session.call(list(calls), True, None, return_exceptions)
+        return self._single("request.call_batch(..)").call_batch(calls, return_exceptions)
+
+    def call_batch_and_wait(self, calls: Iterable[Said], return_exceptions: bool = False) -> List[Any]:
+        """The same in another thread than the loop's: it blocks, and gives the results."""
+        return self._single("request.call_batch_and_wait(..)").call_batch_and_wait(calls, return_exceptions)
 
     def notify(self, method: str, params: Any = None) -> None:
         """Send the other side a notification. Any thread may do that."""
-        self.session.notify(method, params)
+        self._single("request.notify(..)").notify(method, params)
 
     def in_thread(self, function: Callable[..., T], *given: Any, **named: Any) -> "asyncio.Future[T]":
         """Run any function in a thread of the session's own pool: gives what is to be awaited, or returned."""
-        return self.session.in_thread(function, *given, **named)
+        return self._single("request.in_thread(..)").in_thread(function, *given, **named)

@@ -91,19 +91,32 @@ class Request:
     def is_notification(self) -> bool:
         return self.id_text is None
 
-    def call(self, method: str, params: Any = None) -> Any:
+    def call(self, method: str, params: Any = None) -> Reply:
         """Call the other side on behalf of this request.
 
         In an `async def` it gives what is to be awaited; in a method with `thread=True` it blocks, and gives the
-        result. A plain function can't wait, so there it raises RuntimeError. The result is the reply's. An error of the
-        reply is raised as `Error`; `Closed` is raised once the request is answered or cancelled, and `Unanswered` at
-        the end of the input.
+        result, as `call_and_wait` does. A plain function can't wait, so there it raises RuntimeError. The result is the
+        reply's. An error of the reply is raised as `Error`; `Closed` is raised once the request is answered or
+        cancelled, and `Unanswered` at the end of the input.
         """
-        return self.session.call_one(method, params, self)
+        reply: Reply = self.session.call_one(method, params, self)
+        return reply
 
-    def call_batch(self, calls: Iterable[Said], return_exceptions: bool = False) -> Any:
+    def call_and_wait(self, method: str, params: Any = None) -> Any:
+        """Call the other side in a method with `thread=True`: it blocks, and gives the result."""
+        return self.session.call_and_wait(method, params, self)
+
+    def call_batch(
+        self, calls: Iterable[Said], return_exceptions: bool = False
+    ) -> "asyncio.Future[List[Any]]":
         """Call the other side several times, in one message. The results come as a list, as with asyncio.gather."""
-        return self.session.call(list(calls), True, self, return_exceptions)
+        replies: "asyncio.Future[List[Any]]"
+        replies = self.session.say_calls(list(calls), True, self, return_exceptions)
+        return replies
+
+    def call_batch_and_wait(self, calls: Iterable[Said], return_exceptions: bool = False) -> List[Any]:
+        """The same in a method with `thread=True`: it blocks, and gives the results."""
+        return self.session.call_batch_and_wait(calls, return_exceptions, self)
 
     def notify(self, method: str, params: Any = None) -> None:
         """Send the other side a notification. Any thread may do that."""

@@ -9,10 +9,11 @@ from collections import deque
 from typing import Any, Callable, Deque, Optional, Union
 
 from . import _json, events
-from ._answering import VALUES, Answering
+from ._answering import VALUES
 from ._asking import settle
 from ._channels import Channel
 from ._params import Methods
+from ._talking import Talking
 from ._trace import Traced
 from .connection import Connection
 from .errors import INTERNAL_ERROR, Closed, Error, InputOver, NoMemory, Unanswered
@@ -23,7 +24,7 @@ LSP_CANCEL, TOOL_CANCEL = "$/cancelRequest", "notifications/cancelled"
 log = logging.getLogger("bullmyrtle")
 
 
-class Session(Answering):
+class Session(Talking):
     """One connection in an event loop, with the methods that answer its calls."""
 
     def __init__(
@@ -54,6 +55,7 @@ class Session(Answering):
         self._over: "asyncio.Future[str]" = self.loop.create_future()
         self._change: Optional["asyncio.Future[None]"] = None
         self._status: Optional[int] = None
+        self.state = {}
 
     # What comes in
 

@@ -34,7 +34,7 @@ def shape_of(function: Callable[..., Any]) -> Shape:
     takes = 1 if request is None else 2
     if not filled:
         return (function, 0, None) if key is None else (_called_by(function, False, key), 2, None)
-    if _gets_them_whole(filled, request is not None and key is None):
+    if _gets_them_whole(parameters, request is not None and key is None):
         _check_whole(filled, request)
         fit = fit_for(annotation_of(function, filled[0].name))
         whole = function if key is None else _called_by(function, True, key)
@@ -89,9 +89,11 @@ def _request_of(function: Any, parameters: List[inspect.Parameter]) -> Optional[
     return found
 
 
-def _gets_them_whole(filled: List[inspect.Parameter], has_request_second: bool) -> bool:
-    first = filled[0]
-    return first.kind in _POSITIONAL and (len(filled) == 1 or first.name == "params" or has_request_second)
+def _gets_them_whole(parameters: List[inspect.Parameter], has_request_second: bool) -> bool:
+    first = parameters[0]
+    return first.kind in _POSITIONAL and (
+        len(parameters) == 1 or first.name == "params" or has_request_second
+    )
 
 
 def _check_whole(filled: List[inspect.Parameter], request: Optional[inspect.Parameter]) -> None:

@@ -10,7 +10,7 @@ import threading
 import time
 from typing import Any, Callable, Dict, Iterable, List, Optional, TextIO, Tuple, Union, cast
 
-from . import events
+from . import _library, events
 from .connection import Connection, Json
 from .events import Event
 
@@ -103,6 +103,9 @@ class Traced:
         self._is_over = False
         self.feed, self.end, self.take = connection.feed, connection.end, connection.take
         self.counts = connection.counts
+        if _library.loaded_by_name is not None:
+            about = json.dumps({_library.VARIABLE: _library.loaded_by_name}, separators=(",", ":"))
+            self._line("library", about, is_message=False)
 
     @property
     def pending(self) -> int:

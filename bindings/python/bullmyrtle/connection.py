@@ -6,8 +6,8 @@ import threading
 from ctypes import byref, c_size_t, c_uint32, c_uint64, c_void_p, string_at
 from typing import Any, Callable, Iterable, List, Literal, NamedTuple, Optional, Tuple, Union
 
-from . import _library, events
-from .errors import REFUSALS, SMALL, BadSettings, Closed, NotOpen, NotWaiting
+from . import _library, _settings, events
+from .errors import REFUSALS, SMALL, Closed, NotOpen, NotWaiting
 from .events import Event
 
 Framing = Literal["frames", "lines", "contents"]
@@ -71,12 +71,10 @@ class Connection:
         self._at: Any = None
         self._lock = threading.Lock()
         self._library = library = _library.library()
-        if framing not in _library.FRAMINGS or order not in _library.ORDERS:
-            raise BadSettings(f"there are no such settings: framing {framing!r}, order {order!r}")
-        # (0 stands for the greatest in the library, and isn't a limit here)
-        limits = (content, 1 << 32), (calls, _MOST)
-        if any(it is not None and not 1 <= it < most for it, most in limits):
-            raise BadSettings(f"there are no such limits: content {content!r}, calls {calls!r}")
+        _settings.one_of("framing", framing, _library.FRAMINGS)
+        _settings.one_of("order", order, _library.ORDERS)
+        _settings.whole("content", content, _settings.MOST_CONTENT)
+        _settings.whole("calls", calls, _settings.MOST_CALLS)
         settings = _library.Settings(
             _library.FRAMINGS.index(framing),
             _library.ORDERS.index(order),

@@ -794,7 +794,7 @@ class Later(Case):
             with self.assertRaises(Closed):
                 kept[0].notify("x")
             with self.assertRaises(Closed):
-                kept[0].session.call([("x", None)], False)
+                kept[0].session.call("x")
 
         with logged():
             self.wait(main())

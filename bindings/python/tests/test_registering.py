@@ -232,6 +232,10 @@ class Parameters(Asking):
         self.assertEqual(self.answers(filled, [1, 2], {"a": 1, "b": 2}), [[1, 2, "m"], [1, 2, "m"]])
         self.assertEqual(self.answers(whole, [1, 2]), [[[1, 2], "m"]])
         self.assertEqual(
+            self.answers(lambda a, *, request: [a, request.method], [1], {"a": 1}), [[1, "m"], [1, "m"]]
+        )
+        self.assertEqual(self.answers(lambda *, request: request.method, [1], None), ["m", "m"])
+        self.assertEqual(
             self.answers(more, {"a": 1, "c": 2}, {"a": 1, "request": 2}),
             [
                 [1, "m", {"c": 2}],
