@@ -7,9 +7,11 @@ import contextlib
 import threading
 from typing import Any, Callable, Dict, List, Optional, Sequence, Set, Tuple, Union
 
+from ._ends import End
 from ._params import PLAIN
 from ._request import Reply, Request, Said, optional_text, text_of
 from ._trace import Traced
+from ._watch import Watch
 from .connection import Connection
 from .errors import Closed, InputOver, NotOpen, NotWaiting, Unanswered
 
@@ -24,6 +26,8 @@ class Asking:
     _over: "asyncio.Future[str]"
     _is_closed: bool
     _flush_soon: Callable[[], None]
+    ended: Optional[End]
+    watch: Watch
 
     def __init__(self) -> None:
         self._thread = threading.get_ident()
@@ -56,7 +60,7 @@ class Asking:
         except NotOpen:
             raise Closed("the request is over") from None
         except InputOver:
-            raise Unanswered("the input is over") from None
+            raise Unanswered(self.watch.why()) from None
         self._flush_soon()
         return self._reply_to(key, request)
 
@@ -84,7 +88,7 @@ class Asking:
         except NotOpen:
             raise Closed("the request is over") from None
         except InputOver:
-            raise Unanswered("the input is over") from None
+            raise Unanswered(self.watch.why()) from None
         self._flush_soon()
         if not is_batch:
             return self._reply_to(first, request)
@@ -107,7 +111,7 @@ class Asking:
         ticket: "concurrent.futures.Future[Any]" = concurrent.futures.Future()
         with self._lock:
             if self._is_closed:
-                raise Closed("the session is over")
+                raise Closed(self.watch.over(self.ended))
             self._blocked.add(ticket)
 
         def begin() -> None:

@@ -24,7 +24,7 @@ _ALL = 1 << 16
 
 
 class Channel:
-    """What a session writes to. It tells the session by `received` and `ended` what came in."""
+    """What a session writes to. It tells the session by `received` and `input_ended` what came in."""
 
     #: Whether it tells the session once at most in each turn of the loop.
     takes_turns = False
@@ -145,7 +145,7 @@ class Descriptors(Channel):
 
     def _end(self, failed: bool) -> None:
         self.stop()
-        self._session.ended(failed)
+        self._session.input_ended(failed)
 
     def stop(self) -> None:
         self._pause()
@@ -294,9 +294,9 @@ class Streams(Channel):
                 if self._pauses:
                     await self._writer.drain()
         except (OSError, EOFError):
-            self._session.ended(True)
+            self._session.input_ended(True)
         else:
-            self._session.ended(False)
+            self._session.input_ended(False)
 
     def write(self) -> None:
         if self._is_broken:
@@ -366,7 +366,7 @@ class Memory(Channel):
         if self._session is None:
             self._early.append(data)
         elif data is None:
-            self._session.ended(False)
+            self._session.input_ended(False)
         else:
             self._session.received(data)
 

@@ -21,12 +21,14 @@ from typing import (
 
 from . import _settings
 from ._channels import Channel
+from ._ends import End
 from ._library import ORDERS
 from ._marks import marked, name_of
 from ._params import Method, Methods
 from ._request import Reply, Said
 from ._session import LSP_CANCEL, TOOL_CANCEL, Session
 from ._trace import Trace, Traced
+from ._watch import Watch
 from .connection import Connection, Order
 from .errors import Closed
 
@@ -42,6 +44,8 @@ BY_FRAMING: CancelBy = "by framing"
 
 class Peer:
     """A side of conversations, with the methods that the other side may call."""
+
+    _is_client = False
 
     def __init__(
         self,
@@ -91,7 +95,8 @@ class Peer:
         self._trace = trace
         self._methods = Methods()
         self._sessions: Dict[Session, None] = {}
-        self._has_served = False
+        self._served = 0
+        self._last: Optional[Session] = None
 
     @classmethod
     def _setting_names(cls) -> List[str]:
@@ -169,9 +174,13 @@ class Peer:
         connection: Union[Connection, Traced] = plain
         if self._trace is not None:
             connection = Traced(plain, self._trace, cancels)
-        session = Session(self._methods, channel, connection, self._cancel_by, self._grace, self._workers)
+        watch = Watch({**self._settings, **other}, cancels, self._is_client)
+        session = Session(
+            self._methods, channel, connection, self._cancel_by, self._grace, self._workers, watch
+        )
         self._sessions[session] = None
-        self._has_served = True
+        self._served += 1
+        self._last = session
         return session
 
     async def _serve(self, session: Session) -> int:
@@ -202,7 +211,14 @@ class Peer:
         )
 
     def _nothing_runs(self) -> str:
-        return "the session is over" if self._has_served else "no session runs yet"
+        return "no session runs yet" if self._last is None else self._last.watch.over(self._last.ended)
+
+    @property
+    def ended(self) -> Optional[End]:
+        """How the session ended; None before and while it runs. Raises RuntimeError where there were several."""
+        if self._served > 1:
+            raise RuntimeError(f"there were {self._served} sessions: each has its own session.ended")
+        return None if self._last is None else self._last.ended
 
     def call(self, method: str, params: Any = None) -> Reply:
         """Call the other side, on behalf of no request: gives what is to be awaited.

@@ -13,8 +13,10 @@ from ._answering import VALUES
 from ._asking import settle
 from ._channels import Channel
 from ._params import Methods
+from ._ends import End, Late
 from ._talking import Talking
 from ._trace import Traced
+from ._watch import Watch
 from .connection import Connection
 from .errors import INTERNAL_ERROR, Closed, Error, InputOver, NoMemory, Unanswered
 from .events import Event
@@ -35,6 +37,7 @@ class Session(Talking):
         cancel_by: Optional[str],
         grace: float,
         workers: Optional[int],
+        watch: Watch,
     ) -> None:
         super().__init__(methods, workers)
         self.loop = asyncio.get_running_loop()
@@ -56,6 +59,10 @@ class Session(Talking):
         self._change: Optional["asyncio.Future[None]"] = None
         self._status: Optional[int] = None
         self.state = {}
+        #: How it ended, or None while it runs.
+        self.ended: Optional[End] = None
+        self.watch = watch
+        watch.begin(connection.counts)
 
     # What comes in
 
@@ -64,16 +71,18 @@ class Session(Talking):
         if self._is_closed:
             return
         try:
-            self._events.extend(self._connection.fed(data))
+            told = self._connection.fed(data)
         except InputOver:
             return
         except NoMemory:
             self._give_up()
             return
+        self.watch.read(data, told)
+        self._events.extend(told)
         if not self._is_going:
             self._go_on()
 
-    def ended(self, failed: bool) -> None:
+    def input_ended(self, failed: bool) -> None:
         """The end of the input."""
         if self._is_closed:
             return
@@ -84,11 +93,12 @@ class Session(Talking):
     def broke(self) -> None:
         """Nobody reads the output any more, so there is no use in going on."""
         self._is_broken = True
-        self.ended(True)
+        self.watch.because("Broken")
+        self.input_ended(True)
 
     def _give_up(self) -> None:
         """There was no memory for what came, or for an answer: the session ends, and not well."""
-        log.error("the session ends, since memory was refused")
+        self.watch.because("Memory")
         self._is_broken = True
         self._channel.stop()
         if not self._over.done():
@@ -96,10 +106,12 @@ class Session(Talking):
 
     def _look(self) -> None:
         try:
-            self._events.extend(self._connection.events())
+            told = self._connection.events()
         except NoMemory:
             self._give_up()
             return
+        self.watch.read(b"", told)
+        self._events.extend(told)
         if not self._is_going:
             self._go_on()
 
@@ -176,7 +188,8 @@ class Session(Talking):
         elif isinstance(event, events.Unanswered):
             reply = self._replies.pop(event.key, None)
             if reply is not None:
-                self._refuse(reply, Unanswered("the input is over"))
+                self.watch.lost += not reply.done()
+                self._refuse(reply, Unanswered(self.watch.why()))
         elif isinstance(event, events.Over) and not self._over.done():
             self._over.set_result(event.how)
 
@@ -204,6 +217,7 @@ class Session(Talking):
 
     def finish(self) -> None:
         """Says no more, once what is said has been written."""
+        self.watch.is_finished = True
         self._flush()
         self._channel.finish()
 
@@ -217,11 +231,12 @@ class Session(Talking):
         if self._is_stopped or self._is_closed:
             return
         self._is_stopped = True
+        self.watch.because("Stopped")
         self._status = status
         if grace is not None:
             self._grace = grace
         self._channel.stop()
-        self.ended(False)
+        self.input_ended(False)
 
     def _changed(self) -> None:
         if self._change is not None and not self._change.done():
@@ -251,15 +266,17 @@ class Session(Talking):
             how = await asyncio.shield(self._over)
             end = self.loop.time() + self._grace
             await self._until(lambda: not self._open and not self._tasks, end)
-            has_all = not self._open
+            late = [Late(it.method, it.is_later, not it.is_notification) for it in self._open.values()]
             await self._cancel_all()
             self._flush()
             is_out = await self._until(self._is_written, max(end, self.loop.time() + 1))
             self._pool.close()
             await self._until_threads_end(end)
             seconds = max(1.0, end - self.loop.time())
-            is_clean = how == "Clean" and has_all and is_out and not self._is_broken
-            return (1 if not is_clean else 0) if self._status is None else self._status
+            is_clean = how == "Clean" and not late and is_out and not self._is_broken
+            status = (1 if not is_clean else 0) if self._status is None else self._status
+            self.ended = self.watch.end(status, late, is_out, self._grace)
+            return status
         finally:
             await self.close(seconds)
 
@@ -291,7 +308,9 @@ class Session(Talking):
             self._is_closed = True
         self.take = lambda most: b""
         self._events.clear()
-        closed = Closed("the session is over")
+        if self.ended is None:
+            self.ended = self.watch.end(None, [], True, self._grace)
+        closed = Closed(self.watch.over(self.ended))
         self._open.clear()
         for task in self._tasks:
             self._end_task(task)

@@ -24,7 +24,7 @@ def in_thread(session: Answering, function: Callable[[], T]) -> "asyncio.Future[
     ticket: "concurrent.futures.Future[T]" = concurrent.futures.Future()
     with session._lock:
         if session._is_closed:
-            raise Closed("the session is over")
+            raise Closed(session.watch.over(session.ended))
         session._blocked.add(ticket)
     ticket.add_done_callback(session._blocked.discard)
     run = functools.partial(contextvars.copy_context().run, function)

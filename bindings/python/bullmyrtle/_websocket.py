@@ -65,9 +65,9 @@ class Messages(Channel):
                     self._sent.clear()
                     await self._sent.wait()
         except Exception as error:
-            self._session.ended(not _is_clean(error))
+            self._session.input_ended(not _is_clean(error))
         else:
-            self._session.ended(False)
+            self._session.input_ended(False)
 
     def write(self) -> None:
         if self._is_broken:

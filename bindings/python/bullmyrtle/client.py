@@ -4,11 +4,11 @@ from __future__ import annotations
 import asyncio
 import os
 import shlex
-import subprocess
 from typing import Any, List, Mapping, NoReturn, Optional, Sequence, Union
 
-from ._channels import Channel, Descriptors, Streams
+from ._channels import Channel, Streams
 from ._peer import BY_FRAMING, CancelBy, Framing, Peer
+from ._process import ServerProcess, StandardError, check_standard_error
 from ._trace import Trace
 from .connection import Order
 
@@ -46,12 +46,15 @@ class Client(Peer):
     ...         print(await client.call("add", [1, 2]))
     """
 
+    _is_client = True
+
     def __init__(
         self,
         command: Optional[Sequence[Word]] = None,
         *,
         env: Optional[Mapping[str, str]] = None,
         cwd: Optional[Word] = None,
+        stderr: StandardError = "pass on",
         framing: Framing = "frames",
         order: Order = "as-answered",
         cancel_by: Optional[CancelBy] = BY_FRAMING,
@@ -66,6 +69,9 @@ class Client(Peer):
 
         command -- the words of the command; without it, `connect` gives the client its server
         env, cwd -- the server's environment and working folder, where they aren't those of this process
+        stderr -- where the server's standard error goes: "pass on" to that of this process as it comes, which keeps the
+            last 4,096 bytes for what is said at the end; "inherit", so that nobody reads it; a file; or a function that
+            takes bytes
         """
         super().__init__(
             framing=framing,
@@ -78,9 +84,10 @@ class Client(Peer):
             trace=trace,
             **unknown,
         )
+        check_standard_error(stderr)
         self._command = None if command is None else _words(command)
-        self._env, self._cwd = env, cwd
-        self._process: Optional["subprocess.Popen[bytes]"] = None
+        self._env, self._cwd, self._stderr = env, cwd, stderr
+        self._process: Optional[ServerProcess] = None
         self._serving: Optional["asyncio.Task[int]"] = None
         self._is_entered = False
 
@@ -110,17 +117,8 @@ class Client(Peer):
             asyncio.get_running_loop()
         except RuntimeError:
             raise RuntimeError("no event loop runs here: call start() in an `async def`") from None
-        pipe = subprocess.PIPE
-        process = subprocess.Popen(
-            self._command, stdin=pipe, stdout=pipe, env=self._env, cwd=self._cwd, bufsize=0
-        )
-        assert process.stdin is not None and process.stdout is not None
-        # (the channel closes them, at different times)
-        source, sink = os.dup(process.stdout.fileno()), os.dup(process.stdin.fileno())
-        process.stdin.close()
-        process.stdout.close()
-        self._process = process
-        self.attach(Descriptors(source, sink, pauses=False))
+        self._process = ServerProcess(self._command, self._env, self._cwd, self._stderr)
+        self.attach(self._process.channel)
 
     def connect(self, reader: asyncio.StreamReader, writer: asyncio.StreamWriter) -> None:
         """Use a reader and a writer that lead to a server."""
@@ -131,6 +129,7 @@ class Client(Peer):
         """Use a channel that leads to a server."""
         self._check_that_it_is_new()
         session = self._session_over(channel)
+        session.watch.process = self._process
         session.begin()
         self._serving = asyncio.ensure_future(self._serve(session))
 
@@ -140,7 +139,7 @@ class Client(Peer):
 
     def _nothing_runs(self) -> str:
         if self._serving is not None:
-            return "the session with the server is over"
+            return super()._nothing_runs()
         if self._command is None:
             return "the client has no server yet. Write client.connect(reader, writer) first"
         return "the server isn't started yet. Write `async with client:` around what the client does"
@@ -148,7 +147,7 @@ class Client(Peer):
     @property
     def pid(self) -> Optional[int]:
         """The server's process."""
-        return None if self._process is None else self._process.pid
+        return None if self._process is None else self._process.popen.pid
 
     async def close(self) -> Optional[int]:
         """End the input of the server, wait for it, and give its status where it is a process.
@@ -159,14 +158,9 @@ class Client(Peer):
             for session in list(self._sessions):
                 session.finish()
             await self._wait_for_input()
-        process = self._process
-        if process is None:
+        if self._process is None:
             return None
-        for end in (lambda: None, process.terminate, process.kill):
-            end()
-            if await self._has_ended(process):
-                break
-        return process.wait()
+        return await self._process.close(self._grace)
 
     async def _wait_for_input(self) -> None:
         assert self._serving is not None
@@ -177,13 +171,3 @@ class Client(Peer):
             await asyncio.wait({self._serving}, timeout=1)
         if self._serving.done() and not self._serving.cancelled():
             self._serving.exception()
-
-    async def _has_ended(self, process: "subprocess.Popen[bytes]") -> bool:
-        end = asyncio.get_running_loop().time() + self._grace
-        nap = 0.001
-        while process.poll() is None:
-            if asyncio.get_running_loop().time() > end:
-                return False
-            await asyncio.sleep(nap)
-            nap = min(2 * nap, 0.05)
-        return True

@@ -69,7 +69,11 @@ class Server(Peer):
             asyncio.set_event_loop(loop)
             return loop.run_until_complete(self._serve_descriptors(source, sink))
         except KeyboardInterrupt:
+            self._because("Interrupted")
             return 1
+        except SystemExit:
+            self._because("Exited")
+            raise
         finally:
             with contextlib.suppress(KeyboardInterrupt):
                 self._end(loop)
@@ -79,7 +83,14 @@ class Server(Peer):
     async def _serve_descriptors(self, source: Optional[int], sink: Optional[int]) -> int:
         # (the channel closes its own)
         own_source, own_sink = (None if it is None else os.dup(it) for it in (source, sink))
-        return await self.serve_over(Descriptors(own_source, own_sink))
+        session = self._session_over(Descriptors(own_source, own_sink))
+        if source is None or sink is None:
+            session.watch.because("NoStreams")
+        return await self._serve(session)
+
+    def _because(self, how: str) -> None:
+        for session in self._sessions:
+            session.watch.because(how)
 
     def _end(self, loop: asyncio.AbstractEventLoop) -> None:
         """Ends what an interrupt left behind."""
@@ -127,6 +138,6 @@ class Server(Peer):
         self._single("request.session.stop(..)").stop(status, grace)
 
     def _nothing_runs(self) -> str:
-        if self._has_served:
-            return "the session is over, and no other one runs"
+        if self._last is not None:
+            return super()._nothing_runs()
         return "no session runs yet: it begins with server.run(), or with one of the serve_ functions"

@@ -644,7 +644,7 @@ class Turned(Case):
                 channel.session.received(b'[{"jsonrpc":"2.0","method":"%s","id":1},%s]\n' % (name, cancel))
             await self.until(lambda: channel.written.count(b"\n") == 2)
             self.assertEqual(seen, ["began"])
-            channel.session.ended(False)
+            channel.session.input_ended(False)
             self.assertEqual(await serving, 0)
             self.assertEqual(channel.written.count(b"-32800"), 1)
             self.assertIn(b'"result":5', channel.written)

@@ -144,7 +144,7 @@ class Order(Piped):
 
             def turn(self, session, data, *more):
                 if data is None:
-                    session.ended(False)
+                    session.input_ended(False)
                 else:
                     session.received(data)
                     session.loop.call_soon(self.turn, session, *more)

@@ -773,7 +773,9 @@ class Later(Case):
 
         with logged() as log:
             self.wait(main())
-        self.assertEqual(len(log.errors), 2, log.texts)
+        # (one for each of the two calls, and one for the session's end)
+        self.assertEqual(len(log.errors), 3, log.texts)
+        self.assertIn("2 calls came to no end", log.texts[-1])
 
     def test_answered_when_all_is_over(self):
         async def main():
