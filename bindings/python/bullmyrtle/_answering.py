@@ -10,12 +10,23 @@ import threading
 from typing import Any, Callable, Dict, List, Optional, Set, Tuple
 
 from . import _json, events
-from ._asking import Asking
+from ._asking import AROUND, Asking, words_of_error
 from ._params import ASYNC, PLAIN, THREAD, Method, Methods
 from ._pool import Pool
-from ._request import LATER, Request, optional_text, text_of, words_of
+from ._request import LATER, Request, words_of
 from ._threads import T, in_thread
-from .errors import INTERNAL_ERROR, METHOD_NOT_FOUND, Closed, Error, InvalidParams, NotOpen, Unanswered
+from .errors import (
+    INTERNAL_ERROR,
+    METHOD_NOT_FOUND,
+    TOO_MANY_OPEN,
+    Closed,
+    Error,
+    InvalidParams,
+    NoMemory,
+    NotJson,
+    NotOpen,
+    Unanswered,
+)
 
 log = logging.getLogger("bullmyrtle")
 
@@ -29,10 +40,17 @@ class Answering(Asking):
     _is_stopped: bool
     _change: Optional["asyncio.Future[None]"]
     _changed: Callable[[], None]
+    _give_up: Callable[[str, BaseException], None]
 
-    def __init__(self, methods: Methods, workers: Optional[int]) -> None:
-        super().__init__()
+    def __init__(
+        self, methods: Methods, json: _json.Json, workers: Optional[int], most: Optional[int]
+    ) -> None:
+        super().__init__(json)
         self._methods = methods
+        self._most_open = most
+        self._open_requests = 0
+        #: Whether a call may be refused, though there is a method for it.
+        self._is_choosy = False
         self._pool = Pool(workers)
         self._open: Dict[int, Request] = {}  # calls that came and that something works on
         self._by_id: Dict[Tuple[type, Any], List[Request]] = {}  # of these, where a cancel names an id
@@ -43,8 +61,7 @@ class Answering(Asking):
     def _begin(self, event: events.Call) -> bool:
         """Answers a call, or begins to; says whether a task is to run first."""
         number = event.number
-        if self._is_stopped:
-            self._connection.cancel(number)
+        if self._is_choosy and self._is_refused(event):
             return False
         method = self._methods.get(event.method)
         if self._takes_tool_cancels and event.method == self._cancel_by:
@@ -52,13 +69,16 @@ class Answering(Asking):
         if method is None and event.method != self._cancel_by:
             method = self._methods.otherwise(event.method)
         if method is None:
+            self._said += AROUND
             self._connection.fail(number, METHOD_NOT_FOUND, f"Method not found: {event.method}")
             return False
         try:
-            given = None if event.params is None else _json.loads(event.params)
+            given = None if event.params is None else self._json.loads(event.params)
             if method.fit is not None:
                 given = method.fit(given, "params")
-        except Exception as fault:
+        except (KeyboardInterrupt, SystemExit):
+            raise
+        except BaseException as fault:
             self._doesnt_fit(event, fault)
             return False
         if method.kind is PLAIN:
@@ -70,18 +90,37 @@ class Answering(Asking):
         self._run_as_task(_called(method, given, request), request)
         return True
 
+    def _is_refused(self, event: events.Call) -> bool:
+        """Refuses a call where none begins any more, or a request where too many are open."""
+        if self._is_stopped:
+            self._connection.cancel(event.number)
+            return True
+        if event.id is None:
+            return False
+        self._said += AROUND
+        self._connection.fail(event.number, TOO_MANY_OPEN, "Too many open requests")
+        return True
+
     def _opened(self, event: events.Call, kind: str) -> Request:
         request = self._open[event.number] = Request(self, event, kind)
-        if self._takes_tool_cancels and event.id is not None:
-            self._by_id.setdefault(request.id_key, []).append(request)
+        if event.id is not None:
+            if self._most_open is not None:
+                self._count_open(1)
+            if self._takes_tool_cancels:
+                self._by_id.setdefault(request.id_key, []).append(request)
         return request
 
-    def _doesnt_fit(self, event: events.Call, fault: Exception) -> None:
+    def _count_open(self, more: int) -> None:
+        assert self._most_open is not None
+        self._open_requests += more
+        self._is_choosy = self._is_stopped or self._open_requests >= self._most_open
+
+    def _doesnt_fit(self, event: events.Call, fault: BaseException) -> None:
         """The params can't be read, or don't fit the method's annotation."""
         if isinstance(fault, Error):
             error = fault
         elif isinstance(fault, (ValueError, TypeError, RecursionError)):
-            error = InvalidParams(words_of(f"Invalid params: {fault}"))
+            error = InvalidParams(words_of(f"Invalid params: {words_of_error(fault)}"))
         else:  # (as from a dataclass's own code)
             self._raised(event.number, event.method, fault, None)
             return
@@ -93,7 +132,9 @@ class Answering(Asking):
         request = self._opened(event, PLAIN)
         try:
             result = _called(method, given, request)
-        except Exception as error:
+        except (KeyboardInterrupt, SystemExit):
+            raise
+        except BaseException as error:
             self._raised(event.number, event.method, error, request)
             return False
         return self._returned_plainly(method, result, event, request)
@@ -140,28 +181,41 @@ class Answering(Asking):
     async def _run(self, awaitable: Any, request: Request) -> None:
         try:
             result = await awaitable
-        except asyncio.CancelledError:
-            if request.number in self._open:
-                self._cancel(request)
-            raise
-        except Exception as error:
-            self._raised(request.number, request.method, error, request)
-        except BaseException:
+        except (KeyboardInterrupt, SystemExit):
             if request.task is not None:
                 request.task.add_done_callback(self._task_ended)
             raise
+        except BaseException as error:
+            self._when_read(self._ended, request, None, error)
+            if isinstance(error, asyncio.CancelledError):
+                raise
         else:
-            self._returned(request, result)
+            self._when_read(self._ended, request, result, None)
         finally:
             self._task_ended(request.task)
 
-    def _returned(self, request: Request, result: Any) -> None:
-        if result is LATER:
-            request.is_later = True
-        elif request.is_notification:
-            self._close_notification(request.number, request)
+    def _when_read(self, what: Callable[..., None], *words: Any) -> None:
+        """Does what needs the connection: now, or once a large content is read."""
+        if self._aside is None:
+            what(*words)
         else:
-            self._answer(request.number, request.method, result, request)
+            self._put_off.append(functools.partial(what, *words))
+
+    def _ended(self, request: Request, result: Any, error: Optional[BaseException]) -> None:
+        """A method that ran as a task or in a thread has ended."""
+        try:
+            if error is not None:
+                self._raised(request.number, request.method, error, request)
+            elif result is LATER:
+                request.is_later = True
+            elif request.is_notification:
+                self._close_notification(request.number, request)
+            else:
+                self._answer(request.number, request.method, result, request)
+        except (KeyboardInterrupt, SystemExit):
+            raise
+        except BaseException as fault:
+            self._escaped(request.number, request.method, fault)
 
     def in_thread(self, function: Callable[..., T], *given: Any, **named: Any) -> "asyncio.Future[T]":
         """Runs any function in a thread of the pool: gives what is to be awaited, or returned by a method."""
@@ -178,10 +232,7 @@ class Answering(Asking):
         self._on_loop(self._ran_in_thread, request, result, error)
 
     def _ran_in_thread(self, request: Request, result: Any, error: Optional[BaseException]) -> None:
-        if error is not None:
-            self._raised(request.number, request.method, error, request)
-        else:
-            self._returned(request, result)
+        self._when_read(self._ended, request, result, error)
         self._flush_soon()
 
     # Answers
@@ -192,16 +243,23 @@ class Answering(Asking):
                 log.error("%s: it had answered its request already, and then returned a result too", name)
             return
         try:
-            self._connection.answer(number, _json.dumps(result))
+            text = self.text_of(result)
+            self._said += AROUND + len(text)
+            self._connection.answer(number, text)
         except NotOpen:
             pass
-        except (TypeError, ValueError) as error:  # (NotJson is a ValueError)
-            log.error("%s: its result isn't JSON: %s", name, error)
-            self._connection.fail(
-                number, INTERNAL_ERROR, words_of(f"Internal error: the result isn't JSON: {error}")
-            )
+        except (KeyboardInterrupt, SystemExit):
+            raise
+        except NotJson as error:
+            self._isnt_json(number, name, "its result", error)
         if request is not None:
             self._closed(request)
+
+    def _isnt_json(self, number: int, name: str, what: str, error: BaseException) -> None:
+        words = words_of_error(error)
+        log.error("%s: %s isn't JSON: %s", name, what, words)
+        what = what.replace("its", "the")
+        self._connection.fail(number, INTERNAL_ERROR, words_of(f"Internal error: {what} isn't JSON: {words}"))
 
     def _close_notification(self, number: int, request: Optional[Request]) -> None:
         with contextlib.suppress(NotOpen):
@@ -212,54 +270,112 @@ class Answering(Asking):
     def _raised(self, number: int, name: str, error: BaseException, request: Optional[Request]) -> None:
         """A method raised something: it is answered, and what nobody meant is logged, once."""
         if request is not None and number not in self._open:
-            if not request.is_cancelled and not self._is_closed:
+            is_meant = request.is_cancelled or isinstance(error, asyncio.CancelledError)
+            if not is_meant and not self._is_closed:
                 log.error("%s: it had answered its request already, and then raised", name, exc_info=error)
             return
-        if isinstance(error, (Closed, Unanswered)):
-            log.info("%s: %s", name, error)
-        elif not isinstance(error, Error) or (request is not None and request.is_notification):
-            log.error("%s raised %s", name, type(error).__name__, exc_info=error)
-        if not isinstance(error, Error):
-            about = str(error)
-            error = Error(
-                INTERNAL_ERROR, f"Internal error: {type(error).__name__}" + (f": {about}" if about else "")
-            )
-        self._fail(number, error)
+        if isinstance(error, Error):
+            if request is not None and request.is_notification:
+                log.error("%s raised %s", name, type(error).__name__, exc_info=error)
+            self._fail(number, error, name)
+        else:
+            words = words_of_error(error)
+            if isinstance(error, (Closed, Unanswered)):
+                log.info("%s: %s", name, words)
+            else:
+                log.error("%s raised %s", name, type(error).__name__, exc_info=error)
+            about = f": {words}" if words else ""
+            self._fail(number, Error(INTERNAL_ERROR, f"Internal error: {type(error).__name__}{about}"), name)
         if request is not None:
             self._closed(request)
 
-    def _fail(self, number: int, error: Error) -> None:
+    def _fail(self, number: int, error: Error, name: str = "") -> None:
         try:
-            self._connection.fail(number, error.code, words_of(str(error.message)), optional_text(error.data))
+            code, message, data = self._parts_of(error)
+            self._said += AROUND + len(message) + len(data or b"")
+            self._connection.fail(number, code, message, data)
         except NotOpen:
             pass
-        except (TypeError, ValueError) as fault:
-            log.error("an error isn't JSON: %r: %s", error, fault)
-            self._connection.fail(
-                number, INTERNAL_ERROR, words_of(f"Internal error: the error isn't JSON: {fault}")
-            )
+        except (TypeError, ValueError) as fault:  # (NotJson is a ValueError)
+            self._isnt_json(number, name, "the error", fault)
+
+    def _parts_of(self, error: Error) -> Tuple[int, str, Optional[bytes]]:
+        """The code, message and data of an error. Raises NotJson or TypeError."""
+        try:
+            message = words_of(str(error.message))
+        except Exception as fault:
+            raise NotJson(f"its message can't be made: {type(fault).__name__}") from fault
+        return error.code, message, self.optional_text(error.data)
+
+    def _escaped(self, number: int, name: str, fault: BaseException) -> None:
+        """Whatever got past all that answers a call: the call is answered all the same, or else the session ends."""
+        if isinstance(fault, NoMemory):
+            self._give_up("memory was refused", fault)
+            return
+        try:
+            self._connection.fail(number, INTERNAL_ERROR, f"Internal error: {type(fault).__name__}")
+        except NotOpen:
+            pass
+        except BaseException:
+            self._give_up(f"{name} can't be answered", fault)
+            return
+        request = self._open.get(number)
+        if request is not None:
+            self._closed(request)
+        log_surely("%s: %s", name, type(fault).__name__, fault=fault)
 
     def answer_by_hand(self, request: Request, said: Any) -> None:
         """What `request.answer` and `request.fail` do, in any thread."""
+        say = self._saying(request, said)
+        is_ours = threading.get_ident() == self._thread
+        if is_ours and self._aside is not None:
+            if self._may_answer(request):
+                self._put_off.append(functools.partial(self._say_later, request, say))
+                self._closed(request)
+            return
         try:
-            if isinstance(said, Error):
-                data = optional_text(said.data)
-                self._connection.fail(request.number, said.code, words_of(str(said.message)), data)
-            elif request.is_notification:
-                self._connection.answer(request.number)
-            else:
-                self._connection.answer(request.number, text_of(said))
+            say()
         except NotOpen:
             if not request.is_cancelled:
                 raise NotOpen(f"{request.method}: the request is answered already") from None
             return
-        if threading.get_ident() == self._thread:
-            self._closed(request)
-            self._flush_soon()
+        if is_ours:
+            self._answered(request)
         else:
-            self._on_loop(self._answered_elsewhere, request)
+            self._on_loop(self._answered, request)
 
-    def _answered_elsewhere(self, request: Request) -> None:
+    def _saying(self, request: Request, said: Any) -> Callable[[], None]:
+        """What answers a request with a result or an error, all but the call itself. Raises NotJson."""
+        number = request.number
+        if issubclass(type(said), Error):  # (which doesn't ask the value itself)
+            code, message, data = self._parts_of(said)
+            return lambda: self._connection.fail(number, code, message, data)
+        if request.is_notification:
+            return lambda: self._connection.answer(number)
+        text = self.text_of(said)
+        self._said += AROUND + len(text)
+        return lambda: self._connection.answer(number, text)
+
+    def _may_answer(self, request: Request) -> bool:
+        """Whether a request isn't cancelled; raises what the connection would, where it can't be asked."""
+        if self._is_closed:
+            raise Closed("the connection is closed")
+        if request.number not in self._open and not request.is_cancelled:
+            raise NotOpen(f"{request.method}: the request is answered already")
+        return not request.is_cancelled
+
+    def _say_later(self, request: Request, say: Callable[[], None]) -> None:
+        if self._is_closed:
+            return
+        try:
+            say()
+        except NotOpen:
+            pass
+        except (TypeError, ValueError) as fault:
+            self._isnt_json(request.number, request.method, "its result", fault)
+        self._flush_soon()
+
+    def _answered(self, request: Request) -> None:
         self._closed(request)
         self._flush_soon()
 
@@ -267,11 +383,11 @@ class Answering(Asking):
         """A call that came is answered: whoever waits on its behalf is told, and what waits for the end may go on."""
         if self._open.pop(request.number, None) is None:
             return
-        if self._takes_tool_cancels and request.id_text is not None:
-            others = self._by_id[request.id_key]
-            others.remove(request)
-            if not others:
-                del self._by_id[request.id_key]
+        if request.id_text is not None:
+            if self._most_open is not None:
+                self._count_open(-1)
+            if self._takes_tool_cancels:
+                self._forget_id(request)
         for key in request.keys:
             reply = self._replies.pop(key, None)
             if reply is not None:
@@ -280,10 +396,18 @@ class Answering(Asking):
             self._changed()
         self._flush_soon()
 
+    def _forget_id(self, request: Request) -> None:
+        others = self._by_id[request.id_key]
+        others.remove(request)
+        if not others:
+            del self._by_id[request.id_key]
+
     # Cancels
 
     def _cancel(self, request: Request) -> None:
         """Answers a request as cancelled, at once, and ends what works on it."""
+        if request.number not in self._open:
+            return
         request.is_cancelled = True
         if self._takes_tool_cancels and not self._over.done():
             for key in request.keys:
@@ -300,14 +424,26 @@ class Answering(Asking):
 
     def _cancel_by_id(self, event: events.Call) -> None:
         """A tool server's cancel is a notification like others, which names the request by its id."""
-        if event.params is None:
-            return
-        params = _json.loads(event.params)
-        wanted = params.get("requestId") if isinstance(params, dict) else None
-        # (a list can't be looked up, and 7, 7.0 and "7" aren't the same)
-        if type(wanted) in (str, int):
-            for request in list(self._by_id.get((type(wanted), wanted), ())):
-                self._cancel(request)
+        for request in list(self._by_id.get(id_wanted(event), ())):
+            self._cancel(request)
+
+
+def log_surely(words: str, *named: str, fault: Optional[BaseException]) -> None:
+    """Logs an error, whatever a handler of the log does."""
+    try:
+        log.error(words, *named, exc_info=fault)
+    except (KeyboardInterrupt, SystemExit):
+        raise
+    except BaseException:
+        pass
+
+
+def id_wanted(event: events.Call) -> Tuple[type, Any]:
+    """The id that a tool server's cancel names, as `Request.id_key` has it; that of nothing where it names none."""
+    params = None if event.params is None else _json.loads_short(event.params)
+    wanted = params.get("requestId") if isinstance(params, dict) else None
+    # (a list can't be looked up, and 7, 7.0 and "7" aren't the same)
+    return (type(wanted), wanted) if type(wanted) in (str, int) else (dict, None)
 
 
 def _called(method: Method, given: Any, request: Optional[Request]) -> Any:

@@ -4,16 +4,26 @@ from __future__ import annotations
 import asyncio
 import concurrent.futures
 import contextlib
+import functools
+import logging
 import threading
 from typing import Any, Callable, Dict, List, Optional, Sequence, Set, Tuple, Union
 
 from ._ends import End
+from ._json import Json
 from ._params import PLAIN
-from ._request import Reply, Request, Said, optional_text, text_of
+from ._request import Reply, Request, Said
 from ._trace import Traced
 from ._watch import Watch
 from .connection import Connection
-from .errors import Closed, InputOver, NotOpen, NotWaiting, Unanswered
+from .errors import Closed, Empty, InputOver, NotJson, NotOpen, NotWaiting, Refused, Unanswered
+
+Texts = List[Tuple[str, Optional[bytes]]]
+
+# About how many bytes stand around what is said.
+AROUND = 64
+
+log = logging.getLogger("bullmyrtle")
 
 
 class Asking:
@@ -29,8 +39,13 @@ class Asking:
     ended: Optional[End]
     watch: Watch
 
-    def __init__(self) -> None:
+    def __init__(self, json: Json) -> None:
+        self._json = json
         self._thread = threading.get_ident()
+        #: While another thread reads a large content: what ends then. The loop's thread doesn't call the connection.
+        self._aside: Optional["asyncio.Future[None]"] = None
+        self._put_off: List[Callable[[], Any]] = []  # what the loop's thread has for the connection meanwhile
+        self._said = 0  # about how many bytes have been said since it was known how many are to be written
         self._replies: Dict[int, Reply] = {}
         self._lock = threading.Lock()
         self._blocked: Set["concurrent.futures.Future[Any]"] = set()
@@ -43,7 +58,7 @@ class Asking:
         return_exceptions: bool = False,
     ) -> Any:
         """Calls the other side: gives what is to be awaited, on the loop's thread, or waits for it, on another one."""
-        texts = [(method, optional_text(params)) for method, params in calls]
+        texts = [(method, self.optional_text(params)) for method, params in calls]
         if threading.get_ident() != self._thread:
             return self._call_and_wait(texts, is_batch, request, return_exceptions)
         self._check_that_it_can_wait(request)
@@ -53,16 +68,29 @@ class Asking:
         """The same for one call, which is what most are."""
         if threading.get_ident() != self._thread:
             return self.say_calls([(method, params)], False, request)
-        text = None if params is None else text_of(params)
+        text = None if params is None else self.text_of(params)
         self._check_that_it_can_wait(request)
+        if self._aside is not None:
+            return self._call_now([(method, text)], False, request, False)
         try:
             key = self._connection.call(0 if request is None else request.number, method, text)
         except NotOpen:
             raise Closed("the request is over") from None
         except InputOver:
             raise Unanswered(self.watch.why()) from None
+        self._said += AROUND if text is None else AROUND + len(text)
         self._flush_soon()
         return self._reply_to(key, request)
+
+    def text_of(self, value: Any) -> bytes:
+        """The JSON text of a value. Raises NotJson."""
+        try:
+            return self._json.dumps(value)
+        except Exception as error:
+            raise NotJson(words_of_error(error)) from error
+
+    def optional_text(self, value: Any) -> Optional[bytes]:
+        return None if value is None else self.text_of(value)
 
     @staticmethod
     def _check_that_it_can_wait(request: Optional[Request]) -> None:
@@ -73,12 +101,20 @@ class Asking:
             )
 
     def _call_now(
-        self,
-        texts: List[Tuple[str, Optional[bytes]]],
-        is_batch: bool,
-        request: Optional[Request],
-        is_gathered: bool,
+        self, texts: Texts, is_batch: bool, request: Optional[Request], is_gathered: bool
     ) -> "asyncio.Future[Any]":
+        if self._aside is None:
+            first = self._said_calls(texts, is_batch, request)
+            replies = [self._reply_to(key, request) for key in range(first, first + len(texts))]
+        elif not texts:
+            raise Empty()
+        else:
+            replies = [Reply(self, 0) for _ in texts]
+            self._put_off.append(functools.partial(self._call_later, texts, is_batch, request, replies))
+        return asyncio.gather(*replies, return_exceptions=is_gathered) if is_batch else replies[0]
+
+    def _said_calls(self, texts: Texts, is_batch: bool, request: Optional[Request]) -> int:
+        """Says calls, and gives the first key."""
         number = 0 if request is None else request.number
         try:
             if is_batch:
@@ -89,21 +125,43 @@ class Asking:
             raise Closed("the request is over") from None
         except InputOver:
             raise Unanswered(self.watch.why()) from None
+        self._said += sum(AROUND + len(params or b"") for _, params in texts)
         self._flush_soon()
-        if not is_batch:
-            return self._reply_to(first, request)
-        replies = [self._reply_to(key, request) for key in range(first, first + len(texts))]
-        return asyncio.gather(*replies, return_exceptions=is_gathered)
+        return first
+
+    def _call_later(
+        self, texts: Texts, is_batch: bool, request: Optional[Request], replies: List[Reply]
+    ) -> None:
+        """Says calls that had to wait. They aren't said if nobody waits for them any more."""
+        if all(it.done() for it in replies):
+            return
+        try:
+            if self._is_closed:
+                raise Closed(self.watch.over(self.ended))
+            first = self._said_calls(texts, is_batch, request)
+        except Exception as error:
+            for it in replies:
+                self._refuse(it, error)
+            return
+        for key, reply in enumerate(replies, first):
+            self._keep(reply, key, request)
+            if reply.done():
+                self.withdraw(key)
 
     def _reply_to(self, key: int, request: Optional[Request]) -> Reply:
-        self._replies[key] = reply = Reply(self, key)
+        reply = Reply(self, key)
+        self._keep(reply, key, request)
+        return reply
+
+    def _keep(self, reply: Reply, key: int, request: Optional[Request]) -> None:
+        reply.key = key
+        self._replies[key] = reply
         if request is not None:
             request.keys.append(key)
-        return reply
 
     def _call_and_wait(
         self,
-        texts: List[Tuple[str, Optional[bytes]]],
+        texts: Texts,
         is_batch: bool,
         request: Optional[Request],
         is_gathered: bool,
@@ -117,7 +175,7 @@ class Asking:
         def begin() -> None:
             try:
                 replies = self._call_now(texts, is_batch, request, is_gathered)
-            except Exception as error:
+            except BaseException as error:
                 settle(ticket, error=error)
             else:
                 replies.add_done_callback(lambda it: settle_as(ticket, it))
@@ -130,11 +188,26 @@ class Asking:
 
     def notify(self, method: str, params: Any = None) -> None:
         """Sends a notification, from any thread."""
-        self._connection.notify(method, optional_text(params))
-        if threading.get_ident() == self._thread:
-            self._flush_soon()
-        else:
+        text = self.optional_text(params)
+        if threading.get_ident() != self._thread:
+            self._connection.notify(method, text)
             self._on_loop(self._flush_soon)
+        elif self._aside is None:
+            self._connection.notify(method, text)
+            self._said += AROUND + len(text or b"")
+            self._flush_soon()
+        elif text is not None and text[:1] not in (b"[", b"{"):
+            raise NotJson()
+        else:
+            self._put_off.append(functools.partial(self._notify_later, method, text))
+
+    def _notify_later(self, method: str, text: Optional[bytes]) -> None:
+        if self._is_closed:
+            return
+        try:
+            self._connection.notify(method, text)
+        except (Refused, TypeError) as error:
+            log.error("a notification %r can't be sent: %s", method, error)
 
     def _on_loop(self, what: Callable[..., None], *words: Any) -> None:
         """Has something done on the loop's thread; where the loop is gone, nobody waits for it."""
@@ -155,6 +228,14 @@ class Asking:
         """Tells the other side that a call of ours isn't wanted any more."""
         if self._replies.pop(key, None) is None or self._is_closed:
             return
+        if self._aside is None:
+            self._withdraw_now(key)
+        else:
+            self._put_off.append(functools.partial(self._withdraw_now, key))
+
+    def _withdraw_now(self, key: int) -> None:
+        if self._is_closed:
+            return
         if self._takes_tool_cancels:
             if not self._over.done():
                 self._say_tool_cancel(key)
@@ -162,6 +243,14 @@ class Asking:
             with contextlib.suppress(NotWaiting):
                 self._connection.withdraw(key)
         self._flush_soon()
+
+
+def words_of_error(error: BaseException) -> str:
+    """The text of an exception, whatever its own code does."""
+    try:
+        return str(error)
+    except Exception as fault:
+        return f"(its text can't be made: {type(fault).__name__})"
 
 
 def settle(

@@ -17,7 +17,7 @@ class End(NamedTuple):
 
     #: "Clean"; "Stopped", by `stop`; "Exited", by `sys.exit` in a method; the name of a fault of the input, as "BadHead";
     #: or "Read", "Full", "Broken" (the output can't be written), "NoStreams" (they were closed from the start), "Late" (calls
-    #: had no answer in time), "Unwritten", "Memory", "Interrupted", "Cancelled", or "Lost" (a client's server ended by
+    #: had no answer in time), "Unwritten", "Memory", "Failed", "Interrupted", "Cancelled", or "Lost" (a client's server ended by
     #: itself)
     how: str
     text: str  #: what was wrong, and what to do
@@ -138,6 +138,7 @@ TEXTS = {
     "NoStreams": "the standard input or output is closed",
     "Unwritten": "what was to be written wasn't taken in time",
     "Memory": "memory was refused",
+    "Failed": "something failed in the session itself, as the log says",
     "Exited": "a method ended the process",
     "Interrupted": "it was interrupted, as by Ctrl-C",
     "Cancelled": "the task that served it was cancelled",

@@ -169,8 +169,8 @@ def declare(library: Any) -> None:
 def library() -> Any:
     """The library, loaded when it is first asked for.
 
-    PyDLL keeps the interpreter's lock during a call. The calls are short, and giving the lock away at each one would
-    hand it to whatever other thread computes, for five milliseconds.
+    PyDLL keeps the interpreter's lock during a call. Nearly all calls are short, and giving the lock away at each one
+    would hand it to whatever other thread computes, for five milliseconds. What may take long is made by `released`.
     """
     global _loaded, loaded_by_name
     if _loaded is None:
@@ -196,10 +196,11 @@ def undeclared(library: Any, name: str) -> Any:
     return call
 
 
-def is_one_call_at_a_time(library: Any) -> bool:
-    """Whether the interpreter's lock is held during each call."""
-    has_lock: Any = getattr(sys, "_is_gil_enabled", None)
-    return isinstance(library, ctypes.PyDLL) and (has_lock is None or has_lock())
+def released(library: Any, name: str) -> Any:
+    """The same call, during which the interpreter's other threads go on."""
+    if not isinstance(library, ctypes.PyDLL):
+        return undeclared(library, name)
+    return undeclared(ctypes.CDLL(library._name, handle=library._handle), name)
 
 
 def use(other: Any) -> None:

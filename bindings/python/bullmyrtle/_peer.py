@@ -22,6 +22,7 @@ from typing import (
 from . import _settings
 from ._channels import Channel
 from ._ends import End
+from ._json import DIGITS
 from ._library import ORDERS
 from ._marks import marked, name_of
 from ._params import Method, Methods
@@ -57,6 +58,8 @@ class Peer:
         calls: Optional[int] = None,
         grace: float = 5.0,
         workers: Optional[int] = None,
+        digits: int = DIGITS,
+        open: Optional[int] = None,
         trace: Optional[Trace] = None,
         **unknown: NoReturn,
     ) -> None:
@@ -70,6 +73,8 @@ class Peer:
         calls -- how many calls may come
         grace -- how many seconds methods have after the end of the input
         workers -- how many threads there may be for methods with `thread=True`
+        digits -- how many digits a whole number may have, from 20 on
+        open -- how many requests may be open at once; one more is answered with an error
         trace -- where a log of the messages goes: a file's name, a file, or a function that takes lines
         """
         _settings.no_more(unknown, self._setting_names())
@@ -80,6 +85,8 @@ class Peer:
         _settings.whole("content", content, _settings.MOST_CONTENT)
         _settings.whole("calls", calls, _settings.MOST_CALLS)
         _settings.whole("workers", workers)
+        _settings.whole("open", open)
+        _settings.digits(digits)
         _settings.seconds("grace", grace)
         _settings.trace(trace)
         self._settings: Dict[str, Any] = {
@@ -92,6 +99,7 @@ class Peer:
         self._cancel_by: Optional[CancelBy] = by_framing if cancel_by == BY_FRAMING else cancel_by
         self._grace = grace
         self._workers = workers
+        self._digits, self._most_open = digits, open
         self._trace = trace
         self._methods = Methods()
         self._sessions: Dict[Session, None] = {}
@@ -176,7 +184,15 @@ class Peer:
             connection = Traced(plain, self._trace, cancels)
         watch = Watch({**self._settings, **other}, cancels, self._is_client)
         session = Session(
-            self._methods, channel, connection, self._cancel_by, self._grace, self._workers, watch
+            self._methods,
+            channel,
+            connection,
+            self._cancel_by,
+            self._grace,
+            self._workers,
+            watch,
+            self._digits,
+            self._most_open,
         )
         self._sessions[session] = None
         self._served += 1

@@ -5,7 +5,7 @@ import asyncio
 from typing import TYPE_CHECKING, Any, Callable, Iterable, List, Optional, Tuple, TypeVar, Union
 
 from . import _json, events
-from .errors import Error, NotJson
+from .errors import Error
 
 if TYPE_CHECKING:
     from ._asking import Asking
@@ -26,25 +26,16 @@ class _Later:
 LATER = _Later()
 
 
-def text_of(value: Any) -> bytes:
-    """The JSON text of a value. Raises NotJson."""
-    try:
-        return _json.dumps(value)
-    except (TypeError, ValueError) as error:
-        raise NotJson(str(error)) from error
-
-
-def optional_text(value: Any) -> Optional[bytes]:
-    return None if value is None else text_of(value)
-
-
 def words_of(text: str) -> str:
     """A text that can be written as UTF-8."""
     return text.encode("utf-8", "backslashreplace").decode()
 
 
 class Reply(asyncio.Future):  # type: ignore[type-arg]
-    """The reply to a call of ours. If it is cancelled, the other side is told that it isn't wanted any more."""
+    """The reply to a call of ours. If it is cancelled, the other side is told that it isn't wanted any more.
+
+    Its key is 0 as long as the call waits for what is just being read.
+    """
 
     def __init__(self, session: Asking, key: int) -> None:
         super().__init__(loop=session.loop)

@@ -5,28 +5,28 @@ import asyncio
 import contextlib
 import logging
 import threading
-from collections import deque
-from typing import Any, Callable, Deque, Optional, Union
+from typing import Any, Callable, Optional, Union
 
-from . import _json, events
-from ._answering import VALUES
 from ._asking import settle
 from ._channels import Channel
+from ._hearing import Hearing
+from ._json import DIGITS, with_digits
 from ._params import Methods
 from ._ends import End, Late
-from ._talking import Talking
 from ._trace import Traced
 from ._watch import Watch
 from .connection import Connection
-from .errors import INTERNAL_ERROR, Closed, Error, InputOver, NoMemory, Unanswered
-from .events import Event
+from .errors import Closed
 
 LSP_CANCEL, TOOL_CANCEL = "$/cancelRequest", "notifications/cancelled"
 
 log = logging.getLogger("bullmyrtle")
 
+# How much is thrown away at once.
+_DROPPED = 1 << 20
 
-class Session(Talking):
+
+class Session(Hearing):
     """One connection in an event loop, with the methods that answer its calls."""
 
     def __init__(
@@ -38,8 +38,10 @@ class Session(Talking):
         grace: float,
         workers: Optional[int],
         watch: Watch,
+        digits: int = DIGITS,
+        open: Optional[int] = None,
     ) -> None:
-        super().__init__(methods, workers)
+        super().__init__(methods, with_digits(digits), workers, open, connection._notes_cancels())
         self.loop = asyncio.get_running_loop()
         self._soon: Callable[[Callable[[], None]], Any] = getattr(
             self.loop, "before_waiting", self.loop.call_soon
@@ -52,9 +54,8 @@ class Session(Talking):
         self._cancel_by = cancel_by
         self._takes_tool_cancels = cancel_by not in (None, LSP_CANCEL)
         self._grace = grace
-        self._events: Deque[Event] = deque()
-        self._is_going = False
-        self._has_begun = self._has_flush = self._is_closed = self._is_stopped = self._is_broken = False
+        self._has_begun = self._has_flush = self._is_closed = self._is_stopped = False
+        self._is_broken = self._is_unheard = False
         self._over: "asyncio.Future[str]" = self.loop.create_future()
         self._change: Optional["asyncio.Future[None]"] = None
         self._status: Optional[int] = None
@@ -62,142 +63,18 @@ class Session(Talking):
         #: How it ended, or None while it runs.
         self.ended: Optional[End] = None
         self.watch = watch
-        watch.begin(connection.counts)
-
-    # What comes in
-
-    def received(self, data: bytes) -> None:
-        """Bytes of the input."""
-        if self._is_closed:
-            return
-        try:
-            told = self._connection.fed(data)
-        except InputOver:
-            return
-        except NoMemory:
-            self._give_up()
-            return
-        self.watch.read(data, told)
-        self._events.extend(told)
-        if not self._is_going:
-            self._go_on()
-
-    def input_ended(self, failed: bool) -> None:
-        """The end of the input."""
-        if self._is_closed:
-            return
-        with contextlib.suppress(InputOver):
-            self._connection.end(failed)
-        self._look()
-
-    def broke(self) -> None:
-        """Nobody reads the output any more, so there is no use in going on."""
-        self._is_broken = True
-        self.watch.because("Broken")
-        self.input_ended(True)
-
-    def _give_up(self) -> None:
-        """There was no memory for what came, or for an answer: the session ends, and not well."""
-        self.watch.because("Memory")
-        self._is_broken = True
-        self._channel.stop()
-        if not self._over.done():
-            self._over.set_result("Read")
-
-    def _look(self) -> None:
-        try:
-            told = self._connection.events()
-        except NoMemory:
-            self._give_up()
-            return
-        self.watch.read(b"", told)
-        self._events.extend(told)
-        if not self._is_going:
-            self._go_on()
-
-    def _go_on(self, is_later: bool = False) -> None:
-        """Takes the events in their order, up to a method that starts as a task: that begins before what follows it."""
-        waiting, methods, cancel_by = self._events, self._methods, self._cancel_by
-        loads, dumps, answer = _json.loads, _json.dumps, self._answer_quickly
-        self._is_going = True
-        has_begun = has_told = False
-        try:
-            while waiting and not has_begun:
-                event = waiting.popleft()
-                if type(event) is not events.Call:
-                    self._happened(event)
-                    has_told = True
-                    continue
-                number, name, params, id_ = event
-                method = methods.get(name)
-                if method is None or not method.is_quick or name == cancel_by or self._is_stopped:
-                    has_begun = self._begin(event)
-                    continue
-                # What most calls are. `_begin` does the same, by way of more functions.
-                try:
-                    given = None if params is None else loads(params)
-                    if method.fit is not None:
-                        given = method.fit(given, "params")
-                except Exception as fault:
-                    self._doesnt_fit(event, fault)
-                    continue
-                try:
-                    result = method.function(given) if method.takes else method.function()
-                except Exception as error:
-                    self._raised(number, name, error, None)
-                    continue
-                if id_ is not None and type(result) in VALUES:
-                    try:
-                        answer(number, dumps(result))
-                        continue
-                    except (TypeError, ValueError):
-                        pass  # (what is below finds it again, and says so)
-                has_begun = self._returned_plainly(method, result, event, None)
-        except NoMemory:  # (what a method raises is answered, and doesn't come here)
-            self._give_up()
-        finally:
-            # (The task's first step comes before the channel's next turn, where this is the channel's turn. If it was
-            # put off until now, the channel may have its turn after it and before that step.)
-            self._is_going = has_begun and (bool(waiting) or is_later or not self._channel.takes_turns)
-            if self._is_going:
-                self.loop.call_soon(self._go_on, True)
-        if has_begun or has_told:
-            self._flush_soon()  # (whatever goes on now may have more to say)
-        else:
-            self._flush()
-
-    def _happened(self, event: Event) -> None:
-        if type(event) is events.Replied:
-            reply = self._replies.pop(event.key, None)
-            if reply is not None and not reply.done():
-                try:
-                    reply.set_result(_json.loads(event.result))
-                except (ValueError, RecursionError) as error:
-                    self._refuse(reply, Error(INTERNAL_ERROR, f"the result can't be read: {error}"))
-        elif isinstance(event, events.Failed):
-            reply = self._replies.pop(event.key, None)
-            if reply is not None:
-                data = None
-                with contextlib.suppress(ValueError, RecursionError):
-                    data = None if event.data is None else _json.loads(event.data)
-                self._refuse(reply, Error(event.code, event.message, data))
-        elif isinstance(event, events.Cancelled):
-            request = self._open.get(event.number)
-            if request is not None:
-                self._cancel(request)
-        elif isinstance(event, events.Unanswered):
-            reply = self._replies.pop(event.key, None)
-            if reply is not None:
-                self.watch.lost += not reply.done()
-                self._refuse(reply, Unanswered(self.watch.why()))
-        elif isinstance(event, events.Over) and not self._over.done():
-            self._over.set_result(event.how)
+        watch.begin(connection.counts, lambda: self.is_busy)
 
     # What goes out
 
     @property
-    def pending(self) -> int:
-        return 0 if self._is_closed else self._connection.pending
+    def is_busy(self) -> bool:
+        """Whether a large content is being read, so that nothing can be taken."""
+        return self._aside is not None
+
+    @property
+    def pending(self) -> int:  # type: ignore[override]
+        return 0 if self._is_closed or self._aside is not None else self._connection.pending
 
     def _flush_soon(self) -> None:
         if not self._has_flush:
@@ -206,17 +83,43 @@ class Session(Talking):
 
     def _flush(self) -> None:
         self._has_flush = False
-        if not self._is_closed:
+        if self._is_closed or self._aside is not None:
+            return
+        try:
             self._channel.write()
-            if self._change is not None:
-                self._changed()
+            if self._is_unheard:
+                self._drop()
+            elif self._said:
+                self._said = 0 if self._channel.is_idle else self.pending + self._channel.waiting
+        except (KeyboardInterrupt, SystemExit):
+            raise
+        except BaseException as fault:
+            self._give_up("what is said can't be written", fault)
+        if self._held and not self._said:
+            self.loop.call_soon(self._go_on_where_held)
+        if self._change is not None:
+            self._changed()
+
+    def _drop(self) -> None:
+        """Nobody reads what is said, so that it needn't be kept."""
+        while self.take(_DROPPED):
+            pass
 
     def was_written(self) -> None:
         """All that there was is written, later than it was said."""
-        self._changed()
+        self._flush_soon()
+
+    def broke(self) -> None:
+        """Nobody reads the output any more, so there is no use in going on."""
+        self._is_broken = self._is_unheard = True
+        self.watch.because("Broken")
+        self.input_ended(True)
 
     def finish(self) -> None:
         """Says no more, once what is said has been written."""
+        if self._aside is not None:
+            self._put_off.append(self.finish)
+            return
         self.watch.is_finished = True
         self._flush()
         self._channel.finish()
@@ -230,7 +133,7 @@ class Session(Talking):
             return
         if self._is_stopped or self._is_closed:
             return
-        self._is_stopped = True
+        self._is_stopped = self._is_choosy = True
         self.watch.because("Stopped")
         self._status = status
         if grace is not None:
@@ -265,8 +168,11 @@ class Session(Talking):
         try:
             how = await asyncio.shield(self._over)
             end = self.loop.time() + self._grace
-            await self._until(lambda: not self._open and not self._tasks, end)
+            await self._until(self._has_ended_all, end)
             late = [Late(it.method, it.is_later, not it.is_notification) for it in self._open.values()]
+            late += [Late(it.method, False, it.id is not None) for it in self._held]
+            if self._aside is not None:
+                await asyncio.wait({self._aside})
             await self._cancel_all()
             self._flush()
             is_out = await self._until(self._is_written, max(end, self.loop.time() + 1))
@@ -280,11 +186,18 @@ class Session(Talking):
         finally:
             await self.close(seconds)
 
+    def _has_ended_all(self) -> bool:
+        return not (self._open or self._tasks or self._events or self._held)
+
     def _is_written(self) -> bool:
         return self._is_broken or (self._channel.is_idle and not self.pending)
 
     async def _cancel_all(self) -> None:
         """Ends what didn't end in time; a task that doesn't let itself be cancelled is left."""
+        while self._held:
+            event = self._held.popleft()
+            log.error("%s: it couldn't begin in time, since nobody read what was said", event.method)
+            self._never_begin(event.number)
         for request in list(self._open.values()):
             log.error("%s: it didn't end in time, and is cancelled", request.method)
             self._cancel(request)
@@ -306,8 +219,10 @@ class Session(Talking):
             if self._is_closed:
                 return
             self._is_closed = True
+            is_read_aside = self._is_in_thread  # (and then that thread closes the connection)
         self.take = lambda most: b""
         self._events.clear()
+        self._held.clear()
         if self.ended is None:
             self.ended = self.watch.end(None, [], True, self._grace)
         closed = Closed(self.watch.over(self.ended))
@@ -319,9 +234,13 @@ class Session(Talking):
             self._refuse(reply, closed)
         for ticket in list(self._blocked):
             settle(ticket, error=closed)
+        put_off, self._put_off = self._put_off, []
+        for it in put_off:
+            self._do(it)
         self._pool.close()
         await self._channel.close(seconds)
-        self._connection.close()
+        if not is_read_aside:
+            self._connection.close()
 
     async def abort(self) -> None:
         """Ends at once: what is to be written is, as far as it can be now."""

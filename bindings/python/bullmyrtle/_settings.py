@@ -6,6 +6,7 @@ import math
 import os
 from typing import Any, Iterable, NoReturn, Optional, Sequence
 
+from ._json import FEWEST_DIGITS
 from .errors import BadSettings
 
 #: The greatest content that the library takes, in bytes, and the most calls.
@@ -33,6 +34,12 @@ def whole(name: str, value: Any, most: Optional[int] = None) -> None:
         return
     until = "" if most is None else f" to {most:,}"
     refuse(name, value, f"it is a whole number from 1{until or ' on'}, or None")
+
+
+def digits(value: Any) -> None:
+    """A number of digits that is no less than an id may have."""
+    if type(value) is not int or value < FEWEST_DIGITS:
+        refuse("digits", value, f"it is a whole number from {FEWEST_DIGITS} on")
 
 
 def seconds(name: str, value: Any) -> None:

@@ -68,6 +68,7 @@ class Watch:
     def __init__(self, settings: Mapping[str, Any], cancels: bool, is_client: bool) -> None:
         self._settings, self._cancels, self._is_client = settings, cancels, is_client
         self._counts: Optional[Callable[[], Counts]] = None
+        self._is_busy: Callable[[], bool] = lambda: False
         self._fed = 0
         self._kept = b""
         self._lines = _Lines() if settings["framing"] == "lines" else None
@@ -84,9 +85,9 @@ class Watch:
         self.is_finished = False
         self._is_meant = False  # (whether it had when the input was over)
 
-    def begin(self, counts: Callable[[], Counts]) -> None:
-        """Begins, with what gives the connection's counts."""
-        self._counts = counts
+    def begin(self, counts: Callable[[], Counts], is_busy: Callable[[], bool]) -> None:
+        """Begins, with what gives the connection's counts, and what says whether it can't be asked just now."""
+        self._counts, self._is_busy = counts, is_busy
 
     def read(self, data: bytes, told: Sequence[Event]) -> None:
         """A piece was read, and these events were told of it."""
@@ -153,6 +154,11 @@ class Watch:
         """Says how many messages couldn't be read, where it has become more."""
         assert self._counts is not None
         now = time.monotonic()
+        if self._is_busy():
+            self._timer = (
+                None if is_last else asyncio.get_running_loop().call_later(_SECONDS, self._look_again)
+            )
+            return
         counts = self._counts()
         found = counts.unreadable, counts.invalid
         if found != self._said and now < self._next and not is_last:

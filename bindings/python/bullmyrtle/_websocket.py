@@ -44,8 +44,8 @@ class Messages(Channel):
         self._writing: Optional["asyncio.Task[None]"] = None
         self._texts: Deque[bytes] = deque()
         self._waiting = 0
-        self._is_broken = False
-        self._sent = asyncio.Event()
+        self._is_broken = self._is_paused = False
+        self._sent = asyncio.Event()  # (or paused no more)
 
     def start(self, session: Session) -> None:
         self._session = session
@@ -61,7 +61,7 @@ class Messages(Channel):
                     message.encode("utf-8", "surrogatepass") if isinstance(message, str) else bytes(message)
                 )
                 self._session.received(data)
-                while self._waiting > _WAITING and not self._is_broken:
+                while self._is_paused or (self._waiting > _WAITING and not self._is_broken):
                     self._sent.clear()
                     await self._sent.wait()
         except Exception as error:
@@ -99,6 +99,17 @@ class Messages(Channel):
     @property
     def is_idle(self) -> bool:
         return self._writing is None
+
+    @property
+    def waiting(self) -> int:
+        return self._waiting
+
+    def pause(self) -> None:
+        self._is_paused = True
+
+    def resume(self) -> None:
+        self._is_paused = False
+        self._sent.set()
 
     def stop(self) -> None:
         if self._reading is not None:

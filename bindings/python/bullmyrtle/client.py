@@ -7,6 +7,7 @@ import shlex
 from typing import Any, List, Mapping, NoReturn, Optional, Sequence, Union
 
 from ._channels import Channel, Streams
+from ._json import DIGITS
 from ._peer import BY_FRAMING, CancelBy, Framing, Peer
 from ._process import ServerProcess, StandardError, check_standard_error
 from ._trace import Trace
@@ -62,6 +63,8 @@ class Client(Peer):
         calls: Optional[int] = None,
         grace: float = 5.0,
         workers: Optional[int] = None,
+        digits: int = DIGITS,
+        open: Optional[int] = None,
         trace: Optional[Trace] = None,
         **unknown: NoReturn,
     ) -> None:
@@ -81,6 +84,8 @@ class Client(Peer):
             calls=calls,
             grace=grace,
             workers=workers,
+            digits=digits,
+            open=open,
             trace=trace,
             **unknown,
         )

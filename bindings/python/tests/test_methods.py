@@ -447,7 +447,9 @@ class Registering(Case):
             server.serve_over = serve
             async with joined(server) as client:
                 self.assertEqual(await client.call("x", [1]), [1])
-                setattr(server.session if name == "_answer_quickly" else server.session._connection, name, refuse)
+                setattr(
+                    server.session if name == "_answer_quickly" else server.session._connection, name, refuse
+                )
                 with self.assertRaises((Unanswered, Error)):
                     await client.call("x", [2])
             self.assertEqual(statuses, [1])
@@ -592,7 +594,6 @@ class Ordering(Case):
 
 class OneThread(Case):
     def test_a_session_answers_quickly_and_closes_in_the_thread_of_its_loop(self):
-        """(for `Connection._answerer` takes no lock)"""
         server, threads = Server(grace=0.05), []
 
         @server.method("thread", thread=True)
