@@ -12,6 +12,7 @@ from typing import Any, Callable, Dict, List, Optional, Sequence, Set, Tuple, Un
 from ._ends import End
 from ._json import Json
 from ._params import PLAIN
+from ._protocols import ProtocolSettings
 from ._request import Reply, Request, Said
 from ._trace import Traced
 from ._watch import Watch
@@ -38,6 +39,7 @@ class Asking:
     _flush_soon: Callable[[], None]
     ended: Optional[End]
     watch: Watch
+    protocol: Optional[ProtocolSettings] = None
 
     def __init__(self, json: Json) -> None:
         self._json = json
@@ -58,6 +60,8 @@ class Asking:
         return_exceptions: bool = False,
     ) -> Any:
         """Calls the other side: gives what is to be awaited, on the loop's thread, or waits for it, on another one."""
+        if is_batch and self.protocol is not None:
+            self.protocol.check_batch()
         texts = [(method, self.optional_text(params)) for method, params in calls]
         if threading.get_ident() != self._thread:
             return self._call_and_wait(texts, is_batch, request, return_exceptions)
