@@ -41,6 +41,10 @@ class _Lines:
         self.length = 0
 
     def add(self, data: bytes) -> None:
+        if data.endswith(b"\n"):  # (as most pieces do)
+            self.start += self.length + len(data)
+            self.first, self.length = b"", 0
+            return
         at = data.rfind(b"\n") + 1
         if at:
             self.start, self.length, self.first = self.start + self.length + at, 0, b""

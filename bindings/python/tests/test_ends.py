@@ -461,7 +461,7 @@ class StandardErrors(Scripts):
         host = os.path.join(self.room, "host.py")
         with open(host, "w", encoding="utf-8") as it:
             it.write(
-                textwrap.dedent(code).replace("sys.stdin.read()", "await asyncio.to_thread(sys.stdin.read)")
+                textwrap.dedent(code).replace("sys.stdin.read()", "await asyncio.get_running_loop().run_in_executor(None, sys.stdin.read)")
             )
         pipes = {"stdin": subprocess.PIPE, "stderr": subprocess.PIPE, "env": environment()}
         with subprocess.Popen(command(host, loud), bufsize=0, **pipes) as process:
