@@ -141,6 +141,14 @@ class ServerProcess:
             pass
         return True
 
+    def abandon(self) -> None:
+        """Ends a process that no session has."""
+        self.popen.kill()
+        self.popen.wait()
+        self.channel.abandon()
+        if self._error is not None:
+            self._error.close()
+
     async def close(self, grace: float) -> int:
         """Waits for the end, makes one where it doesn't come in time, and gives the status."""
         for end, name in ((None, ""), (self.popen.terminate, "terminated"), (self.popen.kill, "killed")):
@@ -164,6 +172,13 @@ class _Output(Descriptors):
         super().__init__(source, sink, pauses=False)
         self._has_ended = has_ended
         self._waiting_for: Optional["asyncio.Task[None]"] = None
+
+    def abandon(self) -> None:
+        """Closes what no session has begun to read."""
+        for it in (self._source, self._sink):
+            if it is not None:
+                os.close(it)
+        self._source = self._sink = None
 
     def _end(self, failed: bool) -> None:
         self.stop()

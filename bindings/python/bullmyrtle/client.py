@@ -126,7 +126,11 @@ class Client(Peer):
         except RuntimeError:
             raise RuntimeError("no event loop runs here: call start() in an `async def`") from None
         self._process = ServerProcess(self._command, self._env, self._cwd, self._stderr)
-        self.attach(self._process.channel)
+        try:
+            self.attach(self._process.channel)
+        except BaseException:
+            self._process.abandon()
+            raise
 
     def connect(self, reader: asyncio.StreamReader, writer: asyncio.StreamWriter) -> None:
         """Use a reader and a writer that lead to a server."""

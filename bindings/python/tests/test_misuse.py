@@ -196,6 +196,20 @@ class Clients(Refused):
         self.wait(main())
         self.assertEqual(len(os.listdir("/proc/self/fd")), before)
 
+    def test_one_that_gets_no_session(self):
+        """A process that was started for nothing is ended."""
+
+        async def main():
+            client = Client(command(self.file), env=environment(), trace="/nowhere/log")
+            with self.assertRaises(FileNotFoundError):
+                async with client:
+                    pass
+            self.assertIsNotNone(client._process.status)
+
+        before = len(os.listdir("/proc/self/fd"))
+        self.wait(main())
+        self.assertEqual(len(os.listdir("/proc/self/fd")), before)
+
     def test_started_by_hand(self):
         async def main():
             client = self.client()
