@@ -15,7 +15,8 @@ LIBRARY = "libbullmyrtle.so.1"
 VARIABLE = "BULLMYRTLE_LIBRARY"
 # What starts no process, so that it is quick over the stand-in.
 WITHOUT_PROCESSES = ["test_connection", "test_methods", "test_calls", "test_loop", "test_trace", "test_random"]
-FEWEST, FEWEST_WITHOUT_PROCESSES = 175, 115
+WITHOUT_PROCESSES += ["test_registering", "test_ends.Ends", "test_ends.Counted", "test_many.Sessions", "test_many.WebSockets"]
+FEWEST, FEWEST_WITHOUT_PROCESSES = 285, 170
 SECONDS = 900
 
 

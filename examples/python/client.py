@@ -17,7 +17,7 @@ def command(name):
 
 async def edit():
     """What an editor does with the language server."""
-    client = Client(command("language_server.py"))
+    client = Client(command("language_server.py"), protocol="lsp")
     reached = {"begin": asyncio.Event(), "report": asyncio.Event(), "end": asyncio.Event()}
     client.method("workspace/configuration")(lambda params: ["times" for _ in params["items"]])
     client.method("window/workDoneProgress/create")(lambda params: None)

@@ -5,7 +5,7 @@ import sys
 
 from bullmyrtle import InvalidParams, Server
 
-server = Server()
+server = Server(protocol="lsp")
 texts = {}  # of the open documents, by their URIs
 ending = {"status": 1}  # 0 once the server is shut down
 WORD, REPEATED = r"\w+", r"\b(\w+)\s+\1\b"

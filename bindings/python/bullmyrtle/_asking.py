@@ -9,6 +9,7 @@ from typing import Any, Callable, Dict, List, Optional, Sequence, Set, Tuple, Un
 
 from ._ends import End
 from ._params import PLAIN
+from ._protocols import ProtocolSettings
 from ._request import Reply, Request, Said, optional_text, text_of
 from ._trace import Traced
 from ._watch import Watch
@@ -28,6 +29,7 @@ class Asking:
     _flush_soon: Callable[[], None]
     ended: Optional[End]
     watch: Watch
+    protocol: Optional[ProtocolSettings] = None
 
     def __init__(self) -> None:
         self._thread = threading.get_ident()
@@ -43,6 +45,8 @@ class Asking:
         return_exceptions: bool = False,
     ) -> Any:
         """Calls the other side: gives what is to be awaited, on the loop's thread, or waits for it, on another one."""
+        if is_batch and self.protocol is not None:
+            self.protocol.check_batch()
         texts = [(method, optional_text(params)) for method, params in calls]
         if threading.get_ident() != self._thread:
             return self._call_and_wait(texts, is_batch, request, return_exceptions)

@@ -25,6 +25,7 @@ from ._ends import End
 from ._library import ORDERS
 from ._marks import marked, name_of
 from ._params import Method, Methods
+from ._protocols import PROTOCOLS, ProtocolName
 from ._request import Reply, Said
 from ._session import LSP_CANCEL, TOOL_CANCEL, Session
 from ._trace import Trace, Traced
@@ -50,6 +51,7 @@ class Peer:
     def __init__(
         self,
         *,
+        protocol: Optional[ProtocolName] = None,
         framing: Framing = "frames",
         order: Order = "as-answered",
         cancel_by: Optional[CancelBy] = BY_FRAMING,
@@ -62,6 +64,7 @@ class Peer:
     ) -> None:
         """Make one, without methods yet. Raises `BadSettings` where there are no such settings.
 
+        protocol -- "lsp": what the Language Server Protocol has, and nothing that its servers can't read; or None
         framing -- "frames", as in LSP, or "lines", as in MCP
         order -- whether answers go out "as-answered", or in the order in which the requests came ("as-came")
         cancel_by -- the notification that cancels a request: "$/cancelRequest", as in LSP and the default with frames,
@@ -73,6 +76,7 @@ class Peer:
         trace -- where a log of the messages goes: a file's name, a file, or a function that takes lines
         """
         _settings.no_more(unknown, self._setting_names())
+        _settings.one_of("protocol", protocol, (*PROTOCOLS, None))
         _settings.one_of("framing", framing, ("frames", "lines"))
         _settings.one_of("order", order, ORDERS)
         if cancel_by != BY_FRAMING:
@@ -82,6 +86,9 @@ class Peer:
         _settings.whole("workers", workers)
         _settings.seconds("grace", grace)
         _settings.trace(trace)
+        if protocol is not None:
+            PROTOCOLS[protocol].check(framing, cancel_by, BY_FRAMING)
+        self._protocol = protocol
         self._settings: Dict[str, Any] = {
             "framing": framing,
             "order": order,
@@ -178,6 +185,7 @@ class Peer:
         session = Session(
             self._methods, channel, connection, self._cancel_by, self._grace, self._workers, watch
         )
+        session.protocol = None if self._protocol is None else PROTOCOLS[self._protocol]
         self._sessions[session] = None
         self._served += 1
         self._last = session

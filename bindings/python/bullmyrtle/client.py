@@ -9,6 +9,7 @@ from typing import Any, List, Mapping, NoReturn, Optional, Sequence, Union
 from ._channels import Channel, Streams
 from ._peer import BY_FRAMING, CancelBy, Framing, Peer
 from ._process import ServerProcess, StandardError, check_standard_error
+from ._protocols import ProtocolName
 from ._trace import Trace
 from .connection import Order
 
@@ -55,6 +56,7 @@ class Client(Peer):
         env: Optional[Mapping[str, str]] = None,
         cwd: Optional[Word] = None,
         stderr: StandardError = "pass on",
+        protocol: Optional[ProtocolName] = None,
         framing: Framing = "frames",
         order: Order = "as-answered",
         cancel_by: Optional[CancelBy] = BY_FRAMING,
@@ -74,6 +76,7 @@ class Client(Peer):
             takes bytes
         """
         super().__init__(
+            protocol=protocol,
             framing=framing,
             order=order,
             cancel_by=cancel_by,

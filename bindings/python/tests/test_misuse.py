@@ -8,10 +8,10 @@ import tempfile
 import textwrap
 import unittest
 
-from helping import PACKAGE, Case, command, environment, joined
+from helping import PACKAGE, Case, command, environment, joined, logged
 
 import bullmyrtle
-from bullmyrtle import BadSettings, Client, Closed, Connection, Server
+from bullmyrtle import BadSettings, Client, Closed, Connection, Error, Server
 
 SERVER = """
 import sys
@@ -73,6 +73,77 @@ class Settings(Refused):
                 self.refused(BadSettings, lambda: kind(grace=it), "grace=", "number of seconds, from 0 on")
             self.refused(BadSettings, lambda: kind(trace=5), "trace=5", "a file's name, a file, a function")
             kind(content=16_777_216, calls=1, workers=1, grace=0, trace=print)
+
+    def test_protocols(self):
+        for kind in (Server, Client):
+            self.refused(BadSettings, lambda: kind(protocol="dap"), "protocol='dap'", "'lsp' and None")
+            self.refused(
+                BadSettings,
+                lambda: kind(protocol="lsp", framing="lines"),
+                "protocol='lsp' has framing='frames'",
+            )
+            for it in ("notifications/cancelled", None):
+                self.refused(
+                    BadSettings,
+                    lambda: kind(protocol="lsp", cancel_by=it),
+                    "protocol='lsp' has cancel_by='$/cancelRequest'",
+                )
+            kind(protocol="lsp", framing="frames", cancel_by="$/cancelRequest")
+
+    def test_a_protocol_without_batches(self):
+        async def main(protocol, server_protocol=None):
+            server = Server(protocol=server_protocol)
+
+            @server.method("ask")
+            async def ask(params, request):
+                return await request.call_batch([("name", None)])
+
+            @server.method("block", thread=True)
+            def block(params, request):
+                return request.call_batch_and_wait([("name", None)])
+
+            @server.method("cancelled")
+            async def cancelled(params):
+                await asyncio.sleep(20)
+
+            client = Client(protocol=protocol)
+            client.method("name")(lambda: "me")
+            async with joined(server, client):
+                found = []
+                for call in (
+                    lambda: client.call("ask"),
+                    lambda: client.call("block"),
+                    lambda: client.call_batch([("ask", None)]),
+                ):
+                    try:
+                        found.append(await call())
+                    except RuntimeError as error:
+                        found.append(str(error))
+                    except Error as error:
+                        found.append(error.message)
+                call = client.call("cancelled")
+                client.notify("$/cancelRequest", {"id": call.key})
+                with self.assertRaises(Error) as caught:
+                    await call
+                self.assertEqual(caught.exception.code, -32800)
+                return found
+
+        with logged():
+            self.assertEqual(self.wait(main(None)), [["me"], ["me"], [["me"]]])
+            (*theirs, ours) = self.wait(main("lsp", "lsp"))
+            self.assertIn("protocol='lsp' has no batches", ours)
+            self.assertIn("call(..) for each", ours)
+            for it in theirs:
+                self.assertIn("protocol='lsp' has no batches", it)
+
+    def test_batches_that_come_are_answered_all_the_same(self):
+        async def main():
+            server = Server(protocol="lsp")
+            server.method("echo")(lambda params: params)
+            async with joined(server, Client()) as client:
+                self.assertEqual(await client.call_batch([("echo", [1]), ("echo", [2])]), [[1], [2]])
+
+        self.wait(main())
 
     def test_by_other_names(self):
         for kind in (Server, Client):
