@@ -213,13 +213,18 @@ static int32_t ask(bm_connection *at, bytes *room, size_t *used, uint32_t *count
         size_t need = *used;
         return grow(room, need) ? bm_next_all(at, room->at, need, used, count) : BM_NO_MEMORY;
     }
+    if (code != BM_OK || *count == 0) {
+        *has_more = false;
+        return code;
+    }
+    /* what doesn't fit came behind the last that did, so it is enough to ask once whether something is there */
     size_t from = (*used + 7) / 8 * 8, rest = 0;
     uint32_t further = 0;
-    *has_more = code == BM_OK && *count && from < EVENTS_ROOM
-                && bm_next_all(at, room->at + from, EVENTS_ROOM - from, &rest, &further) != BM_OK;
+    *has_more = from >= EVENTS_ROOM || bm_next_all(at, room->at + from, EVENTS_ROOM - from, &rest, &further) != BM_OK;
     if (further) {
         *used = from + rest;
         *count += further;
+        *has_more = true;
     }
     return code;
 }

@@ -93,6 +93,10 @@ function codeIn(heads, head) {
   return new BigInt64Array(heads.buffer, heads.byteOffset, heads.length)[head + 2]
 }
 
+function countsOf([calls, requests, open, waiting, ownCalls, answersWritten, unreadable, invalid, ignored]) {
+  return { calls, requests, open, waiting, ownCalls, answersWritten, unreadable, invalid, ignored }
+}
+
 class Connection {
   #handle
   #framing
@@ -217,9 +221,7 @@ class Connection {
   }
 
   counts() {
-    const [calls, requests, open, waiting, ownCalls, answersWritten, unreadable, invalid, ignored] =
-      native.counts(this.#handle)
-    return { calls, requests, open, waiting, ownCalls, answersWritten, unreadable, invalid, ignored }
+    return countsOf(native.counts(this.#handle))
   }
 
   close() {
@@ -227,4 +229,4 @@ class Connection {
   }
 }
 
-module.exports = { Connection, isWellFormed }
+module.exports = { Connection, isWellFormed, countsOf }
