@@ -29,6 +29,7 @@ class Wire {
   #made = [] // places of calls and notifications among it, and who waits for these
   #isHeld = false // something is heard: what is said meanwhile crosses after it
   #isScheduled = false
+  #isToBeWritten = false // something was said alone
   #isFlushing = false
   #written = [] // who waits until it is written
   // the output
@@ -134,10 +135,11 @@ class Wire {
   }
 
   #text(it) {
-    this.#texts = this.#texts === '' ? it : this.#texts + '\n' + it
+    this.#texts += `${it}\n`
   }
 
   #schedule() {
+    this.#isToBeWritten = true
     if (this.#isHeld || this.#isScheduled || this.#isFlushing) return
     this.#isScheduled = true
     process.nextTick(flushOf, this)
@@ -184,6 +186,7 @@ class Wire {
   flush() {
     this.#isScheduled = false
     if (this.#isFlushing || this.#handle === undefined) return
+    this.#isToBeWritten = false
     this.#isFlushing = true
     try {
       this.#writeAll(false)
@@ -210,7 +213,14 @@ class Wire {
         taken = native.take(this.#handle, room)
       }
       // (a stream in memory may have brought bytes, and they answers, before write returned)
-    } while (this.#count > 0)
+    } while (this.#count > 0 || this.#takesSaidAlone())
+  }
+
+  /** Whether something was said alone while all was being written. */
+  #takesSaidAlone() {
+    const has = this.#isToBeWritten && !this.#isBlocked
+    this.#isToBeWritten = false
+    return has
   }
 
   #write(room, taken) {
@@ -341,7 +351,7 @@ class Wire {
       this.#isHeld = false
     }
     this.#feedLater()
-    if (this.#count && !this.#isScheduled) {
+    if ((this.#count || this.#isToBeWritten) && !this.#isScheduled) {
       this.#isScheduled = true
       setImmediate(flushOf, this)
     }
