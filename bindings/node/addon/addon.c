@@ -102,11 +102,14 @@ static bool flag(napi_env env, napi_value value)
     return got;
 }
 
-/* The bytes of a Uint8Array. They are never at NULL. */
+/* The bytes of a Uint8Array. They are never at NULL. (napi_get_buffer_info ends the process where it gets anything else,
+ * up to Node.js 18.) */
 static bool bytes_of(napi_env env, napi_value value, bytes *got)
 {
     static uint8_t nothing[1];
-    if (napi_get_buffer_info(env, value, (void **)&got->at, &got->length) != napi_ok)
+    napi_typedarray_type type;
+    napi_status status = napi_get_typedarray_info(env, value, &type, &got->length, (void **)&got->at, NULL, NULL);
+    if (status != napi_ok || type != napi_uint8_array)
         return false;
     if (got->at == NULL)
         got->at = nothing;

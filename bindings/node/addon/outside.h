@@ -44,7 +44,6 @@ napi_status napi_create_typedarray(napi_env env, napi_typedarray_type type, size
                                    size_t offset, napi_value *made);
 napi_status napi_get_typedarray_info(napi_env env, napi_value array, napi_typedarray_type *type, size_t *length,
                                      void **data, napi_value *buffer, size_t *offset);
-napi_status napi_get_buffer_info(napi_env env, napi_value value, void **data, size_t *length);
 napi_status napi_get_undefined(napi_env env, napi_value *made);
 napi_status napi_get_boolean(napi_env env, bool value, napi_value *made);
 napi_status napi_create_double(napi_env env, double value, napi_value *made);

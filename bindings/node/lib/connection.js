@@ -1,7 +1,7 @@
 'use strict'
 // The lower floor: one end of a JSON-RPC conversation, without input and output. Its texts are JSON.
 
-const { inspect } = require('node:util')
+const { inspect, types: { isUint8Array } } = require('node:util')
 const { native, HOWS, FRAMINGS, ORDERS, TOLD, LARGE_CODE, SAY, BEFORE_HEADS, HEAD, borrowHeads, returnHeads } =
   require('./native')
 const { check } = require('./refused')
@@ -31,7 +31,7 @@ function errorCode(value) {
 /** The UTF-8 of a text. Half a surrogate pair has none, so the connection is given bytes that it refuses. */
 function text(value, name) {
   if (typeof value === 'string') return isWellFormed(value) ? Buffer.from(value) : NOT_UTF8
-  if (value instanceof Uint8Array) return value
+  if (isUint8Array(value)) return value
   throw new TypeError(`${name} has to be a string or a Uint8Array, and is ${inspect(value)}`)
 }
 

@@ -68,9 +68,9 @@ function misfit(type, method, params) {
   return `Notification ${method} defines ${type.numberOfParams} params but received ${params.length} arguments`
 }
 
-function handleNotification({ handler, type }, method, params, logger) {
+function handleNotification({ handler, type }, method, params, tell) {
   const why = type === undefined ? undefined : misfit(type, method, params)
-  if (why !== undefined) logger.error(why)
+  if (why !== undefined) tell(why)
   if (params === undefined) return handler()
   if (!Array.isArray(params)) return handler(params)
   // (some peers send progress by position, though it is specified by name)

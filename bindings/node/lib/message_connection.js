@@ -2,6 +2,7 @@
 // createMessageConnection, as vscode-jsonrpc has it, over a proved connection.
 
 const net = require('node:net')
+const { types: { isUint8Array } } = require('node:util')
 const { TOLD, HOWS, SAY } = require('./native')
 const { isWellFormed, countsOf } = require('./connection')
 const { Emitter, Disposable } = require('./events')
@@ -125,12 +126,20 @@ class MessageConnection {
   // What comes: called by the wire
 
   told(kind, flags, number, code, name, body, id) {
-    if (kind === TOLD.cancelled) return this.#cancelled(number)
+    if (kind === TOLD.cancelled) return this.#tryTo(() => this.#cancelled(number))
     if (this.#isMcp && kind === TOLD.call && flags === 0 && name === MCP_CANCEL) this.#cancelledById(body)
     if (this.#queue.length > this.#first || (this.#mustWait && kind === TOLD.call)) {
       this.#queue.push([kind, flags, number, code, name, body, id])
       this.#runLater()
     } else this.#act(kind, flags, number, code, name, body, id)
+  }
+
+  #tryTo(act) {
+    try {
+      act()
+    } catch (error) { // (of a strategy)
+      this.#report(error)
+    }
   }
 
   fault(why) {
@@ -145,7 +154,7 @@ class MessageConnection {
     }
     if (kind === SAY.fail && why === 'NotJson') return this.#wire.fail(number, ErrorCodes.InternalError, "the error's data are no JSON")
     if (kind === SAY.answer && why === 'NoMemory') this.#wire.fail(number, ErrorCodes.InternalError, 'memory was refused')
-    if (kind !== SAY.withdraw) this.#logger.error(`what was said of call ${number} was refused: ${why}`)
+    if (kind !== SAY.withdraw) this.#logError(`what was said of call ${number} was refused: ${why}`)
   }
 
   stalled(milliseconds) {
@@ -193,11 +202,13 @@ class MessageConnection {
   }
 
   #act(kind, flags, number, code, name, body, id) {
-    switch (kind) {
-      case TOLD.call: return this.#called(number, flags === 1, name, body, id)
-      case TOLD.replied: return this.#replied(number, flags === 1, code, name, body)
-      case TOLD.unanswered: return void this.#calls.take(number)?.reject(rejected('the input is over'))
-      case TOLD.over: return this.#over(HOWS[flags])
+    try {
+      if (kind === TOLD.call) this.#called(number, flags === 1, name, body, id)
+      else if (kind === TOLD.replied) this.#replied(number, flags === 1, code, name, body)
+      else if (kind === TOLD.unanswered) this.#calls.take(number)?.reject(rejected('the input is over'))
+      else this.#over(HOWS[flags])
+    } catch (error) { // (of a strategy; what handlers throw is an answer)
+      this.#report(error)
     }
   }
 
@@ -213,10 +224,17 @@ class MessageConnection {
     const message = { jsonrpc: '2.0', method }
     if (isRequest) message.id = JSON.parse(id)
     if (params !== undefined) message.params = params
-    this.#messages.handleMessage(message, it => {
-      if (isRequest) this.#request(number, it.method, it.params, id)
-      else this.#notified(it.method, it.params)
-    })
+    let hasBegun = false
+    try {
+      this.#messages.handleMessage(message, it => {
+        hasBegun = true
+        if (isRequest) this.#request(number, it.method, it.params, id)
+        else this.#notified(it.method, it.params)
+      })
+    } catch (error) {
+      if (!isRequest || hasBegun) throw error
+      this.#threw(number, { method, id, started: 0 }, error)
+    }
   }
 
   #request(number, method, params, id) {
@@ -226,9 +244,9 @@ class MessageConnection {
     if (one === undefined && this.#requests.star === undefined) {
       return this.#fail(number, { method, id, started }, ErrorCodes.MethodNotFound, `Unhandled method ${method}`)
     }
-    const source = this.#sourceOf(number, method, params, id)
-    const request = { source, method, id, started }
+    const request = { source: undefined, method, id, started }
     try {
+      const source = request.source = this.#sourceOf(number, method, params, id)
       const result = one === undefined
         ? this.#requests.star(method, params, source.token)
         : handleRequest(one, method, params, source.token)
@@ -255,7 +273,7 @@ class MessageConnection {
   /** A handler's promise is settled. */
   #finish(number, request, result, error, hasThrown = false) {
     if (this.#state === Disposed) return
-    if (this.#running.get(number) !== request) return this.#logger.error(`Request ${request.method} was answered twice.`)
+    if (this.#running.get(number) !== request) return this.#logError(`Request ${request.method} was answered twice.`)
     this.#running.delete(number)
     if (hasThrown) this.#threw(number, request, error)
     else this.#settle(number, request, result)
@@ -265,7 +283,7 @@ class MessageConnection {
   #settle(number, request, result) {
     if (this.#state === Disposed) return
     if (result instanceof ResponseError) return this.#fail(number, request, result.code, result.message, result.data)
-    if (this.#isMcp && request.source.token.isCancellationRequested) return this.#wire.cancel(number)
+    if (this.#isMcp && request.source?.token.isCancellationRequested) return this.#wire.cancel(number)
     const value = result === undefined ? null : result
     let json
     try {
@@ -303,7 +321,7 @@ class MessageConnection {
     this.#tracing?.notification(false, method, params)
     const one = this.#notifications.get(method)
     try {
-      const result = one !== undefined ? handleNotification(one, method, params, this.#logger)
+      const result = one !== undefined ? handleNotification(one, method, params, it => this.#logError(it))
         : this.#isOwn(method, params) ? undefined
           : this.#notifications.star !== undefined ? this.#notifications.star(method, params)
             : this.#unhandled?.fire(params === undefined ? { jsonrpc: '2.0', method } : { jsonrpc: '2.0', method, params })
@@ -318,7 +336,7 @@ class MessageConnection {
   #notificationFailed(method, error) {
     const message = describe(error)
     const text = message === undefined ? 'unexpectedly.' : `with message: ${message}`
-    this.#logger.error(`Notification handler '${method}' failed ${text}`)
+    this.#logError(`Notification handler '${method}' failed ${text}`)
   }
 
   /** Notifications that the connection itself handles: progress, and what is to be traced. */
@@ -374,7 +392,7 @@ class MessageConnection {
     const { sender } = this.#cancels
     if (sender === cancellation.CancellationSenderStrategy.Message) return this.#wire.withdraw(call.key)
     Promise.resolve(sender.sendCancellation(this, call.key)).catch(() => {
-      this.#logger.log(`Sending cancellation messages for id ${call.key} failed`)
+      this.#logError(`Sending cancellation messages for id ${call.key} failed`)
     })
   }
 
@@ -517,20 +535,24 @@ class MessageConnection {
   #listenTo(stream) {
     this.#on(stream, 'data', piece => {
       if (this.#isSocket) this.#mustWait = this.#queue.length > this.#first
-      this.#wire.feed(typeof piece === 'string' ? Buffer.from(piece) : piece)
+      if (isUint8Array(piece)) this.#wire.feed(piece)
+      else if (typeof piece === 'string') this.#wire.feed(Buffer.from(piece))
+      else this.#readFailed(new TypeError(`a stream of bytes is needed, and it gave a ${typeof piece}`))
     })
     this.#on(stream, 'end', () => this.#wire.end(false))
     this.#on(stream, 'close', () => {
       this.#wire.end(false)
       this.#from.fireClose()
     })
-    stream.on('error', error => { // (it stays: an error that nobody hears ends the process)
-      this.#readError = error
-      this.#report(error)
-      this.#from.fireError(error)
-      this.#wire.end(true)
-    })
+    stream.on('error', error => this.#readFailed(error)) // (it stays: an error that nobody hears ends the process)
     if (stream.readableEnded || stream.destroyed) setImmediate(() => this.#wire.end(false))
+  }
+
+  #readFailed(error) {
+    if (!this.#wire.hasEnded) this.#readError = error
+    this.#report(error)
+    this.#from.fireError(error)
+    this.#wire.end(true)
   }
 
   #watch(stream) {
@@ -635,6 +657,14 @@ class MessageConnection {
     this.#from.dispose?.()
   }
 
+  #logError(text) {
+    try {
+      this.#logger.error(text)
+    } catch (error) {
+      console.error(error)
+    }
+  }
+
   #report(error) {
     this.#errors?.fire([error, undefined, undefined])
   }
@@ -670,6 +700,8 @@ function requestIdIn(json) {
 }
 
 function createMessageConnection(input, output, logger, options = {}) {
+  if (typeof input?.listen !== 'function' && typeof input?.on !== 'function') throw new TypeError('an input has to be a stream or a reader')
+  if (typeof output?.write !== 'function') throw new TypeError('an output has to be a stream or a writer')
   const from = typeof input?.listen === 'function' ? input : new StreamMessageReader(input)
   const isWriter = typeof output?.dispose === 'function' || typeof output?.on !== 'function'
   const to = isWriter ? output : new StreamMessageWriter(output)

@@ -46,9 +46,13 @@ class Tracing {
   }
 
   #tell(type, message, text, data) {
-    if (this.#format === TraceFormat.JSON) {
-      this.#tracer?.log({ isLSPMessage: true, type, message, timestamp: Date.now() })
-    } else this.#tracer?.log(text, this.#level > Trace.Messages ? data() : undefined)
+    try {
+      if (this.#format === TraceFormat.JSON) {
+        this.#tracer?.log({ isLSPMessage: true, type, message, timestamp: Date.now() })
+      } else this.#tracer?.log(text, this.#level > Trace.Messages ? data() : undefined)
+    } catch (error) {
+      console.error(error)
+    }
   }
 
   request(isSent, id, method, params) {
