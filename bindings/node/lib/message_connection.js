@@ -240,7 +240,7 @@ class MessageConnection {
   #request(number, method, params, id) {
     const one = this.#requests.get(method)
     const started = this.#tracing ? Date.now() : 0
-    this.#tracing?.request(false, id, method, params)
+    this.#tracing?.request(false, JSON.parse(id), method, params)
     if (one === undefined && this.#requests.star === undefined) {
       return this.#fail(number, { method, id, started }, ErrorCodes.MethodNotFound, `Unhandled method ${method}`)
     }
@@ -293,7 +293,7 @@ class MessageConnection {
     }
     if (json === undefined) return this.#threw(number, request, new Error(`the result is no JSON, but a ${typeof result}`))
     this.#wire.answer(number, json)
-    this.#tracing?.sentResponse(request.id, request.method, request.started, undefined, value)
+    this.#tracing?.sentResponse(JSON.parse(request.id), request.method, request.started, undefined, value)
   }
 
   #threw(number, request, error) {
@@ -314,7 +314,7 @@ class MessageConnection {
       return this.#fail(number, request, ErrorCodes.InternalError, `the error's data are no JSON: ${describe(reason)}`)
     }
     this.#wire.fail(number, error.code, error.message, json)
-    this.#tracing?.sentResponse(request.id, request.method, request.started, error.toJson())
+    this.#tracing?.sentResponse(JSON.parse(request.id), request.method, request.started, error.toJson())
   }
 
   #notified(method, params) {
