@@ -11,8 +11,9 @@
 
 #include "bullmyrtle.h"
 
-/* How many numbers stand before the heads of events, how many an event has, and how many events are told at most. */
-enum { BEFORE_HEADS = 4, HEAD = 6, MOST_EVENTS = 1024 };
+/* How many numbers stand before the heads of events, how many an event has, and how many events are told at most: what
+ * they ask for is said before the next are told, and a connection with few open calls is quicker than one with many. */
+enum { BEFORE_HEADS = 4, HEAD = 6, MOST_EVENTS = 64 };
 /* The same of what is said. */
 enum { BEFORE_SAYINGS = 1, SAYING = 3, MOST_SAYINGS = 1024 };
 /* An event takes 64 bytes at least, so no more of them fit such a room than there are heads for. */

@@ -598,6 +598,11 @@ class MessageConnection {
     return this.#wire.drained()
   }
 
+  /** Whether messages wait for their immediates. */
+  get isBusy() {
+    return this.#immediates > 0 && this.#queue.length > this.#first
+  }
+
   /** How many requests' handlers go on, and calls wait for theirs to begin. */
   get open() {
     return this.#running.size + this.#queue.length - this.#first

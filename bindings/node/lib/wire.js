@@ -142,7 +142,9 @@ class Wire {
     this.#isToBeWritten = true
     if (this.#isHeld || this.#isScheduled || this.#isFlushing) return
     this.#isScheduled = true
-    process.nextTick(flushOf, this)
+    // (where more messages wait for their immediates, what is said of these goes out together)
+    if (this.#hearer.isBusy) setImmediate(flushOf, this)
+    else process.nextTick(flushOf, this)
   }
 
   // Crossing and writing
@@ -337,6 +339,7 @@ class Wire {
         at = over
       }
       if (!heads[2]) return
+      if (this.#count && !this.#isFlushing) this.#cross(NOTHING) // (few open calls cost the connection less than many)
       texts = native.events(this.#handle, place, this.#wantsIds)
     }
   }
