@@ -58,7 +58,7 @@ test('as inspectors read it, to a function and to a file', async () => {
   for (const trace of [it => lines.push(it), file]) {
     await talk(new Raw({ trace }).listen())
     if (trace === file) {
-      await until(() => fs.readFileSync(file, 'utf8').split('\n').length > wanted.length)
+      await until(() => fs.existsSync(file) && fs.readFileSync(file, 'utf8').split('\n').length > wanted.length)
       lines.splice(0, Infinity, ...fs.readFileSync(file, 'utf8').split('\n').filter(Boolean))
     }
     const told = lines.map(it => JSON.parse(it))
