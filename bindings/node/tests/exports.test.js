@@ -64,7 +64,7 @@ test('the ways into the package', () => {
   }
   assert.throws(() => require('../lib/browser.js'), /no part for browsers/)
   const { dependencies, scripts, engines } = require('../package.json')
-  assert.deepEqual([dependencies, Object.keys(scripts), engines.node], [undefined, ['prepack', 'test'], '>=18'])
+  assert.deepEqual([dependencies, Object.keys(scripts), engines.node], [undefined, ['prepack', 'postpack', 'test'], '>=18'])
 })
 
 test('errors and codes have the numbers of vscode-jsonrpc', () => {
