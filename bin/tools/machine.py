@@ -6,7 +6,7 @@ import subprocess
 # The most that one check is likely to take, in bytes.
 MEMORY = 2_500_000_000
 # What has to be there, and Debian's packages that bring it.
-TOOLS = {"cc": ["gcc", "libc6-dev"], "valgrind": ["valgrind"], "/usr/bin/time": ["time"]}
+TOOLS = {"cc": ["gcc", "libc6-dev"], "valgrind": ["valgrind"], "/usr/bin/time": ["time"], "spin": ["spin"]}
 
 
 def processors():
