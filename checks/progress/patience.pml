@@ -1,0 +1,35 @@
+/* How a thread waits.
+
+   Looks without a key only read. A round of looks that finds nothing is as if it had never been, and one that finds
+   something does the same with a key as without. So the model takes a key in each round. With FINE each round is
+   free to take one or not, which is more than any number of looks. */
+
+inline announce(bell, place) {
+  together {
+    if
+#if FINE
+    :: skip
+#endif
+    :: prepare_wait(bell, place); has_key = true
+    fi
+  }
+}
+
+inline rest(bell, place) {
+  if
+  :: has_key -> wait(bell, place); has_key = false
+  :: else
+  fi
+}
+
+/* The round has found something. Its key, if it took one, goes with the round. */
+inline renew(bell, place) {
+  leave_round(bell, place)
+}
+
+inline leave_round(bell, place) {
+  if
+  :: has_key -> drop_key(bell, place); has_key = false
+  :: else
+  fi
+}

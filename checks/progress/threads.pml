@@ -1,0 +1,45 @@
+/* The threads of a server: the clerk's, which starts the others and waits for them. */
+
+inline hire() {
+  do
+  :: workers_hired < WORKERS ->
+     if
+     :: atomic { workers_at_work++; run Worker(workers_hired); workers_hired++ }
+#if FAULTS
+     :: is_refused = true; break
+#endif
+     fi
+  :: else -> break
+  od
+}
+
+inline begin_reading() {
+  if
+#if READER
+  :: run Reader()
+#else
+  :: d_step { ring!JOBS; ring!ENDS; reader_has_ended = true }
+#endif
+#if FAULTS
+  :: is_refused = true
+#endif
+  fi
+}
+
+inline run_threads() {
+  hire();
+  if
+  :: is_refused -> stop()
+  :: else ->
+     begin_reading();
+     if
+     :: is_refused -> stop()
+     :: else ->
+        serve();
+        stop();
+        reader_has_ended
+     fi
+  fi;
+  /* The scope ends once all its threads have. */
+  workers_at_work == 0
+}
