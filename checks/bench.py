@@ -89,7 +89,7 @@ def check_memory():
     desk = [BENCH, "desk", "--units", "10000", "--order"]
     status, most, last, *_ = refusals.counted([*desk, "straight"])
     count.check("10,000 open requests take memory", status == 0 and most >= 1_000_000, f"{status}, {most:,} bytes")
-    count.check("their memory goes back", last <= 16_384 + SPARE_BLOCKS, f"{last:,} bytes")
+    count.check("their memory goes back", last <= 32_768, f"{last:,} bytes")
     status, most, last, *_ = refusals.counted([*desk, "behind"])
     count.check("a number that is over keeps little behind an open one", status == 0 and last <= 10_000 * 32, f"{status}, {last:,} bytes")
 

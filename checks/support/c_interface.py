@@ -21,6 +21,9 @@ IN_C = {
     "&Settings": ["const bm_settings *"],
     "&mut EventHead": ["bm_event *"],
     "&mut Report": ["bm_report *"],
+    "&mut Told": ["bm_told *"],
+    "&mut [Saying]": ["bm_saying *", "size_t"],
+    "&mut AllSaid": ["bm_said *"],
     "&[u8]": ["const uint8_t *", "size_t"],
     "&mut [u8]": ["uint8_t *", "size_t"],
     "&[usize]": ["const size_t *", "size_t"],
@@ -41,6 +44,9 @@ IN_RUST = {
     "*const bm_settings": "const bm_settings *",
     "*mut bm_event": "bm_event *",
     "*mut bm_report": "bm_report *",
+    "*mut bm_told": "bm_told *",
+    "*mut bm_saying": "bm_saying *",
+    "*mut bm_said": "bm_said *",
     "*mut *mut c_void": "void **",
     "*const u8": "const uint8_t *",
     "*mut u8": "uint8_t *",
@@ -60,8 +66,11 @@ STRUCTS = {
     "bm_settings": ("bullmyrtle/src/settings.rt", "Settings"),
     "bm_event": ("event_rooms/src/head.rt", "EventHead"),
     "bm_report": ("bullmyrtle/src/report.rt", "Report"),
+    "bm_told": ("host_calls/src/telling.rt", "Told"),
+    "bm_saying": ("host_calls/src/sayings.rt", "Saying"),
+    "bm_said": ("host_calls/src/sayings.rt", "AllSaid"),
 }
-WIDTHS = {"uint32_t": ctypes.c_uint32, "uint64_t": ctypes.c_uint64, "int64_t": ctypes.c_int64, "size_t": ctypes.c_size_t}
+WIDTHS = {"int32_t": ctypes.c_int32, "uint32_t": ctypes.c_uint32, "uint64_t": ctypes.c_uint64, "int64_t": ctypes.c_int64, "size_t": ctypes.c_size_t}
 
 
 def text_of(file: str) -> str:

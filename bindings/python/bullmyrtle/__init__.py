@@ -37,7 +37,7 @@ from .errors import (  # noqa: E402
 )
 from .server import Server  # noqa: E402
 
-__version__ = "0.1.0"
+__version__ = "0.3.0"
 __all__ = [
     "LATER",
     "BadSettings",

@@ -25,7 +25,7 @@ use std::{mem, slice};
 const RECENT: u32 = 128;
 
 /// So many blocks of numbers that are over are kept at most.
-const SPARE: usize = 256;
+const SPARE: usize = 128;
 
 /// What stands for each number, seen by contracts as a list from number 0 on, with nothing for a number that is over. Only
 /// a window of them is kept: it begins at the first number that is open or whose answer waits for its release.

@@ -26,6 +26,9 @@ use open_calls::{OwedAnswers, TheirCalls};
 use outbox::Outbox;
 use std::alloc::{AllocError, Global};
 
+/// The room for the text of an error with the id null, which takes 78 bytes at most here. A batch may have millions of them.
+const ERROR_ROOM: usize = 80;
+
 /// The slots of a batch.
 type Slots = Vec<Option<Vec<u8>>>;
 
@@ -385,7 +388,7 @@ fn admit_call(
 fn error_text(alloc: Global, standard: Standard) -> Result<Vec<u8>, AllocError>
     ensures { IfOk result (λ text. text.items ≡ answer_text Null (standard_answer standard)) }
 {
-    let mut text = Vec::new(alloc);
+    let mut text = Vec::with_capacity(alloc, ERROR_ROOM)?;
     write_answer(alloc, &mut text, &Id::Null, &Answer::Standard(standard))?;
     Ok(text)
 }

@@ -80,6 +80,11 @@ abbrev pub CallsRefused : Connection → ℕ → List Part → Why → Type 0
 CallsRefused c n ps why = IsShut c n why ⊎ (IsOpen c n × AreNoOutgoings ps why) ⊎
     ((os : List Outgoing) × AreOutgoings ps os × Refuses c (called_all n os) why)
 
+abbrev pub HasCalledParts : Outlet → Outlet → ℕ → List Part → ℕ → ℕ → Said → Type 0
+HasCalledParts a b n ps k key (Ok _) = (b.next ≡ a.next) × IsKey a.connection key ×
+    ((os : List Outgoing) × AreOutgoings ps os × Happens a.connection b.connection (called_all n os))
+HasCalledParts a b n ps k key (Err why) = Keeps a b × (key ≡ k) × CallsRefused a.connection n ps why
+
 abbrev pub HasCalledAll : Outlet → Outlet → ℕ → List ℕ → List ℕ → ℕ → ℕ → Said → Type 0
 HasCalledAll a b n bytes lengths k key (Ok _) = (b.next ≡ a.next) × (fit bytes lengths ≡ true) × IsKey a.connection key ×
     ((os : List Outgoing) × AreOutgoings (parts bytes lengths) os × Happens a.connection b.connection (called_all n os))
