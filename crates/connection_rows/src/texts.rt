@@ -28,6 +28,20 @@ const TAKEN: &[(&str, &str)] = &[
     ),
     (r#""\ud83d\ude00""#, "\"\u{1f600}\""),
     (r#"{"\u0061":"\u0008\u000a"}"#, r#"{"a":"\b\n"}"#),
+    // A quote and a backslash in four digits, beside what could end a string.
+    (
+        r#"[ "\u0022, \u005c" , "\u00e9\/\u20AC" ]"#,
+        "[\"\\\", \\\\\",\"\u{e9}/\u{20ac}\"]",
+    ),
+    // Blanks in strings stay, and a name in a string is none.
+    (
+        "{\n\t\"a b\" : \" , : \\\"c\\\": 1 \",\r\n\t\"\" : [ ] }",
+        "{\"a b\":\" , : \\\"c\\\": 1 \",\"\":[]}",
+    ),
+    (
+        "[ true , false , null , -0 , 10 , 1e5 , -2.5E-10 ]",
+        "[true,false,null,-0,10,1e5,-2.5E-10]",
+    ),
 ];
 
 /// Whether the text is taken and held as that one, and that one is held as itself.
@@ -71,6 +85,27 @@ const REFUSED: &[(&str, &[u8])] = &[
     ("a lone surrogate", b"\"\xed\xa0\x80\""),
     ("a byte that is no UTF-8", b"\"\xff\""),
     ("a byte order mark", b"\xef\xbb\xbf1"),
+    ("a form feed for a blank", b"[1,\x0c2]"),
+    ("a vertical tab for a blank", b"[1,\x0b2]"),
+    ("a no-break space for a blank", b"[1,\xc2\xa02]"),
+    ("a blank in a number", b"[1 2]"),
+    ("a blank after a minus", b"[- 1]"),
+    ("a blank before an exponent", b"[1 e5]"),
+    ("a blank in an exponent", b"[1e 5]"),
+    ("a blank in a word", b"[tr ue]"),
+    ("a word behind a number", b"[ 1true ]"),
+    ("a string behind a number", b"[ 1\"a\" ]"),
+    ("a blank for a comma", b"[ \"a\" \"b\" ]"),
+    ("a blank for a colon", b"{ \"a\" 1 }"),
+    ("a comma too many, with blanks", b"[ 1 , ]"),
+    ("a zero in front, with blanks", b"[ 01 ]"),
+    ("a blank in an escape", b"[ \"\\ n\" ]"),
+    ("three digits in an escape", b"[ \"\\u00e\" ]"),
+    ("no digit in an escape", b"[ \"\\u00eg\" ]"),
+    ("an escape with a great U", b"[ \"\\U00e9\" ]"),
+    ("the first half of a pair, with blanks", b"[ \"\\ud83d\" ]"),
+    ("the second half of a pair, with blanks", b"[ \"\\ude00\" ]"),
+    ("a control byte in a string, with blanks", b"[ \"\x1f\" ]"),
 ];
 
 fn is_refused(alloc: Global, _name: &str, bytes: &&[u8]) -> Result<bool, AllocError> {
@@ -112,6 +147,20 @@ const LONG: &[(&str, Long)] = &[
         Long {
             text: &[(b"{\"a\": ", 120), (b"1", 1), (b"}", 120)],
             compact: Some(&[(b"{\"a\":", 120), (b"1", 1), (b"}", 120)]),
+        },
+    ),
+    (
+        "arrays 121 deep, with blanks",
+        Long {
+            text: &[(b"[ ", 121), (b"]", 121)],
+            compact: None,
+        },
+    ),
+    (
+        "100,000 letters between escapes",
+        Long {
+            text: &[(b"[ \"\\/", 1), (b"a", 100_000), (b"\\u00e9\" ]", 1)],
+            compact: Some(&[(b"[\"/", 1), (b"a", 100_000), (b"\xc3\xa9\"]", 1)]),
         },
     ),
     (

@@ -4,12 +4,13 @@ ghost use Rattle.std.specs.Prelude.{◌≡◌, IfOk, false};
 ghost use Rattle.serde_json.specs.Read.{read};
 ghost use Rattle.rpc_messages.specs.Unit.{unit_seen, unit_of, unit_of_reading};
 
-use crate::read::compact::read_compact;
+use crate::read::compact::{read_compact, read_compacted};
 use crate::read::compact_value::Unread;
 use crate::read::read_text;
 use crate::unit::Unit;
 use json::Scratch;
 use json_reading::ReadFault;
+use json_texts::utf8_text;
 use lsp_frames::Frame;
 use std::alloc::{AllocError, Global};
 
@@ -47,10 +48,20 @@ impl UnitReader {
     fn read_content(&mut self, content: &[u8]) -> Result<Unit, AllocError>
         ensures { IfOk result (λ u. unit_seen u ≡ unit_of false content.now) }
     {
-        let Ok(text) = simdutf8::compat::from_utf8(content) else {
+        let Some(text) = utf8_text(content) else {
             return Ok(Unit::Unreadable);
         };
         match read_compact(self.alloc, text) {
+            Ok(unit) => Ok(unit),
+            Err(Unread::Unusual) => self.read_unusual(text),
+            Err(Unread::Memory) => Err(AllocError),
+        }
+    }
+
+    fn read_unusual(&mut self, text: &str) -> Result<Unit, AllocError>
+        ensures { IfOk result (λ u. unit_seen u ≡ unit_of_reading (read text.now)) }
+    {
+        match read_compacted(self.alloc, text) {
             Ok(unit) => Ok(unit),
             Err(Unread::Unusual) => self.read_tokens(text),
             Err(Unread::Memory) => Err(AllocError),

@@ -17,8 +17,12 @@ use super::{MOST_LEVELS, take_message};
 use crate::entry::Entry;
 use crate::unit::Unit;
 use json_reading::Piece;
+use json_texts::compacted;
 use json_values::Items;
 use std::alloc::Global;
+
+/// A text is made compact where it is at most this long, in bytes.
+const MOST_COMPACTED: usize = 4096;
 
 /// The unit of a text that is seen to be one compact object, or a batch of such.
 pub(crate) fn read_compact(alloc: Global, text: &str) -> Result<Unit, Unread>
@@ -31,6 +35,20 @@ pub(crate) fn read_compact(alloc: Global, text: &str) -> Result<Unit, Unread>
         return Err(Unread::Unusual);
     }
     Ok(unit)
+}
+
+/// The same of a text that isn't compact, once it is made so. A long one is left to the reader of tokens at once: it mostly
+/// has strings with escapes, which are read there in any case.
+pub(crate) fn read_compacted(alloc: Global, text: &str) -> Result<Unit, Unread>
+    ensures { IfOk result (λ u. unit_seen u ≡ unit_of_reading (read_data text.now)) }
+{
+    if text.len() > MOST_COMPACTED {
+        return Err(Unread::Unusual);
+    }
+    let Some(compact) = compacted(alloc, text)? else {
+        return Err(Unread::Unusual);
+    };
+    read_compact(alloc, compact.as_str())
 }
 
 fn read_unit(alloc: Global, text: &str, at: &mut usize) -> Result<Unit, Unread>
