@@ -1,5 +1,6 @@
 """A stranger with docs/embedding.md: its commands are run in a copy of what the repository has for hosts, without the Rattle kit on the PATH,
 and print what stands below them. What it shows of an example stands there."""
+import glob
 import os
 import shutil
 import subprocess
@@ -25,12 +26,18 @@ def copied(room: str) -> str:
     return room
 
 
-def check_shown(count: ran.Count, text: str) -> None:
-    """Each line that is shown of the client stands there, in this order."""
-    with open(os.path.join(ran.TOP, "examples", "c", "client.c"), encoding="ascii") as it:
+def stands_in(file: str, text: str) -> bool:
+    """Whether each line of a text stands in a file, in this order."""
+    with open(file, encoding="ascii") as it:
         lines = iter([line.strip() for line in it])
-    for line in text.splitlines():
-        count.check(f"the client has the line that is shown: {line.strip()}", line.strip() in lines)
+    return all(line.strip() in lines for line in text.splitlines())
+
+
+def check_shown(count: ran.Count, text: str) -> None:
+    """What is shown in C stands in an example."""
+    files = glob.glob(os.path.join(ran.TOP, "examples", "c", "*.c"))
+    first = text.splitlines()[0]
+    count.check(f"an example has the lines that are shown: {first} ..", any(stands_in(it, text) for it in files))
 
 
 def main() -> None:
