@@ -1,13 +1,14 @@
 """usage: python3 checks/c_library.py [--library FOLDER] [--cases N]      tries N sessions, 1,000 where none are named
 
-The C library in a folder; where none is named, in out/library, as bin/build-library builds it, or else the released
-one. Where there is none, the header alone is tried. Its header, its exports and its map have the same calls, with the
-same parameters, and the structs lie as C, ctypes and the exports lay them out. The header compiles without a warning,
-as C99 and as C++. The programs of examples/c are built and run, with the shared library and with the static one, and so
-is a player of scripts, which gives what the model of docs/connection.md does for its rows and for random sessions.
-(What is refused, threads and memory are tried by c_library_use.py and c_library_memory.py.)"""
+The C library in a folder; where none is named, in out/library, as bin/build-library builds it, or else the released one. Where there is none,
+the header alone is tried. Its header, its exports and its map have the same calls, with the same parameters, and the structs lie as C, ctypes
+and the exports lay them out. The header compiles without a warning, as C99 and as C++. The programs of examples/c are built and run, with the
+shared library and with the static one, and so is a player of scripts, which gives what the model of docs/connection.md does for its rows and for
+random sessions, call by call and several in one. What was in the first header stays as it was, and the texts of codes and ends are those of
+docs/embedding.md. (What is refused, threads and memory are tried by c_library_use.py and c_library_memory.py.)"""
 import argparse
 import os
+import re
 import shutil
 import sys
 import tempfile
@@ -49,9 +50,14 @@ def check_interface(count: ran.Count, library: str, room: str) -> None:
         )
     count.check("the map has the calls of the header", interface.in_map() == sorted(header))
     status, names, _ = said(["nm", "-D", "--defined-only", "--format=just-symbols", f"{library}/libbullmyrtle.so.1"])
-    seen = sorted(it for it in names.decode().split() if not it.startswith("BULLMYRTLE_"))
-    seen = sorted(it.partition("@")[0] for it in seen)
+    versions = dict(it.split("@@") for it in names.decode().split() if "@@" in it)
+    seen = sorted(it.partition("@")[0] for it in names.decode().split() if not it.startswith("BULLMYRTLE_"))
     count.check("of the shared library just the calls can be seen", status == 0 and seen == sorted(header), f"{seen}")
+    wanted = {it: interface.FIRST_VERSION if it in interface.FIRST_CALLS else interface.NEXT_VERSION for it in header}
+    count.check("each call has its version", versions == wanted, f"{versions}")
+    status, names, _ = said(["nm", "-g", "--defined-only", "--format=just-symbols", f"{library}/libbullmyrtle.a"])
+    seen = {it for it in names.decode().split() if not it.endswith(":")}
+    count.check("the static library defines the calls, and what the page names", status == 0 and seen == {*header, *interface.OF_THE_HEAP}, f"{seen}")
     for name in interface.STRUCTS:
         count.check(f"{name}: the same fields", interface.fields_in_header(name) == interface.fields_in_exports(name))
     with open(f"{room}/layouts.c", "w", encoding="ascii") as it:
@@ -62,6 +68,35 @@ def check_interface(count: ran.Count, library: str, room: str) -> None:
     count.check(
         "C and ctypes lay the structs out in the same way", said([f"{room}/layouts"])[:2] == (0, wanted.encode())
     )
+
+
+def check_first_hosts(count: ran.Count) -> None:
+    """What hosts of the first header rely on."""
+    for name, wanted in interface.FIRST_LAYOUTS.items():
+        count.check(f"{name} lies as in the first header", interface.laid_out(name) == wanted, f"{interface.laid_out(name)}")
+    values = interface.names_in_header()
+    for names in interface.FIRST_NAMES:
+        count.check(f"{names[0]} and its neighbours have their values", [values.get(it) for it in names] == [*range(len(names))], f"{values}")
+    added = interface.versions_in_map()
+    count.check("the first version has the first calls", {*added.get(interface.FIRST_VERSION, [])} == interface.FIRST_CALLS, f"{added}")
+
+
+def check_texts(count: ran.Count, library: str, room: str) -> None:
+    """The texts of codes and ends are those of the page."""
+    with open(os.path.join(ran.TOP, "docs", "embedding.md"), encoding="utf-8") as it:
+        rows_of = re.findall(r"^\| `(BM_\w+)` \| (\d+) \| (.*) \|$", it.read(), re.M)
+    values = interface.names_in_header()
+    for name, value, _ in rows_of:
+        count.check(f"{name} has the page's value", values.get(name) == int(value), f"{values.get(name)}")
+    codes = [text for name, _, text in rows_of if not name.startswith("BM_OVER_")]
+    ends = [text for name, _, text in rows_of if name.startswith("BM_OVER_")]
+    count.check("the page has all codes and ends", (len(codes), len(ends)) == (len(interface.FIRST_NAMES[0]), len(interface.FIRST_NAMES[-1])))
+    with open(f"{room}/texts.c", "w", encoding="ascii") as it:
+        it.write(interface.program_of_texts(len(codes), len(ends)))
+    built = said([*C99, f"-I{library}", f"{room}/texts.c", "-o", f"{room}/texts"])
+    wanted = ["another code", *codes, "another code", *ends, "another end"]
+    got = said([f"{room}/texts"]) if built[0] == 0 else built
+    count.check("the header has the page's texts", got[:2] == (0, "".join(f"{it}\n" for it in wanted).encode()), f"{got}")
 
 
 def check_header(count: ran.Count, library: str) -> None:
@@ -124,11 +159,13 @@ def check_players(count: ran.Count, library: str, room: str, cases: int) -> None
     for way in ("shared", "static"):
         player = build(count, library, room, PLAYER, way, PLAYER_NEEDS)
         playing_scripts.check(count, [player], way, by_hand + [row.cut_once for row in by_hand])
+        playing_scripts.check(count, [player, "together"], f"{way}, together", by_hand + [row.cut_once for row in by_hand])
         for line in (*rows.UNREADABLE, "next"):
             got = said([player], f"{line}\n".encode())
             count.check(f"the player refuses {line!r}", got[:2] == (2, b""), f"{got}")
     again = f"python3 checks/connection_fuzz.py --program {player}"
     fuzzing.Fuzzer(partial(fuzzing.play_by_program, player), count, again).try_all(1, cases)
+    fuzzing.Fuzzer(partial(fuzzing.play_by_program, player, how="together"), count, f"{again} --how together").try_all(1, cases)
 
 
 def main(words: list[str]) -> None:
@@ -143,8 +180,11 @@ def main(words: list[str]) -> None:
     else:
         with tempfile.TemporaryDirectory(prefix="c-library-") as room:
             check_interface(count, library, room)
+            check_first_hosts(count)
+            check_texts(count, library, room)
             check_header(count, library)
             for way in ("shared", "static"):
+                check_host(count, build(count, library, room, f"{EXAMPLES}/quick_host.c", way), f"{way}, with few calls")
                 host = build(count, library, room, f"{EXAMPLES}/host.c", way)
                 check_host(count, host, way)
                 check_client(count, build(count, library, room, f"{EXAMPLES}/client.c", way), host, way)

@@ -60,6 +60,9 @@ def check_steady(count: ran.Count, library: str, room: str) -> None:
     early, late = map(int, got[1].split()) if got[0] == 0 else (0, 1 << 60)
     print(f"{CALLS:,} calls: {early:,} KiB after the first {CALLS // 20:,}, {late:,} KiB in the end", flush=True)
     count.check("memory stays where it is", 0 < early and late <= early + FLAT, f"{got}")
+    got = said([program, str(CALLS // 2), "together"])
+    early, late = map(int, got[1].split()) if got[0] == 0 else (0, 1 << 60)
+    count.check("it does so with few calls", 0 < early and late <= early + FLAT, f"{got}")
     got = said([program, str(FEW_CALLS), "forget"])
     early, late = map(int, got[1].split()) if got[0] == 0 else (0, 0)
     count.check("a host that closes no notification grows", late > early + GROWN, f"{got}")
@@ -75,8 +78,10 @@ def check_examples(count: ran.Count, library: str, room: str, kind: str, watch: 
     """The host, the client and the language server, built and watched in some way."""
     host = [*watch, build(count, library, room, f"{EXAMPLES}/host.c", "static", words=words)]
     client = [*watch, build(count, library, room, f"{EXAMPLES}/client.c", "static", words=words)]
-    got = said(host, hosts.HOST[0])
-    count.check(f"the host, {kind}", got == (0, hosts.HOST[1], b""), f"{got}"[-1500:])
+    quick_host = [*watch, build(count, library, room, f"{EXAMPLES}/quick_host.c", "static", words=words)]
+    for name, it in (("host", host), ("quick host", quick_host)):
+        got = said(it, hosts.HOST[0])
+        count.check(f"the {name}, {kind}", got == (0, hosts.HOST[1], b""), f"{got}"[-1500:])
     for given, wanted in hosts.CLIENT:
         got = said([*client, *given, *host])
         count.check(f"the client, {kind}", got == (*wanted, b""), f"{got}"[-1500:])
@@ -98,6 +103,8 @@ def check_by_valgrind(count: ran.Count, library: str, room: str, cases: int) -> 
     player = build(count, library, room, PLAYER, "static", PLAYER_NEEDS)
     playing_scripts.check(count, [*VALGRIND, player], "valgrind", playing_scripts.short_rows())
     playing_scripts.check(count, [*VALGRIND, player], "valgrind", sessions(cases))
+    playing_scripts.check(count, [*VALGRIND, player, "together"], "valgrind, together", playing_scripts.short_rows())
+    playing_scripts.check(count, [*VALGRIND, player, "together"], "valgrind, together", sessions(cases))
     packer = build(count, library, room, f"{SUPPORT}/pack_events.c", "static", ["-std=c11"])
     watched(count, "packed events", [packer], rows.EVENTS)
     check_examples(count, library, room, "valgrind", VALGRIND, C99)
@@ -116,10 +123,8 @@ def check_by_sanitizer(count: ran.Count, library: str, room: str, cases: int) ->
     player = build(count, library, room, PLAYER, "static", PLAYER_NEEDS, SANITIZED)
     playing_scripts.check(count, [player], "AddressSanitizer", rows.all_rows())
     playing_scripts.check(count, [player], "AddressSanitizer", sessions(cases))
-    for file, given, more in (
-        (f"{SUPPORT}/pack_events.c", rows.EVENTS, ["-std=c11"]),
-        (f"{SUPPORT}/bad_use.c", b"", []),
-    ):
+    playing_scripts.check(count, [player, "together"], "AddressSanitizer, together", [*rows.all_rows(), *sessions(cases)])
+    for file, given, more in ((f"{SUPPORT}/pack_events.c", rows.EVENTS, ["-std=c11"]), (f"{SUPPORT}/bad_use.c", b"", [])):
         got = said([build(count, library, room, file, "static", more, SANITIZED)], given)
         count.check(f"{os.path.basename(file)}, AddressSanitizer", got[0] == 0 and not got[2], f"{got}"[-1500:])
     check_examples(count, library, room, "AddressSanitizer", [], SANITIZED)

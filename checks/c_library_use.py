@@ -22,19 +22,8 @@ from support.c_programs import C99, PLAYER, PLAYER_NEEDS, SUPPORT, build, defaul
 
 # The calls that need memory.
 NEED_MEMORY = {
-    *(
-        "bm_new",
-        "bm_feed",
-        "bm_next",
-        "bm_next_all",
-        "bm_call",
-        "bm_call_batch",
-        "bm_notify",
-        "bm_withdraw",
-        "bm_answer",
-        "bm_fail",
-        "bm_cancel",
-    ),
+    *("bm_new", "bm_feed", "bm_next", "bm_next_all", "bm_call", "bm_call_batch", "bm_notify", "bm_withdraw", "bm_answer", "bm_fail", "bm_cancel"),
+    *("bm_fed", "bm_tell", "bm_say_all"),
 }
 # The calls by whose names requests are refused, as refuse_calls.c has them.
 WRAPPED = re.compile(r"__wrap_(\w+)\(")
@@ -80,22 +69,22 @@ class Refusing:
         wraps = [f"-Wl,--wrap={it}" for it in names]
         self.program = build(count, library, room, file, "static", [*more, *wraps], [*C99, f"{SUPPORT}/refuse_calls.c"])
 
-    def run(self, given: bytes, how: str, number: int) -> tuple[tuple[int, bytes, bytes], int]:
+    def run(self, given: bytes, how: str, number: int, words: Iterable[str] = ()) -> tuple[tuple[int, bytes, bytes], int]:
         """A run's status and its two outputs, and how many requests were refused."""
         with tempfile.TemporaryFile() as told:
             env = {**os.environ, how: str(number), "REFUSE_TELL": str(told.fileno())}
-            got = said([self.program], given, env=env, pass_fds=[told.fileno()])
+            got = said([self.program, *words], given, env=env, pass_fds=[told.fileno()])
             told.seek(0)
             lines = Counter(told.read().decode().split())
         self.runs += 1
         self.told += lines
         return got, lines["refused"]
 
-    def each(self, name: str, given: bytes, wanted: bytes, ways: Iterable[str] = WAYS, step: int = 1) -> None:
+    def each(self, name: str, given: bytes, wanted: bytes, ways: Iterable[str] = WAYS, step: int = 1, words: Iterable[str] = ()) -> None:
         """Refuses each request in turn, until a run meets no refusal."""
         for how in ways:
             for number in range(1, MOST, step):
-                got, refused = self.run(given, how, number)
+                got, refused = self.run(given, how, number, words)
                 well = got == (0, wanted, b"")
                 if not well:
                     self.count.check(f"{name}, {how} {number}", False, f"{got}"[:1500])
@@ -114,6 +103,7 @@ def check_memory(count: ran.Count, library: str, room: str) -> None:
         given, wanted = script.written(it.actions).encode(), "".join(f"{line}\n" for line in it.gives).encode()
         if len(given) <= LONGEST:
             refusing.each(it.name, given, wanted)
+            refusing.each(f"{it.name}, together", given, wanted, WAYS[:1], words=["together"])
     packing = Refusing(count, library, room, f"{SUPPORT}/pack_events.c", ["-std=c11", *PLAYER_NEEDS])
     packing.each("packed events", rows.EVENTS, b"7 events\n", WAYS[:1], STEP)
     runs, told = refusing.runs + packing.runs, refusing.told + packing.told

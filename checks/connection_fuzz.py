@@ -26,6 +26,7 @@ def words_of(words: Iterable[str]) -> argparse.Namespace:
     parser.add_argument("--cases", type=int)
     parser.add_argument("--seed", type=int, default=1)
     parser.add_argument("--program", default=ran.gates_program("connection_bench"))
+    parser.add_argument("--how", default="script", help="the program's word (play_script.c knows `together` too)")
     parser.add_argument("--replay")
     return parser.parse_args([*words])
 
@@ -42,8 +43,8 @@ def main(words: list[str]) -> None:
     player: fuzzing.Player = partial(fuzzing.play_by_model, connection_model.Model)
     again = "python3 checks/connection_fuzz.py"
     if options.program:
-        player = partial(fuzzing.play_by_program, options.program)
-        again += f" --program {options.program}"
+        player = partial(fuzzing.play_by_program, options.program, how=options.how)
+        again += f" --program {options.program} --how {options.how}"
     else:
         print("SKIPPED: sessions by connection_bench, which isn't built; the model is tried by itself", flush=True)
     if options.replay:

@@ -347,8 +347,147 @@ static void ends(void)
     end_both();
 }
 
+/* ---- several things in one call */
+
+/* Says the same on both, and gives what came of it on the one that is tried. */
+static bm_said say_both(bm_saying *sayings, size_t count, const uint8_t *bytes, size_t length)
+{
+    bm_said ours, its;
+    bm_saying again[8];
+    memcpy(again, sayings, count * sizeof *again);
+    check(bm_say_all(&tried, sayings, count, bytes, length, NULL, 0, &ours) == BM_OK, __LINE__, "bm_say_all");
+    check(bm_say_all(&twin, again, count, bytes, length, NULL, 0, &its) == BM_OK, __LINE__, "bm_say_all");
+    check(!memcmp(again, sayings, count * sizeof *again) && !memcmp(&ours, &its, sizeof ours), __LINE__, "others");
+    return ours;
+}
+
+/* What one saying is refused by. */
+static void refused_saying(int32_t wanted, bm_saying it, const char *bytes, int line)
+{
+    bm_saying before = it;
+    bm_said said;
+    size_t pending = bm_pending(&tried);
+    check(bm_say_all(&tried, &it, 1, (const uint8_t *)bytes, strlen(bytes), NULL, 0, &said) == BM_OK, line, "bm_say_all");
+    check(said.refused == 1 && said.taken == 0 && said.pending == pending, line, "what came of it");
+    before.said = it.said;
+    check(!memcmp(&it, &before, sizeof it), line, "a refused saying has written more than its code");
+    refused(wanted, it.said, line);
+}
+
+static void wrong_lengths(void)
+{
+    static const struct {
+        size_t name_len, text_len, other_len;
+    } wrong[] = {{1, 0, 0}, {0, 3, 0}, {1, 1, 1}, {SIZE_MAX, 0, 0}, {SIZE_MAX, 3, 0}, {1, SIZE_MAX, 0}, {1, 1, SIZE_MAX},
+                 {0, 0, 0}};
+    for (size_t i = 0; i < sizeof wrong / sizeof *wrong; i++) {
+        bm_saying all[] = {{.kind = BM_SAY_NOTIFY, .name_len = wrong[i].name_len, .text_len = wrong[i].text_len},
+                           {.kind = 9, .name_len = wrong[i].other_len}};
+        bm_saying before[] = {all[0], all[1]};
+        bm_said said = {7, 7, 7}, said_before = said;
+        REFUSED(BM_SETTINGS, bm_say_all, all, 2, TEXT("m9"), NULL, 0, &said);
+        check(!memcmp(all, before, sizeof all) && !memcmp(&said, &said_before, sizeof said), __LINE__, "it has written");
+    }
+}
+
+static void sayings(void)
+{
+    begin(BM_LINES, 1, 0);
+    BOTH(bm_feed, TEXT("[{\"jsonrpc\":\"2.0\",\"method\":\"m\",\"id\":1},{\"jsonrpc\":\"2.0\",\"method\":\"n\"}]\n"));
+    tell(BM_CALL);
+    tell(BM_CALL);
+    wrong_lengths();
+    for (uint32_t kind = 0; kind < 20; kind = kind ? kind + 1 : BM_SAY_CANCEL + 1)
+        refused_saying(BM_SETTINGS, (bm_saying){.kind = kind, .number = 1}, "", __LINE__);
+    refused_saying(BM_NOT_OPEN, (bm_saying){.kind = BM_SAY_ANSWER, .number = 3, .text_len = 1}, "1", __LINE__);
+    refused_saying(BM_NOT_OPEN, (bm_saying){.kind = BM_SAY_FAIL, .number = 0, .name_len = 1}, "m", __LINE__);
+    refused_saying(BM_NOT_OPEN, (bm_saying){.kind = BM_SAY_CLOSE, .number = 3}, "", __LINE__);
+    refused_saying(BM_NOT_OPEN, (bm_saying){.kind = BM_SAY_CANCEL, .number = 3}, "", __LINE__);
+    refused_saying(BM_NOT_OPEN, (bm_saying){.kind = BM_SAY_CALL, .number = 3, .key = 77, .name_len = 1}, "m", __LINE__);
+    refused_saying(BM_NOT_WAITING, (bm_saying){.kind = BM_SAY_WITHDRAW, .key = 1}, "", __LINE__);
+    refused_saying(BM_NOT_JSON, (bm_saying){.kind = BM_SAY_ANSWER, .number = 1}, "", __LINE__);
+    refused_saying(BM_NOT_JSON, (bm_saying){.kind = BM_SAY_CLOSE, .number = 1, .text_len = 4}, "null", __LINE__);
+    refused_saying(BM_NOT_JSON, (bm_saying){.kind = BM_SAY_NOTIFY, .name_len = 1, .text_len = 1}, "m1", __LINE__);
+    refused_saying(BM_NOT_TEXT, (bm_saying){.kind = BM_SAY_NOTIFY, .name_len = 1}, "\xff", __LINE__);
+    refused_saying(BM_EMPTY, (bm_saying){.kind = BM_SAY_BATCH, .key = 77}, "", __LINE__);
+    /* a batch of more calls than there are says none of them, and those behind it aren't said either */
+    bm_saying few[] = {{.kind = BM_SAY_BATCH, .calls = 3, .key = 77},
+                       {.kind = BM_SAY_NOTIFY, .name_len = 1},
+                       {.kind = BM_SAY_NOTIFY, .name_len = 1}};
+    bm_said said = say_both(few, 3, TEXT("mn"));
+    check(few[0].said == BM_SETTINGS && few[0].key == 77 && said.refused == 1 && !said.pending, __LINE__, "few calls");
+    bm_saying most = {.kind = BM_SAY_BATCH, .calls = SIZE_MAX};
+    refused_saying(BM_SETTINGS, most, "", __LINE__);
+    REFUSED(BM_NOT_JSON, bm_close_call, 1);
+    BOTH(bm_close_call, 2);
+    REFUSED(BM_NOT_OPEN, bm_close_call, 2);
+    /* one that is refused holds up none behind it */
+    bm_saying all[] = {{.kind = BM_SAY_NOTIFY, .name_len = 1}, {.kind = BM_SAY_CLOSE, .number = 2},
+                       {.kind = BM_SAY_CALL, .name_len = 1, .text_len = 2}, {.kind = BM_SAY_BATCH, .calls = 2},
+                       {.name_len = 1}, {.name_len = 1}, {.kind = BM_SAY_ANSWER, .number = 1, .text_len = 1}};
+    said = say_both(all, 7, TEXT("ab[]cd7"));
+    check(said.refused == 1 && all[1].said == BM_NOT_OPEN && all[0].said == BM_OK, __LINE__, "codes");
+    check(all[2].key == 1 && all[3].key == 2 && all[6].said == BM_OK, __LINE__, "keys");
+    bm_report now;
+    bm_counts(&tried, &now);
+    check(now.own_calls == 3 && now.open == 0 && now.answers_written == 1, __LINE__, "what was said");
+    end_both();
+}
+
+/* What is told and taken in a room that is too small. */
+static void small_rooms_together(void)
+{
+    union {
+        uint64_t words[64];
+        uint8_t bytes[512];
+    } room;
+    bm_told told, before;
+    begin(BM_CONTENTS, 1, 0);
+    static const char call[] = "{\"jsonrpc\":\"2.0\",\"method\":\"name\",\"id\":7}";
+    size_t needed = sizeof(bm_event) + sizeof "name" + sizeof "" + sizeof "7";
+    check(bm_fed(&tried, (const uint8_t *)call, sizeof call - 1, NULL, 0, 1, &told) == BM_OK, __LINE__, "bm_fed");
+    check(!told.count && told.stopped == BM_STOP_ROOM && told.needed == needed && !told.used, __LINE__, "bm_fed");
+    for (size_t size = 0; size < needed; size++) {
+        memset(&room, 0xa5, sizeof room);
+        bm_tell(&tried, room.bytes, size, 0, &told);
+        check(!told.count && told.stopped == BM_STOP_ROOM && told.needed == needed && !told.used, __LINE__, "bm_tell");
+        for (size_t i = 0; i < sizeof room; i++)
+            check(room.bytes[i] == 0xa5, __LINE__, "a room that is too small has been written to");
+    }
+    bm_tell(&tried, room.bytes, needed, 1, &told);
+    check(told.count == 1 && told.stopped == BM_STOP_MOST && told.used == needed && !told.needed, __LINE__, "bm_tell");
+    bm_tell(&tried, NULL, 0, 1, &told);
+    check(!told.count && told.stopped == BM_STOP_NONE && !told.used && !told.needed, __LINE__, "bm_tell");
+    /* the twin is fed the same */
+    bm_event event;
+    check(bm_feed(&twin, (const uint8_t *)call, sizeof call - 1) == BM_OK, __LINE__, "bm_feed");
+    next(&twin, &event, room.bytes, sizeof room);
+    look_alike(__LINE__);
+    size_t count = 77;
+    check(bm_taken(&tried, NULL, 0, &count) == BM_OK && !count, __LINE__, "nothing is to be taken");
+    BOTH(bm_answer, 1, TEXT("1"));
+    size_t pending = bm_pending(&tried);
+    for (size_t size = 0; size < pending; size++) {
+        memset(&room, 0xa5, sizeof room);
+        REFUSED(BM_SMALL, bm_taken, room.bytes, size, &count);
+        check(count == pending && room.bytes[0] == 0xa5, __LINE__, "a room that is too small");
+    }
+    check(bm_taken(&tried, room.bytes, pending, &count) == BM_OK && count == pending, __LINE__, "bm_taken");
+    check(bm_take(&twin, room.bytes, pending) == pending, __LINE__, "bm_take");
+    look_alike(__LINE__);
+    BOTH(bm_end, BM_CLOSED);
+    memset(&told, 0xa5, sizeof told);
+    before = told;
+    REFUSED(BM_OVER, bm_fed, TEXT("{}"), room.bytes, sizeof room, 0, &told);
+    check(!memcmp(&told, &before, sizeof told), __LINE__, "a refused call has told something");
+    end_both();
+}
+
 int main(void)
 {
+    check(bm_has(BM_HAS_TOGETHER) && !bm_has(0) && !bm_has(2) && !bm_has(UINT32_MAX), __LINE__, "bm_has");
+    sayings();
+    small_rooms_together();
     settings();
     texts();
     numbers_and_keys();

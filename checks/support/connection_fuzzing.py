@@ -77,10 +77,10 @@ class Found:
 # Players
 
 
-def play_by_program(program: str, actions: Sequence[Action]) -> list[str]:
+def play_by_program(program: str, actions: Sequence[Action], how: str = "script") -> list[str]:
     given = script.written(actions).encode("ascii")
     try:
-        ended = subprocess.run([program, "script"], input=given, capture_output=True, timeout=PATIENCE, check=False)
+        ended = subprocess.run([program, how], input=given, capture_output=True, timeout=PATIENCE, check=False)
     except subprocess.TimeoutExpired:
         return ["it doesn't end"]
     lines = ended.stdout.decode("ascii", errors="replace").split("\n")[:-1]

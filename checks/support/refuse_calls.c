@@ -319,7 +319,7 @@ int32_t __wrap_bm_fed(bm_connection *connection, const uint8_t *bytes, size_t le
         code = INSIDE(false, __real_bm_fed(connection, bytes, length, room, room_length, most, told));
         check(code != BM_NO_MEMORY, "bm_fed", "is still refused memory");
     } else if (code == BM_OK)
-        tell_again("bm_fed, telling\n", connection, room, room_length, most, told);
+        tell_again("bm_fed\n", connection, room, room_length, most, told);
     free(room_before);
     return code;
 }

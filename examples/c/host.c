@@ -11,7 +11,7 @@ static bm_connection connection;
 static void check(int32_t code)
 {
     if (code != BM_OK) {
-        fprintf(stderr, "host: the library gave the code %d\n", code);
+        fprintf(stderr, "host: %s\n", bm_code_text(code));
         exit(1);
     }
 }
@@ -21,7 +21,7 @@ static void handle(const bm_event *event, const uint8_t *room)
     static const char message[] = "Method not found";
     const uint8_t *params = room + event->name_len + 1;
     if (!(event->flags & BM_REQUEST))
-        check(bm_answer(&connection, event->number, params, 0)); /* done with the notification */
+        check(bm_close_call(&connection, event->number)); /* done with the notification */
     else if (event->text_len)
         check(bm_answer(&connection, event->number, params, event->text_len));
     else

@@ -228,7 +228,7 @@ static void handle(const bm_event *event)
         request(event->number, name, value);
     else if (event->kind == BM_CALL) {
         notification(name, value);
-        check(bm_answer(&connection, event->number, (const uint8_t *)"", 0)); /* closes the notification */
+        check(bm_close_call(&connection, event->number)); /* done with the notification */
     }
     cJSON_Delete(value);
 }
