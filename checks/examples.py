@@ -72,7 +72,7 @@ def check_links(count):
 
 def check_version(count):
     _, printed, _ = ran.run(["--version"])
-    latest = re.search(r"^## (\S+?),?(?: |$)", ran.text_of("CHANGELOG.md"), re.M)
+    latest = re.search(r"^## (\d\S+?),?(?: |$)", ran.text_of("CHANGELOG.md"), re.M)
     count.check("the latest changes are those of this version", latest and printed.decode() == f"rpc_tool {latest[1]}\n", f"{printed!r}")
 
 
