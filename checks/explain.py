@@ -202,7 +202,7 @@ for number, (text, fault, *added) in enumerate(REFUSED, 1):
 # (how the reader of TOML puts its cause isn't ours)
 path = file_of("refused.toml", "version = 1\n\n[[method]\n")
 cause = ran.run(["check", "--table", path, "--explain"])[2].decode().splitlines()[-1].strip()
-added = (f"file: {path}", "line: 3", cause)
+added = (f"file: {path}", "line: 3", "column: 10", cause)
 expect("a text that isn't TOML", words_of("check", "--table", path), "table: NotToml, method 0, step 0", *added, status=2)
 
 # Each line of the page was seen.
@@ -211,9 +211,9 @@ for number, (firsts, templates) in enumerate(PAGE):
         count.check(f"a row shows {template!r} after {firsts}", (number, template) in SEEN)
 count.check("the page has eight kinds of first lines at least", len(PAGE) >= 8, f"{PAGE}")
 
-# Nothing is added to a run that does what it was asked.
+# Nothing is added to a run that does what it was asked. (What check draws, explain_tables.py looks at.)
 ANSWERED = rows.frames(rows.NOT_FOUND)
-for words, output in ((["play"], ANSWERED), (["serve"], ANSWERED), (["check", "--table", TABLE], b"ok: 6 methods\n")):
+for words, output in ((["play"], ANSWERED), (["serve"], ANSWERED)):
     got = ran.run([*words, "--explain"], FRAME)
     count.check(f"{words} that ends well", got == (0, output, b""), f"{got}")
 
