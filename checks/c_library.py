@@ -1,10 +1,11 @@
 """usage: python3 checks/c_library.py [--library FOLDER] [--cases N]      tries N sessions, 1,000 where none are named
 
-The C library in a folder; where none is named, in out/library, as bin/build-library builds it, or else the released one. Where there is none,
-the header alone is tried. Its header, its exports and its map have the same calls, with the same parameters, and the structs lie as C, ctypes
-and the exports lay them out. The header compiles without a warning, as C99 and as C++. The programs of examples/c are built and run, with the
-shared library and with the static one, and so is a player of scripts, which gives what the model of docs/connection.md does for its rows and for
-random sessions. (What is refused, threads and memory are tried by c_library_use.py and c_library_memory.py.)"""
+The C library in a folder; where none is named, in out/library, as bin/build-library builds it, or else the released
+one. Where there is none, the header alone is tried. Its header, its exports and its map have the same calls, with the
+same parameters, and the structs lie as C, ctypes and the exports lay them out. The header compiles without a warning,
+as C99 and as C++. The programs of examples/c are built and run, with the shared library and with the static one, and so
+is a player of scripts, which gives what the model of docs/connection.md does for its rows and for random sessions.
+(What is refused, threads and memory are tried by c_library_use.py and c_library_memory.py.)"""
 import argparse
 import os
 import shutil
@@ -35,9 +36,17 @@ def words_of(words: Iterable[str]) -> argparse.Namespace:
 
 def check_interface(count: ran.Count, library: str, room: str) -> None:
     header, exports = interface.in_header(), interface.in_exports()
-    count.check("the header and the exports have the same calls", header.keys() == exports.keys(), f"{header.keys() ^ exports.keys()}")
+    count.check(
+        "the header and the exports have the same calls",
+        header.keys() == exports.keys(),
+        f"{header.keys() ^ exports.keys()}",
+    )
     for name in header.keys() & exports.keys():
-        count.check(f"{name}: the header and the export are the same", header[name] == exports[name], f"{header[name]}, {exports[name]}")
+        count.check(
+            f"{name}: the header and the export are the same",
+            header[name] == exports[name],
+            f"{header[name]}, {exports[name]}",
+        )
     count.check("the map has the calls of the header", interface.in_map() == sorted(header))
     status, names, _ = said(["nm", "-D", "--defined-only", "--format=just-symbols", f"{library}/libbullmyrtle.so.1"])
     seen = sorted(it for it in names.decode().split() if not it.startswith("BULLMYRTLE_"))
@@ -50,7 +59,9 @@ def check_interface(count: ran.Count, library: str, room: str) -> None:
     built = said([*C99, f"-I{library}", f"{room}/layouts.c", "-o", f"{room}/layouts"])
     count.check("the layouts are built", built[0] == 0, f"{built}")
     wanted = "".join(f"{name} {' '.join(map(str, interface.laid_out(name)))}\n" for name in interface.STRUCTS)
-    count.check("C and ctypes lay the structs out in the same way", said([f"{room}/layouts"])[:2] == (0, wanted.encode()))
+    count.check(
+        "C and ctypes lay the structs out in the same way", said([f"{room}/layouts"])[:2] == (0, wanted.encode())
+    )
 
 
 def check_header(count: ran.Count, library: str) -> None:
@@ -73,8 +84,13 @@ def check_host(count: ran.Count, host: str, way: str) -> None:
 def check_client(count: ran.Count, client: str, host: str, way: str) -> None:
     for words, wanted in hosts.CLIENT:
         got = said([client, *words, host])
-        count.check(f"the client calls {words[0]} with {words[1]}"[:60] + f", {way}", got == (*wanted, b""), f"{got}"[:300])
-    for server, why in (("true", b"client: the server ended without a reply\n"), (f"{host}-none", b"client: the server doesn't start\n")):
+        count.check(
+            f"the client calls {words[0]} with {words[1]}"[:60] + f", {way}", got == (*wanted, b""), f"{got}"[:300]
+        )
+    for server, why in (
+        ("true", b"client: the server ended without a reply\n"),
+        (f"{host}-none", b"client: the server doesn't start\n"),
+    ):
         got = said([client, "echo", "[]", server])
         count.check(f"the client says that there is no reply, {way}", got == (2, b"", why), f"{got}")
 
@@ -93,6 +109,7 @@ def check_server(count: ran.Count, library: str, room: str) -> None:
 
 
 # Scripts
+
 
 def check_packed(count: ran.Count, library: str, room: str, way: str) -> None:
     packer = build(count, library, room, f"{SUPPORT}/pack_events.c", way, ["-std=c11"])
@@ -119,7 +136,10 @@ def main(words: list[str]) -> None:
     library = os.path.abspath(options.library)
     if not is_whole(library):
         check_header(count, os.path.join(ran.TOP, "include"))
-        print(f"SKIPPED: all but the header, since there is no library in {library}: bin/build-library builds it", flush=True)
+        print(
+            f"SKIPPED: all but the header, since there is no library in {library}: bin/build-library builds it",
+            flush=True,
+        )
     else:
         with tempfile.TemporaryDirectory(prefix="c-library-") as room:
             check_interface(count, library, room)

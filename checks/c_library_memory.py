@@ -1,8 +1,9 @@
 """usage: python3 checks/c_library_memory.py [--library FOLDER] [--cases N]      watches N random sessions, 150 where none are named
 
-What the C library does with memory. Two million calls come to a connection, and the most memory that is resident is the same as after the
-first 100,000; where a host closes no notification it is seen to grow. Under valgrind, where it is installed, rows, random sessions and all
-examples have no error and lose nothing. The same by AddressSanitizer, where clang has it."""
+What the C library does with memory. Two million calls come to a connection, and the most memory that is resident is the
+same as after the first 100,000; where a host closes no notification it is seen to grow. Under valgrind, where it is
+installed, rows, random sessions and all examples have no error and lose nothing. The same by AddressSanitizer, where
+clang has it."""
 import argparse
 import os
 import re
@@ -15,14 +16,35 @@ from support import connection_fuzzing as fuzzing
 from support import connection_rows as rows
 from support import connection_script as script
 from support import hosts, playing_scripts, ran
-from support.c_programs import C99, EXAMPLES, PLAYER, PLAYER_NEEDS, SUPPORT, VALGRIND, build, default_library, is_whole, lacks_cjson, said, watched
+from support.c_programs import (
+    C99,
+    EXAMPLES,
+    PLAYER,
+    PLAYER_NEEDS,
+    SUPPORT,
+    VALGRIND,
+    build,
+    default_library,
+    is_whole,
+    lacks_cjson,
+    said,
+    watched,
+)
 
 CALLS, FEW_CALLS = 2_000_000, 200_000
-# So many KiB more may be resident in the end, since the system counts pages by dozens: that is less than a byte a call. A host that forgets
-# to close notifications has to take so many more.
+# So many KiB more may be resident in the end, since the system counts pages by dozens: that is less than a byte a call.
+# A host that forgets to close notifications has to take so many more.
 FLAT, GROWN = 512, 2_000
 SESSIONS, FEW = 150, 25
-SANITIZED = ["clang", "-std=c99", "-D_POSIX_C_SOURCE=200809L", "-O1", "-g", "-fsanitize=address,undefined", "-fno-sanitize-recover=all"]
+SANITIZED = [
+    "clang",
+    "-std=c99",
+    "-D_POSIX_C_SOURCE=200809L",
+    "-O1",
+    "-g",
+    "-fsanitize=address,undefined",
+    "-fno-sanitize-recover=all",
+]
 
 
 def words_of(words: Iterable[str]) -> argparse.Namespace:
@@ -62,7 +84,11 @@ def check_examples(count: ran.Count, library: str, room: str, kind: str, watch: 
         server = [*watch, build(count, library, room, f"{EXAMPLES}/language_server.c", "static", ["-lcjson"], words)]
         for name, it in hosts.GREETER.items():
             got = said(server, hosts.framed(*it.says))
-            count.check(f"the language server, {kind}: {name}", got == (it.status, hosts.framed(*it.answers), b""), f"{got}"[-1500:])
+            count.check(
+                f"the language server, {kind}: {name}",
+                got == (it.status, hosts.framed(*it.answers), b""),
+                f"{got}"[-1500:],
+            )
 
 
 def check_by_valgrind(count: ran.Count, library: str, room: str, cases: int) -> None:
@@ -75,7 +101,9 @@ def check_by_valgrind(count: ran.Count, library: str, room: str, cases: int) -> 
     packer = build(count, library, room, f"{SUPPORT}/pack_events.c", "static", ["-std=c11"])
     watched(count, "packed events", [packer], rows.EVENTS)
     check_examples(count, library, room, "valgrind", VALGRIND, C99)
-    summary = said(["valgrind", "--leak-check=full", player], script.written(sessions(FEW)[0].actions).encode())[2].decode()
+    summary = said(["valgrind", "--leak-check=full", player], script.written(sessions(FEW)[0].actions).encode())[
+        2
+    ].decode()
     for line in re.findall(r"==\d+== +((?:total heap usage|ERROR SUMMARY|All heap blocks).*)", summary):
         print(f"valgrind over {FEW} sessions, each cut twice: {line}", flush=True)
 
@@ -88,7 +116,10 @@ def check_by_sanitizer(count: ran.Count, library: str, room: str, cases: int) ->
     player = build(count, library, room, PLAYER, "static", PLAYER_NEEDS, SANITIZED)
     playing_scripts.check(count, [player], "AddressSanitizer", rows.all_rows())
     playing_scripts.check(count, [player], "AddressSanitizer", sessions(cases))
-    for file, given, more in ((f"{SUPPORT}/pack_events.c", rows.EVENTS, ["-std=c11"]), (f"{SUPPORT}/bad_use.c", b"", [])):
+    for file, given, more in (
+        (f"{SUPPORT}/pack_events.c", rows.EVENTS, ["-std=c11"]),
+        (f"{SUPPORT}/bad_use.c", b"", []),
+    ):
         got = said([build(count, library, room, file, "static", more, SANITIZED)], given)
         count.check(f"{os.path.basename(file)}, AddressSanitizer", got[0] == 0 and not got[2], f"{got}"[-1500:])
     check_examples(count, library, room, "AddressSanitizer", [], SANITIZED)

@@ -1,9 +1,10 @@
 """usage: python3 checks/c_library_use.py [--library FOLDER]
 
-The C library as hosts use it, rightly and wrongly. What is refused: each code for each call that gives it, with nothing changed by it, which a
-second connection shows that goes the same way without it; lengths of 0, rooms that are too small, texts that aren't UTF-8, impossible settings.
-Each request for memory is refused in turn, alone and with those behind it: the call has changed nothing, and made again it goes on, so that
-scripts and packed events give what they do otherwise. Eight threads with a connection each write the same bytes as one connection alone."""
+The C library as hosts use it, rightly and wrongly. What is refused: each code for each call that gives it, with nothing
+changed by it, which a second connection shows that goes the same way without it; lengths of 0, rooms that are too
+small, texts that aren't UTF-8, impossible settings. Each request for memory is refused in turn, alone and with those
+behind it: the call has changed nothing, and made again it goes on, so that scripts and packed events give what they do
+otherwise. Eight threads with a connection each write the same bytes as one connection alone."""
 import argparse
 import os
 import re
@@ -21,7 +22,19 @@ from support.c_programs import C99, PLAYER, PLAYER_NEEDS, SUPPORT, build, defaul
 
 # The calls that need memory.
 NEED_MEMORY = {
-    *("bm_new", "bm_feed", "bm_next", "bm_next_all", "bm_call", "bm_call_batch", "bm_notify", "bm_withdraw", "bm_answer", "bm_fail", "bm_cancel"),
+    *(
+        "bm_new",
+        "bm_feed",
+        "bm_next",
+        "bm_next_all",
+        "bm_call",
+        "bm_call_batch",
+        "bm_notify",
+        "bm_withdraw",
+        "bm_answer",
+        "bm_fail",
+        "bm_cancel",
+    ),
 }
 # The calls by whose names requests are refused, as refuse_calls.c has them.
 WRAPPED = re.compile(r"__wrap_(\w+)\(")
@@ -48,7 +61,8 @@ def check_refusals(count: ran.Count, library: str, room: str) -> None:
         program = build(count, library, room, f"{SUPPORT}/bad_use.c", way)
         got = said([program])
         count.check(f"what hosts do wrong is refused, {way}", got[0] == 0 and not got[2], f"{got}")
-        told = dict(map(int, it) for it in re.findall(r"^code (\d+): (\d+) refusals$", got[1].decode(), re.M))
+        found = re.findall(r"^code (\d+): (\d+) refusals$", got[1].decode(), re.M)
+        told = {int(code): int(refusals) for code, refusals in found}
         for code in CODES:
             count.check(f"the code {code} is given, {way}", told.get(code, 0) > 0, f"{told}")
     watched(count, "what hosts do wrong", [program])
@@ -103,7 +117,10 @@ def check_memory(count: ran.Count, library: str, room: str) -> None:
     packing = Refusing(count, library, room, f"{SUPPORT}/pack_events.c", ["-std=c11", *PLAYER_NEEDS])
     packing.each("packed events", rows.EVENTS, b"7 events\n", WAYS[:1], STEP)
     runs, told = refusing.runs + packing.runs, refusing.told + packing.told
-    print(f"{runs:,} runs, each with another request for memory refused; {told.total() - told['refused']:,} calls gave BM_NO_MEMORY", flush=True)
+    print(
+        f"{runs:,} runs, each with another request for memory refused; {told.total() - told['refused']:,} calls gave BM_NO_MEMORY",
+        flush=True,
+    )
     for name in sorted(NEED_MEMORY):
         count.check(f"{name} is refused memory, and goes on", told[name] > 0, f"{told}")
     count.check("no other call is refused memory", {*told} == {*NEED_MEMORY, "refused"}, f"{told}")
@@ -114,12 +131,16 @@ def check_threads(count: ran.Count, library: str, room: str) -> None:
         program = build(count, library, room, f"{SUPPORT}/many_threads.c", way, ["-pthread"])
         alone, many = said([program, "1", str(REQUESTS)]), said([program, str(THREADS), str(REQUESTS)])
         well = alone == many and many[0] == 0 and many[1].count(b"\n") == 3 * REQUESTS
-        count.check(f"{THREADS} threads write the same bytes, {way}", well, f"{many[0]}, {len(many[1])} bytes, {many[2]!r}")
+        count.check(
+            f"{THREADS} threads write the same bytes, {way}", well, f"{many[0]}, {len(many[1])} bytes, {many[2]!r}"
+        )
         other = said([program, str(THREADS), "20", "another byte"])
         count.check(f"another byte is seen, {way}", other[0] == 1 and b"other bytes" in other[2], f"{other}")
     watched(count, "threads", [program, str(THREADS), str(WATCHED_REQUESTS)])
     if shutil.which("valgrind"):
-        got = said(["valgrind", "-q", "--tool=helgrind", "--error-exitcode=9", program, str(THREADS), str(WATCHED_REQUESTS)])
+        got = said(
+            ["valgrind", "-q", "--tool=helgrind", "--error-exitcode=9", program, str(THREADS), str(WATCHED_REQUESTS)]
+        )
         count.check("threads share nothing, by helgrind", got[0] == 0 and not got[2], f"{got}"[-1500:])
 
 

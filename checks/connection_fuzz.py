@@ -1,10 +1,10 @@
 """usage: python3 checks/connection_fuzz.py [--cases N] [--seed S] [--program FILE]      tries N sessions, 5,000 where none are named
        python3 checks/connection_fuzz.py --replay FILE [--program FILE]               tries the script in a file that an earlier run wrote
 
-Makes sessions of a connection at random, by a random host and a random other side, each also with its bytes cut otherwise. A program runs
-them by its command `script`, many in one script; what it says has to be what the plain model of docs/connection.md says, line for
-line. A session that differs is made as small as it goes and written to out/connection_fuzz, and the line that says so has the command
-that tries it again."""
+Makes sessions of a connection at random, by a random host and a random other side, each also with its bytes cut
+otherwise. A program runs them by its command `script`, many in one script; what it says has to be what the plain model
+of docs/connection.md says, line for line. A session that differs is made as small as it goes and written to
+out/connection_fuzz, and the line that says so has the command that tries it again."""
 import argparse
 import sys
 from functools import partial

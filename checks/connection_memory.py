@@ -1,8 +1,8 @@
 """Refuses each request for memory of the proved program `connection_bench` in turn, one alone and then all from it on.
 
-Of a script one action gives `refused memory`, or the program ends with `failed: Memory` and has written a front of what the row has. Where an
-action is refused, it has changed nothing: made again, it gives what the row has, and so does all that follows. A host writes the row's bytes,
-or a front of them with `failed: Memory`."""
+Of a script one action gives `refused memory`, or the program ends with `failed: Memory` and has written a front of what
+the row has. Where an action is refused, it has changed nothing: made again, it gives what the row has, and so does all
+that follows. A host writes the row's bytes, or a front of them with `failed: Memory`."""
 import os
 from concurrent.futures import ThreadPoolExecutor
 
@@ -92,7 +92,11 @@ class Tries:
         actions = (*row.actions[: at + 1], *row.actions[at:])
         wanted = text_of((*row.gives[:at], REFUSED, *row.gives[at:]))
         got = self.play(actions, "REFUSE_NTH", number)
-        return "" if got == (0, wanted, b"", True) else f"{row.actions[at].line[:200]!r} is made again, and it gives {got}, and not {wanted!r}"
+        return (
+            ""
+            if got == (0, wanted, b"", True)
+            else f"{row.actions[at].line[:200]!r} is made again, and it gives {got}, and not {wanted!r}"
+        )
 
     def from_one_on(self, row: rows.Row) -> str:
         whole = text_of(row.gives)
@@ -109,7 +113,9 @@ class Tries:
     def host(self, given: bytes, wanted: bytes) -> str:
         for how in ("REFUSE_NTH", "REFUSE_FROM"):
             for number in range(1, MOST):
-                status, wrote, said, was_refused = got = self.refusing.run([self.program, "host", "--lines"], given, how, number)
+                status, wrote, said, was_refused = got = self.refusing.run(
+                    [self.program, "host", "--lines"], given, how, number
+                )
                 is_whole = (status, wrote, said) == (0, wanted, b"")
                 if not is_whole and not (was_refused and (status, said) == NO_MEMORY and wanted.startswith(wrote)):
                     return f"{how} {number}: {got}"
@@ -122,8 +128,7 @@ class Tries:
 
 def main() -> None:
     count = ran.Count()
-    program = ran.gates_program("connection_bench")
-    count.check("the gate built connection_bench", program is not None)
+    program = count.built("connection_bench", ran.gates_program("connection_bench"))
     if program is None or ran.lacks("cc", refusals.WHY):
         count.end()
     tries = Tries(program)

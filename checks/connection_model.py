@@ -1,6 +1,7 @@
-"""The plain model of a connection gives what the rows of checks/connection_rows have, which are worked out by hand from docs/connection.md; also
-where each feed of frames and lines comes byte by byte, or is cut at any one place. With a host that has no methods it writes what the peer
-without methods does. It plays the pictures of that page. And scripts are read and written as connection_script.py says."""
+"""The plain model of a connection gives what the rows of checks/connection_rows have, which are worked out by hand from
+docs/connection.md; also where each feed of frames and lines comes byte by byte, or is cut at any one place. With a host
+that has no methods it writes what the peer without methods does. It plays the pictures of that page. And scripts are
+read and written as connection_script.py says."""
 from support import connection_fuzzing as fuzzing
 from support import connection_pictures as pictures
 from support import connection_rows as rows
@@ -19,7 +20,9 @@ def check_scripts(found: list[rows.Row]) -> None:
     actions = [it for row in found for it in row.actions]
     count.check("what is written is read again", script.read(script.written(actions)) == actions)
     kinds = {*script.FORMS, "batch"}
-    count.check("the rows have each action", {it.name for it in actions} == kinds, f"{kinds - {it.name for it in actions}}")
+    count.check(
+        "the rows have each action", {it.name for it in actions} == kinds, f"{kinds - {it.name for it in actions}}"
+    )
     for line in rows.UNREADABLE:
         try:
             script.action_of(line)

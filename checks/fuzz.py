@@ -1,9 +1,10 @@
 """usage: python3 checks/fuzz.py [--cases N] [--seed S] [--player FILE]      tries N streams, 5,000 where none are named
        python3 checks/fuzz.py --replay FILE [--player FILE]               tries the one stream in a file that an earlier run wrote
 
-Makes streams at random and runs each by several schedules, whole and cut, and by servers of one and of four workers; a share of them by
-the built program too, over real pipes. What is written has to keep the laws of checks/support/laws.py. A stream that breaks one is made
-as small as it goes and written to out/fuzz, and the line that says so has the command that tries it again."""
+Makes streams at random and runs each by several schedules, whole and cut, and by servers of one and of four workers; a
+share of them by the built program too, over real pipes. What is written has to keep the laws of checks/support/laws.py.
+A stream that breaks one is made as small as it goes and written to out/fuzz, and the line that says so has the command
+that tries it again."""
 import argparse
 import sys
 from functools import partial
@@ -31,7 +32,9 @@ def words_of(words: Iterable[str]) -> argparse.Namespace:
 
 def check_worked(count: ran.Count, player: str) -> None:
     """Cases one behind another: each is run as its line says, and the last of them is cut short."""
-    given = b"".join(b"%s 62\n%s" % (how, REQUEST) for how in (b"play eager first -", b"play lazy 1,0 7,30", b"serve 2 22,1"))
+    given = b"".join(
+        b"%s 62\n%s" % (how, REQUEST) for how in (b"play eager first -", b"play lazy 1,0 7,30", b"serve 2 22,1")
+    )
     written = b"Clean 1 0 0 1 0 99\n" + ANSWERED
     got = ran.run(["cases"], given + b"play eager last 61 61\n" + REQUEST[:-1], program=player)
     count.same("four cases", got, (0, written * 3 + b"Truncated 0 0 0 0 0 0\n", b""))
@@ -39,9 +42,26 @@ def check_worked(count: ran.Count, player: str) -> None:
 
 def check_refusals(count: ran.Count, player: str, file: str) -> None:
     """The player refuses what is no case, and what it can't run."""
-    refused = (b"x", b"play\n", b"play eager\n", b"play eager first 0\n", b"play soon first - 0\n", b"play eager 1,x - 0\n", b"play eager first - 1\n")
-    for given in (*refused, b"serve first - 0\n", b"serve 4 -1 0\n", b"serve 4 - 99999999999\n", b"turn 4 - 0\n", b"\xff - 0\n"):
-        count.same(f"refused: {given!r}", ran.run(["cases"], given, program=player), (2, b"", b"a case cannot be read\n"))
+    refused = (
+        b"x",
+        b"play\n",
+        b"play eager\n",
+        b"play eager first 0\n",
+        b"play soon first - 0\n",
+        b"play eager 1,x - 0\n",
+        b"play eager first - 1\n",
+    )
+    for given in (
+        *refused,
+        b"serve first - 0\n",
+        b"serve 4 -1 0\n",
+        b"serve 4 - 99999999999\n",
+        b"turn 4 - 0\n",
+        b"\xff - 0\n",
+    ):
+        count.same(
+            f"refused: {given!r}", ran.run(["cases"], given, program=player), (2, b"", b"a case cannot be read\n")
+        )
     for workers in (0, 65):
         got = ran.run(["cases"], b"serve %d - 0\n" % workers, program=player)
         count.same(f"{workers} workers", got, (0, b"Workers 0 0 0 0 0 0\n", b""))
@@ -53,7 +73,7 @@ def main(words: list[str]) -> None:
     options = words_of(words)
     ran.built()
     fuzzer = fuzzing.Fuzzer(partial(cases.run, options.player))
-    fuzzer.count.check("the gate built peer_bench", options.player is not None)
+    fuzzer.count.built("peer_bench", options.player)
     if options.player and options.replay:
         why = fuzzer.breaks(fuzzing.trial_in(options.replay))
         fuzzer.count.check(options.replay, why is None, why or "")

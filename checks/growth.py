@@ -1,9 +1,9 @@
-"""The program's work grows with its input and no faster: twice the input takes at most 2.2 times the instructions. And no memory is
-asked for what is only promised: a head that says 16 MiB, with nothing behind it, makes no large request. Nor is any kept for what is
-over: a million runs of a method take as much as a thousand.
+"""The program's work grows with its input and no faster: twice the input takes at most 2.2 times the instructions. And
+no memory is asked for what is only promised: a head that says 16 MiB, with nothing behind it, makes no large request.
+Nor is any kept for what is over: a million runs of a method take as much as a thousand.
 
-Instructions are callgrind's, so that a busy machine changes nothing. What a size costs beside its start, the program's own
-beginning, is left out."""
+Instructions are callgrind's, so that a busy machine changes nothing. What a size costs beside its start, the program's
+own beginning, is left out."""
 import os
 import re
 import subprocess
@@ -40,16 +40,23 @@ def to(size):
 SHAPES = {
     "single requests": lambda size: rows.frames(*map(request, to(size))),
     # (a head of so many bytes: its length, a field as long as needed, and the empty line)
-    "heads of so many bytes": lambda size: f"Content-Length: 40\r\nX:{'a' * (size - 26)}\r\n\r\n{request(1)}".encode() * 20,
+    "heads of so many bytes": lambda size: f"Content-Length: 40\r\nX:{'a' * (size - 26)}\r\n\r\n{request(1)}".encode()
+    * 20,
     "a content of so many bytes": lambda size: with_params(f'["{"a" * (size - len(request(1, PARAMS)))}"]'),
-    "batches of 100": lambda size: rows.frames(*(rows.batch(*map(request, range(it, it + 100))) for it in to(size)[::100])),
+    "batches of 100": lambda size: rows.frames(
+        *(rows.batch(*map(request, range(it, it + 100))) for it in to(size)[::100])
+    ),
     "one batch": lambda size: rows.frames(rows.batch(*map(request, to(size)))),
     "notifications": lambda size: rows.frames(*['{"jsonrpc":"2.0","method":"nope","params":[1,2]}'] * size),
     "unreadable contents": lambda size: rows.frames(*["{"] * size),
     "one long string": lambda size: with_params(f'["{"a" * size}"]'),
-    "params of many members": lambda size: with_params("{" + ",".join('"%d":%d' % (it * 7919 % size, it) for it in range(size)) + "}"),
+    "params of many members": lambda size: with_params(
+        "{" + ",".join('"%d":%d' % (it * 7919 % size, it) for it in range(size)) + "}"
+    ),
     "calls": lambda size: rows.frames(*(text for it in to(size) for text in (rows.ask(it), rows.replied(f"{it}.1")))),
-    "open calls": lambda size: rows.frames(*map(rows.ask, to(size)), *(rows.replied(f"{it}.1") for it in reversed(to(size)))),
+    "open calls": lambda size: rows.frames(
+        *map(rows.ask, to(size)), *(rows.replied(f"{it}.1") for it in reversed(to(size)))
+    ),
     "calls without a reply": lambda size: rows.frames(*map(rows.ask, to(size))),
     "cancels": lambda size: rows.frames(*map(rows.ask, to(size)), *map(rows.cancel, reversed(to(size)))),
 }
@@ -106,7 +113,9 @@ def hosted_open_calls(size):
 def hosted_cancels(size):
     """The same, cancelled, the last first."""
     asked = ('{"jsonrpc":"2.0","method":"ask","params":[%d],"id":%d}' % (it, it) for it in range(1, size + 1))
-    return rows.frames(*asked, *('{"jsonrpc":"2.0","method":"$/cancelRequest","params":{"id":%d}}' % it for it in range(size, 0, -1)))
+    return rows.frames(
+        *asked, *('{"jsonrpc":"2.0","method":"$/cancelRequest","params":{"id":%d}}' % it for it in range(size, 0, -1))
+    )
 
 
 def hosted_text(size):
@@ -137,7 +146,9 @@ def instructions(words, given=b""):
     """How many instructions a run takes, by callgrind."""
     with tempfile.TemporaryDirectory() as room:
         tool = ["valgrind", "--tool=callgrind", f"--callgrind-out-file={os.path.join(room, 'out')}", *words]
-        ended = subprocess.run(tool, input=given, stdout=subprocess.DEVNULL, stderr=subprocess.PIPE, timeout=900, check=False)
+        ended = subprocess.run(
+            tool, input=given, stdout=subprocess.DEVNULL, stderr=subprocess.PIPE, timeout=900, check=False
+        )
     found = re.search(rb"Collected : (\d+)", ended.stderr)
     return int(found[1]) if found and ended.returncode == 0 else None
 
@@ -146,13 +157,17 @@ def inputs():
     """What is measured of the program: a label, the greater size, and what gives the instructions of a size."""
     for name, size, options in INPUTS:
         words = [ran.BUILT, "play", *options]
-        yield " ".join([name, *(it for it in options if it not in TABLE)]), size, lambda size, make=SHAPES[name], words=words: instructions(words, make(size) if size else b"")
+        yield " ".join([name, *(it for it in options if it not in TABLE)]), size, lambda size, make=SHAPES[
+            name
+        ], words=words: instructions(words, make(size) if size else b"")
 
 
 def orders(bench):
     """The same of the desk."""
     for order in ORDERS:
-        yield f"the desk, {order}", UNITS, lambda units, order=order: instructions([bench, "desk", "--order", order, "--units", str(units)])
+        yield f"the desk, {order}", UNITS, lambda units, order=order: instructions(
+            [bench, "desk", "--order", order, "--units", str(units)]
+        )
 
 
 def connections(bench):
@@ -175,11 +190,11 @@ def check_all(count):
     """Counts the instructions of all sizes, as many side by side as there are processors, and compares them."""
     if ran.lacks("valgrind", "it counts the instructions"):
         return
-    bench, connection = ran.gates_program("peer_bench"), ran.gates_program("connection_bench")
-    count.check("the gate built peer_bench", bench is not None)
-    count.check("the gate built connection_bench", connection is not None)
+    bench, connection = (count.built(it, ran.gates_program(it)) for it in ("peer_bench", "connection_bench"))
     measured = [*inputs(), *(orders(bench) if bench else ()), *(connections(connection) if connection else ())]
-    counts = iter(ran.side_by_side(partial(counted, it) for _, size, counted in measured for it in (0, size // 2, size)))
+    counts = iter(
+        ran.side_by_side(partial(counted, it) for _, size, counted in measured for it in (0, size // 2, size))
+    )
     for label, size, _ in measured:
         check_growth(count, label, size, next(counts), next(counts), next(counts))
 
@@ -200,8 +215,9 @@ def check_promise(count):
 
 
 def check_finished(count):
-    """Compares the most that is held through a thousand runs of a method and through many. The program keeps what it writes until the
-    input is over, so it is told apart: notifications write nothing, and of answers twice their bytes are left out."""
+    """Compares the most that is held through a thousand runs of a method and through many. The program keeps what it
+    writes until the input is over, so it is told apart: notifications write nothing, and of answers twice their bytes
+    are left out."""
     play = [ran.BUILT, "play", *TABLE]
     notice = '{"jsonrpc":"2.0","method":"add","params":[2,3]}'
     thousand = rows.frames(rows.batch(*[notice] * 1_000))
@@ -215,7 +231,11 @@ def check_finished(count):
         status, least, *_ = refusals.counted(play, few)
         then, most, *_ = refusals.counted(play, few + more)
         print(f"{name}: {most:,} bytes at most, {least:,} for the first 1,000 of them, {written:,} written", flush=True)
-        count.check(f"{name} leave nothing behind", (status, then) == (0, 0) and 0 < most <= least + 2 * written + SPARE, f"{least:,}, {most:,}")
+        count.check(
+            f"{name} leave nothing behind",
+            (status, then) == (0, 0) and 0 < most <= least + 2 * written + SPARE,
+            f"{least:,}, {most:,}",
+        )
 
 
 ran.script(check_memory, check_all)

@@ -1,5 +1,5 @@
-"""The laws that checks/fuzz.py judges by accept right outputs, and refuse outputs that are wrong in one place each; all are written by hand.
-And what a stream holds is read as docs/protocol.md says."""
+"""The laws that checks/fuzz.py judges by accept right outputs, and refuse outputs that are wrong in one place each; all
+are written by hand. And what a stream holds is read as docs/protocol.md says."""
 import tomllib
 
 from support import laws
@@ -77,7 +77,11 @@ def check_one_run():
     refuses("a reply to another call", came, [*calls, answer(1, "reply-2"), second, called(3), last])
     refuses("a second reply", came, [*calls, answer(1, "reply-3"), second, called(3), last])
     refuses("a reply that came before its request", came, [*calls, first, second, called(3), answer(3, "reply-4")])
-    refuses("a reply in a call that is made before", came, [called(1).replace("param-1", "reply-1"), called(2), first, second, called(3), last])
+    refuses(
+        "a reply in a call that is made before",
+        came,
+        [called(1).replace("param-1", "reply-1"), called(2), first, second, called(3), last],
+    )
     refuses("a reply is there, and isn't told", came, [*calls, error(1, -32000, "No reply"), second, called(3), last])
     refuses("another turn", came, [called(1).replace("1.1", "1.2"), called(2), first, second, called(3), last])
     refuses("a call of nobody", came, [*calls, called(9), first, second, called(3), last])
@@ -95,10 +99,16 @@ def check_units():
     accepts("units", came, [right[0], whole, *right[1:], note("log", 3)])
     refuses("a batch in another order", came, [right[0], batch(rows.INVALID, error(1, -32000, "No reply")), *right[1:]])
     refuses("a batch in pieces", came, [right[0], error(1, -32000, "No reply"), rows.INVALID, *right[1:]])
-    refuses("a notification is answered", came, [right[0], whole, *right[1:], error("null", -32601, "Method not found")])
+    refuses(
+        "a notification is answered", came, [right[0], whole, *right[1:], error("null", -32601, "Method not found")]
+    )
     refuses("another error", came, [right[0], whole, rows.INVALID, unknown])
     refuses("a message of a call that no method runs", came, [right[0], note("log", 2), whole, *right[1:]])
-    refuses("a reply is used twice", [ask(1, 1), reply("1.1", 1)], [called(1), note("log", 1).replace('"]', '","reply-1"]'), answer(1, "reply-1")])
+    refuses(
+        "a reply is used twice",
+        [ask(1, 1), reply("1.1", 1)],
+        [called(1), note("log", 1).replace('"]', '","reply-1"]'), answer(1, "reply-1")],
+    )
 
 
 def check_reports():
@@ -121,7 +131,11 @@ def check_cancels():
     def beside(wrote):
         return lambda: laws.check_beside(*told(came, wrote), plain)
 
-    for name, wrote in (("a cancel that hits", hit), ("one that comes too late", missed), ("one before the first turn", [called(2), gone, second])):
+    for name, wrote in (
+        ("a cancel that hits", hit),
+        ("one that comes too late", missed),
+        ("one before the first turn", [called(2), gone, second]),
+    ):
         judged(name, True, beside(wrote))
     by_text = [called(1), called(2), answer(7, "reply-1"), error('"7"', -32800, "Request cancelled")]
     judged("a cancel of a number takes its text", False, beside(by_text))
@@ -205,6 +219,15 @@ def check_plays():
 
 
 count = ran.Count()
-for it in (check_one_run, check_units, check_reports, check_cancels, check_eager_runs, check_notices, check_readings, check_plays):
+for it in (
+    check_one_run,
+    check_units,
+    check_reports,
+    check_cancels,
+    check_eager_runs,
+    check_notices,
+    check_readings,
+    check_plays,
+):
     it()
 count.end()

@@ -1,11 +1,12 @@
 """usage: python3 checks/planted.py [NAME .. | --all] [--cases N] [--control N] [--seed S] [--jobs N]
 
-The fuzzer finds bugs that are planted in the proved code. Each NAME is a wrong body, as CRATE/BODY: of crates/*/wrong-bodies, or of
-checks/planted, whose files look like those; --all tries all of checks/planted and some of the others. The sources with the one bug are
-compiled to a peer_bench without any proof, which takes some minutes of a processor; its command `cases` then plays streams until one breaks
-a law, at most N (20,000), and that stream is made as small as it goes. Control, behind them: nothing is found in the unchanged sources,
-compiled alike, in as many streams as the slowest bug took, and in 3,000 at least. Where nothing is named, it is only seen whether the texts
-of --all still stand; so `bin/test` runs it."""
+The fuzzer finds bugs that are planted in the proved code. Each NAME is a wrong body, as CRATE/BODY: of
+crates/*/wrong-bodies, or of checks/planted, whose files look like those; --all tries all of checks/planted and some of
+the others. The sources with the one bug are compiled to a peer_bench without any proof, which takes some minutes of a
+processor; its command `cases` then plays streams until one breaks a law, at most N (20,000), and that stream is made as
+small as it goes. Control, behind them: nothing is found in the unchanged sources, compiled alike, in as many streams as
+the slowest bug took, and in 3,000 at least. Where nothing is named, it is only seen whether the texts of --all still
+stand; so `bin/test` runs it."""
 import argparse
 import shutil
 import sys
@@ -51,19 +52,24 @@ CHOSEN = (
 
 def words_of(words: Iterable[str]) -> argparse.Namespace:
     summary, _, more = __doc__.removeprefix("usage: ").partition("\n\n")
-    parser = argparse.ArgumentParser(usage=summary, description=more, formatter_class=argparse.RawDescriptionHelpFormatter)
+    parser = argparse.ArgumentParser(
+        usage=summary, description=more, formatter_class=argparse.RawDescriptionHelpFormatter
+    )
     parser.add_argument("names", nargs="*", metavar="NAME")
     parser.add_argument("--all", action="store_true")
     parser.add_argument("--cases", type=int, default=MOST)
-    parser.add_argument("--control", type=int, default=CONTROL, help="so many streams at least are played by the unchanged sources")
+    parser.add_argument(
+        "--control", type=int, default=CONTROL, help="so many streams at least are played by the unchanged sources"
+    )
     parser.add_argument("--seed", type=int, default=SEED)
     parser.add_argument("--jobs", type=int, default=1, help="so many bugs are tried side by side")
     return parser.parse_args([*words])
 
 
 def bugs_in(folder: str, count: ran.Count) -> dict[str, tuple[Body, Sources]]:
-    """The wrong bodies that stand in a folder, with CRATE for the name of the crate that they are of, by their labels."""
-    found = {}
+    """The wrong bodies that stand in a folder, with CRATE for the name of the crate that they are of, by their
+    labels."""
+    found: dict[str, tuple[Body, Sources]] = {}
     for crate in listing().below(PLAYER):
         sources = Sources(f"{ran.TOP}/crates/{crate}")
         bodies, unfit = read_bodies(sources, folder.replace("CRATE", crate))
@@ -85,7 +91,8 @@ def planted(body: Body, sources: Sources, room: str) -> dict[str, str]:
 
 @dataclass
 class Outcome:
-    """What became of a bug: how long the build took, and the stream that was found, with the bytes that were left of it."""
+    """What became of a bug: how long the build took, and the stream that was found, with the bytes that were left of
+    it."""
 
     seconds: float = 0
     found: Optional[fuzzing.Found] = None
@@ -115,7 +122,11 @@ def take(count: ran.Count, name: str, what: str, most: int, outcome: Outcome) ->
         return
     is_well = (found is not None) == bool(what)
     count.check(f"{name} is {'' if what else 'not '}found in {most:,} streams", is_well, f"{what} {found}")
-    told = f"found in stream {found.after:,}, shrunk to {outcome.small:,} bytes: {found.law[:200]}" if found else f"not found in {most:,} streams"
+    told = (
+        f"found in stream {found.after:,}, shrunk to {outcome.small:,} bytes: {found.law[:200]}"
+        if found
+        else f"not found in {most:,} streams"
+    )
     print(f"{name} ({what} Built in {outcome.seconds:.0f} s.) {told}", flush=True)
 
 

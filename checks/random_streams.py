@@ -1,6 +1,6 @@
-"""Plays random streams with the tables of the rows and of examples/, and compares what goes out with a plain model of the rules. What is
-proved of the program is that it writes one of the outputs that are allowed; that it is the one that `play`, `--lazy` and `--last` stand
-for is only tested, by the rows and here."""
+"""Plays random streams with the tables of the rows and of examples/, and compares what goes out with a plain model of
+the rules. What is proved of the program is that it writes one of the outputs that are allowed; that it is the one that
+`play`, `--lazy` and `--last` stand for is only tested, by the rows and here."""
 import json
 import random
 import tomllib
@@ -17,7 +17,10 @@ WAYS = ([], [], ["--lazy"], ["--last"], ["--lazy", "--last"])
 
 def methods_of(table):
     """The methods of a table with how many calls each makes, and one that it hasn't."""
-    return {"nope": 0, **{it["name"]: sum(map(fuzzing.calls_in, it.get("step", []))) for it in tomllib.loads(table).get("method", [])}}
+    return {
+        "nope": 0,
+        **{it["name"]: sum(map(fuzzing.calls_in, it.get("step", []))) for it in tomllib.loads(table).get("method", [])},
+    }
 
 
 def stream(chance, table):

@@ -1,6 +1,7 @@
-"""Refuses each request for memory in turn, one alone and then all from it on, until a run meets no refusal: what is written is then the
-row's bytes, or a prefix of them with `failed: Memory`; where the table found none, nothing is written. So it is for `play`, for `serve`
-and for `check`; and tests that the gate built, run so, pass or name want of memory, and nothing else."""
+"""Refuses each request for memory in turn, one alone and then all from it on, until a run meets no refusal: what is
+written is then the row's bytes, or a prefix of them with `failed: Memory`; where the table found none, nothing is
+written. So it is for `play`, for `serve` and for `check`; and tests that the gate built, run so, pass or name want of
+memory, and nothing else."""
 from collections.abc import Callable
 
 from support import ran
@@ -13,9 +14,9 @@ WAYS = ("REFUSE_NTH", "REFUSE_FROM")
 NO_MEMORY = b"failed: Memory\n"
 NO_TABLE = b"table: Memory, method 0, step 0\n"
 
-# Tests that go on after a refusal, and so pass whichever request is refused: a decoder that is fed a piece again, a reader that is asked for
-# a content again, and a session that takes a content and writes what is due again, give the row's; a sink whose growth is refused fails as a
-# device and keeps what it had.
+# Tests that go on after a refusal, and so pass whichever request is refused: a decoder that is fed a piece again, a
+# reader that is asked for a content again, and a session that takes a content and writes what is due again, give the
+# row's; a sink whose growth is refused fails as a device and keeps what it had.
 GO_ON = (
     "a_piece_is_taken_again_after_memory",
     "a_content_is_read_again_after_memory",
@@ -33,7 +34,15 @@ END = (
     "a_job_comes_home_turned_once_and_its_slot_is_filled_again",
 )
 # How such a test names want of memory. (That a table is refused for nothing else is seen by `check`.)
-NAMED = ("AllocError", "AllocFailed { .. }", "Refused", "Kind(OutOfMemory)", '"a poll found no memory"', '"no table"', '"a table"')
+NAMED = (
+    "AllocError",
+    "AllocFailed { .. }",
+    "Refused",
+    "Kind(OutOfMemory)",
+    '"a poll found no memory"',
+    '"no table"',
+    '"a table"',
+)
 NAMING = [f"error: {it}\nthe test failed: its result gives status 1\n".encode() for it in NAMED]
 FAILED = 101
 
@@ -44,8 +53,16 @@ class Refused:
     def __init__(self, count: ran.Count):
         self.count, self.refusing = count, refusals.Refusals()
 
-    def each(self, name: str, words: list[str], given: bytes, is_well: Callable[[int, bytes, bytes, bool], bool], ways: tuple[str, ...] = WAYS) -> None:
-        """Runs a program until no request is refused, and looks at each run's status, its two outputs, and whether it met a refusal."""
+    def each(
+        self,
+        name: str,
+        words: list[str],
+        given: bytes,
+        is_well: Callable[[int, bytes, bytes, bool], bool],
+        ways: tuple[str, ...] = WAYS,
+    ) -> None:
+        """Runs a program until no request is refused, and looks at each run's status, its two outputs, and whether it
+        met a refusal."""
         for how in ways:
             for number in range(1, MOST):
                 status, wrote, said, was_refused = self.refusing.run(words, given, how, number)
@@ -70,8 +87,7 @@ class Refused:
 
     def test(self, name: str, is_well: Callable[[int, bytes, bytes, bool], bool], ways: tuple[str, ...]) -> None:
         """A test that the gate built."""
-        test = ran.test_named(name)
-        self.count.check(f"the gate built the test {name}", test is not None)
+        test = self.count.built(f"the test {name}", ran.test_named(name))
         if test:
             self.each(name, list(test), b"", is_well, ways)
 
@@ -92,17 +108,36 @@ def played(refused: Refused) -> None:
 def checked(refused: Refused) -> None:
     """Tables by `check`."""
     for table, count in ((rows.METHODS, 6), (rows.OPENING, 0), (rows.EACH, 1)):
-        refused.peer(f"a table of {count} methods", ["check", "--table", rows.file_of(table)], b"", [b"ok: %d methods\n" % count])
+        refused.peer(
+            f"a table of {count} methods", ["check", "--table", rows.file_of(table)], b"", [b"ok: %d methods\n" % count]
+        )
 
 
 def served(refused: Refused) -> None:
     """Rows by `serve` with two workers. A cancel may find its handler parked, out or not turned yet."""
-    asked, cancelled = [rows.called("1.1"), rows.answered("true")], [rows.called("1.1"), rows.withdrawn("1.1"), rows.CANCELLED]
+    asked, cancelled = [rows.called("1.1"), rows.answered("true")], [
+        rows.called("1.1"),
+        rows.withdrawn("1.1"),
+        rows.CANCELLED,
+    ]
     two = [rows.TWO_CALLS, rows.answered('["A","B"]', 1)]
     streams = [
         ("a call and its reply", rows.METHODS, [rows.ask(), rows.replied("1.1")], [asked]),
-        ("a cancel", rows.METHODS, [rows.ask(), rows.cancel(), rows.replied("1.1")], [cancelled, [cancelled[0], cancelled[2]], [cancelled[2]]]),
-        ("two calls", rows.METHODS, ['{"jsonrpc":"2.0","method":"two","id":1}', rows.batch(rows.replied("1.2", '"B"'), rows.replied("1.1", '"A"'))], [two]),
+        (
+            "a cancel",
+            rows.METHODS,
+            [rows.ask(), rows.cancel(), rows.replied("1.1")],
+            [cancelled, [cancelled[0], cancelled[2]], [cancelled[2]]],
+        ),
+        (
+            "two calls",
+            rows.METHODS,
+            [
+                '{"jsonrpc":"2.0","method":"two","id":1}',
+                rows.batch(rows.replied("1.2", '"B"'), rows.replied("1.1", '"A"')),
+            ],
+            [two],
+        ),
         ("an opening", rows.OPENING, [], [[rows.HELLO]]),
         ("an unknown method", None, [rows.REQUEST], [[rows.NOT_FOUND]]),
     ]
@@ -112,13 +147,19 @@ def served(refused: Refused) -> None:
 
 
 def explained(refused: Refused) -> None:
-    """With `--explain` the first line is one that stands alone without it. Lines that found no memory are left out after it; where memory ran out
-    before, what was missing is told, if the words were read."""
+    """With `--explain` the first line is one that stands alone without it. Lines that found no memory are left out
+    after it; where memory ran out before, what was missing is told, if the words were read."""
     broken = rows.file_of(rows.METHODS + '[[method.step]]\nkind = "nosuch"\n')
     named = ["  method: note", "  kind: nosuch", "  field: kind", "  cause: this version has no such kind of step"]
     refused_table = ["table: Step, method 6, step 2", f"  file: {broken}", *named]
     at_fault = ["input ended: BadHead", "  frame: from byte 63", "  fault: at byte 65"]
-    no_word = ["error: unexpected argument '--no\\u{1b}such' found", "", "Usage: rpc_tool play [OPTIONS]", "", "For more information, try '--help'."]
+    no_word = [
+        "error: unexpected argument '--no\\u{1b}such' found",
+        "",
+        "Usage: rpc_tool play [OPTIONS]",
+        "",
+        "For more information, try '--help'.",
+    ]
     cut, answer = rows.frames(rows.REQUEST) + b"x\r\n", rows.frames(rows.NOT_FOUND)
     for words, given, whole in (
         (["check", "--table", broken, "--explain"], b"", (2, b"", refused_table)),
@@ -127,12 +168,19 @@ def explained(refused: Refused) -> None:
         (["play", "--no\x1bsuch"], b"", (2, b"", no_word)),
     ):
 
-        def is_well(status: int, wrote: bytes, said: bytes, was_refused: bool, whole: tuple[int, bytes, list[str]] = whole) -> bool:
+        def is_well(
+            status: int, wrote: bytes, said: bytes, was_refused: bool, whole: tuple[int, bytes, list[str]] = whole
+        ) -> bool:
             first, *added = said.decode().splitlines()
             if (status, wrote, first) == (*whole[:2], whole[2][0]):
                 return added == whole[2][1:] or was_refused and all(it in whole[2] for it in added)
             is_missing = (status, f"{first}\n".encode()) in ((1, NO_MEMORY), (2, NO_TABLE))
-            return was_refused and is_missing and whole[1].startswith(wrote) and (not added or added[-1].startswith("  missing: memory"))
+            return (
+                was_refused
+                and is_missing
+                and whole[1].startswith(wrote)
+                and (not added or added[-1].startswith("  missing: memory"))
+            )
 
         refused.each(f"{words}", [ran.BUILT, *words], given, is_well)
 
@@ -146,7 +194,11 @@ def check_all(count: ran.Count) -> None:
     for name in GO_ON:
         refused.test(name, lambda status, *_: status == 0, WAYS[:1])
     for name in END:
-        refused.test(name, lambda status, _, said, was_refused: status == 0 or was_refused and status == FAILED and said in NAMING, WAYS)
+        refused.test(
+            name,
+            lambda status, _, said, was_refused: status == 0 or was_refused and status == FAILED and said in NAMING,
+            WAYS,
+        )
 
 
 ran.script(check_all)

@@ -1,13 +1,15 @@
-"""The crate in Rust over the C library, in bindings/rust: its declarations are those of the header; its tests and what its documentation
-shows pass, with the library that lies in release/; clippy, where it is there, finds nothing; the page shows the example that is built; and
-the examples answer. One test runs where requests for memory are refused. A player of scripts over the crate gives what the model of
-docs/connection.md does, for its rows and for random sessions. Nothing is fetched."""
+"""The crate in Rust over the C library, in bindings/rust: its declarations are those of the header; its tests and what
+its documentation shows pass, with the library that lies in release/; clippy, where it is there, finds nothing; the page
+shows the example that is built; and the examples answer. One test runs where requests for memory are refused. A player
+of scripts over the crate gives what the model of docs/connection.md does, for its rows and for random sessions. Nothing
+is fetched."""
 import os
 import re
 import shutil
 import subprocess
 import tempfile
 from functools import partial
+from typing import Any
 
 from support import c_interface as interface
 from support import connection_fuzzing as fuzzing
@@ -28,16 +30,26 @@ SESSIONS = 500
 
 def check_declarations(count: ran.Count) -> None:
     header, ours = interface.in_header(), interface.in_rust()
-    count.check("the header and the crate have the same calls", header.keys() == ours.keys(), f"{header.keys() ^ ours.keys()}")
+    count.check(
+        "the header and the crate have the same calls", header.keys() == ours.keys(), f"{header.keys() ^ ours.keys()}"
+    )
     for name in header.keys() & ours.keys():
-        count.check(f"{name}: the header and the crate are the same", header[name] == ours[name], f"{header[name]}, {ours[name]}")
+        count.check(
+            f"{name}: the header and the crate are the same",
+            header[name] == ours[name],
+            f"{header[name]}, {ours[name]}",
+        )
     for name in interface.STRUCTS:
-        count.check(f"{name}: the crate has the same fields", interface.fields_in_rust(name) == interface.fields_in_header(name))
+        count.check(
+            f"{name}: the crate has the same fields", interface.fields_in_rust(name) == interface.fields_in_header(name)
+        )
 
 
 def cargo(*words: str, **more: str) -> tuple[int, str]:
     env = {**os.environ, "CARGO_TARGET_DIR": f"{CRATE}/target", **more}
-    ended = subprocess.run(["cargo", *words], cwd=CRATE, env=env, capture_output=True, text=True, timeout=900, check=False)
+    ended = subprocess.run(
+        ["cargo", *words], cwd=CRATE, env=env, capture_output=True, text=True, timeout=900, check=False
+    )
     return ended.returncode, ended.stdout + ended.stderr
 
 
@@ -77,14 +89,18 @@ def check_clippy(count: ran.Count) -> None:
 def check_examples(count: ran.Count) -> None:
     status, text = cargo("build", "--offline", "--examples")
     count.check("the examples are built", status == 0 and "warning" not in text, text[-1500:])
-    with open(f"{CRATE}/README.md", encoding="utf-8") as page, open(f"{CRATE}/examples/echo.rs", encoding="utf-8") as example:
+    with open(f"{CRATE}/README.md", encoding="utf-8") as page, open(
+        f"{CRATE}/examples/echo.rs", encoding="utf-8"
+    ) as example:
         count.check("the page shows the example", f"```rust\n{example.read()}```" in page.read())
     folder = f"{CRATE}/target/debug/examples"
     got = said([f"{folder}/echo"], hosts.HOST[0])
     count.check("the host in Rust answers", got == (0, hosts.HOST[1], b""), f"{got}")
     for name, it in hosts.DEFINER.items():
         got = said([f"{folder}/goto_def"], hosts.framed(*it.says))
-        count.check(f"the language server in Rust: {name}", got == (it.status, hosts.framed(*it.answers), b""), f"{got}")
+        count.check(
+            f"the language server in Rust: {name}", got == (it.status, hosts.framed(*it.answers), b""), f"{got}"
+        )
 
 
 def check_memory(count: ran.Count) -> None:
@@ -95,7 +111,9 @@ def check_memory(count: ran.Count) -> None:
     folder = f"{CRATE}/target/debug/examples"
     got = said([*LOST, f"{folder}/echo"], hosts.HOST[0])
     count.check("the host in Rust, under valgrind", got == (0, hosts.HOST[1], b""), f"{got}"[-1500:])
-    playing_scripts.check(count, [*LOST, f"{folder}/play_script"], "the crate, under valgrind", playing_scripts.short_rows())
+    playing_scripts.check(
+        count, [*LOST, f"{folder}/play_script"], "the crate, under valgrind", playing_scripts.short_rows()
+    )
 
 
 def check_scripts(count: ran.Count) -> None:
@@ -116,7 +134,7 @@ def check_library(count: ran.Count) -> None:
         os.mkdir(f"{room}/named")
         for it in ("libbullmyrtle.a", "bullmyrtle.h"):
             shutil.copy(f"{ran.TOP}/release/{it}", f"{room}/named/{it}")
-        how = {"CARGO_TARGET_DIR": f"{room}/target"}
+        how: dict[str, Any] = {"CARGO_TARGET_DIR": f"{room}/target"}
         status, text = cargo("build", "--offline", BULLMYRTLE_LIB_DIR=f"{room}/empty", **how)
         missing = f"{room}/empty/libbullmyrtle.a isn't there; set BULLMYRTLE_LIB_DIR to the folder of libbullmyrtle.a"
         count.check("a folder without the library is told", status != 0 and missing in text, text[-500:])

@@ -1,6 +1,6 @@
-"""Three loads on a server of four workers, with every answer checked: many requests of all kinds, with cancels, and with its calls answered
-out of order; calls that are answered late; and many cancels of requests that wait for their replies. What was sent in the first is
-played too, by the player on one thread, and compared with what was served."""
+"""Three loads on a server of four workers, with every answer checked: many requests of all kinds, with cancels, and
+with its calls answered out of order; calls that are answered late; and many cancels of requests that wait for their
+replies. What was sent in the first is played too, by the player on one thread, and compared with what was served."""
 import collections
 import io
 import json
@@ -137,7 +137,9 @@ with Client(["--table", METHODS, "--workers", "4"]) as client:
     left, status, errors = run(load, REQUESTS, send_all, 40)
     count.check("many requests: the end", (left, status, errors) == ([], 0, b""), f"{left[:3]} {status} {errors!r}")
     ids = [it for it, _ in load.answers]
-    count.check("each request is answered once, in order of arrival", ids == [*range(1, REQUESTS + 1)], f"{len(ids):,} answers")
+    count.check(
+        "each request is answered once, in order of arrival", ids == [*range(1, REQUESTS + 1)], f"{len(ids):,} answers"
+    )
     hits = 0
     notices = collections.Counter()
     for id_, found in load.answers:
@@ -145,13 +147,17 @@ with Client(["--table", METHODS, "--workers", "4"]) as client:
         wanted, sends = answer(id_, number, method, params)
         is_hit = found == error(id_, *CANCELLED)
         hits += is_hit
-        count.check(f"request {id_} ({method})", found == wanted or (is_hit and id_ in wishes), f"{found} in place of {wanted}")
+        count.check(
+            f"request {id_} ({method})", found == wanted or (is_hit and id_ in wishes), f"{found} in place of {wanted}"
+        )
         if method == "note":
             notices.update(sends)
             continue
         withdrawals = [notification("$/cancelRequest", {"id": f"{number}.{turn}"}) for turn in (1, 2)]
         came = load.sends[number]
-        is_well = came == sends if not is_hit else came[:1] in ([], sends[:1]) and all(it in withdrawals for it in came[1:])
+        is_well = (
+            came == sends if not is_hit else came[:1] in ([], sends[:1]) and all(it in withdrawals for it in came[1:])
+        )
         count.check(f"what the handler of request {id_} sent", is_well, f"{came} in place of {sends}")
     # (a cancelled `note` may have sent its notice or not)
     found = collections.Counter(load.sends["notices"])
@@ -171,7 +177,11 @@ with Client(["--table", METHODS, "--workers", "4"]) as client:
         if isinstance(value, dict) and "method" not in value:
             played[value["id"]] = content
     differing = [it for it in served if it not in wishes and served[it] != played.get(it)]
-    count.check("what was served is what was played", not differing and len(played) == REQUESTS, f"{differing[:5]} of {len(played):,}")
+    count.check(
+        "what was served is what was played",
+        not differing and len(played) == REQUESTS,
+        f"{differing[:5]} of {len(played):,}",
+    )
     cancelled = [it for it in wishes if played[it] not in (error(it, *CANCELLED), answer(it, *plans[it])[0])]
     count.check("and of those that a cancel names either answer", not cancelled, f"{cancelled[:5]}")
 
@@ -202,7 +212,9 @@ with Client(["--table", METHODS, "--workers", "4"]) as client:
     for id_ in range(1, PARKED + 1):
         load.send(request(id_, "ask", [id_]))
     calls = sorted((client.receive() for _ in range(PARKED)), key=lambda it: int(json.loads(it)["id"].split(".")[0]))
-    count.check("the calls of those that wait", calls == [call(f"{it}.1", "confirm", [it]) for it in range(1, PARKED + 1)])
+    count.check(
+        "the calls of those that wait", calls == [call(f"{it}.1", "confirm", [it]) for it in range(1, PARKED + 1)]
+    )
     order = list(range(1, PARKED + 1))
     load.random.shuffle(order)
     for id_ in order:
@@ -210,8 +222,13 @@ with Client(["--table", METHODS, "--workers", "4"]) as client:
     came = [client.receive() for _ in range(2 * PARKED)]
     withdrawn = [it for it in came if it.startswith('{"jsonrpc"')]
     answers = [it for it in came if it.startswith('{"error"')]
-    count.check(f"{PARKED:,} cancels: withdrawals", sorted(withdrawn) == sorted(notification("$/cancelRequest", {"id": f"{it}.1"}) for it in order))
-    count.check(f"{PARKED:,} cancels: answers in order", answers == [error(it, *CANCELLED) for it in range(1, PARKED + 1)])
+    count.check(
+        f"{PARKED:,} cancels: withdrawals",
+        sorted(withdrawn) == sorted(notification("$/cancelRequest", {"id": f"{it}.1"}) for it in order),
+    )
+    count.check(
+        f"{PARKED:,} cancels: answers in order", answers == [error(it, *CANCELLED) for it in range(1, PARKED + 1)]
+    )
     client.close_input()
     count.check("cancels: the end", client.end() == ([], 0, b""))
 count.end()

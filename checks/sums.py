@@ -1,6 +1,6 @@
-"""What one sum takes in `play`, sent by itself and in batches of 100, is what docs/performance.md has, or less: its instructions, by
-callgrind, and how often the program asks for memory for it. Both are the difference of 3,000 sums and 1,000, so what the program's own
-start takes is left out, and no load of the machine moves them."""
+"""What one sum takes in `play`, sent by itself and in batches of 100, is what docs/performance.md has, or less: its
+instructions, by callgrind, and how often the program asks for memory for it. Both are the difference of 3,000 sums and
+1,000, so what the program's own start takes is left out, and no load of the machine moves them."""
 import os
 import re
 import subprocess
@@ -16,7 +16,8 @@ from measures import inputs  # noqa: E402 (it stands in bench/)
 
 FEW, MANY = 1_000, 3_000
 PLAY = ("play", "--table", os.path.join(ran.TOP, "bench", "baseline", "methods.toml"))
-# What was reached (the figures of docs/performance.md), by the way that sums come: instructions, and requests for memory.
+# What was reached (the figures of docs/performance.md), by the way that sums come: instructions, and requests for
+# memory.
 REACHED = {"single": (inputs.adds, 8_182, 4.1), "in batches of 100": (inputs.batches_of_adds, 7_529, 3.3)}
 # So much more is taken for a change of the C library or of the compiler, and not for one of ours.
 SPARE = 1.05
@@ -26,7 +27,9 @@ def instructions(given):
     """How many instructions a run takes, by callgrind; None where it fails."""
     with tempfile.TemporaryDirectory() as room:
         tool = ["valgrind", "--tool=callgrind", f"--callgrind-out-file={os.path.join(room, 'out')}", ran.BUILT, *PLAY]
-        ended = subprocess.run(tool, input=given, stdout=subprocess.DEVNULL, stderr=subprocess.PIPE, timeout=900, check=False)
+        ended = subprocess.run(
+            tool, input=given, stdout=subprocess.DEVNULL, stderr=subprocess.PIPE, timeout=900, check=False
+        )
     found = re.search(rb"Collected : (\d+)", ended.stderr)
     return int(found[1]) if found and ended.returncode == 0 else None
 

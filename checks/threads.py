@@ -1,6 +1,6 @@
-"""What starts threads, many times in a row: each run ends by itself. The tests of job slots that have two workers pass, and of 10,000 jobs
-that four workers turn each comes home once, turned once. And a server whose client waits for each answer before its next request: no wake-up
-is lost, however soon its threads go to sleep."""
+"""What starts threads, many times in a row: each run ends by itself. The tests of job slots that have two workers pass,
+and of 10,000 jobs that four workers turn each comes home once, turned once. And a server whose client waits for each
+answer before its next request: no wake-up is lost, however soon its threads go to sleep."""
 from support import ran
 
 # How often each test, and each hand-out of jobs, is run.
@@ -13,8 +13,7 @@ count = ran.Count()
 
 def check_tests():
     for threaded in THREADED:
-        test = ran.test_named(threaded)
-        count.check(f"the gate built {threaded}", test is not None)
+        test = count.built(threaded, ran.test_named(threaded))
         for turn in range(1, TURNS + 1 if test else 1):
             status, _ = ran.told_by(test, 60)
             count.check(f"{threaded}, run {turn}", status == 0, f"{status}")
@@ -36,12 +35,15 @@ def check_wake_ups(bench):
     for workers in ("1", "4"):
         for yields in ("0", "5"):
             words = ["lockstep", "--rounds", str(ROUNDS), "--workers", workers, "--yields", yields]
-            count.same(f"peer_bench {' '.join(words)}", ran.told_by([bench, *words], 120), (0, b"%d requests answered\n" % ROUNDS))
+            count.same(
+                f"peer_bench {' '.join(words)}",
+                ran.told_by([bench, *words], 120),
+                (0, b"%d requests answered\n" % ROUNDS),
+            )
 
 
 check_tests()
-BENCH = ran.gates_program("peer_bench")
-count.check("the gate built peer_bench", BENCH is not None)
+BENCH = count.built("peer_bench", ran.gates_program("peer_bench"))
 if BENCH:
     check_jobs(BENCH)
     check_wake_ups(BENCH)

@@ -1,7 +1,8 @@
 #!/usr/bin/env python3
-"""Looks whether the record of wrong bodies holds for just those crates of which nothing has changed, in a copy of the tree: after an edit of
-a source, of a definition, of a body, of the scripts that judge, of the list of crates or of the record itself; and by another kit. What is
-written is whole, whoever writes beside it, and nothing is written of a crate that has changed meanwhile.
+"""Looks whether the record of wrong bodies holds for just those crates of which nothing has changed, in a copy of the
+tree: after an edit of a source, of a definition, of a body, of the scripts that judge, of the list of crates or of the
+record itself; and by another kit. What is written is whole, whoever writes beside it, and nothing is written of a crate
+that has changed meanwhile.
 
 It proves nothing. The last line is 'N passed, M failed'; the status is 0 only where M is."""
 import json
@@ -17,8 +18,8 @@ from support.record import FILE
 from tools import kit
 from tools.repository import TOP, listing
 
-# Says of which crates the record of the tree holds. With words it first writes the lines of those that they name: `all` of them, or some behind
-# an edit that comes once the run has begun.
+# Says of which crates the record of the tree holds. With words it first writes the lines of those that they name: `all`
+# of them, or some behind an edit that comes once the run has begun.
 ASKED = """
 import json, sys
 sys.path.insert(0, "checks")
@@ -48,18 +49,29 @@ class Copy:
 
     def ask(self, *words: str, path: str = "") -> dict:
         """What the record says, with commands in the folder `path` before all others."""
-        seen = {**os.environ, "PATH": f"{path}:{os.environ['PATH']}" if path else os.environ["PATH"], "PYTHONDONTWRITEBYTECODE": "1"}
-        told = subprocess.run([sys.executable, "-c", ASKED, *words], cwd=self.at, env=seen, capture_output=True, text=True, check=False)
+        seen = {
+            **os.environ,
+            "PATH": f"{path}:{os.environ['PATH']}" if path else os.environ["PATH"],
+            "PYTHONDONTWRITEBYTECODE": "1",
+        }
+        told = subprocess.run(
+            [sys.executable, "-c", ASKED, *words], cwd=self.at, env=seen, capture_output=True, text=True, check=False
+        )
         return json.loads(told.stdout) if told.returncode == 0 else {"held": told.stderr, "kept": told.stderr}
 
     def first(self, folder: str, ending: str) -> str:
         """The first file of a folder with this ending."""
-        found = sorted(f"{at}/{name}" for at, _, names in os.walk(f"{self.at}/{folder}") for name in names if name.endswith(ending))
+        found = sorted(
+            f"{at}/{name}" for at, _, names in os.walk(f"{self.at}/{folder}") for name in names if name.endswith(ending)
+        )
         return os.path.relpath(found[0], self.at)
 
 
-def edited(copy: Copy, file: str, change: Callable[[bytes], Optional[bytes]], ask: Optional[Callable[[], dict]] = None) -> dict:
-    """What the record says while a file is changed, or what is asked else; with None for its new bytes the file is gone."""
+def edited(
+    copy: Copy, file: str, change: Callable[[bytes], Optional[bytes]], ask: Optional[Callable[[], dict]] = None
+) -> dict:
+    """What the record says while a file is changed, or what is asked else; with None for its new bytes the file is
+    gone."""
     at = f"{copy.at}/{file}"
     with open(at, "rb") as it:
         before = it.read()
@@ -96,7 +108,13 @@ def check_edits(count: ran.Count, copy: Copy, every: list[str]) -> None:
     check_held(count, "an edit of a body", told, without("rpc_messages"))
     for it in ("bodies", "functions", "rounds", "verdicts"):
         check_held(count, f"an edit of what judges, {it}.py", edited(copy, f"checks/support/{it}.py", longer), [])
-    for it in ("checks/wrong_bodies.py", "checks/support/trial.py", "checks/support/record.py", "checks/fuzz.py", "bin/test"):
+    for it in (
+        "checks/wrong_bodies.py",
+        "checks/support/trial.py",
+        "checks/support/record.py",
+        "checks/fuzz.py",
+        "bin/test",
+    ):
         check_held(count, f"an edit of {it}", edited(copy, it, longer), every)
     told = edited(copy, "crates.txt", lambda it: it.replace(b"\njob_slots: ", b"\njob_slots: itoa "))
     check_held(count, "another library below job_slots", told, without(*listing().above(["job_slots"])))
@@ -118,7 +136,10 @@ def check_kits(count: ran.Count, copy: Copy, every: list[str]) -> None:
     room = f"{ran.ROOM.name}/kit"
     os.makedirs(f"{room}/bin")
     os.symlink(f"{kit.folder()}/bin/rattle", f"{room}/bin/rattle")
-    for name, logic, held in (("another kit of this logic", kit.logic(kit.version()), every), ("another logic", "another", [])):
+    for name, logic, held in (
+        ("another kit of this logic", kit.logic(kit.version()), every),
+        ("another logic", "another", []),
+    ):
         with open(f"{room}/bin/rt", "w", encoding="utf-8") as it:
             it.write(f"#!/bin/sh\necho 'a-kit logic {logic}'\n")
         os.chmod(it.name, 0o755)
@@ -136,7 +157,9 @@ def check_left_out(count: ran.Count, copy: Copy, every: list[str]) -> None:
     for words, held in (((), every), (("--record",), every), (("--record", every[0]), every[:1])):
         told = tried(copy, *words).splitlines()
         found = [it for it in held if f"== {it}: not tried: checks/tried.txt has it as it stands" in told]
-        count.check(f"none is tried {words}", found == held and told[-1:] == [f"{len(held)} passed, 0 failed"], "\n".join(told))
+        count.check(
+            f"none is tried {words}", found == held and told[-1:] == [f"{len(held)} passed, 0 failed"], "\n".join(told)
+        )
     count.check("--record takes crates alone", tried(copy, "--record", "no_crate") == "", "it takes another word")
 
 
@@ -144,12 +167,23 @@ def check_writing(count: ran.Count, copy: Copy, every: list[str]) -> None:
     """Lines are written one by one, and by several at once."""
     told = edited(copy, FILE, lambda it: None, lambda: copy.ask(every[1]))
     check_held(count, "one line in a new record", told, every[1:2])
-    told = edited(copy, FILE, lambda it: it.replace(f"{every[0]} ".encode(), b"gone 1 ").replace(b"\n" + f"{every[1]} ".encode(), b"\ngone 2 "), lambda: copy.ask(every[1]))
+    told = edited(
+        copy,
+        FILE,
+        lambda it: it.replace(f"{every[0]} ".encode(), b"gone 1 ").replace(
+            b"\n" + f"{every[1]} ".encode(), b"\ngone 2 "
+        ),
+        lambda: copy.ask(every[1]),
+    )
     check_held(count, "one line more", told, every[1:])
     first = copy.first(f"crates/{every[0]}/src", ".rt")
-    told = edited(copy, FILE, lambda it: None, lambda: edited(copy, first, lambda it: it + b"\n", lambda: copy.ask("all", first)))
+    told = edited(
+        copy, FILE, lambda it: None, lambda: edited(copy, first, lambda it: it + b"\n", lambda: copy.ask("all", first))
+    )
     above = listing().above([every[0]])
-    count.check("nothing of what has changed meanwhile", told["kept"] == [it for it in every if it not in above], f"{told}")
+    count.check(
+        "nothing of what has changed meanwhile", told["kept"] == [it for it in every if it not in above], f"{told}"
+    )
 
     def at_once() -> dict:
         with ThreadPoolExecutor(len(every)) as pool:

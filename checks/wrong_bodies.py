@@ -1,17 +1,18 @@
 #!/usr/bin/env python3
 """Has the prover refuse each wrong body of crates/*/wrong-bodies, many in one check, and accept the right ones.
 
-A wrong body is a change of a function's text after which a promise no longer holds, so the check must refuse that function. The
-wrong bodies of different functions are tried at once, in rounds, in copies of the crate. A round looks at the functions that it changes
-and at what these call: each changed function must fall for a reason of its own, and every other is proved, or falls only because it
-calls one of those. What hurts more than that is tried singly, and what isn't refused on the whole crate. Control: right bodies, which
-are written differently, and a comment in each other function that has bodies must be proved, and the rounds stand on what that proof
-kept. checks/tried.txt tells of which crates all bodies were tried as they stand, on whatever machine: these aren't tried again, unless
-they are named, or with --anew.
+A wrong body is a change of a function's text after which a promise no longer holds, so the check must refuse that
+function. The wrong bodies of different functions are tried at once, in rounds, in copies of the crate. A round looks at
+the functions that it changes and at what these call: each changed function must fall for a reason of its own, and every
+other is proved, or falls only because it calls one of those. What hurts more than that is tried singly, and what isn't
+refused on the whole crate. Control: right bodies, which are written differently, and a comment in each other function
+that has bodies must be proved, and the rounds stand on what that proof kept. checks/tried.txt tells of which crates all
+bodies were tried as they stand, on whatever machine: these aren't tried again, unless they are named, or with --anew.
 
-For each wrong body a line says how it was refused: by which clauses or goals, or only because an answer by hand no longer fits
-(which says less: a right body could be refused so too). One that is proved is a failure, and so is one that doesn't compile, whose
-old text no longer stands, or that the check did not judge. The last line is 'N passed, M failed'; the status is 0 only where M is."""
+For each wrong body a line says how it was refused: by which clauses or goals, or only because an answer by hand no
+longer fits (which says less: a right body could be refused so too). One that is proved is a failure, and so is one that
+doesn't compile, whose old text no longer stands, or that the check did not judge. The last line is 'N passed, M
+failed'; the status is 0 only where M is."""
 import argparse
 import glob
 import os
@@ -34,18 +35,58 @@ from tools.repository import listing
 
 def arguments() -> argparse.Namespace:
     summary, _, more = __doc__.partition("\n\n")
-    parser = argparse.ArgumentParser(description=summary, epilog=more, formatter_class=argparse.RawDescriptionHelpFormatter)
-    parser.add_argument("names", nargs="*", metavar="NAME", help="a crate, a body, or CRATE/BODY; none: the crates that checks/tried.txt doesn't have as they stand")
-    parser.add_argument("--stands", action="store_true", help="only look whether each old text stands once, in the function that is named, and whether docs/proofs.md names bodies that there are; proves nothing")
-    parser.add_argument("--kept", action="store_true", help="use what is kept in crates/*/out where the crate is proved there, and prove the others")
-    parser.add_argument("--anew", action="store_true", help="try all, also the crates that checks/tried.txt has as they stand")
-    parser.add_argument("--record", action="store_true", help="write checks/tried.txt, the line of each crate as soon as all of its bodies are tried; of those that are named it tries the ones that the file doesn't have as they stand")
-    parser.add_argument("--jobs", type=int, metavar="N", default=default_jobs(), help="checks side by side (default: %(default)s), each with up to 2.5 GB")
-    parser.add_argument("--minutes", type=float, metavar="M", default=120, help="the most that one check may take (default: %(default)s)")
+    parser = argparse.ArgumentParser(
+        description=summary, epilog=more, formatter_class=argparse.RawDescriptionHelpFormatter
+    )
+    parser.add_argument(
+        "names",
+        nargs="*",
+        metavar="NAME",
+        help="a crate, a body, or CRATE/BODY; none: the crates that checks/tried.txt doesn't have as they stand",
+    )
+    parser.add_argument(
+        "--stands",
+        action="store_true",
+        help="only look whether each old text stands once, in the function that is named, and whether docs/proofs.md names bodies that there are; proves nothing",
+    )
+    parser.add_argument(
+        "--kept",
+        action="store_true",
+        help="use what is kept in crates/*/out where the crate is proved there, and prove the others",
+    )
+    parser.add_argument(
+        "--gate",
+        action="store_true",
+        help="try them over the libraries that the gate has just built in crates/*/out, as bin/test does; where one is missing, as with --kept",
+    )
+    parser.add_argument(
+        "--anew", action="store_true", help="try all, also the crates that checks/tried.txt has as they stand"
+    )
+    parser.add_argument(
+        "--record",
+        action="store_true",
+        help="write checks/tried.txt, the line of each crate as soon as all of its bodies are tried; of those that are named it tries the ones that the file doesn't have as they stand",
+    )
+    parser.add_argument(
+        "--jobs",
+        type=int,
+        metavar="N",
+        default=default_jobs(),
+        help="checks side by side (default: %(default)s), each with up to 2.5 GB",
+    )
+    parser.add_argument(
+        "--minutes",
+        type=float,
+        metavar="M",
+        default=120,
+        help="the most that one check may take (default: %(default)s)",
+    )
     parser.add_argument("--logs", metavar="FOLDER", help="keep the output of each check there")
     given = parser.parse_args()
     if given.record and not {*given.names} <= {*listing().lines}:
         parser.error("--record takes whole crates")
+    if given.record and given.gate:
+        parser.error("--record wants libraries that are known to be of these sources: leave out --gate")
     return given
 
 
@@ -71,7 +112,9 @@ def read_crates(names: list[str]) -> tuple[list[Crate], list[str]]:
         problems += [it for it in unfit if asked or any(f": {word.rpartition('/')[2]}: " in it for word in names)]
         if crate.bodies:
             crates.append(crate)
-    problems += [f"{it} names no crate with wrong bodies, and no body that can be tried" for it in names if it not in found]
+    problems += [
+        f"{it} names no crate with wrong bodies, and no body that can be tried" for it in names if it not in found
+    ]
     return crates, problems
 
 
@@ -82,12 +125,15 @@ def report(crates: list[Crate], names: list[str]) -> tuple[int, list[str]]:
         for it in sorted(crate.judged, key=lambda it: crate.bodies.index(it.body)):
             if it.is_well:
                 passed += 1
-                how = {"refused": "refused by", "by hand answer": "refused only because a hand answer no longer fits:"}
+                how = {
+                    "refused": "refused by",
+                    "by hand answer": "refused only because a hand answer no longer fits:",
+                }
                 say(f"{it.body.label} ({it.body.said}): {it.why if it.body.is_right else how[it.word] + ' ' + it.why}")
             else:
                 failures.append(f"{it.body.label}: {'PROVED' if it.word == 'proved' else it.word}: {it.why}")
-        lost = [it.body for it in crate.judged]
-        lost = [it.name for it in crate.bodies if lost.count(it) != 1 and not crate.is_recorded]
+        judged = [it.body for it in crate.judged]
+        lost = [it.name for it in crate.bodies if judged.count(it) != 1 and not crate.is_recorded]
         failures += [f"{crate.name}: {len(lost)} bodies were not judged: {', '.join(lost)}"] if lost else []
         failures += crate.failures
         passed += crate.comments == "proved" or crate.is_recorded
@@ -116,20 +162,30 @@ def unknown_in_proofs() -> list[str]:
     known = {os.path.basename(it).removesuffix(".edit") for it in glob.glob(f"{TOP}/crates/*/must-fail/*.edit")}
     for name in listing().lines:
         known |= {it.name for it in read_bodies(Sources(f"{TOP}/crates/{name}"))[0]}
-    rows = [line.split("|")[-2] for line in text_of("docs", "proofs.md").split("\n") if line.startswith("|") and line.endswith("|")]
+    rows = [
+        line.split("|")[-2]
+        for line in text_of("docs", "proofs.md").split("\n")
+        if line.startswith("|") and line.endswith("|")
+    ]
     named = [word for cell in rows for word in re.findall(r"`(\w+)`", cell)]
-    return [f"docs/proofs.md tells of {it}, and no wrong body has that name" for it in dict.fromkeys(named) if it not in known]
+    return [
+        f"docs/proofs.md tells of {it}, and no wrong body has that name"
+        for it in dict.fromkeys(named)
+        if it not in known
+    ]
 
 
 def attempt(crates: list[Crate], given: argparse.Namespace, record: Record) -> float:
-    """Tries the crates' bodies in a folder of this run, and writes the record where that is asked for; gives the processor seconds that it
-    took."""
+    """Tries the crates' bodies in a folder of this run, and writes the record where that is asked for; gives the
+    processor seconds that it took."""
     with tempfile.TemporaryDirectory(prefix="wrong-bodies-") as folder:
         # (it ends as after an interrupt from the keyboard: what runs is stopped, and the folder is removed)
         for it in (signal.SIGTERM, signal.SIGHUP):
             signal.signal(it, lambda number, _: sys.exit(128 + number))
-        trees = Trees(TOP, folder, {it.name: it.control for it in crates}, given.minutes * 60)
-        if given.kept:
+        trees = Trees(TOP, folder, {it.name: it.control for it in crates}, given.minutes * 60, given.gate)
+        if trees.is_over_gate:
+            say(f"== the gate's libraries of: {', '.join(trees.libraries)}")
+        elif given.kept or given.gate:
             kept = [it for it in trees.needed if trees.take_kept(it)]
             say(f"== kept work of: {', '.join(kept) or 'no crate'}")
 
@@ -143,13 +199,19 @@ def attempt(crates: list[Crate], given: argparse.Namespace, record: Record) -> f
         return trial.seconds
 
 
+def looked_at(names: list[str]) -> tuple[list[Crate], list[str]]:
+    """The same, and what docs/proofs.md tells of and no file has, where all crates are asked for."""
+    crates, problems = read_crates(names)
+    return crates, problems + ([] if names else unknown_in_proofs())
+
+
 def main() -> int:
     given, began, seconds = arguments(), time.monotonic(), 0.0
-    record = None if given.stands else Record(TOP)
-    crates, problems = read_crates(given.names)
-    problems += [] if given.names else unknown_in_proofs()
     if given.stands:
+        crates, problems = looked_at(given.names)
         return end(sum(len(it.bodies) for it in crates), problems)
+    record = Record(TOP)
+    crates, problems = looked_at(given.names)
     if not shutil.which("rt"):
         problems, crates = ["the command rt of the Rattle kit isn't on the PATH"], []
     for it in crates:

@@ -1,4 +1,5 @@
-"""The fuzzer of connections finds models that are wrong in one thing, each within so many sessions, and finds nothing wrong with the right one."""
+"""The fuzzer of connections finds models that are wrong in one thing, each within so many sessions, and finds nothing
+wrong with the right one."""
 from functools import partial
 
 from support import connection_fuzzing as fuzzing
@@ -16,5 +17,7 @@ count.check(f"nothing is wrong with the model in {RIGHT} sessions", found is Non
 for kind in wrong_models.WRONG:
     found = fuzzing.first_found(partial(fuzzing.play_by_model, kind), SEED, MOST)
     count.check(f"{kind.__name__} is found", found is not None, f"not in {MOST} sessions")
-    print(f"found after {found.after} sessions: {kind.__doc__} {found.why[:160]}" if found else kind.__doc__, flush=True)
+    print(
+        f"found after {found.after} sessions: {kind.__doc__} {found.why[:160]}" if found else kind.__doc__, flush=True
+    )
 count.end()

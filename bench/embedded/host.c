@@ -62,7 +62,8 @@ static bool sum_of(const char *text, int64_t *sum)
     return true;
 }
 
-/* Writes a number's digits at the end of the room, and says where they begin; printf would take a tenth of a request. */
+/* Writes a number's digits at the end of the room, and says where they begin; printf would take a tenth of a request.
+ */
 static uint8_t *digits(int64_t value, uint8_t *end)
 {
     uint64_t left = value < 0 ? 0 - (uint64_t)value : (uint64_t)value;

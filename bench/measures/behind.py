@@ -3,7 +3,8 @@ from typing import Dict, List, NamedTuple
 
 
 class Row(NamedTuple):
-    """A row of a table by one program, at its largest size: the baseline's time by the program's, and why it is below 1."""
+    """A row of a table by one program, at its largest size: the baseline's time by the program's, and why it is below
+    1."""
 
     name: str
     label: str

@@ -1,5 +1,5 @@
-"""What is measured: the baseline, our program, a second one of ours where it is named, and the program that reads and writes alone; and how
-they are built."""
+"""What is measured: the baseline, our program, a second one of ours where it is named, and the program that reads and
+writes alone; and how they are built."""
 import glob
 import os
 import shutil
@@ -86,7 +86,8 @@ def built(before: Optional[str], reading: Optional[str], counts: bool) -> Progra
 
 
 def built_host(hosting: Optional[str]) -> str:
-    """The program that hosts, which is taken as it is where it is named; and the baseline, whose host it is measured beside."""
+    """The program that hosts, which is taken as it is where it is named; and the baseline, whose host it is measured
+    beside."""
     wanted = lacking(counts=False)
     if wanted:
         sys.exit(f"bench/run: first apt-get install -y {' '.join(wanted)}")
@@ -101,7 +102,9 @@ def build_baseline() -> None:
 def proved(program_file: str) -> str:
     """A program of the repository, proved and built over what earlier checks kept."""
     words = ["rt", "run", "--", "--version"]
-    ended = subprocess.run(words, cwd=os.path.dirname(os.path.dirname(program_file)), capture_output=True, text=True, check=False)
+    ended = subprocess.run(
+        words, cwd=os.path.dirname(os.path.dirname(program_file)), capture_output=True, text=True, check=False
+    )
     if ended.returncode:
         sys.exit(f"bench/run: {os.path.basename(program_file)} isn't proved or doesn't build:\n{ended.stderr[-2000:]}")
     return program_file

@@ -1,5 +1,5 @@
-"""The tables of hosts in C and in Rust over the released C library, beside the baseline's host: the loads of measures/hosting.py, each on one
-thread; and how often each asks for memory for one small request."""
+"""The tables of hosts in C and in Rust over the released C library, beside the baseline's host: the loads of
+measures/hosting.py, each on one thread; and how often each asks for memory for one small request."""
 import os
 import subprocess
 import sys
@@ -23,7 +23,15 @@ def built() -> List[Contender]:
         sys.exit(f"bench/run: first apt-get install -y {' '.join(wanted)}")
     contenders.build_baseline()
     os.makedirs(os.path.dirname(IN_C), exist_ok=True)
-    words = ["cc", "-std=c99", "-D_POSIX_C_SOURCE=200809L", "-O2", f"-I{LIBRARY}", f"{FOLDER}/host.c", f"{LIBRARY}/libbullmyrtle.a"]
+    words = [
+        "cc",
+        "-std=c99",
+        "-D_POSIX_C_SOURCE=200809L",
+        "-O2",
+        f"-I{LIBRARY}",
+        f"{FOLDER}/host.c",
+        f"{LIBRARY}/libbullmyrtle.a",
+    ]
     subprocess.run([*words, "-o", IN_C], check=True)
     subprocess.run(["cargo", "build", "--release", "--offline", "--quiet"], cwd=FOLDER, check=True)
     return [Contender("baseline", (BASELINE, "host")), Contender("in C", (IN_C,)), Contender("in Rust", (IN_RUST,))]

@@ -1,5 +1,5 @@
-"""The tables of a host, whose methods are its own code: loads in bulk and round trips, by `connection_bench host` and by the baseline's host, each
-on one thread; and how often each asks for memory for one small request."""
+"""The tables of a host, whose methods are its own code: loads in bulk and round trips, by `connection_bench host` and
+by the baseline's host, each on one thread; and how often each asks for memory for one small request."""
 import os
 import sys
 from typing import List
@@ -36,7 +36,8 @@ def requests(count: int) -> Load:
 
 
 def open_calls(count: int) -> Load:
-    """All requests at once; when all their calls are there, all replies, the last first. Each answer goes out at once."""
+    """All requests at once; when all their calls are there, all replies, the last first. Each answer goes out at
+    once."""
     asked = Round(frames(ask, numbers(count)), count)
     replied = Round(frames(reply, reversed(numbers(count))), count)
     return load([asked, replied], 2, [*map(confirm, numbers(count))], [*map(result, reversed(numbers(count)))])
@@ -59,7 +60,9 @@ def long_param(length: int) -> Load:
 
 
 KEPT = "what came and what is said are texts of their own, and each call has a place until it is answered"
-TEXTS = "what came and what is said are texts of their own, each read and written compactly; the baseline's are one value"
+TEXTS = (
+    "what came and what is said are texts of their own, each read and written compactly; the baseline's are one value"
+)
 BULKS = (
     Row("requests", requests, 200_000, KEPT),
     Row("batches of 100", batches, 200_000, KEPT),
@@ -70,7 +73,11 @@ TRIPS = (
     Row("a call back", calls_back, 5_000, KEPT),
     Row("a param of 8 MB", long_param, 8_000_000, TEXTS),
 )
-SMALL = {"a small request": add(1), "an unknown method": request(1), "a notification": b'{"jsonrpc":"2.0","method":"note"}'}
+SMALL = {
+    "a small request": add(1),
+    "an unknown method": request(1),
+    "a notification": b'{"jsonrpc":"2.0","method":"note"}',
+}
 
 
 def hosts(program: str) -> List[Contender]:

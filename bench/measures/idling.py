@@ -24,9 +24,10 @@ def processor_time(process: int) -> int:
     return used
 
 
-def started(server: Contender) -> subprocess.Popen:
+def started(server: Contender) -> "subprocess.Popen[bytes]":
     """A server that has answered one request."""
     running = subprocess.Popen(server.words, stdin=subprocess.PIPE, stdout=subprocess.PIPE)
+    assert running.stdin is not None and running.stdout is not None
     running.stdin.write(frame(request(1)))
     running.stdin.flush()
     answer = frame(not_found(1))
@@ -35,7 +36,7 @@ def started(server: Contender) -> subprocess.Popen:
     return running
 
 
-def used_by(servers: List[subprocess.Popen], seconds: float) -> List[float]:
+def used_by(servers: List["subprocess.Popen[bytes]"], seconds: float) -> List[float]:
     """The shares of a processor that servers use in some seconds."""
     before = [processor_time(it.pid) for it in servers]
     begun = time.monotonic()

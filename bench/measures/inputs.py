@@ -67,8 +67,8 @@ def long_text(count: int) -> bytes:
 
 
 class Input(NamedTuple):
-    """A row of the table: how what it reads is made, its size, which counts requests, or the bytes of one, and what ours does that the baseline
-    doesn't, where it takes longer."""
+    """A row of the table: how what it reads is made, its size, which counts requests, or the bytes of one, and what
+    ours does that the baseline doesn't, where it takes longer."""
 
     name: str
     make: Callable[[int], bytes]

@@ -1,4 +1,5 @@
-"""The tables of `play` and of reading and writing alone: each input read from a file, whole, and answered into nothing."""
+"""The tables of `play` and of reading and writing alone: each input read from a file, whole, and answered into
+nothing."""
 import os
 import re
 import subprocess

@@ -13,7 +13,8 @@ PATIENCE = 300
 
 
 class Played(NamedTuple):
-    """What one run took: the seconds of each trip, and the server's most memory in KiB and processor time in seconds."""
+    """What one run took: the seconds of each trip, and the server's most memory in KiB and processor time in
+    seconds."""
 
     trips: List[float]
     peak: int

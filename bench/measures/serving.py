@@ -13,7 +13,8 @@ WORKERS = (1, 4)
 
 
 class Row(NamedTuple):
-    """A row of a table, how its load is made, its size, and what ours does that the baseline doesn't, where it takes longer."""
+    """A row of a table, how its load is made, its size, and what ours does that the baseline doesn't, where it takes
+    longer."""
 
     name: str
     make: Callable[[int], loads.Load]
@@ -24,14 +25,24 @@ class Row(NamedTuple):
 STEPS = "a job goes to a worker and comes home, while the clerk reads, opens, finishes and writes; the baseline calls a function"
 HAND_OVERS = "a request goes through three threads, and through the clerk's twice"
 BULKS = (
-    Row("unknown methods", loads.unknown, 200_000, "each piece goes from the reader's thread to the clerk's, and each request to the desk and the session"),
+    Row(
+        "unknown methods",
+        loads.unknown,
+        200_000,
+        "each piece goes from the reader's thread to the clerk's, and each request to the desk and the session",
+    ),
     Row("adds", loads.adds, 200_000, STEPS),
     Row("adds in batches", loads.batches, 200_000, STEPS),
     Row("open calls", loads.open_calls, 20_000, STEPS),
 )
 TRIPS = (
     Row("a request", loads.pings, 5_000, HAND_OVERS),
-    Row("one after 5 ms", loads.late_pings, 200, "three threads are woken one after the other, and the baseline's one thread once"),
+    Row(
+        "one after 5 ms",
+        loads.late_pings,
+        200,
+        "three threads are woken one after the other, and the baseline's one thread once",
+    ),
     Row("a call back", loads.calls_back, 5_000, HAND_OVERS),
 )
 LONG = (
@@ -65,7 +76,9 @@ def show_bulk(row: Row, size: int, seen: Dict[str, List[Played]], half: Dict[str
         print(f"{row.name:20} {size:>9} {label:17} {figures}", flush=True)
 
 
-def show_bulks(rows: Sequence[Row], title: str, servers: List[Contender], small: int, runs: int, behind: Behind) -> None:
+def show_bulks(
+    rows: Sequence[Row], title: str, servers: List[Contender], small: int, runs: int, behind: Behind
+) -> None:
     """Measures and prints half of each row's size, and all of it."""
     head = f"{'req/s':>10} {'ratio':>6} {'cpu us':>10} {'growth':>7} {'peak KiB':>9}"
     print(f"{title:20} {'size':>9} {'program':17} {head}")
@@ -97,7 +110,9 @@ def show_trips(row: Row, seen: Dict[str, List[Played]]) -> None:
         print(f"{row.name:20} {len(times[label]):>9} {label:17} {figures}", flush=True)
 
 
-def show_trips_of(rows: Sequence[Row], title: str, servers: List[Contender], small: int, runs: int, behind: Behind) -> None:
+def show_trips_of(
+    rows: Sequence[Row], title: str, servers: List[Contender], small: int, runs: int, behind: Behind
+) -> None:
     head = f"{'median us':>10} {'ratio':>6} {'99th us':>10} {'cpu us':>10} {'peak KiB':>9}"
     print(f"{title:20} {'trips':>9} {'program':17} {head}")
     for row in rows:

@@ -1,1 +1,2 @@
-"""What the commands of bin/ share: the list of crates, the stamp of sources, the program and its building, and the parts of the test."""
+"""What the commands of bin/ share: the list of crates, the stamp of sources, the program and its building, and the
+parts of the test."""

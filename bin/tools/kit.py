@@ -1,4 +1,6 @@
 """The Rattle kit, by its command rt: which one it is, where it lies, and the words of its gate."""
+from __future__ import annotations
+
 import os
 import shutil
 import subprocess
@@ -9,13 +11,15 @@ from tools.repository import Fault
 ANEW = "--anew"
 
 
-def asked(*words):
+def asked(*words: str) -> tuple[str, int]:
     """What the command rt says, and how it ended."""
-    ended = subprocess.run(["rt", *words], stdin=subprocess.DEVNULL, stdout=subprocess.PIPE, stderr=subprocess.STDOUT, check=False)
+    ended = subprocess.run(
+        ["rt", *words], stdin=subprocess.DEVNULL, stdout=subprocess.PIPE, stderr=subprocess.STDOUT, check=False
+    )
     return ended.stdout.decode(errors="replace").strip(), ended.returncode
 
 
-def version():
+def version() -> str | None:
     """The kit's version, or None where the command rt isn't there."""
     if shutil.which("rt") is None:
         return None
@@ -25,17 +29,18 @@ def version():
     return told
 
 
-def logic(version):
-    """The logic by which a kit proves, as its version tells it: two kits of one logic accept the same proofs. A version that tells none
-    stands for itself."""
+def logic(version: str) -> str:
+    """The logic by which a kit proves, as its version tells it: two kits of one logic accept the same proofs. A version
+    that tells none stands for itself."""
     return version.partition(" logic ")[2] or version
 
 
-def folder():
+def folder() -> str:
     """The kit's folder, in whose bin/ the command rt lies."""
-    return os.path.dirname(os.path.dirname(os.path.realpath(shutil.which("rt"))))
+    return os.path.dirname(os.path.dirname(os.path.realpath(shutil.which("rt") or "rt")))
 
 
-def gate(is_anew):
-    """The words of the gate. Some kits keep what it has proved, and have a word to take nothing of that; others keep nothing."""
+def gate(is_anew: bool) -> list[str]:
+    """The words of the gate. Some kits keep what it has proved, and have a word to take nothing of that; others keep
+    nothing."""
     return ["rt", "ci", *([ANEW] if is_anew and ANEW in asked("help")[0] else [])]

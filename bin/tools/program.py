@@ -1,4 +1,6 @@
 """The program, as released in release/ or as built here in out/, and which of them is of the sources that lie here."""
+from __future__ import annotations
+
 import hashlib
 import os
 import sys
@@ -15,15 +17,15 @@ BUILT_STAMP = f"{BUILT}.stamp"
 LOG = f"{TOP}/out/build.log"
 
 
-def say(text):
+def say(text: str) -> None:
     print(f"bin/{sources.PROGRAM}: {text}", file=sys.stderr, flush=True)
 
 
-def checksum_line(file):
+def checksum_line(file: str) -> str:
     return f"{hashlib.sha256(read_bytes(file)).hexdigest()}  {sources.PROGRAM}\n"
 
 
-def is_released(stamp):
+def is_released(stamp: list[str]) -> bool:
     """Whether release/ holds the program with this stamp, whole."""
     if not os.path.isfile(RELEASED) or not sources.is_stamped(RELEASED_STAMP, stamp):
         return False
@@ -33,16 +35,16 @@ def is_released(stamp):
     return is_whole
 
 
-def is_built(stamp):
+def is_built(stamp: list[str]) -> bool:
     return os.access(BUILT, os.X_OK) and sources.is_stamped(BUILT_STAMP, stamp)
 
 
-def current(stamp):
+def current(stamp: list[str]) -> str | None:
     """The program of the sources that lie here, or None."""
     return RELEASED if is_released(stamp) else BUILT if is_built(stamp) else None
 
 
-def write(file, data, mode=0o644):
+def write(file: str, data: bytes, mode: int = 0o644) -> None:
     """Writes a file in one step, so that a run beside this one reads the old file or the new one."""
     os.makedirs(os.path.dirname(file), exist_ok=True)
     with open(f"{file}.new", "wb") as it:
@@ -51,7 +53,7 @@ def write(file, data, mode=0o644):
     os.replace(f"{file}.new", file)
 
 
-def keep(made, stamp):
+def keep(made: str, stamp: list[str]) -> None:
     """Keeps a program that was proved and built from the sources with this stamp, as out/ has it."""
     if os.path.exists(BUILT_STAMP):
         os.remove(BUILT_STAMP)
@@ -59,11 +61,11 @@ def keep(made, stamp):
     write(BUILT_STAMP, stamp_text(stamp))
 
 
-def stamp_text(stamp):
+def stamp_text(stamp: list[str]) -> bytes:
     return "".join(f"{it}\n" for it in stamp).encode()
 
 
-def release(stamp):
+def release(stamp: list[str]) -> None:
     """Writes release/ from the program in out/."""
     if not is_built(stamp):
         raise Fault(f"{BUILT} isn't of the sources that lie here")
@@ -72,16 +74,22 @@ def release(stamp):
     write(RELEASED_STAMP, stamp_text(stamp))
 
 
-def compared():
-    """Compares the program in out/ with the released one: whether they are the same, or None where nothing can be compared, and what to say."""
+def compared() -> tuple[bool | None, str]:
+    """Compares the program in out/ with the released one: whether they are the same, or None where nothing can be
+    compared, and what to say."""
     if not os.path.isfile(RELEASED) or not os.path.isfile(RELEASED_STAMP):
         return None, "there is no released program to compare with: bin/release writes it"
-    (released, released_kit), (built, built_kit) = ([*read_text(it).split("\n"), ""][:2] for it in (RELEASED_STAMP, BUILT_STAMP))
+    (released, released_kit), (built, built_kit) = (
+        [*read_text(it).split("\n"), ""][:2] for it in (RELEASED_STAMP, BUILT_STAMP)
+    )
     if released != built:
         return None, "release/ is of other sources, and isn't compared: bin/release writes it anew"
     if read_bytes(RELEASED) != read_bytes(BUILT):
         if released_kit != built_kit:
-            return None, f"release/rpc_tool was built by another kit, {released_kit}, and differs from what this one makes: bin/release writes it anew"
+            return (
+                None,
+                f"release/rpc_tool was built by another kit, {released_kit}, and differs from what this one makes: bin/release writes it anew",
+            )
         return False, "release/rpc_tool has the stamp of these sources, and DIFFERS from the program that they give"
     if read_text(CHECKSUM) != checksum_line(BUILT):
         return False, "release/ has another checksum than that of its program"

@@ -1,11 +1,13 @@
 """Runs the parts of a test, and tells what passed, what failed, what was skipped, and which parts took longest."""
+from __future__ import annotations
+
 import os
 import re
 import subprocess
 import sys
 import threading
 import time
-from typing import List, NamedTuple
+from typing import Any, List, NamedTuple
 
 from tools.machine import processors
 from tools.repository import TOP
@@ -16,8 +18,8 @@ SHOWN = 10
 
 
 class Part(NamedTuple):
-    """A command of the test. One that tallies ends with the line 'N passed, M failed', and passes at least so many; another counts by its
-    status."""
+    """A command of the test. One that tallies ends with the line 'N passed, M failed', and passes at least so many;
+    another counts by its status."""
 
     name: str
     words: List[str]
@@ -26,8 +28,9 @@ class Part(NamedTuple):
     least: int = 0
 
 
-def tally(part, status, lines):
-    """What a part that ended counts as: passed and failed. One that dies, lacks its last line or passes too few counts as failed."""
+def tally(part: Part, status: int, lines: list[str]) -> tuple[int, int]:
+    """What a part that ended counts as: passed and failed. One that dies, lacks its last line or passes too few counts
+    as failed."""
     if not part.tallies:
         return (0, 1) if status else (1, 0)
     told = TALLY.fullmatch(lines[-1]) if lines else None
@@ -38,31 +41,35 @@ def tally(part, status, lines):
 
 
 class Report:
-    def __init__(self):
-        self.passed, self.failed, self.skipped, self.seconds = 0, 0, [], {}
+    def __init__(self, has_table: bool = True) -> None:
+        self.has_table = has_table
+        self.passed, self.failed = 0, 0
+        self.skipped: list[str] = []
+        self.seconds: dict[str, float] = {}
         self.printing, self.begun = threading.Lock(), time.monotonic()
 
-    def say(self, text):
+    def say(self, text: str) -> None:
         with self.printing:
             print(f"== {text}", flush=True)
 
-    def check(self, name, is_well, text):
+    def check(self, name: str, is_well: bool, text: str) -> None:
         """Counts what this script itself looked at."""
         self.passed, self.failed = self.passed + is_well, self.failed + (not is_well)
         self.say(f"{name}: {'' if is_well else 'FAILED: '}{text}")
 
-    def skip(self, text):
+    def skip(self, text: str) -> None:
         self.skipped.append(text)
         self.say(f"{SKIPPED}{text}")
 
-    def run(self, part, is_shown_at_once=True):
-        """Runs a part, and gives whether all of it passed. What it prints is shown line by line, or whole once it has ended."""
-        begun, lines = time.monotonic(), []
+    def run(self, part: Part, is_shown_at_once: bool = True) -> bool:
+        """Runs a part, and gives whether all of it passed. What it prints is shown line by line, or whole once it has
+        ended."""
+        begun, lines = time.monotonic(), list[str]()
         if is_shown_at_once:
             self.say(part.name)
-        how = {"stdin": subprocess.DEVNULL, "stdout": subprocess.PIPE, "stderr": subprocess.STDOUT}
+        how: dict[str, Any] = {"stdin": subprocess.DEVNULL, "stdout": subprocess.PIPE, "stderr": subprocess.STDOUT}
         with subprocess.Popen(part.words, cwd=part.folder, errors="replace", **how) as process:
-            for line in process.stdout:
+            for line in process.stdout or ():
                 lines.append(line)
                 if is_shown_at_once:
                     with self.printing:
@@ -70,7 +77,7 @@ class Report:
                         sys.stdout.flush()
         return self.ended(part, process.returncode, lines, time.monotonic() - begun, is_shown_at_once)
 
-    def ended(self, part, status, lines, seconds, was_shown):
+    def ended(self, part: Part, status: int, lines: list[str], seconds: float, was_shown: bool) -> bool:
         passed, failed = tally(part, status, lines)
         with self.printing:
             if not was_shown:
@@ -81,18 +88,20 @@ class Report:
             self.seconds[part.name] = seconds
         return failed == 0
 
-    def end(self):
+    def end(self) -> int:
         """Prints the slowest parts and what was skipped, and then the last line; gives the status."""
-        if self.seconds:
+        if self.seconds and self.has_table:
             self.print_slowest()
         for it in self.skipped:
             print(f"{SKIPPED}{it}")
         print(f"{self.passed} passed, {self.failed} failed", flush=True)
         return 1 if self.failed else 0
 
-    def print_slowest(self):
+    def print_slowest(self) -> None:
         used, minutes = os.times(), (time.monotonic() - self.begun) / 60
         work = used.children_user + used.children_system
-        print(f"\nThe slowest parts of {minutes:.1f} minutes, in seconds; {work:,.0f} seconds of {processors()} processors:")
+        print(
+            f"\nThe slowest parts of {minutes:.1f} minutes, in seconds; {work:,.0f} seconds of {processors()} processors:"
+        )
         for name, seconds in sorted(self.seconds.items(), key=lambda it: -it[1])[:SHOWN]:
             print(f"{seconds:8.0f}  {name}")

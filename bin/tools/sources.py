@@ -1,5 +1,7 @@
-"""What the program and the C library are built from, and their stamps: the files of the crates that each stands on without those of their
-tests, these crates' lines of crates.txt, HANDLES, and of the library what lies in include/."""
+"""What the program and the C library are built from, and their stamps: the files of the crates that each stands on
+without those of their tests, these crates' lines of crates.txt, HANDLES, and of the library what lies in include/."""
+from __future__ import annotations
+
 import hashlib
 import os
 
@@ -8,13 +10,13 @@ from tools.repository import TOP, Fault, listing, read_bytes, read_text
 
 PROGRAM, LIBRARY = "rpc_tool", "bullmyrtle"
 # What is built from files beside those of crates.
-BESIDE = {PROGRAM: [], LIBRARY: ["include/bullmyrtle.h", "include/bullmyrtle.map"]}
+BESIDE: dict[str, list[str]] = {PROGRAM: [], LIBRARY: ["include/bullmyrtle.h", "include/bullmyrtle.map"]}
 
 
-def files_below(folder):
+def files_below(folder: str) -> list[str]:
     """The sources and proofs at or below a folder."""
 
-    def refuse(error):
+    def refuse(error: OSError) -> None:
         raise Fault(f"{error.filename} can't be read: {error.strerror}")
 
     found = []
@@ -24,9 +26,9 @@ def files_below(folder):
     return found
 
 
-def files_of(crate):
-    """The files that a crate is built from: src/ without its tests, specs/, and proofs/ without those of the tests. Tests stand in the
-    module `tests`."""
+def files_of(crate: str) -> list[str]:
+    """The files that a crate is built from: src/ without its tests, specs/, and proofs/ without those of the tests.
+    Tests stand in the module `tests`."""
     if not any(os.path.isfile(f"{crate}/src/{it}.rt") for it in ("lib", "main")):
         raise Fault(f"{crate} has neither src/lib.rt nor src/main.rt")
     tests = tuple(f"{crate}/{it}" for it in ("src/tests.rt", "src/tests/", "proofs/tests/"))
@@ -34,7 +36,7 @@ def files_of(crate):
     return [it for part in parts for it in files_below(part) if not it.startswith(tests)]
 
 
-def sum_of(top=TOP, of=PROGRAM):
+def sum_of(top: str = TOP, of: str = PROGRAM) -> str:
     """One number for all that the program or the library is built from."""
     listed = listing(top)
     told = hashlib.sha256(read_bytes(f"{top}/HANDLES"))
@@ -47,19 +49,19 @@ def sum_of(top=TOP, of=PROGRAM):
     return told.hexdigest()
 
 
-def line_of(file, top):
+def line_of(file: str, top: str) -> bytes:
     return f"{os.path.relpath(file, top)} {hashlib.sha256(read_bytes(file)).hexdigest()}\n".encode()
 
 
-def stamp(top=TOP, of=PROGRAM):
+def stamp(top: str = TOP, of: str = PROGRAM) -> list[str]:
     """The lines of the stamp: the sum of the sources and, where the command rt is there, the kit's version."""
     version = kit.version()
     return [sum_of(top, of), *([version] if version else [])]
 
 
-def is_stamped(file, wanted):
-    """Whether a file holds this stamp. Of the kit's version only the logic is compared, and only where the stamp has one: by one logic the
-    same sources are proved, whatever the kit around it is called."""
+def is_stamped(file: str, wanted: list[str]) -> bool:
+    """Whether a file holds this stamp. Of the kit's version only the logic is compared, and only where the stamp has
+    one: by one logic the same sources are proved, whatever the kit around it is called."""
     if not os.path.isfile(file):
         return False
     held = read_text(file).split("\n")

@@ -1,4 +1,5 @@
-//! Links the static library: of the folder that `BULLMYRTLE_LIB_DIR` names, or of the repository's `release/`.
+//! Links the static library: of the folder that `BULLMYRTLE_LIB_DIR` names, of the crate's own `release/`, which a packed
+//! crate has, or of the repository's.
 use std::path::{Path, PathBuf};
 use std::{env, process};
 
@@ -22,5 +23,10 @@ fn main() {
 
 fn released() -> PathBuf {
     let here = env::var_os("CARGO_MANIFEST_DIR").expect("cargo sets it");
-    Path::new(&here).join("../../release")
+    let packed = Path::new(&here).join("release");
+    if packed.is_dir() {
+        packed
+    } else {
+        Path::new(&here).join("../../release")
+    }
 }

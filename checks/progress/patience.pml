@@ -5,7 +5,8 @@
 
    Looks without a key only read. A round of looks that finds nothing is as if it had never been, and one that finds
    something does the same with a key as without. So the model takes a key in each round. With FINE each round is
-   free to take one or not, which is more than any number of looks. */
+   free to take one or not, which is more than any number of looks: so it doesn't matter what a thread has learnt of how
+   many looks pay, nor what it learns that by. */
 
 inline announce(bell, place) {
   together {

@@ -9,14 +9,15 @@
     old = '''return Err(FeedFault::Ended(fault, Items::new(self.alloc)));'''
     new = '''let _ = fault; return Ok(Vec::new(self.alloc));'''
 
-An old text stands exactly once in its file, or else exactly once in the functions that are named; how its words are spaced and cut into
-lines doesn't count. Further texts stand in `[[wrong.also]]`, with a `file` where it is another. `function` names each function that the
-texts stand in, one or a list; at least one of them must be refused. `[[right]]` is a body that is written differently and does the same:
-it must be proved."""
+An old text stands exactly once in its file, or else exactly once in the functions that are named; how its words are
+spaced and cut into lines doesn't count. Further texts stand in `[[wrong.also]]`, with a `file` where it is another.
+`function` names each function that the texts stand in, one or a list; at least one of them must be refused. `[[right]]`
+is a body that is written differently and does the same: it must be proved."""
 import os
 import re
 import tomllib
 from dataclasses import dataclass
+from typing import Any
 
 from support.functions import Function, functions_of
 
@@ -95,7 +96,8 @@ def places_of(sources: Sources, file: str, old: str) -> list["re.Match[str]"]:
 
 
 def change_of(sources: Sources, named: list[str], file: str, old: str, new: str) -> Change:
-    """The change that a body makes to a file, in which its old text stands once, or once in the functions that are named."""
+    """The change that a body makes to a file, in which its old text stands once, or once in the functions that are
+    named."""
     if not old.split():
         raise Unfit("an old text is empty")
     found = places_of(sources, file, old) if os.path.isfile(f"{sources.folder}/{file}") else []
@@ -108,7 +110,7 @@ def change_of(sources: Sources, named: list[str], file: str, old: str, new: str)
     return Change(file, found[0].start(), found[0].end(), new.strip())
 
 
-def texts_of(table: dict, file: str) -> list[tuple[str, str, str]]:
+def texts_of(table: dict[str, Any], file: str) -> list[tuple[str, str, str]]:
     """The file, the old text and the new of each change that a body makes."""
     pairs = [table, *table.get("also", [])]
     for it in pairs:
@@ -117,11 +119,15 @@ def texts_of(table: dict, file: str) -> list[tuple[str, str, str]]:
     return [(it.get("file", file), it["old"], it["new"]) for it in pairs]
 
 
-def body_of(sources: Sources, file: str, table: dict, is_right: bool) -> Body:
+def body_of(sources: Sources, file: str, table: dict[str, Any], is_right: bool) -> Body:
     """Reads one table, and finds its texts and its functions in the crate's files."""
     lacking = {"name", "function", "what"} - {*table}
     if lacking or {*table} - KEYS:
-        raise Unfit(f"it lacks {', '.join(sorted(lacking))}" if lacking else f"unknown keys: {', '.join(sorted({*table} - KEYS))}")
+        raise Unfit(
+            f"it lacks {', '.join(sorted(lacking))}"
+            if lacking
+            else f"unknown keys: {', '.join(sorted({*table} - KEYS))}"
+        )
     if not re.fullmatch(r"\w+", table["name"]):
         raise Unfit("its name is of letters, digits and _")
     named = [table["function"]] if isinstance(table["function"], str) else table["function"]
@@ -135,8 +141,23 @@ def body_of(sources: Sources, file: str, table: dict, is_right: bool) -> Body:
         raise Unfit(f"its texts stand in {', '.join(held) or 'no function'}, and it names {', '.join(named)}")
     is_outside = None in inside
     is_apart = is_outside or table.get("alone") is True
-    mates = tuple(fn for it in held.values() for fn in sources.functions(it.file) if it.cycle == fn.cycle != "" and fn not in held.values())
-    return Body(sources.crate, table["name"], is_right, table["what"], tuple(held.values()), mates, is_outside, is_apart, tuple(changes))
+    mates = tuple(
+        fn
+        for it in held.values()
+        for fn in sources.functions(it.file)
+        if it.cycle == fn.cycle != "" and fn not in held.values()
+    )
+    return Body(
+        sources.crate,
+        table["name"],
+        is_right,
+        table["what"],
+        tuple(held.values()),
+        mates,
+        is_outside,
+        is_apart,
+        tuple(changes),
+    )
 
 
 def files_below(folder: str) -> list[str]:
@@ -146,7 +167,8 @@ def files_below(folder: str) -> list[str]:
 
 
 def read_bodies(sources: Sources, folder: str = "") -> tuple[list[Body], list[str]]:
-    """The bodies of a crate that stand in a folder, its own where none is named, and what is wrong with those that can't be tried."""
+    """The bodies of a crate that stand in a folder, its own where none is named, and what is wrong with those that
+    can't be tried."""
     folder = folder or f"{sources.folder}/wrong-bodies"
     bodies: list[Body] = []
     unfit: list[str] = []

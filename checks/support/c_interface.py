@@ -1,5 +1,5 @@
-"""What C sees of the library, read four times: from the header, from the sources of the exports, from the map of the calls, and from the
-declarations of the crate in Rust."""
+"""What C sees of the library, read four times: from the header, from the sources of the exports, from the map of the
+calls, and from the declarations of the crate in Rust."""
 import ctypes
 import os
 import re
@@ -21,6 +21,9 @@ IN_C = {
     "&Settings": ["const bm_settings *"],
     "&mut EventHead": ["bm_event *"],
     "&mut Report": ["bm_report *"],
+    "&mut Told": ["bm_told *"],
+    "&mut [Saying]": ["bm_saying *", "size_t"],
+    "&mut AllSaid": ["bm_said *"],
     "&[u8]": ["const uint8_t *", "size_t"],
     "&mut [u8]": ["uint8_t *", "size_t"],
     "&[usize]": ["const size_t *", "size_t"],
@@ -41,6 +44,9 @@ IN_RUST = {
     "*const bm_settings": "const bm_settings *",
     "*mut bm_event": "bm_event *",
     "*mut bm_report": "bm_report *",
+    "*mut bm_told": "bm_told *",
+    "*mut bm_saying": "bm_saying *",
+    "*mut bm_said": "bm_said *",
     "*mut *mut c_void": "void **",
     "*const u8": "const uint8_t *",
     "*mut u8": "uint8_t *",
@@ -60,8 +66,17 @@ STRUCTS = {
     "bm_settings": ("bullmyrtle/src/settings.rt", "Settings"),
     "bm_event": ("event_rooms/src/head.rt", "EventHead"),
     "bm_report": ("bullmyrtle/src/report.rt", "Report"),
+    "bm_told": ("host_calls/src/telling.rt", "Told"),
+    "bm_saying": ("host_calls/src/sayings.rt", "Saying"),
+    "bm_said": ("host_calls/src/sayings.rt", "AllSaid"),
 }
-WIDTHS = {"uint32_t": ctypes.c_uint32, "uint64_t": ctypes.c_uint64, "int64_t": ctypes.c_int64, "size_t": ctypes.c_size_t}
+WIDTHS = {
+    "int32_t": ctypes.c_int32,
+    "uint32_t": ctypes.c_uint32,
+    "uint64_t": ctypes.c_uint64,
+    "int64_t": ctypes.c_int64,
+    "size_t": ctypes.c_size_t,
+}
 
 
 def text_of(file: str) -> str:
@@ -82,7 +97,10 @@ def type_in_c(words: str) -> str:
 def in_header() -> dict[str, tuple[str, list[str]]]:
     """By the calls' names, what each gives and takes."""
     found = re.findall(r"^(\w+) (bm_\w+)\(([^)]*)\);", without_comments(text_of(HEADER)), re.M)
-    return {name: (gives, [] if takes == "void" else [type_in_c(it) for it in takes.split(",")]) for gives, name, takes in found}
+    return {
+        name: (gives, [] if takes == "void" else [type_in_c(it) for it in takes.split(",")])
+        for gives, name, takes in found
+    }
 
 
 def in_map() -> list[str]:
@@ -102,7 +120,9 @@ def in_rust() -> dict[str, tuple[str, list[str]]]:
     """By the calls' names, what each gives and takes as stock Rust declares them."""
     found = re.findall(r"pub fn (bm_\w+)\(([^)]*)\)(?: -> (\w+))?;", text_of(RUST))
     kinds = {name: [it.split(":", 1)[1].strip() for it in takes.split(",") if it.strip()] for name, takes, _ in found}
-    return {name: (IN_RUST[gives] if gives else "void", [IN_RUST[it] for it in kinds[name]]) for name, _, gives in found}
+    return {
+        name: (IN_RUST[gives] if gives else "void", [IN_RUST[it] for it in kinds[name]]) for name, _, gives in found
+    }
 
 
 def fields_in_rust(name: str) -> list[tuple[str, str]]:
@@ -118,14 +138,18 @@ def fields_in_header(name: str) -> list[tuple[str, str]]:
 
 def fields_in_exports(name: str) -> list[tuple[str, str]]:
     file, kind = STRUCTS[name]
-    before, body = re.search(r"(#\[repr\(C\)\]\n(?:#.*\n)*)pub struct " + kind + r" \{([^}]*)\}", text_of(os.path.join(CRATES, file))).groups()
+    before, body = re.search(
+        r"(#\[repr\(C\)\]\n(?:#.*\n)*)pub struct " + kind + r" \{([^}]*)\}", text_of(os.path.join(CRATES, file))
+    ).groups()
     assert before
     return [(IN_C[kind][0], field) for field, kind in re.findall(r"pub (\w+): (\w+),", body)]
 
 
 def laid_out(name: str) -> list[int]:
     """The size of a struct and the places of its fields, by ctypes."""
-    struct = type(name, (ctypes.Structure,), {"_fields_": [(field, WIDTHS[kind]) for kind, field in fields_in_header(name)]})
+    struct = type(
+        name, (ctypes.Structure,), {"_fields_": [(field, WIDTHS[kind]) for kind, field in fields_in_header(name)]}
+    )
     return [ctypes.sizeof(struct), *(getattr(struct, field).offset for _, field in fields_in_header(name))]
 
 
@@ -135,4 +159,6 @@ def program_of_layouts() -> str:
     for name in STRUCTS:
         numbers = [f"sizeof({name})", *(f"offsetof({name}, {field})" for _, field in fields_in_header(name))]
         lines += [f'    printf("{name}");', *(f'    printf(" %zu", {it});' for it in numbers), '    printf("\\n");']
-    return '#include "bullmyrtle.h"\n#include <stdio.h>\n\nint main(void)\n{\n' + "\n".join(lines) + "\n    return 0;\n}\n"
+    return (
+        '#include "bullmyrtle.h"\n#include <stdio.h>\n\nint main(void)\n{\n' + "\n".join(lines) + "\n    return 0;\n}\n"
+    )

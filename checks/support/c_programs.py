@@ -2,7 +2,7 @@
 import os
 import shutil
 import subprocess
-from typing import Iterable, Optional
+from typing import Any, Iterable, Optional
 
 from support import ran
 
@@ -27,16 +27,18 @@ def is_whole(library: str) -> bool:
     return all(os.path.isfile(f"{library}/{it}") for it in ("libbullmyrtle.so.1", "libbullmyrtle.a", "bullmyrtle.h"))
 
 
-def said(words: list[str], given: bytes = b"", **more) -> tuple[int, bytes, bytes]:
+def said(words: list[str], given: bytes = b"", **more: Any) -> tuple[int, bytes, bytes]:
     ended = subprocess.run(words, input=given, capture_output=True, timeout=600, check=False, **more)
     return ended.returncode, ended.stdout, ended.stderr
 
 
 def said_slowly(words: list[str], given: bytes) -> tuple[int, bytes, bytes]:
     """The same with the input written byte by byte."""
-    with subprocess.Popen(words, stdin=subprocess.PIPE, stdout=subprocess.PIPE, stderr=subprocess.PIPE, bufsize=0) as it:
+    with subprocess.Popen(
+        words, stdin=subprocess.PIPE, stdout=subprocess.PIPE, stderr=subprocess.PIPE, bufsize=0
+    ) as it:
         for at in range(len(given)):
-            it.stdin.write(given[at : at + 1])
+            ran.pipe(it.stdin).write(given[at : at + 1])
         output, errors = it.communicate(timeout=60)
     return it.returncode, output, errors
 
@@ -47,7 +49,15 @@ def linked(library: str, way: str) -> list[str]:
     return [f"{library}/libbullmyrtle.so.1", f"-Wl,-rpath,{library}"]
 
 
-def build(count: ran.Count, library: str, room: str, file: str, way: str, more: Iterable[str] = (), words: Optional[list[str]] = None) -> str:
+def build(
+    count: Any,
+    library: str,
+    room: str,
+    file: str,
+    way: str,
+    more: Iterable[str] = (),
+    words: Optional[list[str]] = None,
+) -> str:
     """Builds a program in C with the library, shared or static, and gives its file."""
     made = f"{room}/{os.path.basename(file).removesuffix('.c')}-{way}"
     got = said([*(words or C99), f"-I{library}", file, *linked(library, way), *more, "-o", made])
@@ -55,9 +65,13 @@ def build(count: ran.Count, library: str, room: str, file: str, way: str, more: 
     return made
 
 
+def has_cjson() -> bool:
+    return said([*C99, "-fsyntax-only", "-x", "c", "-"], HAS_CJSON)[0] == 0
+
+
 def lacks_cjson() -> bool:
     """Whether cJSON isn't there; what is skipped for want of it is told."""
-    is_missing = said([*C99, "-fsyntax-only", "-x", "c", "-"], HAS_CJSON)[0] != 0
+    is_missing = not has_cjson()
     if is_missing:
         print("SKIPPED: the language server in C, since cJSON (libcjson-dev) isn't here", flush=True)
     return is_missing

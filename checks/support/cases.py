@@ -1,4 +1,5 @@
-"""Runs many cases in one process, by the command `cases` of the proved program peer_bench: streams of bytes, each with how it is run."""
+"""Runs many cases in one process, by the command `cases` of the proved program peer_bench: streams of bytes, each with
+how it is run."""
 import subprocess
 from dataclasses import dataclass
 from functools import cached_property
@@ -38,16 +39,18 @@ def ran_from(records: bytes) -> list[Ran]:
     """The records that are whole."""
     found, at = [], 0
     while (line_end := records.find(b"\n", at)) >= 0:
-        end, *counts, length = records[at:line_end].decode().split(" ")
+        end, numbers, messages, calls, answers, polls, length = records[at:line_end].decode().split(" ")
         at = line_end + 1 + int(length)
         if at > len(records):
             break
-        found.append(Ran(end, *map(int, counts), records[line_end + 1 : at]))
+        counts = int(numbers), int(messages), int(calls), int(answers), int(polls)
+        found.append(Ran(end, *counts, records[line_end + 1 : at]))
     return found
 
 
 def run(program: str, table: Optional[str], cases: Sequence[Case], patience: float) -> list[Ran]:
-    """Runs the cases, all with the methods of the table in this file. Raises ValueError where the program doesn't run them all."""
+    """Runs the cases, all with the methods of the table in this file. Raises ValueError where the program doesn't run
+    them all."""
     words = [program, "cases", *(["--table", table] if table else [])]
     given = b"".join(it.record for it in cases)
     try:
@@ -87,7 +90,12 @@ class Trial:
     @property
     def ways(self) -> dict[str, str]:
         places = ",".join(map(str, self.places))
-        return {"eager": "play eager first", "last": "play eager last", "picked": f"play eager {places}", "lazy": f"play lazy {places}"}
+        return {
+            "eager": "play eager first",
+            "last": "play eager last",
+            "picked": f"play eager {places}",
+            "lazy": f"play lazy {places}",
+        }
 
     def to_run(self) -> list[Case]:
         """By each schedule whole and cut; by servers; and without its cancels."""

@@ -1,4 +1,5 @@
-"""The fuzzer of connections: has a player run sessions that are made at random, and compares what it says with the model, line for line."""
+"""The fuzzer of connections: has a player run sessions that are made at random, and compares what it says with the
+model, line for line."""
 import os
 import random
 import re
@@ -29,7 +30,8 @@ PATIENCE = 120
 SHRINKING = 60
 MOST_FAILURES = 5
 FOLDER = os.path.join(ran.TOP, "out", "connection_fuzz")
-# What at least has to come about in a thousand sessions, so that sessions that say nothing fail. Fewer than so many aren't judged by it.
+# What at least has to come about in a thousand sessions, so that sessions that say nothing fail. Fewer than so many
+# aren't judged by it.
 ENOUGH = 500
 FLOORS = {
     "calls that came": 4_000,
@@ -83,7 +85,9 @@ def play_by_program(program: str, actions: Sequence[Action]) -> list[str]:
         return ["it doesn't end"]
     lines = ended.stdout.decode("ascii", errors="replace").split("\n")[:-1]
     is_well = ended.returncode == 0 and ended.stderr == b""
-    return lines if is_well else [*lines, f"it ended with the status {ended.returncode} and said {ended.stderr[:200]!r}"]
+    return (
+        lines if is_well else [*lines, f"it ended with the status {ended.returncode} and said {ended.stderr[:200]!r}"]
+    )
 
 
 def play_by_model(kind: type[model.Model], actions: Sequence[Action]) -> list[str]:
@@ -131,7 +135,12 @@ def made(seed: int, number: int) -> tuple[Trial, Counter[str]]:
 
 def seen_in(session: sessions.Session) -> Counter[str]:
     seen = Counter[str]()
-    beginnings = {"call ": "calls that came", "cancelled": "cancels that hit", "replied": "replies that were told", "unanswered": "calls without a reply"}
+    beginnings = {
+        "call ": "calls that came",
+        "cancelled": "cancels that hit",
+        "replied": "replies that were told",
+        "unanswered": "calls without a reply",
+    }
     for action, line in zip(session.actions, session.gives):
         for beginning, what in beginnings.items():
             seen[what] += action.name == "next" and line.startswith(beginning)
@@ -199,14 +208,19 @@ def shrunk(player: Player, actions: tuple[Action, ...]) -> tuple[Action, ...]:
 def tried(player: Player, seed: int, numbers: range) -> tuple[list[Found], Counter[str]]:
     """Which sessions of these numbers fail, and what came about."""
     pairs = [made(seed, number) for number in numbers]
-    seen = sum((it for _, it in pairs), Counter())
+    seen: Counter[str] = sum((it for _, it in pairs), Counter())
     trials = [trial for trial, _ in pairs]
     why_all = fails(player, trials)
     if why_all is None:
         return [], seen
     found = [Found(number + 1, trial, why) for number, trial in zip(numbers, trials) if (why := fails(player, [trial]))]
-    parts, wanted = tuple(it for trial in trials for it in trial.parts), tuple(it for trial in trials for it in trial.wanted)
-    return found or [Found(numbers.stop, Trial(f"seed-{seed}-sessions-from-{numbers.start}", parts, wanted), why_all)], seen
+    parts, wanted = tuple(it for trial in trials for it in trial.parts), tuple(
+        it for trial in trials for it in trial.wanted
+    )
+    return (
+        found or [Found(numbers.stop, Trial(f"seed-{seed}-sessions-from-{numbers.start}", parts, wanted), why_all)],
+        seen,
+    )
 
 
 def first_found(player: Player, seed: int, most: int, batch: int = 10) -> Optional[Found]:
@@ -250,7 +264,11 @@ class Fuzzer:
         file = os.path.join(FOLDER, f"{found.trial.name}.script")
         with open(file, "w", encoding="ascii") as it:
             it.write(script.written(small))
-        self.count.check(f"{found.trial.name} ({self.again} --replay {os.path.relpath(file, ran.TOP)})", False, breaks(self.player, small) or found.why)
+        self.count.check(
+            f"{found.trial.name} ({self.again} --replay {os.path.relpath(file, ran.TOP)})",
+            False,
+            breaks(self.player, small) or found.why,
+        )
 
     def check_floors(self) -> None:
         """Sessions that say nothing show nothing."""

@@ -1,9 +1,11 @@
-"""A plain model of a connection, by the rules of docs/connection.md: what each call of its host gives, by the history so far."""
+"""A plain model of a connection, by the rules of docs/connection.md: what each call of its host gives, by the history
+so far."""
 from dataclasses import dataclass, field
 from typing import Any, Callable, NamedTuple, Optional
 
 from support import connection_reading as reading
-from support.connection_reading import ABSENT, SAID_DEPTH, Entry, Error, Frame, Input, Members
+from support.connection_reading import SAID_DEPTH, Entry, Error, Input, Members
+from support.reading import ABSENT, Frame
 
 PARSE_ERROR = Error(-32700, "Parse error")
 INVALID_REQUEST = Error(-32600, "Invalid Request")
@@ -81,7 +83,8 @@ class Report(NamedTuple):
 
 @dataclass
 class Came:
-    """A unit that came: the answers of its requests and invalid entries in their order, each a text, or None as long as it is open."""
+    """A unit that came: the answers of its requests and invalid entries in their order, each a text, or None as long as
+    it is open."""
 
     is_batch: bool
     answers: list[Optional[str]] = field(default_factory=list)
@@ -128,7 +131,11 @@ def error_text(error: Error) -> str:
 
 def answer_text(id_: Any, said: Any) -> str:
     named = f'"id":{reading.text_of(id_)},"jsonrpc":"2.0"'
-    return f'{{"error":{error_text(said)},{named}}}' if isinstance(said, Error) else f'{{{named},"result":{reading.text_of(said)}}}'
+    return (
+        f'{{"error":{error_text(said)},{named}}}'
+        if isinstance(said, Error)
+        else f'{{{named},"result":{reading.text_of(said)}}}'
+    )
 
 
 def message_text(key: Optional[int], method: str, params: Any) -> str:
@@ -333,7 +340,9 @@ class Model:
     def report(self) -> Report:
         requests = sum(it.entry.is_request for it in self.calls)
         still_open = sum(it.is_open for it in self.calls)
-        return Report(len(self.calls), requests, still_open, sum(it.waits for it in self.ours), len(self.ours), **self.counts)
+        return Report(
+            len(self.calls), requests, still_open, sum(it.waits for it in self.ours), len(self.ours), **self.counts
+        )
 
     # What these have in common
 

@@ -1,4 +1,5 @@
-"""What a connection is fed: the contents of its three framings, and the units and entries of a content, by the rules of docs/connection.md."""
+"""What a connection is fed: the contents of its three framings, and the units and entries of a content, by the rules of
+docs/connection.md."""
 import json
 import re
 from dataclasses import dataclass, field
@@ -34,7 +35,9 @@ def value_of(data: bytes, depth: int = reading.DEPTH) -> Any:
     text = data.decode("utf-8")
     if reading.depth_of(text) > depth or reading.has_half_a_pair(text):
         raise ValueError("no JSON")
-    return json.loads(text, parse_int=Number, parse_float=Number, parse_constant=reading.refuse, object_pairs_hook=Members)
+    return json.loads(
+        text, parse_int=Number, parse_float=Number, parse_constant=reading.refuse, object_pairs_hook=Members
+    )
 
 
 def string_of(text: str) -> str:
@@ -145,7 +148,9 @@ def unit_of(frame: Frame, takes_cancels: bool) -> Unit:
     if frame.is_foreign:
         return Unit("unreadable")
     is_batch = isinstance(value, list) and not isinstance(value, Members) and value != []
-    return Unit("batch" if is_batch else "single", [entry_of(it, takes_cancels) for it in (value if is_batch else [value])])
+    return Unit(
+        "batch" if is_batch else "single", [entry_of(it, takes_cancels) for it in (value if is_batch else [value])]
+    )
 
 
 # Framings

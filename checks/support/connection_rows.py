@@ -1,7 +1,8 @@
 """Rows of checks/connection_rows: scripts that are written by hand, with what each action gives.
 
-The first line of a file says what it is about. A row begins after an empty line with its name, and then has an action a line, in the language of
-connection_script.py. After ` => ` stands what the action gives; where nothing stands there, that is `ok`.
+The first line of a file says what it is about. A row begins after an empty line with its name, and then has an action a
+line, in the language of connection_script.py. After ` => ` stands what the action gives; where nothing stands there,
+that is `ok`.
 
 Where that language has HEX, a row has parts joined by `+`, each of which may have a count before it, as `200*'['`:
 
@@ -66,13 +67,20 @@ class Row:
     @property
     def byte_by_byte(self) -> "Row":
         """The same with the feeds of frames and lines cut everywhere."""
-        pairs = [pair for framing, action, gives in zip(self.framings, self.actions, self.gives) for pair in cut(framing, action, gives)]
+        pairs = [
+            pair
+            for framing, action, gives in zip(self.framings, self.actions, self.gives)
+            for pair in cut(framing, action, gives)
+        ]
         return Row(f"{self.name}, byte by byte", tuple(it for it, _ in pairs), tuple(it for _, it in pairs))
 
     @property
     def cut_once(self) -> "Row":
-        """The same with each feed of frames and lines cut into two, at each place in turn; of long ones at some places."""
-        ways = [self.cut_at(at, place) for at, it in enumerate(zip(self.framings, self.actions)) for place in places_in(*it)]
+        """The same with each feed of frames and lines cut into two, at each place in turn; of long ones at some
+        places."""
+        ways = [
+            self.cut_at(at, place) for at, it in enumerate(zip(self.framings, self.actions)) for place in places_in(*it)
+        ]
         actions, gives = zip(*(pair for way in ways or [list(zip(self.actions, self.gives))] for pair in way))
         return Row(f"{self.name}, cut once", actions, gives)
 
@@ -140,7 +148,8 @@ def rows_of(file: str) -> list[Row]:
 
 
 def hosted(name: str, given: bytes, output: bytes, end: str) -> Row:
-    """A row of the peer without methods, by a host that has none either: it answers each call that no method is found."""
+    """A row of the peer without methods, by a host that has none either: it answers each call that no method is
+    found."""
     runner, actions, gives = script.Runner(), list[script.Action](), list[str]()
 
     def do(line: str) -> str:
@@ -154,7 +163,11 @@ def hosted(name: str, given: bytes, output: bytes, end: str) -> Row:
     while (event := do("next")).startswith("call"):
         do(f"fail {event.split(' ')[1]} -32601 {script.hex_of(b'Method not found')} -")
     do("take 1000000")
-    return Row(f"without methods: {name}", tuple(actions), (*gives[:-2], f"over {end or 'Clean'}", f"bytes {script.hex_of(output)}"))
+    return Row(
+        f"without methods: {name}",
+        tuple(actions),
+        (*gives[:-2], f"over {end or 'Clean'}", f"bytes {script.hex_of(output)}"),
+    )
 
 
 def all_rows() -> list[Row]:
@@ -165,7 +178,9 @@ def all_rows() -> list[Row]:
 def rows_by_hand() -> list[Row]:
     return [row for file in sorted(glob.glob(os.path.join(FOLDER, "*.txt"))) for row in rows_of(file)]
 
-# Lines whose events are of each kind: calls, replies with and without data, a cancel that hits, texts that need escapes, and broken lines.
+
+# Lines whose events are of each kind: calls, replies with and without data, a cancel that hits, texts that need
+# escapes, and broken lines.
 EVENTS = (
     b'{"jsonrpc":"2.0","method":"m","params":["a",{"b":1.50}],"id":"i\\u0001\\"d"}\n'
     b'{"jsonrpc":"2.0","method":"note"}\n5\nbroken\n'

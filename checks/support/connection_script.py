@@ -1,8 +1,9 @@
 """Scripts for a connection: what its host does, an action a line, and what each action gives, a line each.
 
-A line is words with one space between them and an LF after them; the last line has its LF too. Numbers are decimal digits without leading
-zeros (CODE may have a `-` before it). HEX is bytes as lowercase hexadecimal digits, two a byte, and `.` where there are none. Where
-`HEX|-` stands, `-` says that there is nothing (no params, no data, no id), which isn't the same as an empty text.
+A line is words with one space between them and an LF after them; the last line has its LF too. Numbers are decimal
+digits without leading zeros (CODE may have a `-` before it). HEX is bytes as lowercase hexadecimal digits, two a byte,
+and `.` where there are none. Where `HEX|-` stands, `-` says that there is nothing (no params, no data, no id), which
+isn't the same as an empty text.
 
     action                                                      gives
     settings FRAMING ORDER CANCELS CONTENT CALLS                ok | refused settings
@@ -24,9 +25,10 @@ zeros (CODE may have a `-` before it). HEX is bytes as lowercase hexadecimal dig
     is_done                                                     true | false
     report                                                      report CALLS REQUESTS OPEN WAITING OWN_CALLS ANSWERS UNREADABLE INVALID IGNORED
 
-METHOD, PARAMS, RESULT, MESSAGE and DATA are HEX. WHY is not_open, not_text, not_json, over, empty or full; where several apply it is the
-first of these, over all calls of a batch. not_text: a method or message that isn't UTF-8. not_json: a text that isn't one JSON value of
-at most 120 levels, params that are no array or object, and `-` as the result of a request.
+METHOD, PARAMS, RESULT, MESSAGE and DATA are HEX. WHY is not_open, not_text, not_json, over, empty or full; where
+several apply it is the first of these, over all calls of a batch. not_text: a method or message that isn't UTF-8.
+not_json: a text that isn't one JSON value of at most 120 levels, params that are no array or object, and `-` as the
+result of a request.
 
     EVENT
     call NUMBER METHOD PARAMS|- ID|-                            (a notification has no id)
@@ -36,9 +38,9 @@ at most 120 levels, params that are no array or object, and `-` as the result of
     unanswered KEY
     over HOW                                                    (Clean, Read, Full or the name of a fault)
 
-A call that is refused memory gives `refused memory`. Where there is no connection, since its settings were refused, each action but `settings` gives
-`refused settings`. A program that is given a line that can't be read, or an action before the first settings, says nothing of it and ends
-with the status 2."""
+A call that is refused memory gives `refused memory`. Where there is no connection, since its settings were refused,
+each action but `settings` gives `refused settings`. A program that is given a line that can't be read, or an action
+before the first settings, says nothing of it and ends with the status 2."""
 import re
 from dataclasses import dataclass
 from typing import Callable, Iterable, Iterator, Optional

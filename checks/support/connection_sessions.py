@@ -1,7 +1,8 @@
-"""Sessions of a connection that are made at random: what the other side sends, cut and hurt, and what the host does with it.
+"""Sessions of a connection that are made at random: what the other side sends, cut and hurt, and what the host does
+with it.
 
-A host is made beside the model, so that it knows which calls are open and which keys wait, and at times does what it may not. A session is a
-script (connection_script.py) and what each of its actions gives by the model."""
+A host is made beside the model, so that it knows which calls are open and which keys wait, and at times does what it
+may not. A session is a script (connection_script.py) and what each of its actions gives by the model."""
 import random
 from dataclasses import dataclass
 from typing import Any, Callable, Optional
@@ -11,10 +12,33 @@ from support.connection_model import MOST_CALLS, MOST_CONTENT
 from support.connection_reading import Input
 from support.connection_script import CANCELS, FRAMINGS, ORDERS, Action, Runner
 
-METHODS = {"a": 1, "add": 0, "ask": 2, "$/progress": 0, "\u00e9\n\"": 0, "": 0}
-TEXTS = (b"null", b"true", b"5", b"-0", b"1e400", b' [ 1.50 , {"a":"\\/"} ] ', b'"\\u00e9\\n"', b"{}", b'{"b":1,"a":[],"b":2}', b"[" * 120 + b"]" * 120)
+METHODS = {"a": 1, "add": 0, "ask": 2, "$/progress": 0, '\u00e9\n"': 0, "": 0}
+TEXTS = (
+    b"null",
+    b"true",
+    b"5",
+    b"-0",
+    b"1e400",
+    b' [ 1.50 , {"a":"\\/"} ] ',
+    b'"\\u00e9\\n"',
+    b"{}",
+    b'{"b":1,"a":[],"b":2}',
+    b"[" * 120 + b"]" * 120,
+)
 PARAMS = (None, None, b"[]", b"{}", b'["x", 1.50]', b'{ "k" : "\\u001f" }', b"[[[1e-7]]]")
-NO_JSON = (b"", b"nul", b"1 2", b"[1,]", b"01", b"NaN", b'"\\ud83d"', b'"\xff"', b"\xef\xbb\xbf1", b"[" * 121 + b"]" * 121, b'"\n"')
+NO_JSON = (
+    b"",
+    b"nul",
+    b"1 2",
+    b"[1,]",
+    b"01",
+    b"NaN",
+    b'"\\ud83d"',
+    b'"\xff"',
+    b"\xef\xbb\xbf1",
+    b"[" * 121 + b"]" * 121,
+    b'"\n"',
+)
 NO_PARAMS = (b"null", b"1", b'"x"', b"true")
 NO_TEXTS = (b"\xff", b"\xc0\x80", b"a\xed\xa0\x80")
 NAMES = (b"a", b"ask", b"$/cancelRequest", b"", "\u00e9\n\U0001f600".encode(), b'"\\')
@@ -61,12 +85,18 @@ class Peer(grammar.Grammar):
 
     def cancels_of(self, cancel: dict[str, Any]) -> list[dict[str, Any]]:
         """A cancel, eight times, and what looks like it."""
-        return [cancel] * 8 + [{**cancel, "id": 5}, {**cancel, "params": [cancel["params"]["id"]]}, {**cancel, "jsonrpc": "2"}]
+        return [cancel] * 8 + [
+            {**cancel, "id": 5},
+            {**cancel, "params": [cancel["params"]["id"]]},
+            {**cancel, "jsonrpc": "2"},
+        ]
 
     def hurt(self, content: bytes) -> bytes:
         if self.chance.random() < 0.93:
             return content
-        return self.chance.choice((grammar.hurt_bytes, grammar.hurt_text, grammar.hurt_text, grammar.nested))(self.chance, content)
+        return self.chance.choice((grammar.hurt_bytes, grammar.hurt_text, grammar.hurt_text, grammar.nested))(
+            self.chance, content
+        )
 
     def frame(self, framing: str) -> bytes:
         """A content as it is sent, which mostly is whole."""
@@ -150,7 +180,9 @@ class Maker:
             return
         for _ in range(self.chance.choice((0, 1, 1, 2, 4))):
             self.unsent += self.peer.frame(self.framing)
-        size = self.chance.choice((len(self.unsent), len(self.unsent), self.chance.randint(0, len(self.unsent)), self.chance.randint(0, 3)))
+        size = self.chance.choice(
+            (len(self.unsent), len(self.unsent), self.chance.randint(0, len(self.unsent)), self.chance.randint(0, 3))
+        )
         self.do("feed", self.unsent[:size])
         self.unsent = self.unsent[size:]
 
@@ -166,7 +198,9 @@ class Maker:
 
     def take(self) -> None:
         pending = self.model.pending()
-        self.do("take", self.chance.choice((pending, pending, max(pending - 1, 0), 0, self.chance.randint(0, 200), 100_000)))
+        self.do(
+            "take", self.chance.choice((pending, pending, max(pending - 1, 0), 0, self.chance.randint(0, 200), 100_000))
+        )
 
     def end(self) -> None:
         self.do("end", "closed" if self.chance.random() < 0.7 else "failed")
@@ -174,7 +208,12 @@ class Maker:
     def close(self, number: int) -> None:
         self.pick(
             (6, lambda: self.do("answer", number, self.result())),
-            (2, lambda: self.do("fail", number, self.chance.choice(CODES), self.name(), self.mostly((None, None, *TEXTS), NO_JSON))),
+            (
+                2,
+                lambda: self.do(
+                    "fail", number, self.chance.choice(CODES), self.name(), self.mostly((None, None, *TEXTS), NO_JSON)
+                ),
+            ),
             (2, lambda: self.do("cancel", number)),
         )
 
@@ -242,7 +281,8 @@ def places_of(actions: tuple[Action, ...], stream: bytes) -> list[int]:
 
 
 def cut_otherwise(chance: random.Random, actions: tuple[Action, ...]) -> list[Action]:
-    """The same actions of the host, with what it feeds before the end cut otherwise: at each `next` the same contents have come."""
+    """The same actions of the host, with what it feeds before the end cut otherwise: at each `next` the same contents
+    have come."""
     if actions[0].given[0] == "contents":
         return list(actions)
     ends = next((at for at, it in enumerate(actions) if it.name == "end"), len(actions))
@@ -254,7 +294,9 @@ def cut_otherwise(chance: random.Random, actions: tuple[Action, ...]) -> list[Ac
             due += len(action.given[0])  # type: ignore[arg-type]
             continue
         goes_on = range(fed, due + 1) if chance.random() < 0.2 else range(fed, fed)
-        allowed = [at for at in range(fed, len(counts)) if counts[at] == counts[due]] if action.name == "next" else goes_on
+        allowed = (
+            [at for at in range(fed, len(counts)) if counts[at] == counts[due]] if action.name == "next" else goes_on
+        )
         if allowed:
             to = chance.choice(allowed)
             made += pieces_of(chance, stream[fed:to])

@@ -53,11 +53,12 @@ def after_parameters(header: str) -> tuple[set[str], str]:
 def last_name(path: str) -> str:
     """The last word of a type's path: `Debug` of `fmt::Debug`, `Awaiting` of `&'a Awaiting<'a>`."""
     found = re.findall(r"[A-Za-z_]\w*", re.sub(r"'\w+", "", without_generics(path)))
-    return found[-1] if found else ""
+    return str(found[-1]) if found else ""
 
 
 def owner_of(header: str) -> tuple[str, str]:
-    """The type that an impl or a trait is about, and a pattern of what the check calls it: `Text`, and `TextPartialEq`."""
+    """The type that an impl or a trait is about, and a pattern of what the check calls it: `Text`, and
+    `TextPartialEq`."""
     trait = re.match(r"(?:pub(?:\([^)]*\))? )?(?:unsafe )?trait (\w+)", header)
     if trait:
         return trait[1], trait[1]

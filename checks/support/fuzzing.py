@@ -82,7 +82,9 @@ class Judge:
             laws.check_eager(coming, told[way], told["eager"])
         self.count(coming, told["eager"], found[0])
 
-    def judge_one(self, coming: laws.Coming, plain: laws.Told, got: Ran, how: str, has_report: bool = True) -> laws.Told:
+    def judge_one(
+        self, coming: laws.Coming, plain: laws.Told, got: Ran, how: str, has_report: bool = True
+    ) -> laws.Told:
         try:
             told = laws.told_by(coming, got, has_report)
             laws.check_beside(coming, told, plain)
@@ -100,7 +102,9 @@ class Judge:
         laws.require((status, errors) == wanted, f"the program's status is {status}, and it says {errors!r}")
         plainly = laws.Coming(reading.read(trial.plain), coming.table)
         plain = laws.told_by(plainly, Ran(end, 0, 0, 0, 0, 0, ran.run(words, trial.plain)[1]), has_report=False)
-        self.judge_one(coming, plain, Ran(end, 0, 0, 0, 0, 0, output), f"the program with {workers} workers", has_report=False)
+        self.judge_one(
+            coming, plain, Ran(end, 0, 0, 0, 0, 0, output), f"the program with {workers} workers", has_report=False
+        )
 
     def count(self, coming: laws.Coming, told: laws.Told, got: Ran) -> None:
         self.seen["streams"] += 1
@@ -161,7 +165,8 @@ class Fuzzer:
         return laws.broken(lambda: self.judge.judge_program(trial, 1 if number % 2 else 4))
 
     def breaks(self, trial: Trial) -> Optional[str]:
-        """What a trial breaks that is run by itself, thrice, since servers may be lucky, and served by the program too."""
+        """What a trial breaks that is run by itself, thrice, since servers may be lucky, and served by the program
+        too."""
         seen = Counter(self.judge.seen)
         why = next((why for _ in range(3) for _, why in self.outcomes([trial]) if why), None)
         if why is None and self.has_program:
@@ -191,10 +196,15 @@ class Fuzzer:
         with open(file, "w", encoding="utf-8") as it:
             it.write(text_of(small))
         again = f"python3 checks/fuzz.py --replay {os.path.relpath(file, ran.TOP)}"
-        self.count.check(f"{name} (with {small.table}, {again})", False, f"{self.breaks(small) or why}; the stream is {list(small.parts)}")
+        self.count.check(
+            f"{name} (with {small.table}, {again})",
+            False,
+            f"{self.breaks(small) or why}; the stream is {list(small.parts)}",
+        )
 
     def tried(self, seed: int, numbers: range) -> tuple[list[tuple[Trial, str, Optional[str]]], Counter[str]]:
-        """The trials of these numbers, each with its name and with the law that it breaks, if it breaks one; and what came about."""
+        """The trials of these numbers, each with its name and with the law that it breaks, if it breaks one; and what
+        came about."""
         self.judge.seen = Counter()
         trials = {number: self.made(seed, number) for number in numbers}
         names = {id(trial): f"seed-{seed}-case-{number}" for number, trial in trials.items()}
@@ -236,10 +246,14 @@ class Fuzzer:
 def text_of(trial: Trial) -> str:
     """A trial as a file has it: the bytes of each part as letters."""
     parts = [it.decode("latin-1") for it in trial.parts]
-    return json.dumps({"table": trial.table, "cuts": trial.cuts, "places": trial.places, "parts": parts}, indent=1) + "\n"
+    return (
+        json.dumps({"table": trial.table, "cuts": trial.cuts, "places": trial.places, "parts": parts}, indent=1) + "\n"
+    )
 
 
 def trial_in(file: str) -> Trial:
     with open(file, encoding="utf-8") as it:
         held = json.load(it)
-    return Trial(held["table"], tuple(it.encode("latin-1") for it in held["parts"]), tuple(held["cuts"]), tuple(held["places"]))
+    return Trial(
+        held["table"], tuple(it.encode("latin-1") for it in held["parts"]), tuple(held["cuts"]), tuple(held["places"])
+    )

@@ -7,16 +7,46 @@ from typing import Any, Callable
 from support.reading import entry_of
 
 # What params, results and errors may be, beside those that can be traced.
-PARAMS = ([], ["x"], [2, 3], [2, "3"], [[1]], [1.5], [2**63 - 1, 1], [None, *range(16)], {"file": "f"}, {"section": "s"}, {"a": 1}, "x", None)
+PARAMS = (
+    [],
+    ["x"],
+    [2, 3],
+    [2, "3"],
+    [[1]],
+    [1.5],
+    [2**63 - 1, 1],
+    [None, *range(16)],
+    {"file": "f"},
+    {"section": "s"},
+    {"a": 1},
+    "x",
+    None,
+)
 RESULTS = (True, False, None, 5, "s", ["A", "B"], {"k": [1]}, [1.5])
-ERRORS = ({"code": 5, "message": "m"}, {"code": 5, "message": "m", "data": [1]}, {"code": "5"}, {"code": 5, "message": "m", "data": 0.5}, None)
-ODD = (1, [], {}, "x", None, {"foo": 1}, {"method": 5}, {"jsonrpc": "2.0", "method": "$/cancelRequest", "id": 1}, {"id": 1, "result": 5})
+ERRORS = (
+    {"code": 5, "message": "m"},
+    {"code": 5, "message": "m", "data": [1]},
+    {"code": "5"},
+    {"code": 5, "message": "m", "data": 0.5},
+    None,
+)
+ODD = (
+    1,
+    [],
+    {},
+    "x",
+    None,
+    {"foo": 1},
+    {"method": 5},
+    {"jsonrpc": "2.0", "method": "$/cancelRequest", "id": 1},
+    {"id": 1, "result": 5},
+)
 ODD_IDS = (None, 0, -1, 2**63, 2**64 - 1, 2**64, -(2**63), 1.5, "", "\u00e9\n\U0001f600", True)
 ODD_BYTES = b'\x00\xff\xc3"\\{}[],:0-e.\r\n \x7f'
 HEADS = (
     b"content-length: %d\r\n\r\n",
     b"Content-Length:%d\r\nContent-Type: application/vscode-jsonrpc; charset=utf-8\r\n\r\n",
-    b"Content-Type: text; charset=\"UTF8\"; x\r\nX: \t~\r\nCONTENT-LENGTH: 00%d \r\n\r\n",
+    b'Content-Type: text; charset="UTF8"; x\r\nX: \t~\r\nCONTENT-LENGTH: 00%d \r\n\r\n',
     b"Content-Length: %d\r\nContent-Type: text; charset=latin1\r\n\r\n",
 )
 
@@ -74,10 +104,15 @@ class Grammar:
         return entry
 
     def unknown(self) -> dict[str, Any]:
-        return {"jsonrpc": "2.0", "id": self.id_of(), "method": self.chance.choice(("nope", "$/nope", "$/cancelRequest", ""))}
+        return {
+            "jsonrpc": "2.0",
+            "id": self.id_of(),
+            "method": self.chance.choice(("nope", "$/nope", "$/cancelRequest", "")),
+        }
 
     def key(self) -> str:
-        """Mostly one of a call that may wait; at times one that had its reply, or of a call that comes later, or of none."""
+        """Mostly one of a call that may wait; at times one that had its reply, or of a call that comes later, or of
+        none."""
         if self.due and self.chance.random() < 0.9:
             number, turn = self.chance.choice(self.due[-12:])
             if self.chance.random() < 0.6:
@@ -110,7 +145,8 @@ class Grammar:
         return {**entry, **said}
 
     def cancel(self) -> dict[str, Any]:
-        """Mostly of a request that came a short while ago; at times of its number, of the same id as a text, or of one that comes later."""
+        """Mostly of a request that came a short while ago; at times of its number, of the same id as a text, or of one
+        that comes later."""
         known = self.ids[-4:] or [1]
         named = self.pick(
             (8, lambda: self.chance.choice(known)),
@@ -137,7 +173,9 @@ class Grammar:
         return made
 
     def content(self) -> bytes:
-        value = [self.entry() for _ in range(self.chance.randint(0, 5))] if self.chance.random() < 0.25 else self.entry()
+        value = (
+            [self.entry() for _ in range(self.chance.randint(0, 5))] if self.chance.random() < 0.25 else self.entry()
+        )
         spaced = self.chance.random() < 0.1
         return json.dumps(value, ensure_ascii=self.chance.random() < 0.5, indent=1 if spaced else None).encode()
 

@@ -1,4 +1,5 @@
-"""What the examples over the library are given, and what they have to write: the host, the client, and the language servers."""
+"""What the examples over the library are given, and what they have to write: the host, the client, and the language
+servers."""
 from typing import NamedTuple
 
 # What the smallest host reads and writes. It answers a request with its params.
@@ -94,7 +95,9 @@ GREETER = {
     "names inside strings, and members in another order": Session(
         [
             '{"params":{"processId":null,"rootUri":"\\"method\\":\\"exit\\""},"id":1,"method":"initialize","jsonrpc":"2.0"}',
-            '{"params":{"textDocument":{"text":"\\"uri\\":\\"file:///b\\"","uri":"file:///a","languageId":"\\"text\\":\\"' + LONG + '\\""}},'
+            '{"params":{"textDocument":{"text":"\\"uri\\":\\"file:///b\\"","uri":"file:///a","languageId":"\\"text\\":\\"'
+            + LONG
+            + '\\""}},'
             '"method":"textDocument/didOpen","jsonrpc":"2.0"}',
             asks(2, "shutdown"),
             EXIT,
@@ -105,8 +108,13 @@ GREETER = {
     "a text that changes": Session(
         [
             asks(1, "initialize", "{}"),
-            note("textDocument/didChange", f'{{"contentChanges":[{{"text":"x"}},{{"text":"x\\n{LONG}"}}],"textDocument":{{"uri":"file:///a"}}}}'),
-            note("textDocument/didChange", '{"textDocument":{"uri":"file:///a"},"contentChanges":[{"text":"\\u00fc"}]}'),
+            note(
+                "textDocument/didChange",
+                f'{{"contentChanges":[{{"text":"x"}},{{"text":"x\\n{LONG}"}}],"textDocument":{{"uri":"file:///a"}}}}',
+            ),
+            note(
+                "textDocument/didChange", '{"textDocument":{"uri":"file:///a"},"contentChanges":[{"text":"\\u00fc"}]}'
+            ),
             note("textDocument/didChange", '{"textDocument":{"uri":"file:///a"},"contentChanges":[]}'),
             note("nothing", "[]"),
             asks(2, "shutdown"),
@@ -124,7 +132,13 @@ GREETER = {
             asks(3, "shutdown"),
             EXIT,
         ],
-        [result(1, READY), configuration(1), note("$/cancelRequest", '{"id":1}'), error(2, -32800, CANCELLED), result(3, "null")],
+        [
+            result(1, READY),
+            configuration(1),
+            note("$/cancelRequest", '{"id":1}'),
+            error(2, -32800, CANCELLED),
+            result(3, "null"),
+        ],
         0,
     ),
     "refusals": Session(
@@ -146,12 +160,23 @@ GREETER = {
         1,
     ),
     "an editor that is gone": Session(
-        [asks(1, "initialize", "{}"), note("initialized", "{}"), note("nothing", "[]"), asks(2, "textDocument/hover", PLACE)],
+        [
+            asks(1, "initialize", "{}"),
+            note("initialized", "{}"),
+            note("nothing", "[]"),
+            asks(2, "textDocument/hover", PLACE),
+        ],
         [result(1, READY), configuration(1), result(2, hovered("no greeting is set"))],
         1,
     ),
     "an end while a hover waits": Session(
-        [asks(1, "initialize", "{}"), asks(2, "textDocument/hover", PLACE), asks(3, "textDocument/hover", PLACE), asks(4, "shutdown"), EXIT],
+        [
+            asks(1, "initialize", "{}"),
+            asks(2, "textDocument/hover", PLACE),
+            asks(3, "textDocument/hover", PLACE),
+            asks(4, "shutdown"),
+            EXIT,
+        ],
         [result(1, READY), configuration(1), configuration(2), result(4, "null")],
         0,
     ),
@@ -182,7 +207,9 @@ DEFINER = {
         [
             asks(1, "initialize", '{"capabilities":{}}'),
             note("initialized", "{}"),
-            asks(2, "textDocument/definition", '{"textDocument":{"uri":"file:///a"},"position":{"line":3,"character":0}}'),
+            asks(
+                2, "textDocument/definition", '{"textDocument":{"uri":"file:///a"},"position":{"line":3,"character":0}}'
+            ),
             asks(3, "shutdown"),
             EXIT,
         ],
@@ -227,8 +254,20 @@ DEFINER = {
         1,
     ),
     "nothing after the shutdown": Session(
-        [asks(1, "initialize", "{}"), note("initialized", "{}"), note("nothing", "[]"), asks(2, "shutdown"), asks(3, "shutdown"), asks(4, "textDocument/definition", "{}")],
-        [result(1, DEFINES), result(2, "null"), error(3, -32600, "not at this time"), error(4, -32600, "not at this time")],
+        [
+            asks(1, "initialize", "{}"),
+            note("initialized", "{}"),
+            note("nothing", "[]"),
+            asks(2, "shutdown"),
+            asks(3, "shutdown"),
+            asks(4, "textDocument/definition", "{}"),
+        ],
+        [
+            result(1, DEFINES),
+            result(2, "null"),
+            error(3, -32600, "not at this time"),
+            error(4, -32600, "not at this time"),
+        ],
         0,
     ),
 }

@@ -1,5 +1,5 @@
-"""The laws that what a peer writes keeps, whatever comes in and whatever its schedule. They are about what came in (reading.py) and what
-was written (written.py), and about two runs of one stream; none says what a method does."""
+"""The laws that what a peer writes keeps, whatever comes in and whatever its schedule. They are about what came in
+(reading.py) and what was written (written.py), and about two runs of one stream; none says what a method does."""
 import re
 from collections import Counter, defaultdict
 from dataclasses import dataclass, field, replace
@@ -39,7 +39,8 @@ class Table:
 
     methods: frozenset[str]
     has_opening: bool
-    # How many calls each method makes that answers with all its replies, each once; none where methods tell replies otherwise.
+    # How many calls each method makes that answers with all its replies, each once; none where methods tell replies
+    # otherwise.
     tellers: dict[str, Optional[int]] = field(default_factory=dict)
 
 
@@ -49,9 +50,15 @@ class Coming:
 
     stream: Stream
     table: Table
-    running: dict[int, Optional[Entry]] = field(default_factory=dict)  # by number, those that a method runs; 0 is the opening
-    named: dict[int, Entry] = field(default_factory=dict)  # of the requests among them, the first cancel that names each
-    firsts: dict[tuple[int, int], Entry] = field(default_factory=dict)  # the first reply to each call, behind the call's own call
+    running: dict[int, Optional[Entry]] = field(
+        default_factory=dict
+    )  # by number, those that a method runs; 0 is the opening
+    named: dict[int, Entry] = field(
+        default_factory=dict
+    )  # of the requests among them, the first cancel that names each
+    firsts: dict[tuple[int, int], Entry] = field(
+        default_factory=dict
+    )  # the first reply to each call, behind the call's own call
     senders: dict[str, int] = field(default_factory=dict)  # by the token of its params, where one call alone has it
     contents: list[int] = field(default_factory=list)  # by the place of an entry: which content it stands in
 
@@ -68,10 +75,15 @@ class Coming:
                     self.named.setdefault(it.number, cancel)
         places = {it.number: it.place for it in calls}
         for it in self.stream.entries:
-            if it.kind == "reply" and places.get(it.key[0], -1 if self.table.has_opening and not it.key[0] else it.place) < it.place:
+            if (
+                it.kind == "reply"
+                and places.get(it.key[0], -1 if self.table.has_opening and not it.key[0] else it.place) < it.place
+            ):
                 self.firsts.setdefault(it.key, it)
         tokens = Counter(token for it in calls for token in {*PARAM.findall(model.text_of(it.params))})
-        self.senders = {token: it.number for it in calls for token in PARAM.findall(model.text_of(it.params)) if tokens[token] == 1}
+        self.senders = {
+            token: it.number for it in calls for token in PARAM.findall(model.text_of(it.params)) if tokens[token] == 1
+        }
 
     def is_run(self, call: Entry) -> bool:
         return call.method in self.table.methods and is_whole(call.params)
@@ -92,7 +104,8 @@ class Coming:
         return [it for it in unit.entries if it.kind in ("unreadable", "invalid") or it.is_request]
 
     def content_of(self, entry: Optional[Entry]) -> int:
-        """Which content an entry stands in. The opening comes with the first, and what never comes behind all of them."""
+        """Which content an entry stands in. The opening comes with the first, and what never comes behind all of
+        them."""
         return self.contents[entry.place] if entry else len(self.stream.units)
 
     def ready(self, number: int, turns: int) -> int:
@@ -111,7 +124,9 @@ class Told:
     answered_at: dict[int, int] = field(default_factory=dict)  # and where that stands
     said: dict[int, list[Item]] = field(default_factory=lambda: defaultdict(list))  # calls and notices, by number
     turns: dict[int, int] = field(default_factory=lambda: defaultdict(int))
-    awaited: dict[int, list[int]] = field(default_factory=lambda: defaultdict(list))  # the turns of the last message with calls
+    awaited: dict[int, list[int]] = field(
+        default_factory=lambda: defaultdict(list)
+    )  # the turns of the last message with calls
     withdrawn: dict[int, list[int]] = field(default_factory=lambda: defaultdict(list))
     loose: Counter[str] = field(default_factory=Counter)  # notices of whom nobody knows who sent them
 
@@ -127,12 +142,16 @@ class Told:
 
 
 def check_answers(coming: Coming, told: Told) -> None:
-    """Each request is answered once, in its place: units in the order of arrival, and the entries of a batch in theirs."""
+    """Each request is answered once, in its place: units in the order of arrival, and the entries of a batch in
+    theirs."""
     places = [at for at, it in enumerate(told.items) if it.kind == "answers"]
     units = [it for it in coming.stream.units if coming.answered(it)]
     for unit, at in zip(units, places):
         entries, item = coming.answered(unit), told.items[at]
-        require(item.is_batch == unit.is_batch and len(item.entries) == len(entries), f"{item.text} isn't the answer of its unit: {unit}")
+        require(
+            item.is_batch == unit.is_batch and len(item.entries) == len(entries),
+            f"{item.text} isn't the answer of its unit: {unit}",
+        )
         for entry, value in zip(entries, item.entries):
             text, fixed = model.text_of(value), coming.fixed(entry)
             if fixed is None:
@@ -173,7 +192,8 @@ def take_message(coming: Coming, told: Told, at: int, item: Item) -> None:
 
 
 def check_withdrawals(coming: Coming, told: Told) -> None:
-    """Calls are withdrawn for cancelled requests alone: calls that were awaited, each once, and none whose reply stood before the cancel."""
+    """Calls are withdrawn for cancelled requests alone: calls that were awaited, each once, and none whose reply stood
+    before the cancel."""
     for number, turns in told.withdrawn.items():
         require(told.is_cancelled(number), f"calls of {number} are withdrawn, and it isn't cancelled")
         require(turns == unanswered(coming, told, number, turns), f"the turns {turns} of {number} are withdrawn")
@@ -207,7 +227,8 @@ def tokens_of(reply: Entry) -> list[str]:
 
 
 def check_replies(coming: Coming, told: Told) -> int:
-    """Each reply is used once, by the handler whose call it replies to; and gives how many were used. Others have no effect."""
+    """Each reply is used once, by the handler whose call it replies to; and gives how many were used. Others have no
+    effect."""
     owners = defaultdict(set)
     for key, reply in coming.firsts.items():
         for token in tokens_of(reply):
@@ -226,7 +247,8 @@ def check_replies(coming: Coming, told: Told) -> int:
 
 
 def check_tellers(coming: Coming, told: Told) -> None:
-    """A method that answers with its replies does so with all of them, in the order of its calls, where each came and is a result."""
+    """A method that answers with its replies does so with all of them, in the order of its calls, where each came and
+    is a result."""
     for number, text in told.endings.items():
         entry = coming.running[number]
         if entry is None or entry.method not in coming.table.tellers or told.is_cancelled(number):
@@ -241,12 +263,14 @@ def check_tellers(coming: Coming, told: Told) -> None:
 
 
 def calls_of(entry: Entry, count: Optional[int]) -> Optional[int]:
-    """How many calls a method makes that makes so many, or one for each of its params; None where these are none of its kind."""
+    """How many calls a method makes that makes so many, or one for each of its params; None where these are none of its
+    kind."""
     return count if count is not None else len(entry.params) if isinstance(entry.params, list) else None
 
 
 def check_report(coming: Coming, told: Told, ran: Ran) -> None:
-    """The report counts what was taken and written, and a handler is polled at most once before its first call and once for each."""
+    """The report counts what was taken and written, and a handler is polled at most once before its first call and once
+    for each."""
     messages = [it for it in told.items if it.kind != "answers"]
     calls = [it for it in messages if it.kind == "calls"]
     counts = (len(coming.stream.calls), len(messages), len(calls), len(told.items) - len(messages))
@@ -282,8 +306,8 @@ def texts(items: list[Item]) -> list[str]:
 
 
 def check_beside(coming: Coming, told: Told, plain: Told) -> None:
-    """Beside a run in which nothing is cancelled: each handler that isn't cancelled sends the same messages in the same order and has the
-    same answer, and one that is a front of them; and only those are cancelled that a cancel names."""
+    """Beside a run in which nothing is cancelled: each handler that isn't cancelled sends the same messages in the same
+    order and has the same answer, and one that is a front of them; and only those are cancelled that a cancel names."""
     for number in coming.running:
         said, whole = texts(told.said.get(number, [])), texts(plain.said.get(number, []))
         ending, usual = told.endings.get(number), plain.endings.get(number)
@@ -298,28 +322,41 @@ def check_beside(coming: Coming, told: Told, plain: Told) -> None:
 
 
 def check_lazy(coming: Coming, told: Told) -> None:
-    """Where all of the input comes before the first turn, each request that a cancel names is cancelled, and has sent nothing."""
-    require(told.cancelled == {*coming.named}, f"{sorted(told.cancelled)} are cancelled, and {sorted(coming.named)} are named")
+    """Where all of the input comes before the first turn, each request that a cancel names is cancelled, and has sent
+    nothing."""
+    require(
+        told.cancelled == {*coming.named},
+        f"{sorted(told.cancelled)} are cancelled, and {sorted(coming.named)} are named",
+    )
     spoken = {it for it in told.cancelled if told.said.get(it)}
     require(not spoken and not told.withdrawn, f"{sorted(spoken)} sent something before they were cancelled")
 
 
 def check_eager(coming: Coming, told: Told, other: Told) -> None:
-    """Where each content is worked on before the next comes, the picks change no more than the order; and each awaited call of a cancelled
-    request is withdrawn whose reply hasn't come."""
-    require(told.endings == other.endings and told.withdrawn == other.withdrawn, "another pick changes what is cancelled or withdrawn")
+    """Where each content is worked on before the next comes, the picks change no more than the order; and each awaited
+    call of a cancelled request is withdrawn whose reply hasn't come."""
+    require(
+        told.endings == other.endings and told.withdrawn == other.withdrawn,
+        "another pick changes what is cancelled or withdrawn",
+    )
     require(Counter(texts(told.items)) == Counter(texts(other.items)), "another pick changes what is written")
     for number in told.cancelled & {*coming.named}:
         wanted = unanswered(coming, told, number, told.awaited[number])
-        require(told.withdrawn.get(number, []) == wanted, f"{told.withdrawn.get(number)} of {number} are withdrawn, and not {wanted}")
+        require(
+            told.withdrawn.get(number, []) == wanted,
+            f"{told.withdrawn.get(number)} of {number} are withdrawn, and not {wanted}",
+        )
 
 
 def check_cancelled_eagerly(coming: Coming, told: Told, plain: Told) -> None:
-    """Where each content is worked on before the next comes, a cancel reaches each request that it names, but those that were finished
-    with an earlier content."""
+    """Where each content is worked on before the next comes, a cancel reaches each request that it names, but those
+    that were finished with an earlier content."""
     for number, cancel in coming.named.items():
         is_late = coming.ready(number, plain.turns[number]) < coming.content_of(cancel)
-        require(told.is_cancelled(number) != is_late, f"{number} is{' finished, and' if is_late else ' not finished, and not'} cancelled")
+        require(
+            told.is_cancelled(number) != is_late,
+            f"{number} is{' finished, and' if is_late else ' not finished, and not'} cancelled",
+        )
 
 
 def due_items(coming: Coming, told: Told) -> Iterator[tuple[int, Item]]:
@@ -349,14 +386,21 @@ def answer_due(coming: Coming, told: Told, entry: Entry) -> int:
 
 
 def check_timely(coming: Coming, told: Told) -> None:
-    """Where each content is worked on before the next comes, all that it brings about is written before what a later one does."""
+    """Where each content is worked on before the next comes, all that it brings about is written before what a later
+    one does."""
     reached = 0
     for due, item in due_items(coming, told):
-        require(due >= reached, f"{item.text} could be written with content {due + 1}, and stands behind what came of content {reached + 1}")
+        require(
+            due >= reached,
+            f"{item.text} could be written with content {due + 1}, and stands behind what came of content {reached + 1}",
+        )
         reached = due
 
 
 def check_cut(whole: Ran, cut: Ran, how: str) -> None:
     """The same input, cut otherwise, gives the same bytes and the same report."""
     require(cut.output == whole.output, f"{how}: cut otherwise, it writes {cut.output!r} in place of {whole.output!r}")
-    require(cut == whole, f"{how}: cut otherwise, the report has {replace(cut, output=b'')} in place of {replace(whole, output=b'')}")
+    require(
+        cut == whole,
+        f"{how}: cut otherwise, the report has {replace(cut, output=b'')} in place of {replace(whole, output=b'')}",
+    )

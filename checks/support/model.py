@@ -1,4 +1,5 @@
-"""A plain model of `play`: the lines that go out for lines that come in, by the rules of docs/methods.md and docs/protocol.md.
+"""A plain model of `play`: the lines that go out for lines that come in, by the rules of docs/methods.md and
+docs/protocol.md.
 
 It is for comparing. It takes a table that `check` accepts."""
 import json
@@ -26,7 +27,7 @@ class Ends(Exception):
         self.error = error
 
 
-def text_of(value):
+def text_of(value: object) -> str:
     return json.dumps(value, sort_keys=True, separators=(",", ":"), ensure_ascii=False)
 
 
@@ -107,7 +108,8 @@ def heard(step, reply):
 
 
 def run(steps, number, params):
-    """Runs steps: gives each message with the turns that are waited for, is sent their replies, and returns the result."""
+    """Runs steps: gives each message with the turns that are waited for, is sent their replies, and returns the
+    result."""
     registers, turn, at = {"params": params}, 0, 0
     while at < len(steps):
         step, at = steps[at], at + 1
@@ -120,7 +122,11 @@ def run(steps, number, params):
         elif step["kind"] == "add":
             registers[step["to"]] = add(step, registers)
         elif step["kind"] == "skip":
-            at += step["count"] if text_of(fill(step["left"], registers)) == text_of(fill(step["right"], registers)) else 0
+            at += (
+                step["count"]
+                if text_of(fill(step["left"], registers)) == text_of(fill(step["right"], registers))
+                else 0
+            )
         elif step["kind"] == "notify":
             yield message(step, registers), []
         else:
@@ -215,7 +221,12 @@ class Peer:
             if self.is_reached(number, named):
                 for turn in handler.waits or []:
                     if (number, turn) not in self.replies:
-                        self.unsent.append((number, {"jsonrpc": "2.0", "method": "$/cancelRequest", "params": {"id": f"{number}.{turn}"}}))
+                        self.unsent.append(
+                            (
+                                number,
+                                {"jsonrpc": "2.0", "method": "$/cancelRequest", "params": {"id": f"{number}.{turn}"}},
+                            )
+                        )
                 self.finish(number, error=CANCELLED)
 
     def finish(self, number, **ending):
@@ -249,7 +260,8 @@ class Peer:
             self.finish(number, error=end.error)
 
     def write(self):
-        """What is due goes out: the messages by the numbers of their handlers, and the answers in the order of arrival."""
+        """What is due goes out: the messages by the numbers of their handlers, and the answers in the order of
+        arrival."""
         self.written += [it for _, it in sorted(self.unsent, key=lambda it: it[0])]
         self.unsent = []
         while self.units and None not in self.units[0].answers:

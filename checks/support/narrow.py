@@ -18,12 +18,21 @@ class Narrowed:
 
     def environment(self, **limits: object) -> dict[str, str]:
         """The environment of a program with these limits, which are named as narrow_streams.c says, in lower case."""
-        return {**os.environ, "LD_PRELOAD": self.library, **{name.upper(): str(limit) for name, limit in limits.items()}}
+        return {
+            **os.environ,
+            "LD_PRELOAD": self.library,
+            **{name.upper(): str(limit) for name, limit in limits.items()},
+        }
 
     def run(self, words: list[str], given: bytes, **limits: object) -> tuple[object, bytes, bytes]:
-        """The program's status and what it wrote to its two outputs. One that doesn't end in time is killed, and has a text for a status."""
+        """The program's status and what it wrote to its two outputs. One that doesn't end in time is killed, and has a
+        text for a status."""
         with subprocess.Popen(
-            [ran.BUILT, *words], stdin=subprocess.PIPE, stdout=subprocess.PIPE, stderr=subprocess.PIPE, env=self.environment(**limits)
+            [ran.BUILT, *words],
+            stdin=subprocess.PIPE,
+            stdout=subprocess.PIPE,
+            stderr=subprocess.PIPE,
+            env=self.environment(**limits),
         ) as process:
             try:
                 output, errors = process.communicate(given, PATIENCE)

@@ -1,5 +1,5 @@
-"""A player of cases that is no program: the plain model, by each schedule and as a server whose steps come in a random order. Its peers can
-be made wrong."""
+"""A player of cases that is no program: the plain model, by each schedule and as a server whose steps come in a random
+order. Its peers can be made wrong."""
 import random
 from typing import Any, Sequence
 
@@ -37,7 +37,9 @@ class Peer(model.Peer):
     def go_on(self) -> None:
         """A server may take the next content in between."""
         self.write()
-        while (ready := [it for it in sorted(self.handlers) if self.is_ready(it)]) and (self.is_over or not self.is_distracted()):
+        while (ready := [it for it in sorted(self.handlers) if self.is_ready(it)]) and (
+            self.is_over or not self.is_distracted()
+        ):
             self.turn(self.chance.choice(ready) if self.is_served else self.pick(ready))
             self.write()
 

@@ -1,5 +1,9 @@
-/* Plays a script for a connection through the C library: an action a line on the standard input, what it gives on the
- * standard output. connection_script.py has the grammar. */
+/* usage: play_script [together]
+ *
+ * Plays a script for a connection through the C library: an action a line on the standard input, what it gives on the
+ * standard output. connection_script.py has the grammar. With `together`, what is said in lines that follow one another
+ * is said by one bm_say_all, which also takes what a line behind them takes, and a piece is fed and its events are told
+ * by one bm_fed. What is given is the same. */
 #include "bullmyrtle.h"
 
 #include <errno.h>
@@ -8,8 +12,8 @@
 #include <string.h>
 
 /* The texts of the codes, as scripts have them. */
-static const char *const refusals[] = {"",        "memory",   "not_open", "not_waiting", "over", "not_json",
-                                       "not_text", "small", "settings", "empty",       "full"};
+static const char *const refusals[] = {"",         "memory", "not_open", "not_waiting", "over", "not_json",
+                                       "not_text", "small",  "settings", "empty",       "full"};
 static const char *const endings[] = {"Clean",    "BadHead",     "BadLength", "TwoLengths", "TooLarge",
                                       "NoLength", "HeadTooLong", "Truncated", "Read",       "Full"};
 
@@ -267,6 +271,18 @@ static void batch(char *line)
     free(lengths);
 }
 
+/* Takes by bm_taken, which tells why it gives nothing. */
+static size_t take_counted(uint8_t *room, size_t size, size_t waiting)
+{
+    size_t count = SIZE_MAX;
+    int32_t code = bm_taken(&connection, room, size, &count);
+    if (code == BM_OK && (count || !waiting))
+        return count;
+    if (code != BM_SMALL || !waiting || count != waiting)
+        exit(6);
+    return 0;
+}
+
 static void counts(void)
 {
     bm_report it;
@@ -321,7 +337,11 @@ static void play(char *line)
     else if (!strcmp(action, "answer")) {
         uint64_t of = number(word(&line));
         bytes result = unhex(word(&line), true);
-        say(bm_answer(&connection, of, result.at, result.length));
+        /* (either call closes a notification) */
+        if (result.is_none && of % 2)
+            say(bm_close_call(&connection, of));
+        else
+            say(bm_answer(&connection, of, result.at, result.length));
         free(result.at);
     } else if (!strcmp(action, "fail")) {
         uint64_t of = number(word(&line));
@@ -338,7 +358,7 @@ static void play(char *line)
         if (size > waiting)
             size = waiting;
         uint8_t *room = taken(size);
-        size_t count = bm_take(&connection, room, size);
+        size_t count = size % 2 ? take_counted(room, size, waiting) : bm_take(&connection, room, size);
         printf("bytes ");
         put_hex(room, count);
         putchar('\n');
@@ -355,23 +375,316 @@ static void play(char *line)
         give_up();
 }
 
-int main(void)
+/* ---- several actions in one call */
+
+/* Something that the library promises and doesn't keep. */
+static void check(bool is_so, const char *what)
 {
-    char *line = NULL;
+    if (!is_so) {
+        fprintf(stderr, "play_script: %s\n", what);
+        exit(6);
+    }
+}
+
+/* (so that NULL is passed too) */
+static uint8_t *null_if_empty(uint8_t *at, size_t length)
+{
+    return length ? at : NULL;
+}
+
+static bool is(const char *line, const char *action)
+{
+    size_t length = strlen(action);
+    return !strncmp(line, action, length) && (!line[length] || line[length] == ' ');
+}
+
+/* The room for events: it is as large as the largest event was told to need. */
+static uint8_t *event_room;
+static size_t event_room_size;
+
+static void make_event_room(size_t size)
+{
+    free(event_room);
+    event_room = taken(size);
+    event_room_size = size;
+}
+
+static void say_told(const bm_told *told, uint32_t most)
+{
+    size_t end = 0;
+    check(told->count <= most && told->used <= event_room_size, "more was told than there was room for");
+    check((told->stopped == BM_STOP_MOST) == (told->count == most), "it stopped at another count");
+    check((told->needed > 0) == (told->stopped == BM_STOP_ROOM), "room was needed where there was enough");
+    check(told->pending == bm_pending(&connection), "other bytes are pending");
+    for (uint32_t i = 0; i < told->count; i++) {
+        bm_event event;
+        size_t at = (end + 7) / 8 * 8;
+        memcpy(&event, event_room + at, sizeof event);
+        say_event(&event, event_room + at + sizeof event);
+        end = at + sizeof event + event.name_len + event.text_len + event.id_len + 3;
+    }
+    check(end == told->used, "what is used ends elsewhere");
+}
+
+/* Tells so many events; what was told of them already may be passed. */
+static void tell_rest(uint32_t most, const bm_told *first)
+{
+    bm_told told;
+    if (first)
+        told = *first;
+    else
+        bm_tell(&connection, null_if_empty(event_room, event_room_size), event_room_size, most, &told);
+    for (;;) {
+        say_told(&told, most);
+        most -= told.count;
+        if (!most)
+            return;
+        if (told.stopped == BM_STOP_NONE) {
+            while (most--)
+                puts("none");
+            return;
+        }
+        bool grows = told.stopped == BM_STOP_ROOM && told.needed > event_room_size;
+        if (grows)
+            make_event_room(told.needed);
+        bm_tell(&connection, event_room, event_room_size, most, &told);
+        check(!grows || told.count, "the room that an event was told to need isn't enough");
+    }
+}
+
+static uint32_t nexts(char **lines, size_t count)
+{
+    uint32_t found = 0;
+    while (found < count && !strcmp(lines[found], "next"))
+        found++;
+    return found;
+}
+
+/* Feeds a piece, and tells as many events as the lines behind it ask for. Gives how many lines it played. */
+static size_t feed_and_tell(char **lines, size_t count)
+{
+    uint32_t most = nexts(lines + 1, count - 1);
+    char *line = lines[0];
+    bm_told told;
+    word(&line);
+    bytes it = unhex(word(&line), false);
+    no_more(line);
+    int32_t code = bm_fed(&connection, null_if_empty(it.at, it.length), it.length,
+                          null_if_empty(event_room, event_room_size), event_room_size, most, &told);
+    say(code);
+    tell_rest(most, code == BM_OK ? &told : NULL);
+    free(it.at);
+    return most + 1;
+}
+
+/* What is to be said. */
+static bm_saying *sayings;
+static uint8_t *texts;
+static size_t saying_count, text_length;
+
+/* One more, in memory of just the size that is needed. What its kind has no use for holds any bytes. */
+static bm_saying *one_more(uint32_t kind, bytes name, bytes text)
+{
+    bm_saying *more = taken((saying_count + 1) * sizeof *more);
+    uint8_t *more_texts = taken(text_length + name.length + text.length);
+    if (saying_count)
+        memcpy(more, sayings, saying_count * sizeof *more);
+    if (text_length)
+        memcpy(more_texts, texts, text_length);
+    if (name.length)
+        memcpy(more_texts + text_length, name.at, name.length);
+    if (text.length)
+        memcpy(more_texts + text_length + name.length, text.at, text.length);
+    free(sayings);
+    free(texts);
+    free(name.at);
+    free(text.at);
+    sayings = more;
+    texts = more_texts;
+    text_length += name.length + text.length;
+    bm_saying *made = &sayings[saying_count++];
+    memset(made, 0xa5, sizeof *made);
+    made->kind = kind;
+    made->name_len = name.length;
+    made->text_len = text.length;
+    return made;
+}
+
+static bool is_saying(const char *line)
+{
+    static const char *const kinds[] = {"call", "batch", "notify", "withdraw", "answer", "fail", "cancel"};
+    for (size_t i = 0; i < sizeof kinds / sizeof *kinds; i++)
+        if (is(line, kinds[i]))
+            return true;
+    return false;
+}
+
+/* Reads a line that says something. */
+static void read_saying(char *line)
+{
+    bytes none = {NULL, 0, true};
+    const char *action = word(&line);
+    if (!strcmp(action, "withdraw")) {
+        one_more(BM_SAY_WITHDRAW, none, none)->key = number(word(&line));
+    } else if (!strcmp(action, "cancel")) {
+        one_more(BM_SAY_CANCEL, none, none)->number = number(word(&line));
+    } else if (!strcmp(action, "notify")) {
+        bytes method = unhex(word(&line), false), params = unhex(word(&line), true);
+        one_more(BM_SAY_NOTIFY, method, params);
+    } else if (!strcmp(action, "answer")) {
+        uint64_t of = number(word(&line));
+        bytes result = unhex(word(&line), true);
+        one_more(result.is_none ? BM_SAY_CLOSE : BM_SAY_ANSWER, none, result)->number = of;
+    } else if (!strcmp(action, "fail")) {
+        uint64_t of = number(word(&line));
+        int64_t code = code_in(word(&line));
+        bytes message = unhex(word(&line), false), data = unhex(word(&line), true);
+        bm_saying *it = one_more(BM_SAY_FAIL, message, data);
+        it->number = of;
+        it->code = code;
+    } else if (!strcmp(action, "call")) {
+        uint64_t of = number(word(&line));
+        bytes method = unhex(word(&line), false), params = unhex(word(&line), true);
+        one_more(BM_SAY_CALL, method, params)->number = of;
+    } else {
+        size_t at = saying_count, calls = 0;
+        one_more(BM_SAY_BATCH, none, none)->number = number(word(&line));
+        for (; line; calls++) {
+            bytes method = unhex(word(&line), false), params = unhex(word(&line), true);
+            one_more(0xa5a5a5a5, method, params);
+        }
+        sayings[at].calls = calls;
+    }
+    no_more(line);
+}
+
+/* Prints what came of each, and gives how many were refused. */
+static size_t say_said(const bm_saying *before)
+{
+    size_t refused = 0;
+    for (size_t i = 0; i < saying_count; i++) {
+        bm_saying wanted = before[i], *it = &sayings[i];
+        bool is_call = it->kind == BM_SAY_CALL || it->kind == BM_SAY_BATCH;
+        wanted.said = it->said;
+        if (is_call && it->said == BM_OK)
+            wanted.key = it->key;
+        check(!memcmp(it, &wanted, sizeof wanted), "more was written than the code and the key");
+        refused += it->said != BM_OK;
+        if (is_call)
+            say_key(it->said, it->key);
+        else
+            say(it->said);
+        if (it->kind == BM_SAY_BATCH) {
+            check(!memcmp(it + 1, &before[i + 1], it->calls * sizeof *it), "the calls of a batch were written to");
+            i += it->calls;
+        }
+    }
+    return refused;
+}
+
+/* (a script that takes all there is asks for more, and that is taken by itself) */
+enum { MOST_TAKEN = 1 << 16 };
+
+/* Says what these lines say, and takes what the line behind them takes. Gives how many lines it played. */
+static size_t say_some(char **lines, size_t count)
+{
+    size_t played = 0, size = 0;
+    bool takes = false;
+    saying_count = text_length = 0;
+    while (played < count && is_saying(lines[played]))
+        read_saying(lines[played++]);
+    if (played < count && is(lines[played], "take") && strlen(lines[played]) < sizeof "take 65536") {
+        size = (size_t)number(lines[played] + strlen("take "));
+        takes = size <= MOST_TAKEN;
+        size = takes ? size : 0;
+        played += takes;
+    }
+    bm_saying *before = taken(saying_count * sizeof *before);
+    memcpy(before, sayings, saying_count * sizeof *before);
+    uint8_t *room = taken(size);
+    bm_said said;
+    int32_t code = bm_say_all(&connection, sayings, saying_count, null_if_empty(texts, text_length), text_length,
+                              null_if_empty(room, size), size, &said);
+    check(code == BM_OK, "what was to be said wasn't read");
+    check(said.refused == say_said(before), "others were refused");
+    check(said.pending == bm_pending(&connection), "other bytes are pending");
+    if (takes) {
+        printf("bytes ");
+        put_hex(room, said.taken);
+        putchar('\n');
+    } else
+        check(!said.taken, "bytes were taken without a room");
+    free(before);
+    free(room);
+    return played;
+}
+
+/* Plays the next line, and those behind it that can be played in the same call. Gives how many these are. */
+static size_t play_some(char **lines, size_t count)
+{
+    if (has_connection && is_saying(lines[0]))
+        return say_some(lines, count);
+    if (has_connection && is(lines[0], "feed") && nexts(lines + 1, count - 1))
+        return feed_and_tell(lines, count);
+    if (has_connection && !strcmp(lines[0], "next")) {
+        uint32_t most = nexts(lines, count);
+        tell_rest(most, NULL);
+        return most;
+    }
+    if (is(lines[0], "settings"))
+        make_event_room(0);
+    play(lines[0]);
+    return 1;
+}
+
+/* The lines of the standard input. */
+static char **read_lines(size_t *count)
+{
+    char **lines = NULL, *line = NULL;
     size_t size = 0;
     ssize_t length;
-    if (bm_interface() != BM_INTERFACE)
-        return 5;
+    *count = 0;
     while ((length = getline(&line, &size, stdin)) > 0) {
         if (line[length - 1] != '\n')
             give_up();
         line[length - 1] = 0;
         if (strlen(line) != (size_t)length - 1)
             give_up();
-        play(line);
+        lines = realloc(lines, (*count + 1) * sizeof *lines);
+        if (!lines)
+            exit(3);
+        lines[(*count)++] = line;
+        line = NULL;
     }
     free(line);
+    return lines;
+}
+
+static void free_all(char **lines, size_t count)
+{
+    while (count--)
+        free(lines[count]);
+    free(lines);
+    free(event_room);
+    free(sayings);
+    free(texts);
     if (has_connection)
         bm_free(connection);
+}
+
+int main(int words, char **given)
+{
+    bool together = words > 1 && !strcmp(given[1], "together");
+    size_t count;
+    if (bm_interface() != BM_INTERFACE || !bm_has(BM_HAS_TOGETHER))
+        return 5;
+    char **lines = read_lines(&count);
+    for (size_t at = 0; at < count;) {
+        if (together)
+            at += play_some(lines + at, count - at);
+        else
+            play(lines[at++]);
+    }
+    free_all(lines, count);
     return 0;
 }

@@ -19,7 +19,9 @@ def why_not(words: list[str], row: rows.Row) -> str:
     """Why a program doesn't give what a script gives, or nothing where it does."""
     status, output, errors = said(words, script.written(row.actions).encode())
     lines = output.decode(errors="replace").split("\n")[:-1]
-    return fuzzing.difference(row.actions, row.gives, lines) or (f"{status}, {errors[-1500:]!r}" if status or errors else "")
+    return fuzzing.difference(row.actions, row.gives, lines) or (
+        f"{status}, {errors[-1500:]!r}" if status or errors else ""
+    )
 
 
 def check(count: ran.Count, words: list[str], kind: str, scripts: Iterable[rows.Row]) -> None:
@@ -33,7 +35,9 @@ def check(count: ran.Count, words: list[str], kind: str, scripts: Iterable[rows.
 def one_of(scripts: list[rows.Row]) -> rows.Row:
     """Scripts one behind the other: each begins a connection of its own."""
     actions = tuple(it for each in scripts for it in each.actions)
-    return rows.Row(f"{scripts[0].name}, and those behind it", actions, tuple(it for each in scripts for it in each.gives))
+    return rows.Row(
+        f"{scripts[0].name}, and those behind it", actions, tuple(it for each in scripts for it in each.gives)
+    )
 
 
 def joined(scripts: list[rows.Row]) -> list[rows.Row]:

@@ -6,8 +6,8 @@ from tools.repository import Listing
 
 
 def check(listed: Listing, name: str, libraries: dict[str, str], root: str, jobs: int) -> list[str]:
-    """The words of a check of the crate in the current folder, over what out/incremental keeps, as `rt check` gives them: `libraries` has
-    the folder in which the library of each crate below it lies."""
+    """The words of a check of the crate in the current folder, over what out/incremental keeps, as `rt check` gives
+    them: `libraries` has the folder in which the library of each crate below it lies."""
     at, used = kit.folder(), ["std", *listed.libraries[name]]
     words = [f"{at}/bin/rattle", "check", "--crate-name", name, root]
     for it in used:

@@ -1,4 +1,5 @@
-"""What stands in a stream of bytes: its frames, how it ends, and the units and entries of its contents, by the rules of docs/protocol.md.
+"""What stands in a stream of bytes: its frames, how it ends, and the units and entries of its contents, by the rules of
+docs/protocol.md.
 
 It says what came in and nothing of what goes out."""
 import json
@@ -238,7 +239,11 @@ def outcome_of(value: dict[str, Any]) -> tuple[Any, Optional[dict[str, Any]]]:
     is_well = is_whole(result) and "result" in value if error is None else result is None and is_error(error)
     if not is_well or value.get("jsonrpc") != "2.0":
         return None, INVALID_REPLY
-    return (result, None) if error is None else (None, {it: error[it] for it in ("code", "message", "data") if it in error})
+    return (
+        (result, None)
+        if error is None
+        else (None, {it: error[it] for it in ("code", "message", "data") if it in error})
+    )
 
 
 def key_of(name: Any) -> Optional[tuple[int, int]]:

@@ -1,8 +1,10 @@
-"""The record that lands with the sources: of which crates all bodies were tried, exactly as they stand, and became what they should.
+"""The record that lands with the sources: of which crates all bodies were tried, exactly as they stand, and became what
+they should.
 
-A line is a crate, how many bodies it has, and the sum of all that their verdicts rest on: the logic, the scripts that judge, the bodies'
-files, and the sources of the crate and of those below it. The prover's verdict on the same text is the same, so a crate whose line holds
-needn't be tried again. A line is written as soon as its crate is done, so that a run that is interrupted keeps what it has."""
+A line is a crate, how many bodies it has, and the sum of all that their verdicts rest on: the logic, the scripts that
+judge, the bodies' files, and the sources of the crate and of those below it. The prover's verdict on the same text is
+the same, so a crate whose line holds needn't be tried again. A line is written as soon as its crate is done, so that a
+run that is interrupted keeps what it has."""
 import contextlib
 import fcntl
 import hashlib
@@ -29,7 +31,8 @@ def sum_of(*parts: object) -> str:
 
 
 class Record:
-    """The lines that there are, and what those of today would be: taken as it is made, before any source is read otherwise."""
+    """The lines that there are, and what those of today would be: taken as it is made, before any source is read
+    otherwise."""
 
     def __init__(self, root: str) -> None:
         self.root, self.at = root, f"{root}/{FILE}"
@@ -40,10 +43,14 @@ class Record:
         self.lines = self.read()
 
     def of_folder(self, folder: str) -> list[bytes]:
-        return [line_of(it, self.root) for it in sorted(f"{at}/{name}" for at, _, names in os.walk(folder) for name in names)]
+        return [
+            line_of(it, self.root)
+            for it in sorted(f"{at}/{name}" for at, _, names in os.walk(folder) for name in names)
+        ]
 
     def of_crate(self, name: str, known: dict[str, str]) -> str:
-        """A sum of the sources of a crate and of those below it, and of the libraries that it names; each crate is read once."""
+        """A sum of the sources of a crate and of those below it, and of the libraries that it names; each crate is read
+        once."""
         if name not in known:
             libraries = self.listed.libraries[name]
             below = [self.of_crate(it, known) for it in libraries if it in self.listed.lines]
@@ -85,8 +92,8 @@ class Record:
             os.close(folder)
 
     def keep(self, crate: Crate) -> bool:
-        """Writes the line of a crate of which all is as it should be, beside the others that there are; says whether it has. It has not where a
-        file has changed since this run began."""
+        """Writes the line of a crate of which all is as it should be, beside the others that there are; says whether it
+        has. It has not where a file has changed since this run began."""
         if self.of_today([crate.name]).get(crate.name) != self.sums[crate.name]:
             return False
         with self.locked():

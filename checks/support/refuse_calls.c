@@ -25,6 +25,11 @@ int32_t __real_bm_withdraw(bm_connection *, uint64_t);
 int32_t __real_bm_answer(bm_connection *, uint64_t, const uint8_t *, size_t);
 int32_t __real_bm_fail(bm_connection *, uint64_t, int64_t, const uint8_t *, size_t, const uint8_t *, size_t);
 int32_t __real_bm_cancel(bm_connection *, uint64_t);
+int32_t __real_bm_close_call(bm_connection *, uint64_t);
+void __real_bm_tell(bm_connection *, uint8_t *, size_t, uint32_t, bm_told *);
+int32_t __real_bm_fed(bm_connection *, const uint8_t *, size_t, uint8_t *, size_t, uint32_t, bm_told *);
+int32_t __real_bm_say_all(bm_connection *, bm_saying *, size_t, const uint8_t *, size_t, uint8_t *, size_t, bm_said *);
+int32_t __real_bm_taken(bm_connection *, uint8_t *, size_t, size_t *);
 size_t __real_bm_pending(bm_connection *);
 size_t __real_bm_take(bm_connection *, uint8_t *, size_t);
 bool __real_bm_is_done(bm_connection *);
@@ -131,8 +136,8 @@ static void refused_call(const char *line)
     state before = seen(connection);                                                                                   \
     int32_t code = INSIDE(true, call);                                                                                 \
     if (code == BM_NO_MEMORY) {                                                                                        \
-        check(!has_changed(&before, connection), name, "was refused memory, and has changed something");              \
-        check(kept, name, "was refused memory, and has written something");                                           \
+        check(!has_changed(&before, connection), name, "was refused memory, and has changed something");               \
+        check(kept, name, "was refused memory, and has written something");                                            \
         refused_call(name "\n");                                                                                       \
         code = INSIDE(false, call);                                                                                    \
         check(code != BM_NO_MEMORY, name, "is still refused memory");                                                  \
@@ -190,6 +195,11 @@ int32_t __wrap_bm_withdraw(bm_connection *connection, uint64_t key)
 int32_t __wrap_bm_answer(bm_connection *connection, uint64_t number, const uint8_t *result, size_t length)
 {
     AGAIN("bm_answer", __real_bm_answer(connection, number, result, length), true);
+}
+
+int32_t __wrap_bm_close_call(bm_connection *connection, uint64_t number)
+{
+    AGAIN("bm_close_call", __real_bm_close_call(connection, number), true);
 }
 
 int32_t __wrap_bm_fail(bm_connection *connection, uint64_t number, int64_t code_given, const uint8_t *message,
@@ -260,6 +270,102 @@ int32_t __wrap_bm_next_all(bm_connection *connection, uint8_t *room, size_t leng
     return code;
 }
 
+/* Where no event could be had for want of memory, they are asked for again. */
+static void tell_again(const char *line, bm_connection *connection, uint8_t *room, size_t length, uint32_t most,
+                       bm_told *told)
+{
+    if (told->stopped != BM_STOP_NO_MEMORY)
+        return;
+    refused_call(line);
+    if (told->count)
+        return;
+    is_inside = true;
+    may_refuse = false;
+    __real_bm_tell(connection, room, length, most, told);
+    is_inside = false;
+    check(told->stopped != BM_STOP_NO_MEMORY, "bm_tell", "is still refused memory");
+}
+
+void __wrap_bm_tell(bm_connection *connection, uint8_t *room, size_t length, uint32_t most, bm_told *told)
+{
+    state before = seen(connection);
+    if (length)
+        memset(room, 0xa5, length);
+    uint8_t *room_before = copied(room, length);
+    is_inside = may_refuse = true;
+    __real_bm_tell(connection, room, length, most, told);
+    is_inside = false;
+    if (told->stopped == BM_STOP_NO_MEMORY && !told->count)
+        check_told("bm_tell", &before, connection, room, room_before, length);
+    tell_again("bm_tell\n", connection, room, length, most, told);
+    free(room_before);
+}
+
+int32_t __wrap_bm_fed(bm_connection *connection, const uint8_t *bytes, size_t length, uint8_t *room, size_t room_length,
+                      uint32_t most, bm_told *told)
+{
+    state before = seen(connection);
+    memset(told, 0xa5, sizeof *told);
+    if (room_length)
+        memset(room, 0xa5, room_length);
+    bm_told told_before = *told;
+    uint8_t *room_before = copied(room, room_length);
+    int32_t code = INSIDE(true, __real_bm_fed(connection, bytes, length, room, room_length, most, told));
+    if (code == BM_NO_MEMORY) {
+        check(!has_changed(&before, connection), "bm_fed", "was refused memory, and has changed something");
+        check(!memcmp(told, &told_before, sizeof *told), "bm_fed", "was refused memory, and has told something");
+        check(!room_length || !memcmp(room, room_before, room_length), "bm_fed", "has written to the room");
+        refused_call("bm_fed\n");
+        code = INSIDE(false, __real_bm_fed(connection, bytes, length, room, room_length, most, told));
+        check(code != BM_NO_MEMORY, "bm_fed", "is still refused memory");
+    } else if (code == BM_OK)
+        tell_again("bm_fed, telling\n", connection, room, room_length, most, told);
+    free(room_before);
+    return code;
+}
+
+/* One thing, or a batch with its calls; made again where it is refused memory. */
+static void say_one(bm_connection *connection, bm_saying *it, size_t count, const uint8_t *bytes, size_t length)
+{
+    state before = seen(connection);
+    bm_saying saying_before = *it;
+    bm_said said;
+    int32_t code = INSIDE(true, __real_bm_say_all(connection, it, count, bytes, length, NULL, 0, &said));
+    check(code == BM_OK && said.refused == (it->said != BM_OK), "bm_say_all", "counts wrongly");
+    if (it->said != BM_NO_MEMORY)
+        return;
+    check(!has_changed(&before, connection), "bm_say_all", "was refused memory, and has changed something");
+    saying_before.said = it->said;
+    check(!memcmp(it, &saying_before, sizeof *it), "bm_say_all", "was refused memory, and has written a key");
+    refused_call("bm_say_all\n");
+    code = INSIDE(false, __real_bm_say_all(connection, it, count, bytes, length, NULL, 0, &said));
+    check(code == BM_OK && it->said != BM_NO_MEMORY, "bm_say_all", "is still refused memory");
+}
+
+/* (each by itself, since what is said again would come behind the others) */
+int32_t __wrap_bm_say_all(bm_connection *connection, bm_saying *sayings, size_t count, const uint8_t *bytes,
+                          size_t length, uint8_t *room, size_t room_length, bm_said *said)
+{
+    size_t refused = 0, at = 0;
+    for (size_t i = 0; i < count;) {
+        size_t together = 1, own = 0;
+        if (sayings[i].kind == BM_SAY_BATCH)
+            together += sayings[i].calls < count - i - 1 ? sayings[i].calls : count - i - 1;
+        for (size_t j = 0; j < together; j++)
+            own += sayings[i + j].name_len + sayings[i + j].text_len;
+        check(at + own <= length, "bm_say_all", "was passed too few bytes");
+        say_one(connection, &sayings[i], together, own ? bytes + at : NULL, own);
+        refused += sayings[i].said != BM_OK;
+        at += own;
+        i += together;
+    }
+    unsigned long before = requests;
+    int32_t code = INSIDE(true, __real_bm_say_all(connection, NULL, 0, NULL, 0, room, room_length, said));
+    check(requests == before, "bm_say_all", "has asked for memory to take what is to be written");
+    said->refused = refused;
+    return code;
+}
+
 /* Calls that need no memory. */
 #define WITHOUT(name, kind, call)                                                                                      \
     unsigned long before = requests;                                                                                   \
@@ -283,6 +389,11 @@ size_t __wrap_bm_pending(bm_connection *connection)
 size_t __wrap_bm_take(bm_connection *connection, uint8_t *room, size_t length)
 {
     WITHOUT("bm_take", size_t, __real_bm_take(connection, room, length));
+}
+
+int32_t __wrap_bm_taken(bm_connection *connection, uint8_t *room, size_t length, size_t *count)
+{
+    WITHOUT("bm_taken", int32_t, __real_bm_taken(connection, room, length, count));
 }
 
 bool __wrap_bm_is_done(bm_connection *connection)

@@ -21,7 +21,8 @@ class Judged:
 
 
 def rounds_of(bodies: Iterable[Body]) -> list[list[Body]]:
-    """Puts the bodies into rounds in which no function has two; one whose text stands in no function has a round of its own."""
+    """Puts the bodies into rounds in which no function has two; one whose text stands in no function has a round of its
+    own."""
     rounds: list[list[Body]] = []
     apart: list[list[Body]] = []
     for body in sorted(bodies, key=lambda it: -len(it.functions)):
@@ -31,13 +32,15 @@ def rounds_of(bodies: Iterable[Body]) -> list[list[Body]]:
         fitting = (it for it in rounds if not any({*body.functions} & {*other.functions} for other in it))
         found = next(fitting, None)
         if found is None:
-            rounds.append(found := [])
+            found = []
+            rounds.append(found)
         found.append(body)
     return rounds + apart
 
 
 def is_inside(name: str, function: Function) -> bool:
-    """Whether what the check names so is the function, or a closure in it: of `fn f` in the module m they are `m::fn::f::NAME`."""
+    """Whether what the check names so is the function, or a closure in it: of `fn f` in the module m they are
+    `m::fn::f::NAME`."""
     if function.printed.fullmatch(name):
         return True
     module, found, rest = name.partition("::fn::")
@@ -47,7 +50,8 @@ def is_inside(name: str, function: Function) -> bool:
 
 
 def is_of(line: Verdict, function: Function) -> bool:
-    """Whether a line of the output is about the function, a closure in it, or the impl of a trait that it is a method of."""
+    """Whether a line of the output is about the function, a closure in it, or the impl of a trait that it is a method
+    of."""
     if line.kind == "impl":
         return bool(function.printed.fullmatch(f"{line.name}::{function.name.rpartition('::')[2]}"))
     return is_inside(line.name, function)
@@ -61,8 +65,8 @@ def lines_of(output: Output, function: Function) -> list[Verdict]:
 
 def names_of(output: Output, functions: Iterable[Function]) -> dict[Function, list[str]]:
     """What the check calls each of these functions."""
-    named = lambda function: [it.name for it in output.verdicts.values() if it.kind == "fn" and function.printed.fullmatch(it.name)]
-    return {function: named(function) for function in functions}
+    named = [it.name for it in output.verdicts.values() if it.kind == "fn"]
+    return {function: [it for it in named if function.printed.fullmatch(it)] for function in functions}
 
 
 def commented(functions: Iterable[Function]) -> list[Change]:
@@ -97,23 +101,44 @@ def short(items: list[str]) -> str:
 
 
 def judge_wrong(body: Body, output: Output, is_alone: bool) -> Optional[Judged]:
-    """What the output of a round says of a wrong body; None where it says nothing as long as others are wrong beside it."""
+    """What the output of a round says of a wrong body; None where it says nothing as long as others are wrong beside
+    it."""
     lines = [it for fn in body.functions for it in lines_of(output, fn)]
     if not all(lines_of(output, fn) for fn in body.functions):
         lost = next(fn.name for fn in body.functions if not lines_of(output, fn))
         return Judged(body, False, "unfit", f"the check has no line on {lost}") if is_alone else None
     goals = [f"{it.name.split('::', 1)[1]}: {short(it.goals)}" for it in lines if it.goals]
-    answers = [f"{it.name.split('::', 1)[1]}: {short(it.answers)}" for it in lines if it.falls_by_itself and not it.goals]
+    answers = [
+        f"{it.name.split('::', 1)[1]}: {short(it.answers)}" for it in lines if it.falls_by_itself and not it.goals
+    ]
     if not all(it.is_judged for it in lines):
-        return Judged(body, False, "unfit", f"the prover could not judge it: {rest_of([it for it in lines if not it.is_judged])}") if is_alone else None
+        return (
+            Judged(
+                body,
+                False,
+                "unfit",
+                f"the prover could not judge it: {rest_of([it for it in lines if not it.is_judged])}",
+            )
+            if is_alone
+            else None
+        )
     if goals:
         return Judged(body, True, "refused", short(goals))
     if any(it.falls_by_itself for it in lines):
         is_by_hand = any(it.answers for it in lines)
-        return Judged(body, True, "by hand answer" if is_by_hand else "refused", short(answers) if is_by_hand else rest_of(lines))
+        return Judged(
+            body, True, "by hand answer" if is_by_hand else "refused", short(answers) if is_by_hand else rest_of(lines)
+        )
     if not all(it.is_proved for it in lines):
-        return Judged(body, False, "unfit", f"it falls for no reason of its own: {rest_of(lines)}") if is_alone else None
-    return Judged(body, False, "proved", f"{body.said} {'are' if len(body.functions) > 1 else 'is'} proved with this body: {body.what}")
+        return (
+            Judged(body, False, "unfit", f"it falls for no reason of its own: {rest_of(lines)}") if is_alone else None
+        )
+    return Judged(
+        body,
+        False,
+        "proved",
+        f"{body.said} {'are' if len(body.functions) > 1 else 'is'} proved with this body: {body.what}",
+    )
 
 
 def rest_of(lines: list[Verdict]) -> str:

@@ -1,7 +1,7 @@
 """Reads the rows of checks/played_rows: what comes in, and what has to go out.
 
-The first line of a file says what its rows are about, and the second by the methods of which tables they are played. Then come the rows,
-each with an empty line before it:
+The first line of a file says what its rows are about, and the second by the methods of which tables they are played.
+Then come the rows, each with an empty line before it:
 
     a call back and its reply: eager lazy served        its name, and its ways
     < {"jsonrpc":"2.0","method":"ask","id":7}           a content that comes in; <3 has it come three times

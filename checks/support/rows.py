@@ -17,11 +17,11 @@ MIXED = (
 NOTICES = '[{"jsonrpc":"2.0","method":"add","params":[1,2]},{"jsonrpc":"2.0","method":"nope"}]'
 
 
-def frames(*contents):
+def frames(*contents: str | bytes) -> bytes:
     return b"".join(frame(it) for it in contents)
 
 
-def lines(*contents):
+def lines(*contents: str) -> bytes:
     return "".join(f"{it}\n" for it in contents).encode()
 
 
@@ -58,47 +58,47 @@ value = "$r"
 
 
 @cache
-def file_of(table):
+def file_of(table: str) -> str:
     """A file with this table."""
     return ran.file_of(f"table{hash(table)}.toml", table)
 
 
-def ended(end):
+def ended(end: str) -> tuple[int, bytes]:
     """The status of a run whose input ended so, "" where it ended clean, and what it says."""
     return (1, f"input ended: {end}\n".encode()) if end else (0, b"")
 
 
-def ask(number=7):
+def ask(number: int = 7) -> str:
     """A request that makes one call."""
     return '{"jsonrpc":"2.0","method":"ask","params":["x"],"id":%d}' % number
 
 
-def called(key):
+def called(key: str) -> str:
     """Its call."""
     return '{"id":"%s","jsonrpc":"2.0","method":"confirm","params":["x"]}' % key
 
 
-def replied(key, result="true"):
+def replied(key: str, result: str = "true") -> str:
     return '{"jsonrpc":"2.0","id":"%s","result":%s}' % (key, result)
 
 
-def cancel(number=7):
+def cancel(number: int = 7) -> str:
     return '{"jsonrpc":"2.0","method":"$/cancelRequest","params":{"id":%d}}' % number
 
 
-def withdrawn(key):
+def withdrawn(key: str) -> str:
     return '{"jsonrpc":"2.0","method":"$/cancelRequest","params":{"id":"%s"}}' % key
 
 
-def answered(result, number=7):
+def answered(result: str, number: int = 7) -> str:
     return '{"id":%d,"jsonrpc":"2.0","result":%s}' % (number, result)
 
 
-def failed(code, message, number=7):
+def failed(code: int, message: str, number: int = 7) -> str:
     return '{"error":{"code":%d,"message":"%s"},"id":%d,"jsonrpc":"2.0"}' % (code, message, number)
 
 
-def batch(*entries):
+def batch(*entries: str) -> str:
     return "[" + ",".join(entries) + "]"
 
 
@@ -109,8 +109,9 @@ HELLO = '{"id":"0.1","jsonrpc":"2.0","method":"hello"}'
 
 # The tables by which rows are played.
 TABLES = {"none": None, "methods": METHODS, "opening": OPENING, "each": EACH}
-OPTIONS = {"eager": [], "lazy": ["--lazy"], "last": ["--last"]}
-# Of a peer without methods: name, input, output, how the input ends ("" where it ends clean). (Long streams are for played_rows.py alone.)
+OPTIONS: dict[str, list[str]] = {"eager": [], "lazy": ["--lazy"], "last": ["--last"]}
+# Of a peer without methods: name, input, output, how the input ends ("" where it ends clean). (Long streams are for
+# test_played_rows.py alone.)
 ROWS = [
     (it.name, it.stream, it.outputs[0], it.end.replace("Clean", ""))
     for file in ("messages", "heads", "depths")
@@ -119,11 +120,16 @@ ROWS = [
 ]
 
 
-def plays_of(file):
-    """Of a file's rows those of contents alone: name, table, the options under which it holds, contents in, contents out."""
+# Name, table, options under which it holds, contents in, contents out.
+Play = tuple[str, str, list[list[str]], list[str], list[str]]
+
+
+def plays_of(file: str) -> list[Play]:
+    """Of a file's rows those of contents alone: name, table, the options under which it holds, contents in, contents
+    out."""
     (table,), found = rows_of(file)
     ways = [(it, [OPTIONS[way] for way in it.ways if way in OPTIONS]) for it in found if it.is_of_contents]
-    return [(it.name, TABLES[table], options, it.given, it.contents) for it, options in ways if options]
+    return [(it.name, TABLES[table] or "", options, it.given, it.contents) for it, options in ways if options]
 
 
 # Of a peer with the methods of a table.

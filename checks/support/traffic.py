@@ -1,7 +1,7 @@
 """Traffic of all kinds for a server, at random, of which each answer is checked as it comes.
 
-A plan of what a call is answered with is made as it is sent: replies to its calls back come at once, late, twice, behind the call before it
-was made, as errors, or never; in the last case its request is cancelled in the end."""
+A plan of what a call is answered with is made as it is sent: replies to its calls back come at once, late, twice,
+behind the call before it was made, as errors, or never; in the last case its request is cancelled in the end."""
 import collections
 import heapq
 import json
@@ -14,7 +14,11 @@ from support.client import Client, call, cancel, compact, error, notification, r
 CANCELLED = (-32800, "Request cancelled")
 INVALID_REPLY = (-32603, "Invalid reply")
 INVALID, UNREADABLE = rows.INVALID, rows.UNREADABLE
-STRAYS = ('{"jsonrpc":"2.0","id":"x","result":1}', '{"jsonrpc":"2.0","id":5,"result":1}', '{"jsonrpc":"2.0","id":"0.1","result":1}')
+STRAYS = (
+    '{"jsonrpc":"2.0","id":"x","result":1}',
+    '{"jsonrpc":"2.0","id":5,"result":1}',
+    '{"jsonrpc":"2.0","id":"0.1","result":1}',
+)
 BROKEN = ("{", "[1,", '{"jsonrpc":"2.0","method":"add","params":[1,2],"id":1')
 FAULTY = ("1", '"x"', "null", "{}", '{"jsonrpc":"1.0","method":"add","id":1}', '{"jsonrpc":"2.0","method":1,"id":1}')
 
@@ -82,8 +86,8 @@ class Traffic:
             self.send_one()
 
     def send_most(self, now: float, calls: int) -> None:
-        """Sends so many requests that wait for two replies each: the first comes soon, and the second once all wait, to the last of
-        them first, so that all are open at once, and all their answers wait."""
+        """Sends so many requests that wait for two replies each: the first comes soon, and the second once all wait, to
+        the last of them first, so that all are open at once, and all their answers wait."""
         self.now = now
         for _ in range(calls):
             self.number += 1
@@ -120,7 +124,8 @@ class Traffic:
         self.counts[kind] += 1
 
     def send(self, entries: list[tuple[str, Entry]], is_batch: bool) -> None:
-        """Sends call entries, in a batch with other things between them, and replies to some of their calls in the same batch or behind."""
+        """Sends call entries, in a batch with other things between them, and replies to some of their calls in the same
+        batch or behind."""
         texts, answers, early = [], [], []
         for text, entry in entries:
             texts.append(text)
@@ -168,10 +173,15 @@ class Traffic:
             return Said(error=(self.serial, "sorry"))
         if kind < 0.15:
             return Said(error=INVALID_REPLY, is_faulty=True)
-        return Said(value=True if method == "gate" and kind < 0.6 else self.chance.choice((None, False, self.serial, "yes", [1, {"a": []}])))
+        return Said(
+            value=True
+            if method == "gate" and kind < 0.6
+            else self.chance.choice((None, False, self.serial, "yes", [1, {"a": []}]))
+        )
 
     def keep(self, entry: Entry) -> None:
-        """Remembers an entry until it is done with. Some requests that call back never get their last reply, and are cancelled."""
+        """Remembers an entry until it is done with. Some requests that call back never get their last reply, and are
+        cancelled."""
         if entry.id is not None:
             entry.is_hopeless = bool(entry.said) and self.chance.random() < 0.03
             if entry.is_hopeless:
@@ -237,7 +247,9 @@ class Traffic:
         is_batch, wanted = self.units.popleft()
         found = [compact(it) for it in value] if is_batch and isinstance(value, list) else [content]
         is_well = len(found) == len(wanted) and (not is_batch or content == "[" + ",".join(found) + "]")
-        is_well = is_well and all(text in (it.answers() if isinstance(it, Entry) else (it,)) for text, it in zip(found, wanted))
+        is_well = is_well and all(
+            text in (it.answers() if isinstance(it, Entry) else (it,)) for text, it in zip(found, wanted)
+        )
         if not is_well:
             self.fault(f"{content} in place of {[it.answers() if isinstance(it, Entry) else it for it in wanted]}")
         for text, entry in zip(found, wanted):
@@ -277,7 +289,9 @@ class Traffic:
     def look_at_withdrawal(self, content: str, key: str) -> None:
         number, turn = map(int, key.split("."))
         entry = self.open.get(number)
-        is_well = entry is not None and entry.is_cancelled and not entry.messages and turn not in entry.replied_before_cancel
+        is_well = (
+            entry is not None and entry.is_cancelled and not entry.messages and turn not in entry.replied_before_cancel
+        )
         if not is_well or turn > len(entry.said) or content != notification("$/cancelRequest", {"id": key}):
             self.fault(f"a withdrawal of nothing: {content}")
         self.counts["withdrawals"] += 1

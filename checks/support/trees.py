@@ -8,10 +8,11 @@ import tempfile
 import threading
 import time
 from dataclasses import dataclass
-from typing import Callable, Iterable, Iterator
+from typing import Any, Callable, Iterable, Iterator
 
 from support import prover
-from tools.repository import listing  # (it stands in bin/)
+from tools.building import left_by_gate  # (it stands in bin/)
+from tools.repository import listing
 
 PARTS = ("src", "specs", "proofs")
 KEPT = "out/incremental"
@@ -32,7 +33,13 @@ class Ran:
 def run(words: list[str], folder: str, limit: float) -> Ran:
     """Runs a command to its end, or for at most `limit` seconds."""
     with tempfile.TemporaryFile("w+", errors="replace") as out:
-        how = {"cwd": folder, "stdin": subprocess.DEVNULL, "stdout": out, "stderr": subprocess.STDOUT, "process_group": 0}
+        how: dict[str, Any] = {
+            "cwd": folder,
+            "stdin": subprocess.DEVNULL,
+            "stdout": out,
+            "stderr": subprocess.STDOUT,
+            "process_group": 0,
+        }
         began, started = time.monotonic(), subprocess.Popen(words, **how)
         RUNNING.add(started.pid)
         late = threading.Timer(limit, kill, [started.pid])
@@ -58,18 +65,25 @@ def stop_all() -> None:
 
 
 class Trees:
-    """Copies of the crates that are needed, as they are and as they are proved, and the libraries of those that others stand on.
+    """Copies of the crates that are needed, as they are and as they are proved, and the libraries of those that others
+    stand on.
 
-    Each crate is proved and built in a folder of its own with the crates below it, since two runs of rt in one folder would wait for one
-    another. A crate is proved with the texts that are given for it in place of its own."""
+    Each crate is proved and built in a folder of its own with the crates below it, since two runs of rt in one folder
+    would wait for one another. A crate is proved with the texts that are given for it in place of its own.
 
-    def __init__(self, root: str, folder: str, texts: dict[str, dict[str, str]], limit: float) -> None:
+    Where the gate's libraries are to be taken, and it built all of those below, no library is built: each crate with
+    texts is proved over the gate's, and none waits for another."""
+
+    def __init__(
+        self, root: str, folder: str, texts: dict[str, dict[str, str]], limit: float, is_over_gate: bool = False
+    ) -> None:
         self.root, self.folder, self.limit = root, folder, limit
         self.listed = listing(root)
         self.below = {name: self.listed.below(name)[:-1] for name in self.listed.lines}
-        needed = {*texts, *(it for name in texts for it in self.below[name])}
-        self.needed = [it for it in self.below if it in needed]
-        self.libraries: dict[str, str] = {}  # the folders with the libraries that there are
+        below = {it for name in texts for it in self.below[name]}
+        self.libraries = self.take_gates(below) if is_over_gate else {}  # the folders with the libraries that there are
+        self.is_over_gate = bool(self.libraries)
+        self.needed = [it for it in self.below if it in texts or it in below and not self.is_over_gate]
         self.unproved: set[str] = set()  # the crates that turned out not to be proved
         for name in self.needed:
             for part in PARTS:
@@ -86,8 +100,9 @@ class Trees:
         return f"{self.folder}/homes/{name}"
 
     def put_home(self, name: str, texts: dict[str, dict[str, str]]) -> None:
-        """Makes the folder in which a crate is proved, with these texts in place of its own and of those of the crates below it."""
-        together = [*self.below[name], name]
+        """Makes the folder in which a crate is proved, with these texts in place of its own and of those of the crates
+        below it."""
+        together = [name] if self.is_over_gate else [*self.below[name], name]
         for it in together:
             self.put_sources(it, f"{self.home(name)}/crates/{it}", texts.get(it, {}))
         self.put_files(self.home(name), together)
@@ -111,6 +126,14 @@ class Trees:
         """The crates that stand on it, of those that are needed."""
         return [it for it in self.needed if name in self.below[it]]
 
+    def take_gates(self, names: Iterable[str]) -> dict[str, str]:
+        """Takes the libraries that the gate built of these crates, where all of them are there, and gives the folder of
+        each."""
+        found = left_by_gate(names, self.root)
+        for name, library in found.items():
+            copy_folder(library, f"{self.folder}/gate/{name}/{name}.rlib", link)
+        return {name: f"{self.folder}/gate/{name}" for name in found}
+
     def take_kept(self, name: str) -> bool:
         """Takes what earlier checks kept of a crate; says whether there was any."""
         out, to = f"{self.root}/crates/{name}/out", f"{self.home(name)}/crates/{name}/out"
@@ -129,11 +152,15 @@ class Trees:
 
     def is_lost(self, name: str) -> bool:
         """Whether a crate below is not proved, so that this one never can be."""
-        return any(it in self.unproved for it in self.below[name])
+        return any(it in self.unproved and it not in self.libraries for it in self.below[name])
 
     def prove(self, name: str, jobs: int) -> Ran:
         """Proves a crate, and builds it where others stand on it. It must be ready."""
         home = f"{self.home(name)}/crates/{name}"
+        if self.is_over_gate:
+            ran = run(self.words(name, home, jobs), home, self.limit)
+            self.unproved |= {name} if ran.status else set()
+            return ran
         above = self.above(name)
         is_library = above or os.path.isfile(f"{home}/out/rlib/stamp")
         ran = run(["rt", "lib" if is_library else "check", "--jobs", str(jobs)], home, self.limit)
@@ -160,19 +187,32 @@ class Trees:
             yield folder
 
     def check(self, name: str, texts: dict[str, str], jobs: int, only: Iterable[str] = ()) -> Ran:
-        """Checks a crate with these texts in place of its own, over what its proof kept: all of it, or only some functions and what
-        these call."""
+        """Checks a crate with these texts in place of its own, over what its proof kept: all of it, or only some
+        functions and what these call."""
         with self.room(name, texts) as folder:
             return run(self.words(name, folder, jobs, only), folder, self.limit)
 
 
+def link(source: str, to: str) -> None:
+    """Links a file that nobody writes into, or copies it where it lies on another device."""
+    try:
+        os.link(source, to)
+    except OSError:
+        shutil.copyfile(source, to)
+
+
 def link_modules(source: str, to: str) -> None:
-    """Links a module that a check has kept, in whose place another check puts a new one; copies any other file, into which it may write."""
-    (os.link if source.endswith(".oantt") else shutil.copy2)(source, to)
+    """Links a module that a check has kept, in whose place another check puts a new one; copies any other file, into
+    which it may write."""
+    if source.endswith(".oantt"):
+        os.link(source, to)
+    else:
+        shutil.copy2(source, to)
 
 
 def copy_folder(source: str, to: str, copied: Callable[[str, str], object] = shutil.copyfile, late: str = "") -> None:
-    """Copies a folder, if there is one, each file by `copied`; the one named `late` comes last, so that it stands only beside the rest."""
+    """Copies a folder, if there is one, each file by `copied`; the one named `late` comes last, so that it stands only
+    beside the rest."""
     if not os.path.isdir(source):
         return
     ignored = shutil.ignore_patterns(late) if late else None

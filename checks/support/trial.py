@@ -1,4 +1,5 @@
-"""One run over crates: the proof of each with its right bodies, and the rounds of its wrong bodies over it, several checks side by side."""
+"""One run over crates: the proof of each with its right bodies, and the rounds of its wrong bodies over it, several
+checks side by side."""
 import os
 from concurrent.futures import FIRST_COMPLETED, Future, ThreadPoolExecutor, wait
 from dataclasses import dataclass, field
@@ -7,7 +8,17 @@ from typing import Callable, Optional
 
 from support.bodies import Body, Sources
 from support.functions import Function
-from support.rounds import Judged, commented, hurt_beside, judge_right, judge_wrong, lines_of, names_of, no_verdict, rounds_of
+from support.rounds import (
+    Judged,
+    commented,
+    hurt_beside,
+    judge_right,
+    judge_wrong,
+    lines_of,
+    names_of,
+    no_verdict,
+    rounds_of,
+)
 from support.trees import Ran, Trees, stop_all
 from support.verdicts import Output, read_output
 
@@ -81,7 +92,9 @@ class Turn:
     crate: Crate
     bodies: list[Body]
     label: str
-    is_whole: bool = False  # whether it looks at the whole crate, and not only at what its bodies change and what that calls
+    is_whole: bool = (
+        False  # whether it looks at the whole crate, and not only at what its bodies change and what that calls
+    )
 
     @property
     def only(self) -> list[str]:
@@ -92,12 +105,20 @@ class Turn:
 
 
 class Trial:
-    """One run over the crates: the proof of each, which is its control too, and then its rounds, up to `jobs` side by side.
+    """One run over the crates: the proof of each, which is its control too, and then its rounds, up to `jobs` side by
+    side.
 
     Threads only run checks; what these say is judged as they end, in one place. Each crate of which all is as it
     should be is told to `done`."""
 
-    def __init__(self, crates: list[Crate], trees: Trees, jobs: int, logs: str, done: Callable[[Crate], None] = lambda crate: None) -> None:
+    def __init__(
+        self,
+        crates: list[Crate],
+        trees: Trees,
+        jobs: int,
+        logs: str,
+        done: Callable[[Crate], None] = lambda crate: None,
+    ) -> None:
         self.crates = {it.name: it for it in crates}
         self.trees, self.jobs, self.logs, self.done = trees, jobs, logs, done
         self.unproved = list(trees.needed)
@@ -124,7 +145,8 @@ class Trial:
         return self.jobs - sum(jobs for jobs, _ in self.running.values())
 
     def start(self, pool: ThreadPoolExecutor) -> bool:
-        """Starts what can be started, proofs first, those first for which most crates wait; says whether anything runs."""
+        """Starts what can be started, proofs first, those first for which most crates wait; says whether anything
+        runs."""
         for name in [it for it in self.unproved if self.trees.is_lost(it)]:
             self.unproved.remove(name)
             self.lose(name, "a crate below it is not proved")
@@ -143,7 +165,9 @@ class Trial:
             # (at the end the long ones share the processors that nothing else waits for)
             jobs = 1 if self.unproved else min(MOST_JOBS, max(1, self.idle() // len(self.waiting)))
             turn = self.waiting.pop(0)
-            future = pool.submit(self.trees.check, turn.crate.name, turn.crate.with_bodies(turn.bodies), jobs, turn.only)
+            future = pool.submit(
+                self.trees.check, turn.crate.name, turn.crate.with_bodies(turn.bodies), jobs, turn.only
+            )
             self.running[future] = jobs, partial(self.after_turn, turn)
         return bool(self.running)
 
@@ -176,7 +200,9 @@ class Trial:
         crate.judged += [Judged(it, False, "unfit", why) if why else judge_right(it, output) for it in crate.right]
         if why or not output.is_proved:
             fallen = ", ".join(it.name for it in output.fallen())
-            crate.failures.append(f"{crate.name}: right bodies and comments in its functions are refused: {why or fallen}")
+            crate.failures.append(
+                f"{crate.name}: right bodies and comments in its functions are refused: {why or fallen}"
+            )
             return
         crate.known = {it.name for it in output.verdicts.values() if not it.is_by_compiler}
         crate.names = names_of(output, crate.functions)
@@ -195,9 +221,11 @@ class Trial:
         if why and (is_late or len(bodies) == 1):
             self.settle(turn, [Judged(it, False, "unfit", why) for it in bodies])
         elif len(bodies) == 1:
-            self.settle(turn, [judge_wrong(bodies[0], output, True)])
+            self.settle(turn, [it for it in [judge_wrong(bodies[0], output, True)] if it])
         elif why or beside:
-            say(f"== {crate.name} {turn.label} hurts more than it should, so each is tried alone: {(why or ', '.join(beside))[:300]}")
+            say(
+                f"== {crate.name} {turn.label} hurts more than it should, so each is tried alone: {(why or ', '.join(beside))[:300]}"
+            )
             self.waiting += [Turn(crate, [it], f"alone-{it.name}") for it in bodies]
         else:
             for body in bodies:
@@ -207,7 +235,8 @@ class Trial:
                     self.waiting.append(Turn(crate, [body], f"alone-{body.name}"))
 
     def settle(self, turn: Turn, judged: list[Judged]) -> None:
-        """Takes what became of bodies; one that isn't as it should be is tried on the whole crate, where that wasn't looked at."""
+        """Takes what became of bodies; one that isn't as it should be is tried on the whole crate, where that wasn't
+        looked at."""
         for it in judged:
             if it.is_well or not turn.only:
                 turn.crate.judged.append(it)

@@ -3,14 +3,21 @@ import os
 import re
 from dataclasses import dataclass, field
 
-LINE = re.compile(r"(fn|struct|enum|union|impl|trait|law) (\S+): (proved|not proved|no proof|could not tell|assumed|not assumed)\b(.*)")
+LINE = re.compile(
+    r"(fn|struct|enum|union|impl|trait|law) (\S+): (proved|not proved|no proof|could not tell|assumed|not assumed)\b(.*)"
+)
 ONLY = re.compile(r"only=(?P<asked>\d+) proved=(?P<proved>\d+)")
-# (of a program or a static library the line has more words than of a library, as `axioms=3 target=x86_64-unknown-linux-gnu`)
+# (of a program or a static library the line has more words than of a library, as `axioms=3
+# target=x86_64-unknown-linux-gnu`)
 LOGIC = re.compile(r"logic=(?P<word>proved|not-proved)(?: [\w-]+=\S+)*")
-GOAL = re.compile(r"note: (?P<place>\S+:\d+:\d+): it is not proved that (?P<what>.*?) \(`(?P<goal>[^`]+)`\)(?P<rest>.*)")
+GOAL = re.compile(
+    r"note: (?P<place>\S+:\d+:\d+): it is not proved that (?P<what>.*?) \(`(?P<goal>[^`]+)`\)(?P<rest>.*)"
+)
 ERROR = re.compile(r"(?:\./)?(?P<file>(?:src|specs|proofs)/\S+?):(?P<line>\d+):\d+: error: (?P<what>.*)")
 GONE = re.compile(r"has no field|is not in scope|has no `|was not admitted")
-OWED = re.compile(r"it calls |it waits for the proof of |the borrow checker's part in its proof is not made yet: a call of .*, which has no proof")
+OWED = re.compile(
+    r"it calls |it waits for the proof of |the borrow checker's part in its proof is not made yet: a call of .*, which has no proof"
+)
 OWED_IN_CYCLE = re.compile(r"`search` did not prove |expected answers in ")
 UNCOVERED = re.compile(r"the borrow checker(?: does not cover this function yet|'s part in its proof is not made yet)")
 UNREAD = re.compile(r"is not in scope|has no field|is no name|operand is missing|expected the end|cannot continue")
@@ -24,7 +31,9 @@ class Verdict:
     name: str
     word: str
     rest: str
-    goals: list[str] = field(default_factory=list)  # its goals that stay open, each with how sure it is that they are false
+    goals: list[str] = field(
+        default_factory=list
+    )  # its goals that stay open, each with how sure it is that they are false
     answers: list[str] = field(default_factory=list)  # its answers by hand that no longer fit
 
     @property
@@ -43,8 +52,11 @@ class Verdict:
 
     @property
     def is_judged(self) -> bool:
-        """Whether the prover judged it. It did not where it can't tell, or has no rule for a statement, whatever the contract says."""
-        return self.word != "could not tell" and not any(UNCOVERED.search(it) and not OWED.search(it) for it in self.reasons)
+        """Whether the prover judged it. It did not where it can't tell, or has no rule for a statement, whatever the
+        contract says."""
+        return self.word != "could not tell" and not any(
+            UNCOVERED.search(it) and not OWED.search(it) for it in self.reasons
+        )
 
     @property
     def falls_by_itself(self) -> bool:
@@ -56,7 +68,9 @@ class Verdict:
         if re.match(r"in `[^`]+`, of this cycle of calls: ", self.rest.lstrip(":; ")):
             return False
         # (of a member of a cycle of calls the line tells of the whole cycle)
-        is_owed = bool(self.reasons) and all(OWED.match(it) or self.cycle and OWED_IN_CYCLE.match(it) for it in self.reasons)
+        is_owed = bool(self.reasons) and all(
+            OWED.match(it) or self.cycle and OWED_IN_CYCLE.match(it) for it in self.reasons
+        )
         return not is_owed or self.kind == "fn" and self.word != "no proof"
 
     @property
@@ -116,7 +130,8 @@ def goal_of_answer(what: str) -> str:
 
 
 def attach(errors: list["re.Match[str]"], verdicts: dict[str, Verdict]) -> None:
-    """Gives each error on an answer to the function that the answer is of; in a cycle of calls the answer's name begins with it."""
+    """Gives each error on an answer to the function that the answer is of; in a cycle of calls the answer's name begins
+    with it."""
     by_folder = {folder_of(it.name): it for it in verdicts.values()}
     for error in errors:
         folder, _, cycle = os.path.dirname(error["file"]).rpartition("/")
@@ -128,25 +143,30 @@ def attach(errors: list["re.Match[str]"], verdicts: dict[str, Verdict]) -> None:
 
 
 def own_goals(verdict: Verdict, verdicts: dict[str, Verdict]) -> list[str]:
-    """The open goals of a function. The line of a member of a cycle of calls names those of all, each beginning with its function."""
+    """The open goals of a function. The line of a member of a cycle of calls names those of all, each beginning with
+    its function."""
     if not verdict.cycle:
         return verdict.goals
-    others = [it.name.rpartition("::")[2] for it in verdicts.values() if it.cycle == verdict.cycle and it is not verdict]
+    others = [
+        it.name.rpartition("::")[2] for it in verdicts.values() if it.cycle == verdict.cycle and it is not verdict
+    ]
     return [it for it in verdict.goals if not it.startswith(tuple(f"`{name}-" for name in others))]
 
 
 def verdict_of(logic: list[str]) -> tuple[bool, bool]:
-    """Whether the last lines of a check say that all is proved, and whether they say anything. A check of some functions counts them."""
+    """Whether the last lines of a check say that all is proved, and whether they say anything. A check of some
+    functions counts them."""
     if len(logic) != 1:
         return False, False
     if only := ONLY.fullmatch(logic[0]):
         return only["asked"] == only["proved"] != "0", True
     told = LOGIC.fullmatch(logic[0].rstrip())
-    return bool(told) and told["word"] == "proved", bool(told)
+    return told is not None and told["word"] == "proved", told is not None
 
 
 def read_output(text: str) -> Output:
-    """Reads a check's output. The notes on a function's goals stand right before its line, the errors on its answers anywhere."""
+    """Reads a check's output. The notes on a function's goals stand right before its line, the errors on its answers
+    anywhere."""
     verdicts: dict[str, Verdict] = {}
     errors: list["re.Match[str]"] = []
     goals: list[str] = []
@@ -167,7 +187,10 @@ def read_output(text: str) -> Output:
     attach(errors, verdicts)
     for it in verdicts.values():
         it.goals = own_goals(it, verdicts)
-    first = next((it for it in lines if re.search(r"\berror(\[|:)", it) or it.startswith(("rt: ", "rattle"))), lines[0] if lines else "")
+    first = next(
+        (it for it in lines if re.search(r"\berror(\[|:)", it) or it.startswith(("rt: ", "rattle"))),
+        lines[0] if lines else "",
+    )
     unread = [f"{it['file']}:{it['line']}: {it['what'][:160]}" for it in errors if is_unread(it)]
     is_proved, has_verdict = verdict_of(logic)
     has_verdict = has_verdict and bool(verdicts)

@@ -27,7 +27,8 @@ class Item:
 
     @property
     def entries(self) -> list[dict[str, Any]]:
-        return self.value if self.is_batch else [self.value]
+        found: list[dict[str, Any]] = self.value if self.is_batch else [self.value]
+        return found
 
 
 def contents_of(output: bytes) -> list[str]:
@@ -62,7 +63,11 @@ def is_answer(entry: Any) -> bool:
 def item_of(text: str) -> Item:
     value = json.loads(text)
     entries = value if isinstance(value, list) else [value]
-    if text_of(value) != text or not entries or not all(isinstance(it, dict) and it.get("jsonrpc") == "2.0" for it in entries):
+    if (
+        text_of(value) != text
+        or not entries
+        or not all(isinstance(it, dict) and it.get("jsonrpc") == "2.0" for it in entries)
+    ):
         raise Unwritten(f"{text} isn't compact JSON of version 2.0")
     if all(is_answer(it) for it in entries):
         return Item("answers", text, value)

@@ -77,7 +77,12 @@ class ReplyTwice(Model):
     """The second reply to a call is told too."""
 
     def waits(self, key):
-        return super().waits(key) or 1 <= key <= len(self.ours) and not self.is_over and self.is_speaking(self.ours[key - 1].number)
+        return (
+            super().waits(key)
+            or 1 <= key <= len(self.ours)
+            and not self.is_over
+            and self.is_speaking(self.ours[key - 1].number)
+        )
 
     def is_speaking(self, number):
         return number == 0 or self.calls[number - 1].is_open
@@ -237,7 +242,9 @@ class DigitLost(Model):
         self.events[-1] = event._replace(params=event.params and event.params.replace("1.50", "1.5"))
 
     def speak(self, number, calls, is_batch):
-        return super().speak(number, [(method, params and params.replace(b"1.50", b"1.5")) for method, params in calls], is_batch)
+        return super().speak(
+            number, [(method, params and params.replace(b"1.50", b"1.5")) for method, params in calls], is_batch
+        )
 
 
 class TakenTwice(Model):
@@ -301,7 +308,11 @@ class NotWithdrawn(Model):
     """A cancelled notification withdraws nothing."""
 
     def cancel(self, number):
-        if 1 <= number <= len(self.calls) and self.calls[number - 1].is_open and not self.calls[number - 1].entry.is_request:
+        if (
+            1 <= number <= len(self.calls)
+            and self.calls[number - 1].is_open
+            and not self.calls[number - 1].entry.is_request
+        ):
             self.close(number, right.CANCELLED)
         else:
             super().cancel(number)
@@ -366,7 +377,9 @@ class DataLost(Model):
     def take_reply(self, reply):
         said = reply.said
         is_lost = isinstance(said, Error) and (said.data is None or isinstance(said.data, list))
-        super().take_reply(Entry("reply", key=reply.key, said=Error(said.code, said.message, ABSENT)) if is_lost else reply)
+        super().take_reply(
+            Entry("reply", key=reply.key, said=Error(said.code, said.message, ABSENT)) if is_lost else reply
+        )
 
 
 class BlankLines(Model):
@@ -375,7 +388,9 @@ class BlankLines(Model):
     def __init__(self, settings):
         super().__init__(settings)
         take = self.input.take_content_of
-        self.input.take_content_of = lambda line: self.input.take(line) if b"\t" in line and not line.strip() else take(line)
+        self.input.take_content_of = (
+            lambda line: self.input.take(line) if b"\t" in line and not line.strip() else take(line)
+        )
 
 
 class LineWithoutEnd(Model):
@@ -419,7 +434,12 @@ class LineAfterAFailure(Model):
 
     def end(self, how):
         super().end(how)
-        if how == "failed" and self.settings.framing == "lines" and self.input.end == "Read" and self.input.rest.strip():
+        if (
+            how == "failed"
+            and self.settings.framing == "lines"
+            and self.input.end == "Read"
+            and self.input.rest.strip()
+        ):
             self.input.waiting.append(Frame(self.input.rest, False, 0, 0))
 
 

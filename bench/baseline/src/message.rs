@@ -37,7 +37,7 @@ impl<K> Entry<K> {
         let id = members.remove("id");
         let is_call = members.get("jsonrpc")? == "2.0"
             && (params.is_null() || params.is_array() || params.is_object())
-            && id.as_ref().map_or(true, |it| it.is_null() || it.is_string() || it.is_i64() || it.is_u64());
+            && id.iter().all(|it| it.is_null() || it.is_string() || it.is_i64() || it.is_u64());
         match members.remove("method")? {
             Value::String(method) if is_call => Some(Entry::Call { id, method, params }),
             _ => None,

@@ -1,7 +1,7 @@
 //! The peer: it numbers the calls that come, runs their methods, and answers in the order of arrival.
 use crate::message::{answer, error_object, is_whole, notice, read_key, Entry, Key, Outcome};
-use crate::side::{write_frame, Side};
 use crate::method::{invalid_params, no_reply, Method, Started};
+use crate::side::{write_frame, Side};
 use serde_json::{json, Value};
 use std::collections::{BTreeMap, BTreeSet, VecDeque};
 use std::io::{self, Write};

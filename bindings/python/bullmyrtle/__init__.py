@@ -14,6 +14,8 @@ if not (_sys.platform.startswith("linux") and _machine == "x86_64" and _sys.maxs
     )
 
 from . import events  # noqa: E402 (where the library can't run, that is said before anything else)
+from ._ends import End  # noqa: E402
+from ._marks import method  # noqa: E402
 from ._request import LATER, Reply, Request  # noqa: E402
 from ._session import Session  # noqa: E402
 from .client import Client  # noqa: E402
@@ -37,7 +39,7 @@ from .errors import (  # noqa: E402
 )
 from .server import Server  # noqa: E402
 
-__version__ = "0.1.0"
+__version__ = "0.3.0"
 __all__ = [
     "LATER",
     "BadSettings",
@@ -46,6 +48,7 @@ __all__ = [
     "Connection",
     "Counts",
     "Empty",
+    "End",
     "Error",
     "Full",
     "InputOver",
@@ -63,4 +66,5 @@ __all__ = [
     "Session",
     "Unanswered",
     "events",
+    "method",
 ]

@@ -3,6 +3,7 @@ from __future__ import annotations
 
 import asyncio
 import contextlib
+import logging
 import os
 import select
 import socket
@@ -22,9 +23,11 @@ _NOTHING = memoryview(b"")
 # If fewer bytes than this are taken, no more are left.
 _ALL = 1 << 16
 
+log = logging.getLogger("bullmyrtle")
+
 
 class Channel:
-    """What a session writes to. It tells the session by `received` and `ended` what came in."""
+    """What a session writes to. It tells the session by `received` and `input_ended` what came in."""
 
     #: Whether it tells the session once at most in each turn of the loop.
     takes_turns = False
@@ -39,6 +42,17 @@ class Channel:
     def is_idle(self) -> bool:
         """Whether all that could be written is written."""
         return True
+
+    @property
+    def waiting(self) -> int:
+        """How many bytes it has taken from the session that aren't written."""
+        return 0
+
+    def pause(self) -> None:
+        """Read nothing for a while, where that can be helped."""
+
+    def resume(self) -> None:
+        """Read on."""
 
     def stop(self) -> None:
         """Read no more."""
@@ -75,7 +89,7 @@ class Descriptors(Channel):
         self._pauses = pauses
         self._rest = _NOTHING
         self._is_reading = self._is_paused = self._is_waiting = self._is_finishing = False
-        self._is_stopped = False
+        self._is_stopped = self._is_held = False
         self._turn: Optional[asyncio.Handle] = None
         self._socket: Optional[socket.socket] = None
         self._poll: Optional[Any] = None
@@ -101,7 +115,7 @@ class Descriptors(Channel):
     # Reading
 
     def _read_on(self) -> None:
-        if self._is_reading or self._is_stopped or self._source is None:
+        if self._is_reading or self._is_stopped or self._is_held or self._source is None:
             return
         self._is_reading = True
         try:
@@ -117,6 +131,15 @@ class Descriptors(Channel):
         self._readable()
         if self._is_reading:
             self._turn = self._loop.call_soon(self._read_file)
+
+    def pause(self) -> None:
+        self._is_held = True
+        self._pause()
+
+    def resume(self) -> None:
+        self._is_held = False
+        if not self._is_paused:
+            self._read_on()
 
     def _pause(self) -> None:
         if self._is_reading:
@@ -145,7 +168,7 @@ class Descriptors(Channel):
 
     def _end(self, failed: bool) -> None:
         self.stop()
-        self._session.ended(failed)
+        self._session.input_ended(failed)
 
     def stop(self) -> None:
         self._pause()
@@ -157,12 +180,19 @@ class Descriptors(Channel):
     def is_idle(self) -> bool:
         return self._sink is None or not self._is_waiting
 
+    @property
+    def waiting(self) -> int:
+        return len(self._rest)
+
     def write(self) -> None:
         self._write_on(False)
 
     def _write_on(self, is_later: bool) -> None:
         if self._is_waiting and not is_later:
             self._pause_where_much_waits()
+            return
+        if is_later and self._session.is_busy:
+            self._unwait()  # (the session writes on)
             return
         left = 4 * _TAKEN
         while self._sink is not None:
@@ -210,7 +240,7 @@ class Descriptors(Channel):
         self._pause_where_much_waits()
 
     def _pause_where_much_waits(self) -> None:
-        if self._pauses and not self._is_paused and self._session.pending > _WAITING:
+        if self._pauses and not self._is_paused and self._session.pending + self.waiting > _WAITING:
             self._is_paused = True
             self._pause()
 
@@ -278,7 +308,9 @@ class Streams(Channel):
         self._reader, self._writer = reader, writer
         self._pauses = pauses
         self._task: Optional["asyncio.Task[None]"] = None
-        self._is_broken = False
+        self._draining: Optional["asyncio.Task[None]"] = None
+        self._resumed: Optional["asyncio.Future[None]"] = None
+        self._is_broken = self._is_stopped = False
 
     def start(self, session: Session) -> None:
         self._session = session
@@ -291,26 +323,84 @@ class Streams(Channel):
                 if not data:
                     break
                 self._session.received(data)
-                if self._pauses:
-                    await self._writer.drain()
+                await self._until_resumed()
         except (OSError, EOFError):
-            self._session.ended(True)
+            self._session.input_ended(True)
+        except asyncio.CancelledError:
+            if not self._is_stopped:
+                self._session.input_ended(True)
+            raise
+        except (KeyboardInterrupt, SystemExit):
+            raise
+        except BaseException:
+            log.exception("the reader failed")
+            self._session.input_ended(True)
         else:
-            self._session.ended(False)
+            self._session.input_ended(False)
+
+    async def _until_resumed(self) -> None:
+        while self._resumed is not None:
+            await asyncio.wait({self._resumed})
+        if self._pauses:
+            while self._draining is not None:
+                await asyncio.wait({self._draining})
+            await self._writer.drain()
+
+    def pause(self) -> None:
+        self._resumed = self._session.loop.create_future()
+
+    def resume(self) -> None:
+        if self._resumed is not None:
+            self._resumed.set_result(None)
+        self._resumed = None
+
+    @property
+    def is_idle(self) -> bool:
+        return self._draining is None
+
+    @property
+    def waiting(self) -> int:
+        size: Any = getattr(getattr(self._writer, "transport", None), "get_write_buffer_size", None)
+        return 0 if size is None else int(size())
 
     def write(self) -> None:
-        if self._is_broken:
+        if self._is_broken or self._draining is not None:
             return
-        data = self._session.take(_TAKEN)
-        while data:
+        self._put()
+        if self.waiting > _WAITING:
+            self._draining = self._session.loop.create_task(self._drain())
+
+    def _put(self) -> None:
+        """Hands over what there is, until much waits."""
+        while self.waiting <= _WAITING:
+            data = self._session.take(_TAKEN)
+            if not data:
+                return
             if self._writer.is_closing():
-                self._is_broken = True
-                self._session.broke()
+                self._break()
                 return
             self._writer.write(data)
-            data = self._session.take(_TAKEN)
+
+    async def _drain(self) -> None:
+        """Hands over more as the other side reads."""
+        try:
+            while self.waiting > _WAITING:
+                await self._writer.drain()
+                if self.waiting > _WAITING:
+                    await asyncio.sleep(0.01)  # (it has other limits)
+                self._put()
+        except OSError:
+            self._break()
+        finally:
+            self._draining = None
+        self._session.was_written()
+
+    def _break(self) -> None:
+        self._is_broken = True
+        self._session.broke()
 
     def stop(self) -> None:
+        self._is_stopped = True
         if self._task is not None:
             self._task.cancel()
 
@@ -320,6 +410,8 @@ class Streams(Channel):
 
     async def close(self, seconds: float) -> None:
         self.stop()
+        if self._draining is not None:
+            self._draining.cancel()
         with contextlib.suppress(OSError, RuntimeError):
             self._writer.close()
             try:
@@ -366,7 +458,7 @@ class Memory(Channel):
         if self._session is None:
             self._early.append(data)
         elif data is None:
-            self._session.ended(False)
+            self._session.input_ended(False)
         else:
             self._session.received(data)
 

@@ -4,6 +4,10 @@ orjson and ujson are faster than the standard module, and differ from it at the 
 the exponent of a float is written. So a text at such an edge is left to the standard module. What ujson writes differs
 in too many ways, so it only reads.
 
+A whole number has a bound of our own for its digits, which isn't the interpreter's: that has one for the whole process,
+or none, and whoever sends digits would choose what they cost. Where a number has more digits than the interpreter
+converts, it is made of parts of a few hundred.
+
 One difference is left, since orjson doesn't ask: an enumeration that is made of str or int too, and whose members were
 given another `_value_` by its `__new__`, is written by that value, and elsewhere as the str or int that it is.
 """
@@ -14,7 +18,13 @@ import json
 import json.encoder
 import os
 import sys
-from typing import Any, Callable, Optional, Tuple
+from typing import Any, Callable, NamedTuple, Optional, Tuple
+
+# How many digits a whole number may have where nothing else is said, which is also what interpreters allow, and the
+# least that may be said: orjson and ids have numbers of 64 bits.
+DIGITS, FEWEST_DIGITS = 4300, 20
+# How many digits every interpreter converts, whatever its bound is.
+_PART = 640
 
 # Which module to use, for tests: "json", "orjson" or "ujson".
 VARIABLE = "BULLMYRTLE_JSON"
@@ -47,7 +57,84 @@ def _default(value: Any) -> Any:
     raise TypeError(f"{type(value).__name__} isn't JSON")
 
 
-_read = json.JSONDecoder().raw_decode
+def _whole(digits: str) -> int:
+    """The number that digits stand for, however many they are."""
+    if len(digits) <= _PART:
+        return int(digits)
+    half = len(digits) // 2
+    shift: int = 10**half
+    return _whole(digits[:-half]) * shift + _whole(digits[-half:])
+
+
+def _digits(value: int) -> str:
+    """The digits of a number that isn't negative, however many they are."""
+    if value.bit_length() <= 2000:
+        return int.__repr__(value)
+    half = value.bit_length() * 3 // 20  # (about: a digit has 3.32 bits)
+    high, low = divmod(value, 10**half)
+    return _digits(high) + _digits(low).rjust(half, "0")
+
+
+def _too_long(most: int) -> ValueError:
+    return ValueError(f"a whole number has more than {most:,} digits")
+
+
+def _number_reader(most: int, instead: Optional[Callable[[], Any]] = None) -> Callable[[str], Any]:
+    """What reads a whole number of so many digits at most; of more it makes something else, or refuses them."""
+
+    def read(text: str) -> Any:
+        digits = text[1:] if text[0] == "-" else text
+        if len(digits) > most:
+            if instead is None:
+                raise _too_long(most)
+            return instead()
+        return -_whole(digits) if digits is not text else _whole(digits)
+
+    return read
+
+
+def _number_writer(most: int) -> Callable[[int], str]:
+    def write(value: int) -> str:
+        # (2^n has more than 0.3 n digits, so what is far too long isn't written to be measured)
+        if value.bit_length() * 3 // 10 > most:
+            raise _too_long(most)
+        text = _digits(abs(value))
+        if len(text) > most:
+            raise _too_long(most)
+        return "-" + text if value < 0 else text
+
+    return write
+
+
+def _real(value: float) -> str:
+    if value - value != 0:
+        raise ValueError("Out of range float values are not JSON compliant")
+    return float.__repr__(value)
+
+
+def _slow_writer(most: int) -> Callable[[Any], str]:
+    """What writes whole numbers of more digits than the interpreter converts, by the standard module without its C."""
+    parts: Any = json.encoder
+    write = parts._make_iterencode(
+        None,
+        _default,
+        parts.encode_basestring,
+        None,
+        _real,
+        ":",
+        ",",
+        False,
+        False,
+        True,
+        _intstr=_number_writer(most),
+    )
+    return lambda value: "".join(write(value, 0))
+
+
+def _interpreters_bound() -> int:
+    """How many digits the interpreter converts; 0 where it has no bound."""
+    bound: Any = getattr(sys, "get_int_max_str_digits", None)
+    return 0 if bound is None else int(bound())
 
 
 def _writer() -> Dumps:
@@ -80,16 +167,51 @@ def _writer() -> Dumps:
     return quick if is_as_known else plain
 
 
-#: The compact text of a value, by the standard module. Raises TypeError or ValueError where it has none.
-plain_dumps = _writer()
+_write = _writer()
+_read = json.JSONDecoder().raw_decode
 
 
-def plain_loads(text: bytes) -> Any:
-    """The value of a compact JSON text, by the standard module."""
-    return _read(text.decode())[0]
+def _plain(digits: int) -> Tuple[Loads, Dumps]:
+    """The two functions by the standard module."""
+    read_long = json.JSONDecoder(parse_int=_number_reader(digits)).raw_decode
+    write_long = _slow_writer(digits)
+    too_long = b"0" * (digits + 1)
+
+    def is_long(text: bytes) -> bool:
+        """Whether there may be a number that is too long: a run of digits is one, or part of a string or a fraction."""
+        return too_long in text.translate(_DIGITS)
+
+    def loads(text: bytes) -> Any:
+        if len(text) > digits and is_long(text):
+            return read_long(text.decode())[0]
+        try:
+            return _read(text.decode())[0]
+        except ValueError:
+            return read_long(text.decode())[0]
+
+    def dumps(value: Any) -> bytes:
+        try:
+            text = _write(value)
+        except ValueError:
+            if not 0 < _interpreters_bound() < digits:
+                raise
+            try:
+                text = write_long(value).encode()
+            except RecursionError:
+                raise ValueError("it nests too deep") from None
+        if len(text) > digits and is_long(text):
+            read_long(text.decode())
+        return text
+
+    return loads, dumps
 
 
-def _with_orjson(orjson: Any) -> Tuple[Loads, Dumps]:
+#: The same for values and texts that are our own, or known to be short.
+plain_loads, plain_dumps = _plain(DIGITS)
+
+
+def _with_orjson(orjson: Any, digits: int) -> Tuple[Loads, Dumps]:
+    plain_loads, plain_dumps = _plain(digits)
     read, write = orjson.loads, orjson.dumps
     option = (
         orjson.OPT_PASSTHROUGH_DATACLASS | orjson.OPT_PASSTHROUGH_DATETIME | orjson.OPT_PASSTHROUGH_SUBCLASS
@@ -118,10 +240,14 @@ def _with_orjson(orjson: Any) -> Tuple[Loads, Dumps]:
     return loads, dumps
 
 
-def _with_ujson(ujson: Any) -> Tuple[Loads, Dumps]:
+def _with_ujson(ujson: Any, digits: int) -> Tuple[Loads, Dumps]:
+    plain_loads, plain_dumps = _plain(digits)
     read = ujson.loads
+    too_long = b"0" * (digits + 1)
 
     def loads(text: bytes) -> Any:
+        if len(text) > digits and too_long in text.translate(_DIGITS):
+            return plain_loads(text)
         try:
             return read(text)
         except ValueError:
@@ -137,18 +263,38 @@ def _module(name: str) -> Optional[Any]:
         return None
 
 
-def chosen(name: Optional[str] = None) -> Tuple[str, Loads, Dumps]:
+def chosen(name: Optional[str] = None, digits: int = DIGITS) -> Tuple[str, Loads, Dumps]:
     """The module that does the work, by its name or the first one that is installed, and its two functions."""
     if name in (None, "orjson"):
         orjson = _module("orjson")
         if orjson is not None:
-            return ("orjson", *_with_orjson(orjson))
+            return ("orjson", *_with_orjson(orjson, digits))
     if name in (None, "ujson"):
         ujson = _module("ujson")
         # (before 5.7 it read some numbers otherwise)
         if ujson is not None and tuple(map(int, ujson.__version__.split(".")[:2])) >= (5, 7):
-            return ("ujson", *_with_ujson(ujson))
-    return "json", plain_loads, plain_dumps
+            return ("ujson", *_with_ujson(ujson, digits))
+    return ("json", *_plain(digits))
+
+
+class Json(NamedTuple):
+    """How the values of a session are read and written."""
+
+    loads: Loads
+    dumps: Dumps
 
 
 NAME, loads, dumps = chosen(os.environ.get(VARIABLE))
+
+
+def with_digits(digits: int) -> Json:
+    """How values are read and written whose whole numbers have so many digits at most."""
+    return Json(loads, dumps) if digits == DIGITS else Json(*chosen(NAME, digits)[1:])
+
+
+_read_all = json.JSONDecoder(parse_int=_number_reader(FEWEST_DIGITS, lambda: None)).raw_decode
+
+
+def loads_short(text: bytes) -> Any:
+    """The value of a text with None in the place of whole numbers of more than 20 digits: an id has no more."""
+    return _read_all(text.decode())[0]

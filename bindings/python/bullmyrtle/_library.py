@@ -6,7 +6,7 @@ import os
 import struct
 import sys
 from ctypes import POINTER, c_bool, c_char_p, c_int32, c_int64, c_size_t, c_uint32, c_uint64, c_void_p
-from typing import Any, Dict, List, Tuple
+from typing import Any, Dict, List, Optional, Tuple
 
 from .errors import LibraryError
 
@@ -106,20 +106,51 @@ CALLS: Dict[str, Tuple[Any, List[Any]]] = {
 }
 
 _loaded: Any = None
+#: The file that was loaded because the variable names it.
+loaded_by_name: Optional[str] = None
+
+
+def _places() -> List[str]:
+    """Where the library may lie: in the package, and in the repository, where the package stands in a checkout of it.
+
+    What lies three folders above a package that is installed has nothing to do with it.
+    """
+    here = os.path.dirname(os.path.abspath(__file__))
+    folders, name = os.path.split(here)
+    top, *_ = os.path.split(os.path.dirname(folders))
+    is_checkout = (
+        here == os.path.join(top, "bindings", "python", name)
+        and os.path.isfile(os.path.join(folders, "pyproject.toml"))
+        and not os.path.isfile(os.path.join(here, FILE))
+    )
+    return [here, os.path.join(top, "release")] if is_checkout else [here]
+
+
+def named() -> Optional[str]:
+    """The file that the variable names."""
+    file = os.environ.get(VARIABLE)
+    return os.path.abspath(file) if file else None
 
 
 def find() -> str:
-    """The file of the library: the one that the variable names, that in the package, or that of the repository."""
-    named = os.environ.get(VARIABLE)
-    if named:
-        return os.path.abspath(named)
-    here = os.path.dirname(os.path.abspath(__file__))
-    places = (here, os.path.normpath(os.path.join(here, "..", "..", "..", "release")))
+    """The file of the library: the one that the variable names, that in the package, or that of the checkout."""
+    file = named()
+    if file is not None:
+        return file
+    places = _places()
     for place in places:
         file = os.path.join(place, FILE)
         if os.path.isfile(file):
             return file
-    raise LibraryError(f"{FILE} is neither in {' nor in '.join(places)}, and {VARIABLE} doesn't name it")
+    raise LibraryError(f"{FILE} isn't in {' nor in '.join(places)}, and {VARIABLE} doesn't name it")
+
+
+def is_there() -> bool:
+    """Whether there is a library."""
+    try:
+        return os.path.isfile(find())
+    except LibraryError:
+        return False
 
 
 def declare(library: Any) -> None:
@@ -138,18 +169,18 @@ def declare(library: Any) -> None:
 def library() -> Any:
     """The library, loaded when it is first asked for.
 
-    PyDLL keeps the interpreter's lock during a call. The calls are short, and giving the lock away at each one would
-    hand it to whatever other thread computes, for five milliseconds.
+    PyDLL keeps the interpreter's lock during a call. Nearly all calls are short, and giving the lock away at each one
+    would hand it to whatever other thread computes, for five milliseconds. What may take long is made by `released`.
     """
-    global _loaded
+    global _loaded, loaded_by_name
     if _loaded is None:
-        file = find()
+        file, by_name = find(), named()
         try:
             loaded = ctypes.PyDLL(file)
         except OSError as error:
             raise LibraryError(f"{file} can't be loaded: {error}") from None
         declare(loaded)
-        _loaded = loaded
+        _loaded, loaded_by_name = loaded, by_name
     return _loaded
 
 
@@ -165,13 +196,14 @@ def undeclared(library: Any, name: str) -> Any:
     return call
 
 
-def is_one_call_at_a_time(library: Any) -> bool:
-    """Whether the interpreter's lock is held during each call."""
-    has_lock: Any = getattr(sys, "_is_gil_enabled", None)
-    return isinstance(library, ctypes.PyDLL) and (has_lock is None or has_lock())
+def released(library: Any, name: str) -> Any:
+    """The same call, during which the interpreter's other threads go on."""
+    if not isinstance(library, ctypes.PyDLL):
+        return undeclared(library, name)
+    return undeclared(ctypes.CDLL(library._name, handle=library._handle), name)
 
 
 def use(other: Any) -> None:
     """Puts another object with the same calls in the library's place, for tests."""
-    global _loaded
-    _loaded = other
+    global _loaded, loaded_by_name
+    _loaded, loaded_by_name = other, None

@@ -67,7 +67,9 @@ class Selector(selectors.EpollSelector):
                 return super().select(0) if found else []
             try:
                 self._read()
-            except Exception as error:
+            except (KeyboardInterrupt, SystemExit):
+                raise
+            except BaseException as error:
                 self._failed(error)
             if self.is_asked:
                 return []
@@ -80,10 +82,12 @@ class Selector(selectors.EpollSelector):
         while self.soon:
             try:
                 self.soon.pop()()
-            except Exception as error:
+            except (KeyboardInterrupt, SystemExit):
+                raise
+            except BaseException as error:
                 self._failed(error)
 
-    def _failed(self, error: Exception) -> None:
+    def _failed(self, error: BaseException) -> None:
         """(as the loop says it of a callback)"""
         self.loop.call_exception_handler({"message": "a callback failed", "exception": error})
 

@@ -1,6 +1,7 @@
 """Threads for methods that block."""
 from __future__ import annotations
 
+import logging
 import os
 import queue
 import threading
@@ -8,6 +9,8 @@ import time
 from typing import Callable, List, Optional
 
 Job = Callable[[], None]
+
+log = logging.getLogger("bullmyrtle")
 
 
 class Pool:
@@ -21,22 +24,40 @@ class Pool:
         self._jobs: "queue.SimpleQueue[Optional[Job]]" = queue.SimpleQueue()
         self._idle = threading.Semaphore(0)
         self._threads: List[threading.Thread] = []
+        self._is_short = False
 
     def submit(self, job: Job) -> None:
-        """Run a job in a thread, in the order of these calls where all threads are busy."""
+        """Run a job in a thread, in the order of these calls where all threads are busy.
+
+        Where no more threads can be started, those that there are do the work; with none, RuntimeError is raised.
+        """
         self._jobs.put(job)
-        if self._idle.acquire(blocking=False) or len(self._threads) >= self._most:
-            return
+        if not self._idle.acquire(blocking=False) and len(self._threads) < self._most:
+            self._start()
+
+    def _start(self) -> None:
         thread = threading.Thread(target=self._work, name=f"bullmyrtle-{len(self._threads) + 1}", daemon=True)
-        self._threads.append(thread)
-        thread.start()
+        try:
+            thread.start()
+        except (RuntimeError, MemoryError) as error:
+            if not self._threads:
+                self._jobs.get_nowait()
+                raise RuntimeError(f"no thread can be started: {error}") from error
+            if not self._is_short:
+                log.warning("no more threads than %d can be started: %s", len(self._threads), error)
+            self._is_short = True
+        else:
+            self._threads.append(thread)
 
     def _work(self) -> None:
         while True:
             job = self._jobs.get()
             if job is None:
                 return
-            job()
+            try:
+                job()
+            except BaseException:
+                log.exception("a thread's work failed")
             del job
             self._idle.release()
 

@@ -2,13 +2,16 @@
 from __future__ import annotations
 
 import asyncio
-from typing import TYPE_CHECKING, Any, Iterable, List, Optional, Tuple, Union
+from typing import TYPE_CHECKING, Any, Callable, Iterable, List, Optional, Tuple, TypeVar, Union
 
 from . import _json, events
-from .errors import Error, NotJson
+from .errors import Error
 
 if TYPE_CHECKING:
+    from ._asking import Asking
     from ._session import Session
+
+T = TypeVar("T")
 
 # A call of ours: its method and its params.
 Said = Tuple[str, Any]
@@ -23,27 +26,18 @@ class _Later:
 LATER = _Later()
 
 
-def text_of(value: Any) -> bytes:
-    """The JSON text of a value. Raises NotJson."""
-    try:
-        return _json.dumps(value)
-    except (TypeError, ValueError) as error:
-        raise NotJson(str(error)) from error
-
-
-def optional_text(value: Any) -> Optional[bytes]:
-    return None if value is None else text_of(value)
-
-
 def words_of(text: str) -> str:
     """A text that can be written as UTF-8."""
     return text.encode("utf-8", "backslashreplace").decode()
 
 
 class Reply(asyncio.Future):  # type: ignore[type-arg]
-    """The reply to a call of ours. If it is cancelled, the other side is told that it isn't wanted any more."""
+    """The reply to a call of ours. If it is cancelled, the other side is told that it isn't wanted any more.
 
-    def __init__(self, session: Session, key: int) -> None:
+    Its key is 0 as long as the call waits for what is just being read.
+    """
+
+    def __init__(self, session: Asking, key: int) -> None:
         super().__init__(loop=session.loop)
         self._session = session
         self.key = key
@@ -60,8 +54,8 @@ class Request:
 
     __slots__ = ("session", "number", "method", "id_text", "is_cancelled", "is_later", "keys", "kind", "task")
 
-    def __init__(self, session: Session, event: events.Call, kind: str) -> None:
-        self.session = session
+    def __init__(self, session: Any, event: events.Call, kind: str) -> None:
+        self.session: Session = session
         self.number = event.number
         self.method = event.method
         self.id_text = event.id
@@ -88,23 +82,43 @@ class Request:
     def is_notification(self) -> bool:
         return self.id_text is None
 
-    def call(self, method: str, params: Any = None) -> Any:
+    def call(self, method: str, params: Any = None) -> Reply:
         """Call the other side on behalf of this request.
 
         In an `async def` it gives what is to be awaited; in a method with `thread=True` it blocks, and gives the
-        result. A plain function can't wait, so there it raises RuntimeError. The result is the reply's. An error of the
-        reply is raised as `Error`; `Closed` is raised once the request is answered or cancelled, and `Unanswered` at
-        the end of the input.
+        result, as `call_and_wait` does. A plain function can't wait, so there it raises RuntimeError. The result is the
+        reply's. An error of the reply is raised as `Error`; `Closed` is raised once the request is answered or
+        cancelled, and `Unanswered` at the end of the input.
         """
-        return self.session.call_one(method, params, self)
+        reply: Reply = self.session.call_one(method, params, self)
+        return reply
 
-    def call_batch(self, calls: Iterable[Said], return_exceptions: bool = False) -> Any:
+    def call_and_wait(self, method: str, params: Any = None) -> Any:
+        """Call the other side in a method with `thread=True`: it blocks, and gives the result."""
+        return self.session.call_and_wait(method, params, self)
+
+    def call_batch(
+        self, calls: Iterable[Said], return_exceptions: bool = False
+    ) -> "asyncio.Future[List[Any]]":
         """Call the other side several times, in one message. The results come as a list, as with asyncio.gather."""
-        return self.session.call(list(calls), True, self, return_exceptions)
+        replies: "asyncio.Future[List[Any]]"
+        replies = self.session.say_calls(list(calls), True, self, return_exceptions)
+        return replies
+
+    def call_batch_and_wait(self, calls: Iterable[Said], return_exceptions: bool = False) -> List[Any]:
+        """The same in a method with `thread=True`: it blocks, and gives the results."""
+        return self.session.call_batch_and_wait(calls, return_exceptions, self)
 
     def notify(self, method: str, params: Any = None) -> None:
         """Send the other side a notification. Any thread may do that."""
         self.session.notify(method, params)
+
+    def in_thread(self, function: Callable[..., T], *given: Any, **named: Any) -> "asyncio.Future[T]":
+        """Run any function in a thread of the session's own pool: gives what is to be awaited, or returned.
+
+        One that hasn't begun when the request is cancelled never does.
+        """
+        return self.session.in_thread(function, *given, **named)
 
     def answer(self, result: Any = None) -> None:
         """Answer the request now, or later where its method returned LATER. Any thread may do that.

@@ -10,7 +10,7 @@ import threading
 import time
 from typing import Any, Callable, Dict, Iterable, List, Optional, TextIO, Tuple, Union, cast
 
-from . import events
+from . import _library, events
 from .connection import Connection, Json
 from .events import Event
 
@@ -103,6 +103,9 @@ class Traced:
         self._is_over = False
         self.feed, self.end, self.take = connection.feed, connection.end, connection.take
         self.counts = connection.counts
+        if _library.loaded_by_name is not None:
+            about = json.dumps({_library.VARIABLE: _library.loaded_by_name}, separators=(",", ":"))
+            self._line("library", about, is_message=False)
 
     @property
     def pending(self) -> int:
@@ -126,16 +129,18 @@ class Traced:
 
     # What is told
 
-    def fed(self, data: bytes) -> List[Event]:
-        self._connection.feed(data)
-        return self.events()
+    def fed(self, data: bytes, aside: bool = False) -> List[Event]:
+        with self._lock:
+            return self._told(self._connection.fed(data, aside))
 
     def events(self) -> List[Event]:
         with self._lock:
-            told = self._connection.events()
-            for event in told:
-                self._tell(event)
-            return told
+            return self._told(self._connection.events())
+
+    def _told(self, told: List[Event]) -> List[Event]:
+        for event in told:
+            self._tell(event)
+        return told
 
     def _tell(self, event: Event) -> None:
         if isinstance(event, events.Call):
@@ -204,6 +209,9 @@ class Traced:
 
     def _answerer(self) -> Callable[[int, bytes], None]:
         return self.answer
+
+    def _notes_cancels(self) -> List[int]:
+        return self._connection._notes_cancels()
 
     def fail(self, number: int, code: int, message: Json = "", data: Optional[Json] = None) -> None:
         with self._lock:

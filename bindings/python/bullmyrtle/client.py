@@ -3,13 +3,41 @@ from __future__ import annotations
 
 import asyncio
 import os
-import subprocess
-from typing import Any, List, Mapping, Optional, Sequence, Union
+import shlex
+from typing import Any, List, Mapping, NoReturn, Optional, Sequence, Union
 
-from ._channels import Channel, Descriptors, Streams
-from ._peer import Peer
+from ._channels import Channel, Streams
+from ._json import DIGITS
+from ._peer import BY_FRAMING, CancelBy, Framing, Peer
+from ._process import ServerProcess, StandardError, check_standard_error
+from ._protocols import ProtocolName
+from ._trace import Trace
+from .connection import Order
 
 Word = Union[str, "os.PathLike[str]"]
+
+_ANOTHER = "A Client has one server in its life: make another Client for another one"
+
+
+def _words(command: Any) -> List[str]:
+    """The words of a command. Raises TypeError for what is a single one."""
+    if isinstance(command, (str, bytes, os.PathLike)):
+        line = os.fsdecode(os.fspath(command))
+        try:
+            words = [line] if isinstance(command, os.PathLike) else shlex.split(line)
+        except ValueError:
+            words = [line]
+        raise TypeError(f"the command is a list of words. Write Client({words!r})")
+    try:
+        words = list(command)
+    except TypeError:
+        raise TypeError(f"the command is a list of words, and not {command!r}") from None
+    for it in words:
+        if not isinstance(it, (str, os.PathLike)):
+            raise TypeError(f"the command's words are strings. Write str({it!r}) in place of {it!r}")
+    if not words:
+        raise ValueError("the command has no words. Without a command, write Client() and connect it")
+    return [os.fspath(it) for it in words]
 
 
 class Client(Peer):
@@ -20,22 +48,61 @@ class Client(Peer):
     ...         print(await client.call("add", [1, 2]))
     """
 
+    _is_client = True
+
     def __init__(
         self,
         command: Optional[Sequence[Word]] = None,
         *,
         env: Optional[Mapping[str, str]] = None,
         cwd: Optional[Word] = None,
-        **settings: Any,
+        stderr: StandardError = "pass on",
+        protocol: Optional[ProtocolName] = None,
+        framing: Framing = "frames",
+        order: Order = "as-answered",
+        cancel_by: Optional[CancelBy] = BY_FRAMING,
+        content: Optional[int] = None,
+        calls: Optional[int] = None,
+        grace: float = 5.0,
+        workers: Optional[int] = None,
+        digits: int = DIGITS,
+        open: Optional[int] = None,
+        trace: Optional[Trace] = None,
+        **unknown: NoReturn,
     ) -> None:
-        """Make a client of the server that a command starts; the settings are those of a server."""
-        super().__init__(**settings)
-        self._command: Optional[List[str]] = None if command is None else [os.fspath(it) for it in command]
-        self._env, self._cwd = env, cwd
-        self._process: Optional["subprocess.Popen[bytes]"] = None
+        """Make a client of the server that a command starts; the other settings are those of a server.
+
+        command -- the words of the command; without it, `connect` gives the client its server
+        env, cwd -- the server's environment and working folder, where they aren't those of this process
+        stderr -- where the server's standard error goes: "pass on" to that of this process as it comes, which keeps the
+            last 4,096 bytes for what is said at the end; "inherit", so that nobody reads it; a file; or a function that
+            takes bytes
+        """
+        super().__init__(
+            protocol=protocol,
+            framing=framing,
+            order=order,
+            cancel_by=cancel_by,
+            content=content,
+            calls=calls,
+            grace=grace,
+            workers=workers,
+            digits=digits,
+            open=open,
+            trace=trace,
+            **unknown,
+        )
+        check_standard_error(stderr)
+        self._command = None if command is None else _words(command)
+        self._env, self._cwd, self._stderr = env, cwd, stderr
+        self._process: Optional[ServerProcess] = None
         self._serving: Optional["asyncio.Task[int]"] = None
+        self._is_entered = False
 
     async def __aenter__(self) -> Client:
+        if self._is_entered:
+            raise RuntimeError(f"`async with` has had this client already. {_ANOTHER}")
+        self._is_entered = True
         if self._command is not None and self._serving is None:
             self.start()
         return self
@@ -43,39 +110,56 @@ class Client(Peer):
     async def __aexit__(self, *_: object) -> None:
         await self.close()
 
+    def __enter__(self) -> NoReturn:
+        raise TypeError("write `async with client:`, in an `async def`")
+
+    def __exit__(self, *_: object) -> None:
+        """(so that `with` gets as far as to what it is told)"""
+
     def start(self) -> None:
         """Start the server; to be called in a running event loop."""
         if self._command is None:
             raise ValueError("there is no command that starts a server")
-        asyncio.get_running_loop()
-        pipe = subprocess.PIPE
-        process = subprocess.Popen(
-            self._command, stdin=pipe, stdout=pipe, env=self._env, cwd=self._cwd, bufsize=0
-        )
-        assert process.stdin is not None and process.stdout is not None
-        # (the channel closes them, at different times)
-        source, sink = os.dup(process.stdout.fileno()), os.dup(process.stdin.fileno())
-        process.stdin.close()
-        process.stdout.close()
-        self._process = process
-        self.attach(Descriptors(source, sink, pauses=False))
+        self._check_that_it_is_new()
+        try:
+            asyncio.get_running_loop()
+        except RuntimeError:
+            raise RuntimeError("no event loop runs here: call start() in an `async def`") from None
+        self._process = ServerProcess(self._command, self._env, self._cwd, self._stderr)
+        try:
+            self.attach(self._process.channel)
+        except BaseException:
+            self._process.abandon()
+            raise
 
     def connect(self, reader: asyncio.StreamReader, writer: asyncio.StreamWriter) -> None:
         """Use a reader and a writer that lead to a server."""
+        self._check_that_it_is_new()
         self.attach(Streams(reader, writer, pauses=False))
 
     def attach(self, channel: Channel) -> None:
         """Use a channel that leads to a server."""
-        if self._serving is not None:
-            raise RuntimeError("the client has a server already")
+        self._check_that_it_is_new()
         session = self._session_over(channel)
+        session.watch.process = self._process
         session.begin()
         self._serving = asyncio.ensure_future(self._serve(session))
+
+    def _check_that_it_is_new(self) -> None:
+        if self._serving is not None:
+            raise RuntimeError(f"the client has a server already. {_ANOTHER}")
+
+    def _nothing_runs(self) -> str:
+        if self._serving is not None:
+            return super()._nothing_runs()
+        if self._command is None:
+            return "the client has no server yet. Write client.connect(reader, writer) first"
+        return "the server isn't started yet. Write `async with client:` around what the client does"
 
     @property
     def pid(self) -> Optional[int]:
         """The server's process."""
-        return None if self._process is None else self._process.pid
+        return None if self._process is None else self._process.popen.pid
 
     async def close(self) -> Optional[int]:
         """End the input of the server, wait for it, and give its status where it is a process.
@@ -86,14 +170,9 @@ class Client(Peer):
             for session in list(self._sessions):
                 session.finish()
             await self._wait_for_input()
-        process = self._process
-        if process is None:
+        if self._process is None:
             return None
-        for end in (lambda: None, process.terminate, process.kill):
-            end()
-            if await self._has_ended(process):
-                break
-        return process.wait()
+        return await self._process.close(self._grace)
 
     async def _wait_for_input(self) -> None:
         assert self._serving is not None
@@ -104,13 +183,3 @@ class Client(Peer):
             await asyncio.wait({self._serving}, timeout=1)
         if self._serving.done() and not self._serving.cancelled():
             self._serving.exception()
-
-    async def _has_ended(self, process: "subprocess.Popen[bytes]") -> bool:
-        end = asyncio.get_running_loop().time() + self._grace
-        nap = 0.001
-        while process.poll() is None:
-            if asyncio.get_running_loop().time() > end:
-                return False
-            await asyncio.sleep(nap)
-            nap = min(2 * nap, 0.05)
-        return True

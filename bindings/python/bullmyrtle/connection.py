@@ -6,8 +6,8 @@ import threading
 from ctypes import byref, c_size_t, c_uint32, c_uint64, c_void_p, string_at
 from typing import Any, Callable, Iterable, List, Literal, NamedTuple, Optional, Tuple, Union
 
-from . import _library, events
-from .errors import REFUSALS, SMALL, BadSettings, Closed, NotOpen, NotWaiting
+from . import _library, _settings, events
+from .errors import REFUSALS, SMALL, Closed, NotOpen, NotWaiting
 from .events import Event
 
 Framing = Literal["frames", "lines", "contents"]
@@ -71,12 +71,10 @@ class Connection:
         self._at: Any = None
         self._lock = threading.Lock()
         self._library = library = _library.library()
-        if framing not in _library.FRAMINGS or order not in _library.ORDERS:
-            raise BadSettings(f"there are no such settings: framing {framing!r}, order {order!r}")
-        # (0 stands for the greatest in the library, and isn't a limit here)
-        limits = (content, 1 << 32), (calls, _MOST)
-        if any(it is not None and not 1 <= it < most for it, most in limits):
-            raise BadSettings(f"there are no such limits: content {content!r}, calls {calls!r}")
+        _settings.one_of("framing", framing, _library.FRAMINGS)
+        _settings.one_of("order", order, _library.ORDERS)
+        _settings.whole("content", content, _settings.MOST_CONTENT)
+        _settings.whole("calls", calls, _settings.MOST_CALLS)
         settings = _library.Settings(
             _library.FRAMINGS.index(framing),
             _library.ORDERS.index(order),
@@ -99,6 +97,8 @@ class Connection:
         names = ("bm_feed", "bm_next_all", "bm_call", "bm_answer", "bm_take")
         quick = [_library.undeclared(library, it) for it in names]
         self._bm_feed, self._bm_next_all, self._bm_call, self._bm_answer, self._bm_take = quick
+        # Where a session wants the numbers of the requests whose cancels are told.
+        self._cancelled: Optional[List[int]] = None
 
     # Its end
 
@@ -153,30 +153,36 @@ class Connection:
         """All events that there are now. Broken input has no event, and is answered as it is gone past here."""
         told: List[Event] = []
         with self._lock:
-            self._tell(self._at or self._open(), told)
+            self._tell(self._at or self._open(), told, self._bm_next_all)
         return told
 
-    def fed(self, data: bytes) -> List[Event]:
-        """`feed`, and then `events`: both at once take less time."""
+    def fed(self, data: bytes, aside: bool = False) -> List[Event]:
+        """`feed`, and then `events`: both at once take less time.
+
+        With `aside` other threads of the interpreter go on meanwhile, but for those that call this connection.
+        """
         if type(data) is not bytes:
             data = bytes(memoryview(data))
         told: List[Event] = []
+        feed, tell = self._bm_feed, self._bm_next_all
+        if aside:
+            feed, tell = (_library.released(self._library, it) for it in ("bm_feed", "bm_next_all"))
         with self._lock:
             at, self._length.value = self._at or self._open(), len(data)
-            code = self._bm_feed(at, data, self._length)
+            code = feed(at, data, self._length)
             if code:
                 raise REFUSALS[code]()
-            self._tell(at, told)
+            self._tell(at, told, tell)
         return told
 
     def _make_room(self, size: int) -> None:
         self._room = ctypes.create_string_buffer(size)
         self._room_view, self._room_size = memoryview(self._room), c_size_t(size)
 
-    def _tell(self, at: Any, told: List[Event]) -> None:
+    def _tell(self, at: Any, told: List[Event], tell: Any) -> None:
         """Appends all events that there are."""
         while True:
-            code = self._bm_next_all(at, self._room, self._room_size, self._used_at, self._count_at)
+            code = tell(at, self._room, self._room_size, self._used_at, self._count_at)
             if code == SMALL:
                 self._make_room(self._used.value + _ROOM)
                 continue
@@ -187,7 +193,7 @@ class Connection:
             count = self._count.value
             if not count:
                 return
-            _read(self._room_view[: self._used.value].tobytes(), count, told)
+            _read(self._room_view[: self._used.value].tobytes(), count, told, self._cancelled)
             if len(self._room) > 16 * _ROOM:
                 self._make_room(_ROOM)
 
@@ -207,7 +213,7 @@ class Connection:
                 return None
             size = event.name_len + event.text_len + event.id_len + 3
             told: List[Event] = []
-            _read(bytes(event) + string_at(room, size), 1, told)
+            _read(bytes(event) + string_at(room, size), 1, told, self._cancelled)
             return told[0]
 
     # What is said
@@ -273,19 +279,19 @@ class Connection:
         if code:
             raise REFUSALS[code]()
 
-    def _answerer(self) -> Callable[[int, bytes], None]:
-        """`answer`, made for a session, which answers and closes in one thread: it takes less time.
+    def _notes_cancels(self) -> List[int]:
+        """A list that gets the number of each request whose cancel is told; whoever asks for it empties it."""
+        self._cancelled = []
+        return self._cancelled
 
-        It needs no lock, since the interpreter makes one call of the library at a time. In another thread, `close`
-        might come between the look at the connection and the call: so it isn't for users.
-        """
-        if not _library.is_one_call_at_a_time(self._library):
-            return self.answer
-        number, length, call = c_uint64(), c_size_t(), self._bm_answer
+    def _answerer(self) -> Callable[[int, bytes], None]:
+        """`answer` for a session, which gives numbers and texts as they have to be: it takes less time."""
+        number, length, call, lock = c_uint64(), c_size_t(), self._bm_answer, self._lock
 
         def answer(which: int, result: bytes) -> None:
-            number.value, length.value = which, len(result)
-            code = call(self._at or self._open(), number, result, length)
+            with lock:
+                number.value, length.value = which, len(result)
+                code = call(self._at or self._open(), number, result, length)
             if code:
                 raise REFUSALS[code]()
 
@@ -364,7 +370,7 @@ _CALL, _REPLIED = _library.CALL, _library.REPLIED
 _make = tuple.__new__
 
 
-def _read(data: bytes, count: int, told: List[Event]) -> None:
+def _read(data: bytes, count: int, told: List[Event], cancelled: Optional[List[int]]) -> None:
     """Appends the events that lie in some bytes, as bm_next_all packs them."""
     at = 0
     for _ in range(count):
@@ -381,6 +387,8 @@ def _read(data: bytes, count: int, told: List[Event]) -> None:
             told.append(events.Failed(key, code, name, given) if flags else events.Replied(key, given or b""))
         elif kind == _library.CANCELLED:
             told.append(events.Cancelled(number))
+            if cancelled is not None:
+                cancelled.append(number)
         elif kind == _library.UNANSWERED:
             told.append(events.Unanswered(key))
         else:

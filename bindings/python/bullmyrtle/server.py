@@ -5,13 +5,38 @@ import asyncio
 import contextlib
 import os
 import threading
-from typing import Optional
+from typing import Iterator, Optional, Tuple
 
 from . import _loop, _stdio
 from ._channels import Channel, Descriptors, Streams
 from ._peer import Peer
+from ._websocket import Messages, WebSocket
 
 _running = threading.Lock()
+
+
+@contextlib.contextmanager
+def _standard_streams() -> Iterator[Tuple[Optional[int], Optional[int]]]:
+    """The standard streams, for one server at a time."""
+    if not _running.acquire(blocking=False):
+        raise RuntimeError("another server has the standard streams")
+    try:
+        with _stdio.taken() as streams:
+            yield streams
+    finally:
+        _running.release()
+
+
+def _check_that_no_loop_runs() -> None:
+    try:
+        asyncio.get_running_loop()
+    except RuntimeError:
+        return
+    raise RuntimeError(
+        "an event loop runs here already, and run() makes one of its own. "
+        "Write `await server.serve_stdio()` for the standard streams, `await server.serve_async(reader, writer)` "
+        "for others, or `await server.serve_websocket(ws)`"
+    )
 
 
 class Server(Peer):
@@ -34,13 +59,9 @@ class Server(Peer):
         Meanwhile nothing else in the process has the standard input and output: whoever prints, writes to the standard
         error. Ctrl-C ends it with the status 1.
         """
-        if not _running.acquire(blocking=False):
-            raise RuntimeError("another server has the standard streams")
-        try:
-            with _stdio.taken() as (source, sink):
-                return self._run(source, sink)
-        finally:
-            _running.release()
+        _check_that_no_loop_runs()
+        with _standard_streams() as (source, sink):
+            return self._run(source, sink)
 
     def _run(self, source: Optional[int], sink: Optional[int]) -> int:
         loop = _loop.new()
@@ -48,7 +69,11 @@ class Server(Peer):
             asyncio.set_event_loop(loop)
             return loop.run_until_complete(self._serve_descriptors(source, sink))
         except KeyboardInterrupt:
+            self._because("Interrupted")
             return 1
+        except SystemExit:
+            self._because("Exited")
+            raise
         finally:
             with contextlib.suppress(KeyboardInterrupt):
                 self._end(loop)
@@ -58,7 +83,14 @@ class Server(Peer):
     async def _serve_descriptors(self, source: Optional[int], sink: Optional[int]) -> int:
         # (the channel closes its own)
         own_source, own_sink = (None if it is None else os.dup(it) for it in (source, sink))
-        return await self.serve_over(Descriptors(own_source, own_sink))
+        session = self._session_over(Descriptors(own_source, own_sink))
+        if source is None or sink is None:
+            session.watch.because("NoStreams")
+        return await self._serve(session)
+
+    def _because(self, how: str) -> None:
+        for session in self._sessions:
+            session.watch.because(how)
 
     def _end(self, loop: asyncio.AbstractEventLoop) -> None:
         """Ends what an interrupt left behind."""
@@ -71,12 +103,28 @@ class Server(Peer):
             loop.run_until_complete(asyncio.wait(tasks, timeout=1))
         loop.run_until_complete(loop.shutdown_asyncgens())
 
+    async def serve_stdio(self) -> int:
+        """Do in a loop that runs already what `run` does in its own: answer on the standard streams.
+
+        It ends as `run` does; Ctrl-C is up to whoever runs the loop.
+        """
+        with _standard_streams() as (source, sink):
+            return await self._serve_descriptors(source, sink)
+
     async def serve_async(self, reader: asyncio.StreamReader, writer: asyncio.StreamWriter) -> int:
         """Answer over a reader and a writer until the input is over, close the writer, and give the status.
 
         It may run several times at once, as for `asyncio.start_server(server.serve_async, ..)`.
         """
         return await self.serve_over(Streams(reader, writer))
+
+    async def serve_websocket(self, socket: WebSocket) -> int:
+        """Answer over a web socket until it is closed, and give the status. It may run several times at once.
+
+        `await socket.recv()` gives one message as a str or bytes, and `await socket.send(text)` sends one, as in the
+        library `websockets`. The socket isn't closed here.
+        """
+        return await self._serve(self._session_over(Messages(socket), framing="contents"))
 
     async def serve_over(self, channel: Channel) -> int:
         """Answer over a channel; `bullmyrtle.testing` has one in memory."""
@@ -87,4 +135,9 @@ class Server(Peer):
 
         Nothing more is read, and methods that still run have their grace, or as many seconds as are given.
         """
-        self.session.stop(status, grace)
+        self._single("request.session.stop(..)").stop(status, grace)
+
+    def _nothing_runs(self) -> str:
+        if self._last is not None:
+            return super()._nothing_runs()
+        return "no session runs yet: it begins with server.run(), or with one of the serve_ functions"

@@ -23,7 +23,9 @@ async def joined(server: Server, client: Optional[Client] = None) -> AsyncIterat
     ends, and what it still works on has its grace.
     """
     if client is None:
-        client = Client(**server._settings, cancel_by=server._cancel_by)
+        client = Client(
+            protocol=server._protocol, **server._settings, cancel_by=server._cancel_by, digits=server._digits
+        )
     ours, theirs = Memory.pair()
     serving = asyncio.ensure_future(server.serve_over(theirs))
     client.attach(ours)

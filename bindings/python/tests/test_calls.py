@@ -1,9 +1,10 @@
 """Calls back to the other side, and cancels in every state."""
 import asyncio
+import json
 import threading
 import unittest
 
-from helping import Case, joined, logged
+from helping import Case, joined, logged, notice, request
 
 from bullmyrtle import LATER, Client, Closed, Empty, Error, Server, Unanswered
 from bullmyrtle._channels import Channel
@@ -611,45 +612,124 @@ class ToolCancels(Cancels):
     framing = "lines"
 
 
-class Turned(Case):
-    """A batch of a request and its cancel: the connection tells both at once."""
+class Kept(Channel):
+    """A channel that is fed by hand."""
 
-    def test_it(self):
-        class Kept(Channel):
-            def __init__(self):
-                self.written = b""
+    takes_turns = True
 
-            def start(self, session):
-                self.session = session
+    def __init__(self):
+        self.written = b""
 
-            def write(self):
-                self.written += self.session.take(1 << 20)
+    def start(self, session):
+        self.session = session
+
+    def write(self):
+        self.written += self.session.take(1 << 20)
+
+
+class BeforeItsTurn(Case):
+    """A request whose cancel has been read before its turn never begins."""
+
+    def told(self, pieces, cancel_by, **more):
+        """What begins where pieces of lines are read, each in one turn of the loop, and what is answered by id."""
 
         async def main():
-            server, channel, seen = Server(framing="lines", cancel_by="$/cancelRequest"), Kept(), []
+            server, channel, began = Server(framing="lines", cancel_by=cancel_by, **more), Kept(), []
 
-            @server.method("x")
-            async def x(params):
-                seen.append("began")
-                await asyncio.sleep(20)
+            @server.method("plain")
+            def plain(params):
+                began.append(params[0])
+                return "done"
 
-            @server.method("y")
-            def y(params):
-                return 5
+            @server.method("two")
+            def two(params, request):
+                began.append(params[0])
+                return "done"
+
+            @server.method("async")
+            async def later(params):
+                began.append(params[0])
+                await asyncio.sleep(0)
+                return "done"
+
+            @server.method("thread", thread=True)
+            def thread(params):
+                began.append(params[0])
+                return "done"
 
             serving = asyncio.ensure_future(server.serve_over(channel))
             await asyncio.sleep(0)
-            cancel = b'{"jsonrpc":"2.0","method":"$/cancelRequest","params":{"id":1}}'
-            for name in (b"x", b"y"):
-                channel.session.received(b'[{"jsonrpc":"2.0","method":"%s","id":1},%s]\n' % (name, cancel))
-            await self.until(lambda: channel.written.count(b"\n") == 2)
-            self.assertEqual(seen, ["began"])
-            channel.session.ended(False)
+            for it in pieces:
+                channel.session.received(b"".join(json.dumps(one).encode() + b"\n" for one in it))
+                await asyncio.sleep(0)
+            channel.session.input_ended(False)
             self.assertEqual(await serving, 0)
-            self.assertEqual(channel.written.count(b"-32800"), 1)
-            self.assertIn(b'"result":5', channel.written)
+            answers = {}
+            for it in map(json.loads, channel.written.splitlines()):
+                for one in it if isinstance(it, list) else [it]:
+                    answers[one["id"]] = one.get("result", one.get("error", {}).get("code"))
+            return sorted(began), answers
 
-        self.wait(main())
+        with logged() as log:
+            found = self.wait(main())
+        self.assertEqual(log.texts, [])
+        return found
+
+    def test_of_each_kind_and_by_each_protocol(self):
+        for name, member in (("$/cancelRequest", "id"), ("notifications/cancelled", "requestId")):
+            for kind in ("plain", "two", "async", "thread"):
+                with self.subTest(name=name, kind=kind):
+                    said = [request(it, kind, [it]) for it in range(12)]
+                    cancels = [notice(name, {member: it}) for it in range(11)]
+                    # (as an editor has it: each keystroke asks, and cancels what the one before it asked)
+                    keys = [one for pair in zip(said, [*cancels, notice("nothing")]) for one in pair]
+                    codes = {it: -32800 for it in range(11)}
+                    self.assertEqual(self.told([keys], name), ([11], {**codes, 11: "done"}))
+                    self.assertEqual(self.told([[*said, *cancels]], name), ([11], {**codes, 11: "done"}))
+
+    def test_in_a_batch(self):
+        for name, member in (("$/cancelRequest", "id"), ("notifications/cancelled", "requestId")):
+            for kind in ("plain", "async", "thread"):
+                batch = [request(1, kind, [1]), request("1", kind, [2]), notice(name, {member: 1})]
+                self.assertEqual(self.told([[batch]], name), ([2], {1: -32800, "1": "done"}))
+
+    def test_a_cancel_that_comes_first_reaches_nothing(self):
+        for name, member in (("$/cancelRequest", "id"), ("notifications/cancelled", "requestId")):
+            said = [notice(name, {member: 1}), request(1, "plain", [1]), request(2, "async", [2])]
+            self.assertEqual(self.told([said], name), ([1, 2], {1: "done", 2: "done"}))
+
+    def test_an_id_that_comes_again(self):
+        for name, member in (("$/cancelRequest", "id"), ("notifications/cancelled", "requestId")):
+            said = [request(1, "plain", [1]), notice(name, {member: 1}), request(1, "plain", [2])]
+            self.assertEqual(self.told([said], name), ([2], {1: "done"}))
+
+    def test_while_earlier_ones_begin(self):
+        # (each async method has a turn of the loop for its first step, and the cancel is read meanwhile)
+        for name, member in (("$/cancelRequest", "id"), ("notifications/cancelled", "requestId")):
+            said = [[request(it, "async", [it]) for it in range(9)], [notice(name, {member: 8})]]
+            began, answers = self.told(said, name)
+            self.assertEqual((began, answers[8]), (list(range(8)), -32800))
+
+    def test_many_cost_little(self):
+        async def main():
+            server, channel = Server(framing="lines"), Kept()
+            server.method("x")(lambda params: params)
+            serving = asyncio.ensure_future(server.serve_over(channel))
+            await asyncio.sleep(0)
+            for count in (400, 800):
+                data = b"".join(
+                    b'{"jsonrpc":"2.0","method":"x","id":%d}\n' % it for it in range(count)
+                ) + b"".join(
+                    b'{"jsonrpc":"2.0","method":"notifications/cancelled","params":{"requestId":%d}}\n' % it
+                    for it in range(count)
+                )
+                for at in range(0, len(data), 60_000):
+                    channel.session.received(data[at : at + 60_000])
+            self.assertEqual(channel.session._gone, set())
+            channel.session.input_ended(False)
+            self.assertEqual(await serving, 0)
+
+        self.wait(main(), 5)
 
 
 if __name__ == "__main__":

@@ -82,7 +82,8 @@ class Processes(Case):
                     await client.call("die")
             self.assertEqual(await client.close(), -9)
 
-        self.wait(main())
+        with logged():
+            self.wait(main())
 
     def test_one_that_doesnt_end(self):
         async def main(tail, status):
@@ -114,7 +115,8 @@ class Processes(Case):
                 with self.assertRaises((Unanswered, Closed)):
                     await client.call("x")
 
-        self.wait(main())
+        with logged():
+            self.wait(main())
 
 
 class Streams(Case):
@@ -209,7 +211,7 @@ class Streams(Case):
                     await tasks[0]
                 raise KeyError("left")
 
-        with self.assertRaises((KeyError, asyncio.CancelledError)):
+        with logged(), self.assertRaises((KeyError, asyncio.CancelledError)):
             self.wait(main())
 
     def test_no_thread_is_left(self):

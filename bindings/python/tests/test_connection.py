@@ -387,7 +387,6 @@ class Threads(Case):
                 sorted(it.key for it in told if isinstance(it, events.Replied)), list(range(1, 8 * each + 1))
             )
 
-
     def test_each_call_may_meet_a_close(self):
         calls = {
             "feed": (b"x",),

@@ -1,13 +1,19 @@
 """The package installs offline into a fresh environment, and says clearly where it can't run."""
+import contextlib
+import hashlib
 import importlib
+import io
 import os
+import pathlib
+import re
 import subprocess
 import sys
+import tarfile
 import tempfile
 import unittest
 import zipfile
 
-from helping import OVER, PACKAGE, Case, frame, messages, request
+from helping import OVER, PACKAGE, TOP, Case, frame, messages, request
 
 import bullmyrtle
 from bullmyrtle import LibraryError, _library
@@ -92,25 +98,68 @@ class Wheels(Case):
         one, other = self.build("build_wheel", "one"), self.build("build_wheel", "other")
         with open(one, "rb") as first, open(other, "rb") as second:
             self.assertEqual(first.read(), second.read())
-        self.assertTrue(
-            one.endswith(f"bullmyrtle-{bullmyrtle.__version__}-py3-none-manylinux2014_x86_64.whl")
+        # (a library that isn't the released one has a label in the version)
+        self.assertRegex(
+            os.path.basename(one),
+            rf"^bullmyrtle-{re.escape(bullmyrtle.__version__)}(\+library\.[0-9a-f]{{8}})?-py3-none-manylinux2014_x86_64\.whl$",
         )
         with zipfile.ZipFile(one) as wheel:
             names = wheel.namelist()
             about = wheel.read(next(it for it in names if it.endswith("METADATA"))).decode()
+        top = pathlib.Path(PACKAGE)
         modules = {
-            f"bullmyrtle/{it}"
-            for it in os.listdir(os.path.join(PACKAGE, "bullmyrtle"))
-            if not it.startswith("__pycache__")
+            str(it.relative_to(top))
+            for it in (top / "bullmyrtle").rglob("*")
+            if it.suffix in (".py", ".typed")
         }
         self.assertEqual(
             {it for it in names if "dist-info" not in it}, modules | {f"bullmyrtle/{_library.FILE}"}
         )
         self.assertIn("bullmyrtle/py.typed", names)
+        self.assertIn("bullmyrtle/lsp/server.py", names)
         self.assertNotIn("License", about)
         self.assertIn("Requires-Python: >=3.8", about)
         self.assertTrue(self.build("build_sdist", "sdist").endswith(".tar.gz"))
         self.assertTrue(self.build("build_editable", "editable").endswith(".whl"))
+
+    def test_another_library_is_seen(self):
+        """A library that the variable names goes into no wheel under the plain version, unless it is the released one."""
+        released = os.path.join(TOP, "release", _library.FILE)
+        if not os.path.isfile(released):
+            self.skipTest(f"{released} isn't there: no wheel with another one than that")
+        with open(released, "rb") as it:
+            data = it.read()
+        for name, more in (("same", b""), ("other", b"1"), ("another", b"2")):
+            self.library = os.path.join(self.room, name)
+            with open(self.library, "wb") as it:
+                it.write(data + more)
+            label = f"+library.{hashlib.sha256(data + more).hexdigest()[:8]}" if more else ""
+            version = bullmyrtle.__version__ + label
+            with contextlib.redirect_stderr(io.StringIO()) as said:
+                wheel, source = self.build("build_wheel", f"{name}-wheel"), self.build(
+                    "build_sdist", f"{name}-sdist"
+                )
+            self.assertEqual(
+                os.path.basename(wheel), f"bullmyrtle-{version}-py3-none-manylinux2014_x86_64.whl"
+            )
+            self.assertEqual(os.path.basename(source), f"bullmyrtle-{version}.tar.gz")
+            self.assertEqual(self.library in said.getvalue(), bool(more), said.getvalue())
+            with zipfile.ZipFile(wheel) as it:
+                about = it.read(f"bullmyrtle-{version}.dist-info/METADATA").decode()
+            self.assertIn(f"\nVersion: {version}\n", about)
+            # (and a wheel that is made of such sources has the same version)
+            with tarfile.open(source) as it:
+                it.extractall(self.room)
+            code = "import sys, wheels; print(wheels.build_wheel(sys.argv[1]))"
+            here = os.path.join(self.room, f"bullmyrtle-{version}")
+            env = {**self.env, "PYTHONPATH": os.path.join(here, "build_backend")}
+            del env["BULLMYRTLE_LIBRARY"]
+            got = self.run_quietly(sys.executable, "-c", code, self.room, env=env)
+            self.assertEqual(got.stdout.decode().strip(), os.path.basename(wheel), got.stderr)
+            with open(os.path.join(self.room, os.path.basename(wheel)), "rb") as again, open(
+                wheel, "rb"
+            ) as first:
+                self.assertEqual(again.read(), first.read())
 
     def test_without_the_library(self):
         self.env["BULLMYRTLE_LIBRARY"] = os.path.join(self.room, "nowhere")

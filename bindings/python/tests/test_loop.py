@@ -144,7 +144,7 @@ class Order(Piped):
 
             def turn(self, session, data, *more):
                 if data is None:
-                    session.ended(False)
+                    session.input_ended(False)
                 else:
                     session.received(data)
                     session.loop.call_soon(self.turn, session, *more)
@@ -318,29 +318,29 @@ class Others(Piped):
 
         self.assertEqual(self.served(server, talk), (0, 20))
 
-    def test_an_error_while_it_reads_is_told_to_the_loops_handler(self):
-        server, told = Server(grace=0.1), []
-        server.method("echo")(lambda params: params)
-        self.loop.set_exception_handler(lambda _, about: told.append(about["exception"]))
+    def test_an_error_of_what_it_reads_or_does_soon_is_told_to_the_loops_handler(self):
+        class Odd(BaseException):
+            pass
 
-        def talk():
-            self.send(request(1, "echo"))
-            self.read(1)
-            fed = server.session._connection.fed
+        told, raised = [], [ZeroDivisionError(), GeneratorExit(), Odd()]
+        self.loop.set_exception_handler(lambda _, about: told.append(type(about["exception"])))
 
-            def broken(data):
-                server.session._connection.fed = fed
-                raise ZeroDivisionError
+        def fail():
+            if raised:
+                raise raised.pop()
+            os.read(self.given, 1)
+            self.loop.call_soon(self.loop.stop)
 
-            server.session._connection.fed = broken
-            self.send(notice("lost"))
-            while not told:
-                time.sleep(0.001)
-            self.send(request(2, "echo", [2]))
-            return self.read(1)[0]["result"]
+        def soon():
+            raise Odd()
 
-        self.assertEqual(self.served(server, talk), (0, [2]))
-        self.assertEqual([type(it) for it in told], [ZeroDivisionError])
+        os.write(self.theirs, b"x")
+        self.loop.add_reader(self.given, fail)
+        self.loop.read_by(self.given, fail)
+        self.loop.before_waiting(soon)
+        self.loop.run_forever()
+        self.assertEqual(told, [Odd, Odd, GeneratorExit, ZeroDivisionError])
+        os.close(self.theirs)
 
     def test_a_loop_that_is_stopped_stops(self):
         server, is_stopped = Server(), threading.Event()

@@ -345,7 +345,7 @@ class Registering(Case):
                 self.assertEqual(await client.call("partial", [1]), [1, [1]])
                 self.assertEqual(await client.call("default", [1]), [[1], 5])
                 self.assertEqual(await client.call("named", [1]), "named")
-                self.assertEqual(await client.call("star", [1]), [])
+                self.assertEqual(await client.call("star", [1]), [1])
                 self.assertEqual(await client.call("awaitable", [1]), [1])
 
         self.wait(main())
@@ -359,7 +359,7 @@ class Registering(Case):
         with self.assertRaises(TypeError):
             server.method("x", thread=True)(later)
         with self.assertRaises(TypeError):
-            server.method("x")(lambda a, b, c: None)
+            server.method("x")(lambda params, b, c: None)
         with self.assertRaises(TypeError):
             server.method(5)(lambda a: None)
 
@@ -447,7 +447,9 @@ class Registering(Case):
             server.serve_over = serve
             async with joined(server) as client:
                 self.assertEqual(await client.call("x", [1]), [1])
-                setattr(server.session if name == "_answer_quickly" else server.session._connection, name, refuse)
+                setattr(
+                    server.session if name == "_answer_quickly" else server.session._connection, name, refuse
+                )
                 with self.assertRaises((Unanswered, Error)):
                     await client.call("x", [2])
             self.assertEqual(statuses, [1])
@@ -592,7 +594,6 @@ class Ordering(Case):
 
 class OneThread(Case):
     def test_a_session_answers_quickly_and_closes_in_the_thread_of_its_loop(self):
-        """(for `Connection._answerer` takes no lock)"""
         server, threads = Server(grace=0.05), []
 
         @server.method("thread", thread=True)
@@ -773,7 +774,9 @@ class Later(Case):
 
         with logged() as log:
             self.wait(main())
-        self.assertEqual(len(log.errors), 2, log.texts)
+        # (one for each of the two calls, and one for the session's end)
+        self.assertEqual(len(log.errors), 3, log.texts)
+        self.assertIn("2 calls came to no end", log.texts[-1])
 
     def test_answered_when_all_is_over(self):
         async def main():
@@ -794,7 +797,7 @@ class Later(Case):
             with self.assertRaises(Closed):
                 kept[0].notify("x")
             with self.assertRaises(Closed):
-                kept[0].session.call([("x", None)], False)
+                kept[0].session.call("x")
 
         with logged():
             self.wait(main())

@@ -35,6 +35,7 @@ alive = [it.name for it in threading.enumerate() if it is not threading.main_thr
 print("threads", alive, file=sys.stderr)
 sys.exit(status)
 """
+BROKEN = b"the session ended: the output can't be written: nobody reads it any more, or its device is full\nthreads []\n"
 
 
 class Scripts(Case):
@@ -368,7 +369,10 @@ class Ends(Scripts):
         ):
             with self.subTest(given=given):
                 got, out, err = self.ran(given)
-                self.assertEqual((got, err), (status, "threads []\n"))
+                ended, threads, rest = err.rpartition("threads ")
+                self.assertEqual((got, threads + rest), (status, "threads []\n"))
+                self.assertEqual(ended.count("the session ended: "), int(status == 1), err)
+                self.assertEqual(ended.count("\n"), int(status == 1), err)
                 self.assertEqual(
                     len(messages(out)),
                     given.count(b"Content-Length")
@@ -405,8 +409,13 @@ class Ends(Scripts):
                 status, out, err = self.ran(frame(request(1, method, [20])), body, grace=0.3)
                 self.assertLess(time.monotonic() - began, 15)
                 self.assertEqual((status, messages(out)[0]["error"]["code"]), (1, -32800))
+                why = f"{method} didn't end within the grace of 0.3 seconds"
+                if method == "later":
+                    why = "later returned LATER, and request.answer or request.fail was never called"
                 self.assertEqual(
-                    err, f"{method}: it didn't end in time, and is cancelled\nthreads {threads}\n"
+                    err,
+                    f"{method}: it didn't end in time, and is cancelled\n"
+                    f"the session ended: 1 call came to no end: {why}\nthreads {threads}\n",
                 )
 
     def test_a_thread_whose_call_is_unanswered_ends(self):
@@ -423,7 +432,7 @@ class Ends(Scripts):
         process = self.started()
         process.stdout.close()
         process.stdin.write(frame(request(1, "echo", [1])))
-        self.assertEqual((process.wait(30), process.stderr.read()), (1, b"threads []\n"))
+        self.assertEqual((process.wait(30), process.stderr.read()), (1, BROKEN))
 
     def test_nobody_reads_a_socket(self):
         ours, theirs = socket.socketpair()
@@ -431,14 +440,14 @@ class Ends(Scripts):
         theirs.close()
         ours.close()
         process.stdin.write(frame(request(1, "echo", [1])))
-        self.assertEqual((process.wait(30), process.stderr.read()), (1, b"threads []\n"))
+        self.assertEqual((process.wait(30), process.stderr.read()), (1, BROKEN))
 
     def test_a_full_device(self):
         with open("/dev/full", "wb") as full:
             process = self.started(stdout=full)
         process.stdin.write(frame(request(1, "echo", [1])))
         self.assertEqual(process.wait(30), 1)
-        self.assertEqual(process.stderr.read(), b"threads []\n")
+        self.assertEqual(process.stderr.read(), BROKEN)
 
     def test_closed_streams(self):
         words = " ".join(f"'{it}'" for it in self.script(tail="\nos._exit(server.run())\n"))
@@ -452,7 +461,8 @@ class Ends(Scripts):
                     env=environment(),
                     check=False,
                 )
-                self.assertEqual((ended.returncode, ended.stdout, ended.stderr), (1, b"", b""))
+                said = b"" if "2>&-" in how else b"the session ended: the standard input or output is closed\n"
+                self.assertEqual((ended.returncode, ended.stdout, ended.stderr), (1, b"", said))
 
     def test_an_interrupt(self):
         body = """
@@ -483,7 +493,8 @@ class Ends(Scripts):
                 process.stdin.write(frame(request(1, method or "echo", [])))
                 read_message(process.stdout.fileno())
                 process.send_signal(signal.SIGINT)
-                self.assertEqual((process.wait(15), process.stderr.read()), (1, b"threads []\n"))
+                said = b"the session ended: it was interrupted, as by Ctrl-C\nthreads []\n"
+                self.assertEqual((process.wait(15), process.stderr.read()), (1, said))
 
     def test_sys_exit_in_a_method(self):
         body = """

@@ -3,13 +3,13 @@ use Rattle.std.proofs.Common.{◌≡◌, ◌≢◌, ◌==◌, ℕ, suc, zero, �
 use Rattle.std.proofs.lemmas.List.{get_or-set_same, get_or-set_other, get_or_append_left, get_or-append_right, get_or_past, length-set, length-append}
 use Rattle.std.proofs.lemmas.Bool.{cases_eq}
 use Rattle.std.specs.Cmp.{unsigned_Decides}
-use Rattle.rpc_messages.specs.declared.id.Id.{Id}
+use Rattle.message_ids.specs.declared.id.Id.{Id}
 use Rattle.rpc_messages.specs.declared.reply.Reply.{Reply}
 use Rattle.answer_desk.specs.declared.kept.Kept.{Kept}
 use Rattle.answer_desk.specs.declared.kept.Kept.TheVariants.{Open, Answered}
 use Rattle.answer_desk.specs.declared.open_call.OpenCall.{OpenCall}
 use Rattle.answer_desk.specs.declared.requests_by_id.RequestsById.{RequestsById}
-use Rattle.rpc_messages.specs.Ids.{same_id, has_id}
+use Rattle.message_ids.specs.Ids.{same_id, has_id}
 use Rattle.answer_desk.specs.Seen.{kept_at}
 use Rattle.answer_desk.specs.Inner.Kept.{with_change, with_reach, with_answer, kept_answer, without_answer}
 use Rattle.answer_desk.specs.Inner.Numbers.{all_numbers, IsIndexed}

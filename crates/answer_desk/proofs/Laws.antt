@@ -2,9 +2,9 @@
 use Rattle.std.proofs.Common.{◌≡◌, ◌≢◌, ◌==◌, ℕ, suc, zero, ◌-◌, ◌<◌, ◌≤◌, ◌&&◌, ◌||◌, not, List, [], ◌∷◌, ◌++◌, get_or, set, map, take, drop, refl, ap, sym, ◌∙◌, arith, Bool, true, false, true≢false, if◌then◌else◌, is_some, Option, Some, None, slice_get}
 use Rattle.std.specs.Option.{option_map, option_and_then}
 use Rattle.std.proofs.lemmas.List.{get_or-set_other, length-set}
-use Rattle.rpc_messages.specs.declared.id.Id.{Id}
+use Rattle.message_ids.specs.declared.id.Id.{Id}
 use Rattle.rpc_messages.specs.declared.reply.Reply.{Reply}
-use Rattle.rpc_messages.specs.Ids.{has_id}
+use Rattle.message_ids.specs.Ids.{has_id}
 use Rattle.answer_desk.specs.declared.open_call.OpenCall.{OpenCall}
 use Rattle.answer_desk.specs.declared.replies.Put.{Put}
 use Rattle.answer_desk.specs.declared.replies.Put.TheVariants.{Unknown, Second, Kept}

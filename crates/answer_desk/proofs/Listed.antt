@@ -6,9 +6,9 @@ use Rattle.std.specs.List.{list_any}
 use Rattle.std.specs.BTreeMap.{is_at}
 use Rattle.std.specs.BTreeMap as tree
 use Rattle.std.specs.BTreeSet as sorted
-use Rattle.rpc_messages.specs.declared.id.Id.{Id}
-use Rattle.rpc_messages.specs.Ids.{same_id, id_cmp}
-use Rattle.rpc_messages.proofs.Ids.{same-by_cmp, same-is}
+use Rattle.message_ids.specs.declared.id.Id.{Id}
+use Rattle.message_ids.specs.Ids.{same_id, id_cmp}
+use Rattle.message_ids.proofs.Ids.{same-by_cmp, same-is}
 use Rattle.answer_desk.specs.Inner.Requests.{is_in}
 
 pick : (b : Bool) (k : ℕ) (x y : Option (sorted.BTreeSet ℕ)) → is_in k (if b then x else y) ≡ (if b then is_in k x else is_in k y)

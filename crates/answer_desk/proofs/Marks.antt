@@ -1,9 +1,9 @@
 -- Marking the requests that a cancel reaches, one at a time.
 use Rattle.std.proofs.Common.{◌≡◌, ℕ, suc, zero, ◌<◌, ◌&&◌, ◌||◌, not, List, [], ◌∷◌, set, refl, ap, arith, Bool, true, false, true≢false, sym, ◌∙◌, Option, Some, None, IfSome, IfNone, is_some}
-use Rattle.rpc_messages.specs.declared.id.Id.{Id}
+use Rattle.message_ids.specs.declared.id.Id.{Id}
 use Rattle.answer_desk.specs.declared.kept.Kept.{Kept}
 use Rattle.answer_desk.specs.declared.kept.Kept.TheVariants.{Open, Answered}
-use Rattle.rpc_messages.specs.Ids.{has_id}
+use Rattle.message_ids.specs.Ids.{has_id}
 use Rattle.answer_desk.specs.Seen.{kept_at}
 use Rattle.answer_desk.specs.Inner.Kept.{with_mark, with_reach}
 use Rattle.answer_desk.specs.Inner.Numbers.{with_marks_below, NoneReachedBelow, IsLowestReached}

@@ -1,15 +1,15 @@
 -- Which entries a cancel reaches, and the numbers that stand for them.
 use Rattle.std.proofs.Common.{◌≡◌, ◌≢◌, ◌==◌, ℕ, suc, zero, ◌+◌, ◌-◌, ◌≤◌, ◌&&◌, nat_le, List, [], ◌∷◌, take, refl, ap, sym, ◌∙◌, arith, Bool, true, false, not, if◌then◌else◌, is_some, true≢false, Option, Some, None}
 use Rattle.std.specs.Cmp.{unsigned_Decides}
-use Rattle.rpc_messages.specs.declared.id.Id.{Id}
+use Rattle.message_ids.specs.declared.id.Id.{Id}
 use Rattle.answer_desk.specs.declared.kept.Kept.{Kept}
 use Rattle.answer_desk.specs.declared.kept.Kept.TheVariants.{Open, Answered}
 use Rattle.answer_desk.specs.declared.requests_by_id.RequestsById.{RequestsById}
-use Rattle.rpc_messages.specs.Ids.{same_id, has_id}
+use Rattle.message_ids.specs.Ids.{same_id, has_id}
 use Rattle.answer_desk.specs.Seen.{kept_at}
 use Rattle.answer_desk.specs.Inner.Requests.{is_reached_by, id_unless, id_in_reach_of, in_reach, is_listed, IsUnchanged, IsWithAdded}
 use Rattle.answer_desk.proofs.Ascending.{le_to, le_from}
-use Rattle.rpc_messages.proofs.Ids.{same-is}
+use Rattle.message_ids.proofs.Ids.{same-is}
 
 pub and_false : (b : Bool) → (b && false) ≡ false
 and_false true = refl

@@ -2,7 +2,7 @@
 use Rattle.std.proofs.Common.{◌≡◌, ℕ, suc, zero, ◌-◌, List, [], ◌∷◌, ◌++◌, length, get_or, set, map, take, drop, refl, ap, sym, ◌∙◌, Bool, true, false, if◌then◌else◌, is_some, Option, Some, None, IfNone, IfSome, MatchOption}
 use Rattle.std.proofs.lemmas.List.{set-get_or, length-set}
 use Rattle.std.specs.Option.{option_map, option_and_then}
-use Rattle.rpc_messages.specs.declared.id.Id.{Id}
+use Rattle.message_ids.specs.declared.id.Id.{Id}
 use Rattle.rpc_messages.specs.declared.reply.Reply.{Reply}
 use Rattle.answer_desk.specs.declared.kept.Kept.{Kept}
 use Rattle.answer_desk.specs.declared.kept.Kept.TheVariants.{Open, Answered}

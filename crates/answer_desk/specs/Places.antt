@@ -1,6 +1,6 @@
 -- The numbers and the waiting entries of a unit that arrives.
 use Rattle.std.specs.Prelude.{ℕ, ◌+◌, List, [], ◌∷◌, Option, Some, None, false, replicate}
-use Rattle.rpc_messages.specs.declared.id.Id.{Id}
+use Rattle.message_ids.specs.declared.id.Id.{Id}
 use Rattle.answer_desk.specs.declared.shape.Place.{Place}
 use Rattle.answer_desk.specs.declared.shape.Place.TheVariants.{Unreadable, Invalid, Silent, Numbered}
 use Rattle.answer_desk.specs.declared.open_call.OpenCall.{OpenCall}

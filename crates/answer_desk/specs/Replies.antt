@@ -2,7 +2,7 @@
 use Rattle.std.specs.Prelude.{ℕ, ◌-◌, ◌==◌, List, Option, Some, None, Bool, true, false, if◌then◌else◌, slice_get}
 use Rattle.rpc_messages.specs.declared.reply.Reply.{Reply}
 use Rattle.rpc_messages.specs.declared.reply.Reply.TheVariants.{Standard}
-use Rattle.rpc_messages.specs.declared.standard.Standard.TheVariants.{NoReply}
+use Rattle.message_ids.specs.declared.standard.Standard.TheVariants.{NoReply}
 use Rattle.answer_desk.specs.declared.replies.Put.{Put}
 use Rattle.answer_desk.specs.declared.replies.Put.TheVariants.{Unknown, Second, Kept}
 use Rattle.answer_desk.specs.declared.replies.Slot.{Slot}

@@ -2,7 +2,7 @@
 use Rattle.std.specs.Prelude.{◌≡◌, ◌<◌, MatchOption, ℕ, ◌-◌, ◌++◌, ◌&&◌, ◌||◌, not, List, [], ◌∷◌, Option, Some, None, Bool, true, false, if◌then◌else◌, is_some, length, map, take, drop, slice_set, slice_index_or}
 use Rattle.std.specs.Option.{option_map, option_and_then}
 use Rattle.std.specs.List.{filter_map}
-use Rattle.rpc_messages.specs.declared.id.Id.{Id}
+use Rattle.message_ids.specs.declared.id.Id.{Id}
 use Rattle.rpc_messages.specs.declared.reply.Reply.{Reply}
 use Rattle.answer_desk.specs.declared.open_call.OpenCall.{OpenCall}
 use Rattle.answer_desk.specs.declared.replies.Put.{Put}
@@ -10,7 +10,7 @@ use Rattle.answer_desk.specs.declared.replies.Put.TheVariants.{Unknown}
 use Rattle.answer_desk.specs.declared.shape.Shape.{Shape}
 use Rattle.answer_desk.specs.declared.replies.Slot.{Slot}
 use Rattle.answer_desk.specs.declared.replies.Slot.TheVariants.{Held, Given}
-use Rattle.rpc_messages.specs.Ids.{has_id}
+use Rattle.message_ids.specs.Ids.{has_id}
 use Rattle.answer_desk.specs.Places.{new_number, new_numbers, new_parts}
 use Rattle.answer_desk.specs.Replies.{slot_at, put_into, is_kept, given_by}
 use Rattle.answer_desk.specs.Waiting.{Waiting, unit_text, whole_front, behind_front, unit_answered}

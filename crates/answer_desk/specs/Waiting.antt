@@ -1,11 +1,11 @@
 -- Units whose answer isn't released yet, and the texts that they are answered with (JSON-RPC 2.0, sections 5 and 6).
 use Rattle.std.specs.Prelude.{ℕ, ◌==◌, List, [], ◌∷◌, Option, Some, None, Bool, true, false, if◌then◌else◌, map}
 use Rattle.std.specs.List.{filter_map, list_all}
-use Rattle.rpc_messages.specs.declared.id.Id.{Id}
-use Rattle.rpc_messages.specs.declared.id.Id.TheVariants.{Null}
+use Rattle.message_ids.specs.declared.id.Id.{Id}
+use Rattle.message_ids.specs.declared.id.Id.TheVariants.{Null}
 use Rattle.rpc_messages.specs.declared.reply.Reply.{Reply}
 use Rattle.rpc_messages.specs.declared.reply.Reply.TheVariants.{Standard}
-use Rattle.rpc_messages.specs.declared.standard.Standard.TheVariants.{ParseError, InvalidRequest}
+use Rattle.message_ids.specs.declared.standard.Standard.TheVariants.{ParseError, InvalidRequest}
 use Rattle.rpc_messages.specs.Dues.{SeenAnswer, unit_text as text_of_answers}
 use Rattle.rpc_messages.specs.declared.kind.Kind.{Kind}
 

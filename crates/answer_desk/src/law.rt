@@ -3,7 +3,7 @@
 
 ghost use Rattle.std.specs.Prelude.{◌≡◌, ◌≢◌, ◌-◌, ◌<◌, ◌≤◌, ℕ, Some, None, false, slice_set};
 ghost use Rattle.std.specs.Option.{option_map};
-ghost use Rattle.rpc_messages.specs.declared.id.Id.{Id};
+ghost use Rattle.message_ids.specs.declared.id.Id.{Id};
 ghost use Rattle.rpc_messages.specs.declared.reply.Reply.{Reply};
 ghost use Rattle.answer_desk.specs.declared.open_call.OpenCall.{OpenCall};
 ghost use Rattle.answer_desk.specs.declared.replies.Put.TheVariants.{Kept};

@@ -2,7 +2,7 @@ ghost use Rattle.std.specs.Prelude.{◌≡◌, ◌+◌, ◌-◌, ◌<◌, ◌≤
 ghost use Rattle.std.specs.VecDeque.{deque_len};
 ghost use Rattle.rpc_messages.specs.declared.key.TheConstants.{MOST_NUMBERS};
 ghost use Rattle.answer_desk.specs.declared.kept.Kept.TheVariants.{Open};
-ghost use Rattle.rpc_messages.specs.declared.id.Id.{Id};
+ghost use Rattle.message_ids.specs.declared.id.Id.{Id};
 ghost use Rattle.answer_desk.specs.Places.{new_number};
 ghost use Rattle.answer_desk.specs.Replies.{put_into, given_by};
 ghost use Rattle.answer_desk.specs.Seen.{kept_at, open_number};
@@ -25,7 +25,7 @@ use std::{mem, slice};
 const RECENT: u32 = 128;
 
 /// So many blocks of numbers that are over are kept at most.
-const SPARE: usize = 256;
+const SPARE: usize = 128;
 
 /// What stands for each number, seen by contracts as a list from number 0 on, with nothing for a number that is over. Only
 /// a window of them is kept: it begins at the first number that is open or whose answer waits for its release.

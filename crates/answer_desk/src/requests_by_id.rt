@@ -1,9 +1,9 @@
 ghost use Rattle.std.specs.Prelude.{◌≡◌, ◌+◌, ◌-◌, ◌<◌, ◌≤◌, ◌==◌, ◌&&◌, true, false, if◌then◌else◌, length, map, take, OnOk, OnErr, option_copied};
 ghost use Rattle.answer_desk.specs.Inner.Kept.{kept_in};
 ghost use Rattle.answer_desk.specs.Inner.Requests.{id_in_reach_of, is_reached_by};
-ghost use Rattle.rpc_messages.specs.declared.id.Id.{Id};
+ghost use Rattle.message_ids.specs.declared.id.Id.{Id};
 ghost use Rattle.rpc_messages.specs.declared.key.TheConstants.{MOST_NUMBERS};
-ghost use Rattle.rpc_messages.specs.Ids.{same_id};
+ghost use Rattle.message_ids.specs.Ids.{same_id};
 
 use crate::kept::Kept;
 use rpc_messages::Id;

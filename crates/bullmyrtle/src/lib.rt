@@ -2,7 +2,7 @@
 //! about them.
 #![tactic(auto)]
 
-ghost use Rattle.std.specs.Prelude.{◌≡◌, ◌++◌, ◌↔◌, List, None, length, drop, IsTrue};
+ghost use Rattle.std.specs.Prelude.{◌≡◌, ◌==◌, ◌++◌, ◌↔◌, [], List, None, length, drop, IsTrue};
 ghost use Rattle.std.specs.Borrow.{sem};
 ghost use Rattle.std.specs.Ptr.{room_at};
 ghost use base.Fml.{fex};
@@ -17,9 +17,11 @@ ghost use Rattle.bullmyrtle.specs.contracts.handle.Handle.{the_row as handle_row
 ghost use Rattle.bullmyrtle.specs.Made.{IsMade, Given, IsGivenBy};
 ghost use Rattle.bullmyrtle.specs.Values.{value_of};
 ghost use Rattle.host_calls.specs.Codes.{Said, code_of_said, code_of_got};
-ghost use Rattle.host_calls.specs.Feeding.{HasFed, taken};
+ghost use Rattle.host_calls.specs.Feeding.{HasFed, HasTakenSome, taken};
 ghost use Rattle.host_calls.specs.Saying.{HasEnded, HasCalled, HasCalledAll, HasNotified, HasWithdrawn, HasAnswered, HasFailed, HasCancelled};
 ghost use Rattle.host_calls.specs.Outlets.{Asked, AskedAll};
+ghost use Rattle.host_calls.specs.Sayings.{HasSaidAll};
+ghost use Rattle.host_calls.specs.Telling.{HasTold, HasFedAndTold};
 ghost use Rattle.host_calls.specs.declared.asking.Got.{Got};
 
 mod handle;
@@ -30,7 +32,7 @@ mod settings;
 
 use event_rooms::EventHead;
 use handle::Handle;
-use host_calls::{Outlet, code_of, code_of_got};
+use host_calls::{AllSaid, Outlet, Saying, Told, code_of, code_of_got};
 use place::Place;
 use report::Report;
 use settings::Settings;
@@ -45,6 +47,17 @@ pub extern "C" fn bm_interface() -> u32
     ensures { result ≡ INTERFACE }
 {
     INTERFACE
+}
+
+/// The addition that has the calls which do several things at once.
+const TOGETHER: u32 = 1;
+
+/// Whether the library has this addition.
+#[unsafe(no_mangle)]
+pub extern "C" fn bm_has(addition: u32) -> bool
+    ensures { result ≡ (addition == TOGETHER) }
+{
+    addition == TOGETHER
 }
 
 /// Makes a new one. Its handle lies at `at` then, or where the answer isn't `BM_OK`, room for one as before.
@@ -122,6 +135,44 @@ pub extern "C" fn bm_next_all(
     code_of_got(&handle.as_mut().tell_all(room, used, count))
 }
 
+/// Tells at most so many of the next events.
+#[unsafe(no_mangle)]
+pub extern "C" fn bm_tell(handle: &mut Handle, room: &mut [u8], most: u32, told: &mut Told)
+    ensures { HasTold (value_of handle.old) (value_of handle.new) room.old room.new most told.new }
+{
+    *told = handle.as_mut().tell_most(room, most);
+}
+
+/// Feeds bytes of the input, and tells at most so many of the next events.
+#[unsafe(no_mangle)]
+pub extern "C" fn bm_fed(
+    handle: &mut Handle,
+    bytes: &[u8],
+    room: &mut [u8],
+    most: u32,
+    told: &mut Told,
+) -> i32
+    ensures { (said : Said) × (result ≡ code_of_said said) ×
+        HasFedAndTold (value_of handle.old) (value_of handle.new) bytes.now room.old room.new most told.old told.new said }
+{
+    code_of(handle.as_mut().feed_and_tell(bytes, room, most, told))
+}
+
+/// Says several things, and takes what is to be written.
+#[unsafe(no_mangle)]
+pub extern "C" fn bm_say_all(
+    handle: &mut Handle,
+    sayings: &mut [Saying],
+    bytes: &[u8],
+    room: &mut [u8],
+    said: &mut AllSaid,
+) -> i32
+    ensures { (answer : Said) × (result ≡ code_of_said answer) ×
+        HasSaidAll (value_of handle.old) (value_of handle.new) sayings.old sayings.new bytes.now room.old room.new said.old said.new answer }
+{
+    code_of(handle.as_mut().say_all(sayings, bytes, room, said))
+}
+
 /// Calls the other side.
 #[unsafe(no_mangle)]
 pub extern "C" fn bm_call(
@@ -179,6 +230,15 @@ pub extern "C" fn bm_answer(handle: &mut Handle, number: u64, bytes: &[u8]) -> i
     code_of(handle.as_mut().answer(number, bytes))
 }
 
+/// Closes a notification.
+#[unsafe(no_mangle)]
+pub extern "C" fn bm_close_call(handle: &mut Handle, number: u64) -> i32
+    ensures { (said : Said) × (result ≡ code_of_said said) ×
+        HasAnswered (value_of handle.old) (value_of handle.new) number [] said }
+{
+    code_of(handle.as_mut().close(number))
+}
+
 /// Answers a request with an error, or closes a notification.
 #[unsafe(no_mangle)]
 pub extern "C" fn bm_fail(
@@ -221,6 +281,15 @@ pub extern "C" fn bm_take(handle: &mut Handle, room: &mut [u8]) -> usize
     ensures left { value_of handle.new ≡ taken (value_of handle.old) (length room.old) }
 {
     handle.as_mut().take(room)
+}
+
+/// Moves the first of the bytes that are to be written, and tells whether none fit.
+#[unsafe(no_mangle)]
+pub extern "C" fn bm_taken(handle: &mut Handle, room: &mut [u8], count: &mut usize) -> i32
+    ensures { (got : Got) × (result ≡ code_of_got got) ×
+        HasTakenSome (value_of handle.old) (value_of handle.new) room.old room.new count.new got }
+{
+    code_of_got(&handle.as_mut().take_counted(room, count))
 }
 
 /// Whether all is done.

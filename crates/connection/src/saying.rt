@@ -1,7 +1,7 @@
 //! What the host says.
 
 ghost use Rattle.std.specs.Prelude.{◌≡◌, ◌+◌, ◌∷◌, List, None, is_some, option_map, IfOk, IfErr, OnOk, OnErr};
-ghost use Rattle.rpc_messages.specs.declared.standard.Standard.TheVariants.{Cancelled};
+ghost use Rattle.message_ids.specs.declared.standard.Standard.TheVariants.{Cancelled};
 ghost use Rattle.connection_messages.specs.declared.answer.Answer.TheVariants.{Standard};
 ghost use Rattle.connection_history.specs.declared.event.Event.{Event};
 ghost use Rattle.connection_history.specs.History.{History, called, called_all, noticed, withdrew, answered, key_count};

@@ -1,7 +1,7 @@
 -- A call is answered and closed.
 use Rattle.std.proofs.Common.{◌≡◌, ℕ, ◌<◌, ◌^◌, not, List, [], ◌∷◌, length, Some, None, sym, ap, ◌∙◌}
 use Rattle.std.specs.Option.{is_some}
-use Rattle.rpc_messages.specs.declared.id.Id.{Id}
+use Rattle.message_ids.specs.declared.id.Id.{Id}
 use Rattle.connection_messages.specs.Texts.{answer_text}
 use Rattle.connection_messages.specs.declared.answer.Answer.{Answer}
 use Rattle.connection_history.specs.declared.refused.Refused.TheVariants.{NotOpen}

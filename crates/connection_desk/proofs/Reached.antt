@@ -3,8 +3,8 @@ use Rattle.std.proofs.Common.{◌≡◌, ℕ, ◌<◌, ◌==◌, ◌&&◌, not, 
 use Rattle.std.proofs.lemmas.Bool.{ne_eqb}
 use Rattle.std.specs.List.{find, filter}
 use Rattle.std.specs.Option.{option_map, option_to_list, unwrap_or, is_some}
-use Rattle.rpc_messages.specs.declared.id.Id.{Id}
-use Rattle.rpc_messages.specs.Ids.{has_id}
+use Rattle.message_ids.specs.declared.id.Id.{Id}
+use Rattle.message_ids.specs.Ids.{has_id}
 use Rattle.open_calls.specs.declared.their_call.TheirCall.{TheirCall}
 use Rattle.open_calls.specs.Numbered.{at, without, up_to, changed_at, Above, Ascending}
 use Rattle.open_calls.specs.Theirs.{is_reached, cancelled, cancelled_at, reached}

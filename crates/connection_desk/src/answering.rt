@@ -7,8 +7,8 @@ use crate::desk::Desk;
 use crate::leaving::{let_out, write_leaving};
 use connection_history::{Order, Refused};
 use connection_messages::{Answer, write_answer, write_withdrawal};
+use message_ids::Standard;
 use open_calls::{Owed, OwedAnswers};
-use rpc_messages::Standard;
 use std::alloc::{AllocError, Global};
 use std::mem;
 

@@ -6,10 +6,15 @@ use connection_history::{Close, Event};
 use open_calls::OwnCalls;
 use std::alloc::{AllocError, Global};
 use std::collections::VecDeque;
+use std::mem;
+
+/// Room for so many events is kept for those to come.
+const MOST_KEPT: usize = 256;
 
 /// What the host hasn't been told yet. The calls that wait when the input ends aren't turned into events before they are told.
 #[derive(Drop)]
 pub struct Events {
+    alloc: Global,
     pub(crate) items: VecDeque<Event>,
     /// The calls that waited when the input ended.
     pub(crate) unanswered: OwnCalls,
@@ -23,6 +28,7 @@ impl Events {
         ensures open { IsOpenEnded result }
     {
         Events {
+            alloc,
             items: VecDeque::new(alloc),
             unanswered: OwnCalls::new(alloc),
             over: None,
@@ -79,6 +85,7 @@ impl Events {
         ensures open { IsOpenEnded self.old → IsOpenEnded self.new }
     {
         if let Some(event) = self.items.pop_front() {
+            self.let_go_of_room();
             return Some(event);
         }
         if let Some(key) = self.unanswered.pop_first() {
@@ -87,6 +94,16 @@ impl Events {
         match self.over.take() {
             Some(close) => Some(Event::Over(close)),
             None => None,
+        }
+    }
+
+    /// Room for many events is given back once all are told: what a large batch took isn't kept behind it.
+    fn let_go_of_room(&mut self)
+        ensures untold { untold_of self.new ≡ untold_of self.old }
+        ensures open { IsOpenEnded self.old → IsOpenEnded self.new }
+    {
+        if self.items.is_empty() && self.items.capacity() > MOST_KEPT {
+            drop(mem::replace(&mut self.items, VecDeque::new(self.alloc)));
         }
     }
 }

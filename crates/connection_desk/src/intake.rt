@@ -2,7 +2,7 @@
 //! order.
 
 ghost use Rattle.std.specs.Prelude.{◌≡◌, ◌≤◌, ◌<◌, ◌+◌, ◌-◌, ◌^◌, ◌++◌, ◌∷◌, [], length, flat_map, false, IfOk, OnOk, OnErr};
-ghost use Rattle.rpc_messages.specs.declared.id.Id.TheVariants.{Null};
+ghost use Rattle.message_ids.specs.declared.id.Id.TheVariants.{Null};
 ghost use Rattle.connection_messages.specs.declared.answer.Answer.TheVariants.{Standard as standard_answer};
 ghost use Rattle.connection_messages.specs.Texts.{answer_text};
 ghost use Rattle.connection_history.specs.Stream.{call_in, calls_in, entries_in};
@@ -21,10 +21,13 @@ use crate::tally::Tally;
 use crate::unit_slots::UnitSlots;
 use connection_history::Order;
 use connection_messages::{Answer, Entry, Unit, write_answer};
+use message_ids::{Id, Standard};
 use open_calls::{OwedAnswers, TheirCalls};
 use outbox::Outbox;
-use rpc_messages::{Id, Standard};
 use std::alloc::{AllocError, Global};
+
+/// The room for the text of an error with the id null, which takes 78 bytes at most here. A batch may have millions of them.
+const ERROR_ROOM: usize = 80;
 
 /// The slots of a batch.
 type Slots = Vec<Option<Vec<u8>>>;
@@ -385,7 +388,7 @@ fn admit_call(
 fn error_text(alloc: Global, standard: Standard) -> Result<Vec<u8>, AllocError>
     ensures { IfOk result (λ text. text.items ≡ answer_text Null (standard_answer standard)) }
 {
-    let mut text = Vec::new(alloc);
+    let mut text = Vec::with_capacity(alloc, ERROR_ROOM)?;
     write_answer(alloc, &mut text, &Id::Null, &Answer::Standard(standard))?;
     Ok(text)
 }

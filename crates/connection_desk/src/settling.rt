@@ -12,8 +12,8 @@ use crate::events::Events;
 use crate::tally::Tally;
 use connection_history::Event;
 use connection_messages::{Call, Entry, Reply, Unit};
+use message_ids::Id;
 use open_calls::{OwnCalls, TheirCalls};
-use rpc_messages::Id;
 
 /// What a unit does. `came` is the number of the call before its first one.
 pub(crate) fn settle(

@@ -3,7 +3,7 @@ ghost use Rattle.connection_history.specs.Counts.{capped};
 ghost use Rattle.connection_desk.specs.Desks.{with_answers};
 ghost use Rattle.connection_desk.specs.Inner.{with_call, with_ignored};
 
-use rpc_messages::Id;
+use message_ids::Id;
 
 /// How often some things have happened. Counts stay at their greatest once they have reached it.
 #[derive(Clone, Copy)]

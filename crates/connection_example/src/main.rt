@@ -3,7 +3,7 @@
 
 use connection::{Answer, Call, Connection, Event, Framing, HowEnded, Order, Refused, Settings};
 use json_texts::JsonText;
-use rpc_messages::Standard;
+use message_ids::Standard;
 use std::alloc::{AllocError, Global};
 use std::io::{self, ErrorKind, Read, Write};
 

@@ -1,8 +1,8 @@
 -- The cancels that are told: of each request one at most.
 use Rattle.std.proofs.Common.{◌≡◌, ℕ, zero, suc, ◌+◌, ◌<◌, ◌≤◌, ◌==◌, List, [], ◌∷◌, ◌++◌, map, Bool, true, false, cond, ◌&&◌, ◌||◌, not, Option, Some, None, refl, sym, ap, subst, ◌∙◌, append_assoc, append-nil, arith}
 use Rattle.std.specs.Prelude.{option_and_then}
-use Rattle.rpc_messages.specs.Ids.{has_id}
-use Rattle.rpc_messages.specs.declared.id.Id.{Id}
+use Rattle.message_ids.specs.Ids.{has_id}
+use Rattle.message_ids.specs.declared.id.Id.{Id}
 use Rattle.connection_messages.specs.declared.call.Call.{Call as Came}
 use Rattle.std.specs.Prelude.{is_some}
 use Rattle.std.specs.Option.{is_none}

@@ -1,8 +1,8 @@
 -- The answer of a unit (JSON-RPC 2.0, sections 5 and 6).
 use Rattle.std.specs.Prelude.{ℕ, ◌+◌, List, [], ◌∷◌, ◌++◌, length, Option, Some, None, option_map}
-use Rattle.rpc_messages.specs.declared.id.Id.{Id}
-use Rattle.rpc_messages.specs.declared.id.Id.TheVariants.{Null}
-use Rattle.rpc_messages.specs.declared.standard.Standard.TheVariants.{ParseError, InvalidRequest}
+use Rattle.message_ids.specs.declared.id.Id.{Id}
+use Rattle.message_ids.specs.declared.id.Id.TheVariants.{Null}
+use Rattle.message_ids.specs.declared.standard.Standard.TheVariants.{ParseError, InvalidRequest}
 use Rattle.connection_messages.specs.Texts.{answer_text, batch_text}
 use Rattle.connection_messages.specs.declared.answer.Answer.TheVariants.{Standard}
 use Rattle.connection_messages.specs.declared.entry.Entry.{Entry}

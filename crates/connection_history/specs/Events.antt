@@ -1,7 +1,7 @@
 -- What a connection tells its host.
 use Rattle.std.specs.Prelude.{ℕ, ◌+◌, ◌&&◌, not, List, [], ◌∷◌, ◌++◌, Bool, map, filter, length, if◌then◌else◌}
-use Rattle.rpc_messages.specs.Ids.{has_id}
-use Rattle.rpc_messages.specs.declared.id.Id.{Id}
+use Rattle.message_ids.specs.Ids.{has_id}
+use Rattle.message_ids.specs.declared.id.Id.{Id}
 use Rattle.connection_messages.specs.declared.entry.Entry.{Entry}
 use Rattle.connection_messages.specs.declared.entry.Entry.TheVariants.{Call, Cancel, Reply, Stray, Invalid}
 use Rattle.connection_messages.specs.declared.unit.Unit.TheVariants.{Batch}

@@ -6,7 +6,7 @@ use Rattle.connection_messages.specs.declared.entry.Entry.TheVariants.{Cancel}
 use Rattle.connection_messages.specs.declared.reply.Reply.{Reply}
 use Rattle.connection_messages.specs.declared.unit.Unit.{Unit}
 use Rattle.connection_messages.specs.declared.unit.Unit.TheVariants.{Batch}
-use Rattle.rpc_messages.specs.declared.id.Id.{Id}
+use Rattle.message_ids.specs.declared.id.Id.{Id}
 use Rattle.connection_history.specs.declared.event.Event.{Event}
 use Rattle.connection_history.specs.declared.event.Event.TheVariants as event
 use Rattle.connection_history.specs.Stream.{entries_in}

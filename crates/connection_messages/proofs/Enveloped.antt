@@ -1,9 +1,11 @@
 -- What the compact texts of an object's members say of it.
-use Rattle.std.proofs.Common.{◌≡◌, ℕ, zero, suc, ◌+◌, ◌<◌, ◌≤◌, List, [], ◌∷◌, Bool, true, false, ◌&&◌, ◌||◌, ◌==◌, Option, Some, None, option_map, is_some, if◌then◌else◌, Bor, refl, sym, ap, ◌∙◌, subst, arith, append-nil, inl, inr, eqb-true, ne_eqb, IfSome}
+use Rattle.std.proofs.Common.{◌≡◌, ℕ, zero, suc, ◌+◌, ◌<◌, ◌≤◌, List, [], ◌∷◌, Bool, true, false, ◌&&◌, ◌||◌, ◌==◌, Option, Some, None, option_map, is_some, if◌then◌else◌, Bor, ◌++◌, length, refl, sym, ap, ap₂, ◌∙◌, subst, arith, append-nil, inl, inr, eqb-true, ne_eqb, IfSome}
 use Rattle.std.specs.Prelude.{codes, option_and_then}
 use Rattle.std.specs.Option.{option_map_or, is_none}
 use Rattle.std.specs.Str.{bytes_eq}
 use Rattle.std.proofs.lemmas.Bool.{cases_Bool}
+use Rattle.std.proofs.lemmas.List.{drop_all}
+use Rattle.std.proofs.lemmas.Slice.Eq.{bytes_eq-Decides}
 use Rattle.json.specs.Json.{Json, null, boolean, number, string, array, object, value}
 use Rattle.json.specs.Find.{get, as_str, as_number}
 use Rattle.json.specs.Lex.{tokens}
@@ -15,14 +17,15 @@ use Rattle.json.proofs.Printed.Decimals.{IsNumber-decimal}
 use Rattle.json.proofs.Printed.Tokens.{tokens-print}
 use Rattle.json.proofs.Printed.Trees.{value-json_tokens, ArePrintable-json_tokens}
 use Rattle.json_texts.specs.Texts.{json_text}
-use Rattle.rpc_messages.specs.declared.id.Id.{Id}
-use Rattle.rpc_messages.specs.declared.id.Id.TheVariants.{Null, Text, Unsigned}
-use Rattle.connection_messages.specs.Envelope.{IsMember, MemberHasNumbers, GivesId, GivesParams}
+use Rattle.message_ids.specs.declared.id.Id.{Id}
+use Rattle.message_ids.specs.declared.id.Id.TheVariants.{Null, Text, Unsigned}
+use Rattle.connection_messages.specs.Envelope.{IsMember, MemberHasNumbers, HasEnvelopeAt, GivesId, GivesParams, GivesTarget}
 use Rattle.connection_messages.specs.Numbers.{unsigned_of, negative_of}
 use Rattle.connection_messages.specs.Params.{is_structured}
-use Rattle.connection_messages.specs.Reading.{is_version_2, number_id_of, call_id, call_params, call_from, call_in, target_in, cancel_or_call, call_entry, reply_in, own_key, key_in, reply_entry, entry_of}
+use Rattle.connection_messages.specs.Reading.{is_version_2, number_id_of, call_id, call_params, call_from, call_in, cancelled_id, target_in, cancel_or_call, call_entry, reply_in, own_key, key_in, reply_entry, entry_of}
 use Rattle.connection_messages.specs.declared.call.Call.{Call as Came}
 use Rattle.connection_messages.specs.declared.entry.Entry.TheVariants.{Call, Cancel, Reply, Invalid}
+use Rattle.connection_messages.specs.declared.read.envelope.Envelope.{Envelope}
 use Rattle.connection_messages.specs.declared.reply.Reply.TheVariants.{Result}
 use Rattle.connection_messages.proofs.Decimals.{unsigned_of-is}
 use Rattle.connection_messages.proofs.OnResults.{print-string}
@@ -213,3 +216,45 @@ result_entry_is cancels j v k version no_method result no_error key = rw (no_met
 
 pub some_holds : {X : Type 0} (P : X → Type 0) (o : Option X) (x : X) → o ≡ Some x → IfSome o P → P x
 some_holds P o x is holds = subst (λ p. IfSome p P) is holds
+
+-- ---- cancels
+
+whole_object : (levels : ℕ) (params : List ℕ) (end : ℕ) (e : Envelope) (h : HasEnvelopeAt levels params 0 end e) → end ≡ length params → params ≡ json_text (object h.members)
+whole_object levels params end e h whole =
+    h.stands ∙ ap (λ l. json_text (object h.members) ++ l) (drop_all end params (omega (arith, whole))) ∙ append-nil (json_text (object h.members))
+
+pub target_of : (levels : ℕ) (params : List ℕ) (end : ℕ) (e : Envelope) (part : Bor (List ℕ)) (target : Id) → HasEnvelopeAt levels params 0 end e → end ≡ length params → e.id ≡ Some part
+    → ((v : Json) → HasNumbers v → json_text v ≡ part.now → cancelled_id v ≡ Some target) → GivesTarget params target
+target_of levels params end e part target h whole is gives p numbers same =
+    let o = object h.members in
+    let text : params ≡ json_text o = whole_object levels params end e h whole in
+    let object_p : p ≡ o = json_text-same p o numbers h.numbers (same ∙ text) in
+    let f = member_found e.id part (get (codes "id") o) is h.names.id in (
+      ap (λ q. call_params (Some q)) object_p ∙ ap (λ s. Some (Some s)) (sym text),
+      ap (λ q. option_and_then cancelled_id (get (codes "id") q)) object_p ∙ ap (option_and_then cancelled_id) f.1 ∙ gives f.0 (HasNumbers-get (codes "id") o f.0 h.numbers (sym f.1)) f.2,
+    )
+
+pub number_target : (s : List ℕ) (n : ℕ) → unsigned_of s ≡ Some n → (v : Json) → HasNumbers v → json_text v ≡ s → cancelled_id v ≡ Some (Unsigned n)
+number_target s n read v numbers same =
+    let decimal_s = unsigned_of-is n s read in
+    let is_number : IsNumber s = subst IsNumber (sym decimal_s.0) (IsNumber-decimal n decimal_s.1) in
+    ap cancelled_id (number_is v s numbers is_number same) ∙ ap (λ o. number_id_of o (negative_of s)) read
+
+pub string_target : (text s : List ℕ) → text ≡ quoted s → (v : Json) → HasNumbers v → json_text v ≡ text → cancelled_id v ≡ Some (Text s)
+string_target text s is v numbers same = ap cancelled_id (string_is v s numbers (same ∙ is))
+
+cancelled : (call : Came) (target : Id) → is_none call.id ≡ true → call.method ≡ codes "$/cancelRequest" → Cancel target ≡ cancel_or_call call (Some target)
+cancelled call target no_id named =
+    let same : bytes_eq call.method (codes "$/cancelRequest") ≡ true = (bytes_eq-Decides call.method (codes "$/cancelRequest")).1 named in
+    ap (λ b. if b then Cancel target else Call call) (sym (ap (λ b. b && bytes_eq call.method (codes "$/cancelRequest")) no_id ∙ same))
+
+pub cancel_is : (j p : Json) (params : List ℕ) (target : Id) → is_version_2 j ≡ true → is_some (get (codes "method") j) ≡ true
+    → option_and_then as_str (get (codes "method") j) ≡ Some (codes "$/cancelRequest") → get (codes "id") j ≡ None → get (codes "params") j ≡ Some p → call_params (Some p) ≡ Some (Some params)
+    → option_and_then cancelled_id (get (codes "id") p) ≡ Some target → Cancel target ≡ entry_of true j
+cancel_is j p params target version some named absent found given targeted =
+    let call : Came = record { id = None; method = codes "$/cancelRequest"; params = Some params } in
+    let came : call_in j ≡ Some call = call_is j (codes "$/cancelRequest") (Some params) None version named (ap call_params found ∙ given) (ap call_id absent) in
+    let aimed : target_in j ≡ Some target = ap (option_and_then (λ q. option_and_then cancelled_id (get (codes "id") q))) found ∙ targeted in
+    cancelled call target refl refl ∙ ap₂ (λ c t. call_entry true c t) (sym came) (sym aimed)
+    ∙ ap (λ b. if b then call_entry true (call_in j) (target_in j)
+    else (if is_some (get (codes "result") j) || is_some (get (codes "error") j) then reply_entry (key_in j) (reply_in j) else Invalid)) (sym some)

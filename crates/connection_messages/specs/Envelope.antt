@@ -1,13 +1,13 @@
 -- What the texts of an object's members say.
-use Rattle.std.specs.Prelude.{◌≡◌, ◌≤◌, ℕ, List, Option, Some, None, option_map, option_and_then, codes, Bool, true, ⊤}
+use Rattle.std.specs.Prelude.{◌≡◌, ◌≤◌, ℕ, List, Option, Some, None, option_map, option_and_then, is_some, codes, Bool, true, ⊤}
 use Rattle.std.specs.Borrow.{Bor}
 use Rattle.json.specs.Json.{Json, array, object, Items, item, Members}
 use Rattle.json.specs.Find.{get, as_str}
 use Rattle.json.specs.Tree.{members_depth, HasNumbers, MembersHaveNumbers}
 use Rattle.json_texts.specs.Standing.{Stands}
 use Rattle.json_texts.specs.Texts.{json_text, value_of}
-use Rattle.rpc_messages.specs.declared.id.Id.{Id}
-use Rattle.connection_messages.specs.Reading.{is_version_2, call_id, call_params, call_in, entry_of, entries_of}
+use Rattle.message_ids.specs.declared.id.Id.{Id}
+use Rattle.connection_messages.specs.Reading.{is_version_2, call_id, call_params, call_in, cancelled_id, entry_of, entries_of}
 use Rattle.connection_messages.specs.declared.call.Call.{Call}
 use Rattle.connection_messages.specs.declared.entry.Entry.{Entry}
 use Rattle.connection_messages.specs.declared.read.envelope.Envelope.{Envelope}
@@ -72,3 +72,12 @@ GivesEntry cancels e entry = (j : Json) → HasNumbers j → Names e j → entry
 
 abbrev pub GivesReply : Bool → Envelope → Entry → Type 0
 GivesReply cancels e entry = (j : Json) → HasNumbers j → Names e j → is_version_2 j ≡ true → get (codes "method") j ≡ None → entry ≡ entry_of cancels j
+
+-- the id that the params of a cancel name
+abbrev pub GivesTarget : List ℕ → Id → Type 0
+GivesTarget params target =
+    (p : Json) → HasNumbers p → json_text p ≡ params → (call_params (Some p) ≡ Some (Some params)) × (option_and_then cancelled_id (get (codes "id") p) ≡ Some target)
+
+abbrev pub GivesCancel : Envelope → Entry → Type 0
+GivesCancel e entry =
+    (j : Json) → HasNumbers j → Names e j → is_version_2 j ≡ true → (is_some (get (codes "method") j) ≡ true) × (option_and_then as_str (get (codes "method") j) ≡ Some (codes "$/cancelRequest")) → entry ≡ entry_of true j

@@ -5,8 +5,8 @@ use Rattle.std.specs.Str.{bytes_eq}
 use Rattle.json.specs.Json.{Json, null, number, string, array, object, Items, no_items, item}
 use Rattle.json.specs.Find.{get, as_str, as_number}
 use Rattle.json_texts.specs.Texts.{json_text, value_of}
-use Rattle.rpc_messages.specs.declared.id.Id.{Id}
-use Rattle.rpc_messages.specs.declared.id.Id.TheVariants.{Null, Text, Signed, Unsigned}
+use Rattle.message_ids.specs.declared.id.Id.{Id}
+use Rattle.message_ids.specs.declared.id.Id.TheVariants.{Null, Text, Signed, Unsigned}
 use Rattle.connection_messages.specs.Numbers.{unsigned_of, negative_of, integer_of}
 use Rattle.connection_messages.specs.declared.call.Call.{Call as Came}
 use Rattle.connection_messages.specs.declared.entry.Entry.{Entry}

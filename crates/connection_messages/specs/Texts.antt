@@ -4,10 +4,10 @@ use Rattle.std.specs.Prelude.{ℕ, ℤ, ◌+◌, List, [], ◌∷◌, ◌++◌, 
 use Rattle.std.specs.Fmt.{signed_decimal}
 use Rattle.std.specs.List.{join_with_byte}
 use Rattle.json.specs.Print.{quoted}
-use Rattle.rpc_messages.specs.Standard.{code_of, message_of}
-use Rattle.rpc_messages.specs.declared.id.Id.{Id}
-use Rattle.rpc_messages.specs.declared.id.Id.TheVariants.{Null, Text, Signed, Unsigned}
-use Rattle.rpc_messages.specs.declared.standard.Standard.{Standard}
+use Rattle.message_ids.specs.Standard.{code_of, message_of}
+use Rattle.message_ids.specs.declared.id.Id.{Id}
+use Rattle.message_ids.specs.declared.id.Id.TheVariants.{Null, Text, Signed, Unsigned}
+use Rattle.message_ids.specs.declared.standard.Standard.{Standard}
 use Rattle.connection_messages.specs.declared.answer.Answer.{Answer}
 use Rattle.connection_messages.specs.declared.answer.Answer.TheVariants.{Result, Error, Standard as Fixed}
 use Rattle.connection_messages.specs.declared.answer.AnswerError.{AnswerError}

@@ -1,6 +1,6 @@
 use json_texts::JsonText;
 use json_values::Text;
-use rpc_messages::Standard;
+use message_ids::Standard;
 
 /// What a request is answered with (JSON-RPC 2.0, section 5).
 #[derive(Debug, Drop)]

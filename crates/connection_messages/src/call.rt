@@ -1,5 +1,5 @@
 use json_values::Text;
-use rpc_messages::Id;
+use message_ids::Id;
 
 /// A request or a notification that came (JSON-RPC 2.0, section 4).
 #[derive(Debug, Drop)]

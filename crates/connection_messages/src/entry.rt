@@ -1,6 +1,6 @@
 use crate::call::Call;
 use crate::reply::Reply;
-use rpc_messages::Id;
+use message_ids::Id;
 
 /// What one JSON value of a content is, alone or in a batch (JSON-RPC 2.0, sections 4 to 6).
 #[derive(Debug, Drop)]

@@ -14,7 +14,7 @@ use crate::params::Params;
 use itoa::{Buffer, Integer};
 use json::Writer;
 use json_texts::JsonText;
-use rpc_messages::{Id, Standard};
+use message_ids::{Id, Standard};
 use std::alloc::{AllocError, Global};
 use std::mem;
 

@@ -9,7 +9,7 @@ use connection_messages::{
 };
 use json_texts::JsonText;
 use json_values::{Negative, Text};
-use rpc_messages::{Id, Standard};
+use message_ids::{Id, Standard};
 use std::alloc::{AllocError, Global};
 use std::test::Fail;
 

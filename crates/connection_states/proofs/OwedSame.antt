@@ -1,7 +1,7 @@
 -- What changes no slot changes nothing that is owed.
 use Rattle.std.proofs.Common.{◌≡◌, ℕ, ◌+◌, ◌≤◌, List, [], ◌∷◌, ◌++◌, length, Option, Some, None, refl, sym, ap, ◌∙◌, append-nil, arith}
 use Rattle.std.specs.Prelude.{option_map}
-use Rattle.rpc_messages.specs.declared.id.Id.{Id}
+use Rattle.message_ids.specs.declared.id.Id.{Id}
 use Rattle.connection_messages.specs.Texts.{answer_text}
 use Rattle.connection_messages.specs.declared.entry.Entry.{Entry}
 use Rattle.connection_messages.specs.declared.entry.Entry.TheVariants.{Call, Cancel, Reply, Stray, Invalid}

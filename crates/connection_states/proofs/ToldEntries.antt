@@ -2,8 +2,8 @@
 use Rattle.std.proofs.Common.{◌≡◌, ℕ, ◌+◌, List, [], ◌∷◌, ◌++◌, length, map, Bool, true, false, cond, ◌&&◌, not, refl, sym, ap, ◌∙◌}
 use Rattle.std.proofs.lemmas.List.{map-append}
 use Rattle.std.specs.Prelude.{filter}
-use Rattle.rpc_messages.specs.Ids.{has_id}
-use Rattle.rpc_messages.specs.declared.id.Id.{Id}
+use Rattle.message_ids.specs.Ids.{has_id}
+use Rattle.message_ids.specs.declared.id.Id.{Id}
 use Rattle.connection_messages.specs.declared.entry.Entry.{Entry}
 use Rattle.connection_messages.specs.declared.entry.Entry.TheVariants.{Call, Cancel, Reply, Stray, Invalid}
 use Rattle.connection_messages.specs.declared.unit.Unit.{Unit}

@@ -1,8 +1,8 @@
 -- What stands open after a history, as plain lists: our calls that wait, the other side's calls, and the answers that aren't out.
 use Rattle.std.specs.Prelude.{ℕ, ◌+◌, List, [], ◌∷◌, ◌++◌, Bool, true, false, map, length, Option, Some, None, option_map, unwrap_or, if◌then◌else◌}
-use Rattle.rpc_messages.specs.declared.id.Id.{Id}
-use Rattle.rpc_messages.specs.declared.id.Id.TheVariants.{Null}
-use Rattle.rpc_messages.specs.declared.standard.Standard.TheVariants.{ParseError, InvalidRequest}
+use Rattle.message_ids.specs.declared.id.Id.{Id}
+use Rattle.message_ids.specs.declared.id.Id.TheVariants.{Null}
+use Rattle.message_ids.specs.declared.standard.Standard.TheVariants.{ParseError, InvalidRequest}
 use Rattle.connection_messages.specs.Texts.{answer_text}
 use Rattle.connection_messages.specs.declared.answer.Answer.TheVariants.{Standard}
 use Rattle.connection_messages.specs.declared.entry.Entry.{Entry}

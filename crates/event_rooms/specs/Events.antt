@@ -2,7 +2,7 @@
 use Rattle.std.specs.Prelude.{ℕ, List, [], Option, Some, None, pos, length, min}
 use Rattle.lsp_frames.specs.declared.frame.FrameFault.TheVariants.{BadHead, BadLength, TwoLengths, TooLarge, NoLength, HeadTooLong, Truncated}
 use Rattle.connection_messages.specs.Texts.{id_text}
-use Rattle.rpc_messages.specs.declared.id.Id.{Id}
+use Rattle.message_ids.specs.declared.id.Id.{Id}
 use Rattle.connection_messages.specs.declared.reply.Reply.{Reply}
 use Rattle.connection_messages.specs.declared.reply.Reply.TheVariants.{Result, Error}
 use Rattle.connection_history.specs.declared.close.Close.{Close}

@@ -9,7 +9,7 @@ ghost use Rattle.event_rooms.specs.Ids.{bytes_of};
 use connection_history::Event;
 use itoa::Buffer;
 use json::Writer;
-use rpc_messages::Id;
+use message_ids::Id;
 use std::alloc::{AllocError, Global};
 
 /// The bytes of an id. Only a string's are on the heap.

@@ -6,8 +6,8 @@ use Rattle.serde_json.specs.Data.{Data, Items, Members}
 use Rattle.serde_json.specs.Find.{as_array}
 use Rattle.rpc_messages.specs.declared.outgoing.Outgoing.{Outgoing}
 use Rattle.rpc_messages.specs.declared.reply.Reply.TheVariants.{Done}
-use Rattle.rpc_messages.specs.declared.standard.Standard.{Standard}
-use Rattle.rpc_messages.specs.declared.standard.Standard.TheVariants.{InvalidParams}
+use Rattle.message_ids.specs.declared.standard.Standard.{Standard}
+use Rattle.message_ids.specs.declared.standard.Standard.TheVariants.{InvalidParams}
 use Rattle.method_steps.specs.declared.step.ListedCall.{ListedCall}
 use Rattle.method_steps.specs.declared.step.Step.TheVariants as step
 use Rattle.method_steps.specs.Steps.{Step, KeepsLimits, calls_in}

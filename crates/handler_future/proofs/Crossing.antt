@@ -9,9 +9,9 @@ use Rattle.std.proofs.alloc.Global.TheSendSync as global
 use Rattle.std.proofs.string.String.TheSendSync as string
 use Rattle.serde_json.proofs.value.Value.TheLaws.TheKnot as value
 use Rattle.json_values.proofs.text.Text.TheSendSync as text
-use Rattle.rpc_messages.proofs.id.Id.TheSendSync as id
+use Rattle.message_ids.proofs.id.Id.TheSendSync as id
 use Rattle.json_values.proofs.negative.Negative.TheSendSync as negative
-use Rattle.rpc_messages.proofs.standard.Standard.TheSendSync as standard
+use Rattle.message_ids.proofs.standard.Standard.TheSendSync as standard
 use Rattle.json_values.specs.contracts.json_value.Json as Json
 use Rattle.rpc_messages.specs.contracts.call.Call as Call
 use Rattle.rpc_messages.specs.contracts.reply.Reply as Reply

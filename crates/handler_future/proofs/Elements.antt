@@ -7,7 +7,7 @@ use Rattle.serde_json.specs.View.{view, items_view}
 use Rattle.serde_json.specs.Written.{has_float, items_have_float}
 use Rattle.serde_json.specs.declared.value.Value.{Value}
 use Rattle.rpc_messages.specs.declared.outgoing.Outgoing.{Outgoing}
-use Rattle.rpc_messages.specs.declared.standard.Standard.TheVariants.{InvalidParams}
+use Rattle.message_ids.specs.declared.standard.Standard.TheVariants.{InvalidParams}
 use Rattle.handler_future.specs.Act.{call_for, calls_for, calls_for_array}
 
 or-left : (a b : Bool) → (a || b) ≡ false → a ≡ false

@@ -4,7 +4,7 @@ use Rattle.std.proofs.lemmas.Bool.{cases_lt}
 use Rattle.std.proofs.lemmas.List.{take-append-drop}
 use Rattle.std.specs.List.{list_all, range_with_len}
 use Rattle.rpc_messages.specs.declared.reply.Reply.TheVariants.{Standard as Fixed}
-use Rattle.rpc_messages.specs.declared.standard.Standard.TheVariants.{NoReply}
+use Rattle.message_ids.specs.declared.standard.Standard.TheVariants.{NoReply}
 use Rattle.handler_future.specs.declared.message.Message.{Message}
 use Rattle.handler_future.specs.Evaluation.{Replies, replies_from}
 use Rattle.handler_future.specs.Front.{Heard, find_heard, is_heard, heard_replies, AgreesWith, turns_of, until_waiting, unheard, are_heard, last_turns}

@@ -2,7 +2,7 @@
 use Rattle.std.proofs.Common.{◌≡◌, List, [], ◌∷◌, ◌++◌, Result, Ok, Err, refl, ap, sym, ◌∙◌, append_assoc, append-nil}
 use Rattle.serde_json.specs.Data.{Members}
 use Rattle.rpc_messages.specs.declared.outgoing.Outgoing.{Outgoing}
-use Rattle.rpc_messages.specs.declared.standard.Standard.{Standard}
+use Rattle.message_ids.specs.declared.standard.Standard.{Standard}
 use Rattle.method_steps.specs.declared.step.ListedCall.{ListedCall}
 use Rattle.handler_future.specs.Act.{outgoing_of, outgoings_of}
 use Rattle.handler_future.specs.Results.{and_then}

@@ -6,8 +6,8 @@ use Rattle.serde_json.specs.Find.{as_number, as_i64, as_array, of_integer}
 use Rattle.serde_json.specs.Written.{compact_text}
 use Rattle.rpc_messages.specs.declared.outgoing.Outgoing.{Outgoing}
 use Rattle.rpc_messages.specs.declared.reply.Reply.TheVariants.{Done, Error, Standard as Fixed}
-use Rattle.rpc_messages.specs.declared.standard.Standard.{Standard}
-use Rattle.rpc_messages.specs.declared.standard.Standard.TheVariants.{InvalidParams, InternalError}
+use Rattle.message_ids.specs.declared.standard.Standard.{Standard}
+use Rattle.message_ids.specs.declared.standard.Standard.TheVariants.{InvalidParams, InternalError}
 use Rattle.method_steps.specs.declared.filling.FillFault.{FillFault}
 use Rattle.method_steps.specs.declared.filling.FillFault.TheVariants as fault
 use Rattle.method_steps.specs.declared.limits.TheConstants.{MOST_LISTED}

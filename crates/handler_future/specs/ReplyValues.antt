@@ -5,7 +5,7 @@ use Rattle.rpc_messages.specs.Texts.{error_data, standard_error}
 use Rattle.rpc_messages.specs.declared.error_value.ErrorValue.{ErrorValue}
 use Rattle.rpc_messages.specs.declared.reply.Reply.{Reply}
 use Rattle.rpc_messages.specs.declared.reply.Reply.TheVariants.{Done, Error, Standard as Fixed}
-use Rattle.rpc_messages.specs.declared.standard.Standard.TheVariants.{NoReply}
+use Rattle.message_ids.specs.declared.standard.Standard.TheVariants.{NoReply}
 use Rattle.method_steps.specs.declared.step.OnError.{OnError}
 use Rattle.method_steps.specs.declared.step.OnError.TheVariants.{Fail, Keep}
 use Rattle.method_steps.specs.Steps.{Step}

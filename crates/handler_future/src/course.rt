@@ -188,7 +188,11 @@ fn notify(course: &mut Course, outgoing: Outgoing) -> Result<Progress, AllocErro
     ensures progress { IfOk result (λ progress. progress ≡ Progress.Going) }
     ensures err { OnErr result ((lent : Data) → seen lent course.new ≡ seen lent course.old) }
 {
-    course.messages.push(Message::Notice(outgoing))?;
+    if let Err(refused) = make_room_for(&mut course.messages, 1) {
+        drop(outgoing);
+        return Err(refused);
+    }
+    course.messages.push_reserved(Message::Notice(outgoing));
     course.place += 1;
     Ok(Progress::Going)
 }
@@ -206,23 +210,39 @@ fn ask(course: &mut Course, message: Message, calls: u32) -> Result<Progress, Al
         drop(message);
         return Err(refused);
     }
-    course.messages.push(message)?;
+    course.messages.push_reserved(message);
     push_turns(&mut course.waits, course.turn, calls);
     course.asked = calls;
     course.heard_before = course.heard.len();
     Ok(Progress::Waiting)
 }
 
-/// Makes room for so many turns to await, and for their replies.
+/// Makes room for a message, for so many turns to await, and for their replies.
 fn make_room(course: &mut Course, calls: u32) -> Result<(), AllocError>
     ensures same { (lent : Data) → seen lent course.new ≡ seen lent course.old }
+    ensures messages { OnOk result
+        (vec_len course.new.messages + 1 ≤ vec_capacity course.new.messages) }
     ensures heard { OnOk result
         (vec_len course.new.heard + calls ≤ vec_capacity course.new.heard) }
     ensures waits { OnOk result
         (vec_len course.new.waits + calls ≤ vec_capacity course.new.waits) }
 {
-    course.heard.reserve(calls as usize)?;
-    course.waits.reserve(calls as usize)
+    make_room_for(&mut course.messages, 1)?;
+    make_room_for(&mut course.heard, calls as usize)?;
+    make_room_for(&mut course.waits, calls as usize)
+}
+
+/// Makes room for so many more elements. A list's first room is just that: most steps make one call, and many handlers
+/// wait at once, each with three lists, for which the usual first room of four elements took 888 bytes.
+fn make_room_for<T>(list: &mut Vec<T>, more: usize) -> Result<(), AllocError>
+    ensures same { list.new.items ≡ list.old.items }
+    ensures room { OnOk result (vec_len list.new + more ≤ vec_capacity list.new) }
+{
+    if list.capacity() == 0 {
+        list.reserve_exact(more)
+    } else {
+        list.reserve(more)
+    }
 }
 
 /// Awaits so many turns from this one on, for which there is room.

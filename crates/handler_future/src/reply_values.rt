@@ -66,7 +66,7 @@ fn kept_object(alloc: Global, reply: &Reply) -> Result<Json, AllocError>
         Reply::Done(value) => kept_result(alloc, value),
         Reply::Error(error) => kept_error(alloc, error),
         Reply::Standard(standard) => {
-            let error = standard.to_error(alloc)?;
+            let error = ErrorValue::standard(alloc, *standard)?;
             let object = kept_error(alloc, &error);
             drop(error);
             object

@@ -1,3 +1,4 @@
+pub mod AtHand
 pub mod Cutting
-pub mod Packed
-pub mod Telling
+pub mod PackedSoFar
+pub mod SaidSoFar

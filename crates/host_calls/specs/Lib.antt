@@ -5,3 +5,5 @@ pub mod Outlets
 pub mod Passed
 pub mod Retaining
 pub mod Saying
+pub mod Sayings
+pub mod Telling

@@ -77,20 +77,22 @@ Packs a b r s used (packed.Told end) = (e : Event) × Hands a e b × (s ≡ writ
 Packs a b r s used packed.Nothing = Fetched a b × (b.next ≡ None) × (s ≡ r)
 Packs a b r s used packed.Refused = Kept a b × (s ≡ r)
 Packs a b r s used (packed.TooLong n) = Fetched a b × ((e : Event) × (b.next ≡ Some e) × (n ≡ needed e) × (length r < aligned used + length (bytes_of e))) × (s ≡ r)
+Packs a b r s used packed.Most = ⊥
 
--- it isn't that one more was packed
-abbrev pub IsStop : Packed → Type 0
-IsStop (packed.Told _) = ⊥
-IsStop packed.Nothing = Unit {0}
-IsStop packed.Refused = Unit {0}
-IsStop (packed.TooLong _) = Unit {0}
+-- Behind n events, of which at most so many were asked for, no more is handed over: there is none, the next doesn't fit, memory was refused, or no more were asked for.
+abbrev pub Stops : Outlet → Outlet → List ℕ → List ℕ → ℕ → ℕ → ℕ → Packed → Type 0
+Stops a b r s end most n (packed.Told _) = ⊥
+Stops a b r s end most n packed.Nothing = (n < most) × Packs a b r s end packed.Nothing
+Stops a b r s end most n packed.Refused = (n < most) × Packs a b r s end packed.Refused
+Stops a b r s end most n (packed.TooLong m) = (n < most) × Packs a b r s end (packed.TooLong m)
+Stops a b r s end most n packed.Most = (n ≡ most) × (b ≡ a) × (s ≡ r)
 
--- the events that fitted were handed over, and then it stopped so; at the greatest count nothing is said of what comes next
-abbrev pub HasPackedAll : Outlet → Outlet → List ℕ → List ℕ → Packed × ℕ × ℕ → Type 0
-HasPackedAll a b r s (stopped, end, n) =
-    (m : Outlet) × (t : List ℕ) × HasPacked a r m t end n × ((IsStop stopped × Packs m b t s end stopped) ⊎ ((n ≡ 4294967295) × (b ≡ m) × (s ≡ t)))
+-- the events that fitted were handed over, at most so many, and then it stopped so
+abbrev pub HasPackedAll : Outlet → Outlet → List ℕ → List ℕ → ℕ → Packed × ℕ × ℕ → Type 0
+HasPackedAll a b r s most (stopped, end, n) =
+    (m : Outlet) × (t : List ℕ) × HasPacked a r m t end n × Stops m b t s end most n stopped
 
 abbrev pub AskedAll : Outlet → Outlet → List ℕ → List ℕ → ℕ → ℕ → ℕ → ℕ → Got → Type 0
 AskedAll a b r s used used' count count' Memory = Kept a b × (s ≡ r) × (used' ≡ used) × (count' ≡ count)
 AskedAll a b r s used used' count count' Small = Fetched a b × ((e : Event) × (b.next ≡ Some e) × (length r < length (bytes_of e)) × (used' ≡ needed e)) × (s ≡ r) × (count' ≡ 0)
-AskedAll a b r s used used' count count' Done = (stopped : Packed) × HasPackedAll a b r s (stopped, used', count') × (count' ≡ 0 → stopped ≡ packed.Nothing)
+AskedAll a b r s used used' count count' Done = (stopped : Packed) × HasPackedAll a b r s 4294967295 (stopped, used', count') × (count' ≡ 0 → stopped ≡ packed.Nothing)

@@ -2,7 +2,7 @@
 use Rattle.std.specs.Prelude.{◌≡◌, ◌≢◌, ◌⊎◌, ℕ, ℤ, ◌+◌, ◌==◌, List, [], ◌∷◌, Bool, true, false, Option, Some, None, Ok, Err, is_some, option_map, if◌then◌else◌}
 use Rattle.content_streams.specs.declared.ending.HowEnded.{HowEnded}
 use Rattle.content_streams.specs.declared.ending.HowEnded.TheVariants.{Closed, ReadFailed}
-use Rattle.rpc_messages.specs.declared.standard.Standard.TheVariants.{Cancelled}
+use Rattle.message_ids.specs.declared.standard.Standard.TheVariants.{Cancelled}
 use Rattle.connection_messages.specs.declared.answer.Answer.{Answer}
 use Rattle.connection_messages.specs.declared.answer.Answer.TheVariants.{Result, Error, Standard}
 use Rattle.connection_messages.specs.declared.outgoing.Outgoing.{Outgoing}
@@ -79,6 +79,11 @@ HasCalled a b n method params k key (Err why) = Keeps a b × (key ≡ k) ×
 abbrev pub CallsRefused : Connection → ℕ → List Part → Why → Type 0
 CallsRefused c n ps why = IsShut c n why ⊎ (IsOpen c n × AreNoOutgoings ps why) ⊎
     ((os : List Outgoing) × AreOutgoings ps os × Refuses c (called_all n os) why)
+
+abbrev pub HasCalledParts : Outlet → Outlet → ℕ → List Part → ℕ → ℕ → Said → Type 0
+HasCalledParts a b n ps k key (Ok _) = (b.next ≡ a.next) × IsKey a.connection key ×
+    ((os : List Outgoing) × AreOutgoings ps os × Happens a.connection b.connection (called_all n os))
+HasCalledParts a b n ps k key (Err why) = Keeps a b × (key ≡ k) × CallsRefused a.connection n ps why
 
 abbrev pub HasCalledAll : Outlet → Outlet → ℕ → List ℕ → List ℕ → ℕ → ℕ → Said → Type 0
 HasCalledAll a b n bytes lengths k key (Ok _) = (b.next ≡ a.next) × (fit bytes lengths ≡ true) × IsKey a.connection key ×

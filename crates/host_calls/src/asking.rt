@@ -19,13 +19,15 @@ pub enum Got {
 
 /// How it went to pack one event more.
 #[derive(Drop)]
-pub(crate) enum Packed {
+pub enum Packed {
     /// It lies in the room, up to here.
     Told(usize),
     Nothing,
     Refused,
     /// The room that the event alone needs.
     TooLong(usize),
+    /// No more were asked for.
+    Most,
 }
 
 impl Outlet {
@@ -57,7 +59,7 @@ impl Outlet {
     pub fn tell_all(&mut self, room: &mut [u8], used: &mut usize, count: &mut u32) -> Got
         ensures { AskedAll self.old self.new room.old room.new used.old used.new count.old count.new result }
     {
-        let (stopped, end, packed) = self.pack_all(room);
+        let (stopped, end, packed) = self.pack_all(room, u32::MAX);
         if packed == 0 {
             match stopped {
                 Packed::Refused => return Got::Memory,
@@ -74,18 +76,19 @@ impl Outlet {
         Got::Done
     }
 
-    /// Hands over as many of the next events as fit the room, and gives where they end and how many they are.
-    pub(crate) fn pack_all(&mut self, room: &mut [u8]) -> (Packed, usize, u32)
-        ensures { HasPackedAll self.old self.new room.old room.new result }
+    /// Hands over at most so many of the next events, as many as fit the room, and gives why no more, where they end and
+    /// how many they are.
+    pub(crate) fn pack_all(&mut self, room: &mut [u8], most: u32) -> (Packed, usize, u32)
+        ensures { HasPackedAll self.old self.new room.old room.new most result }
     {
         let mut end = 0;
-        for count in 0..u32::MAX {
+        for count in 0..most {
             match self.pack(room, end) {
                 Packed::Told(next) => end = next,
                 stopped => return (stopped, end, count),
             }
         }
-        (Packed::Nothing, end, u32::MAX)
+        (Packed::Most, end, most)
     }
 
     /// Hands over the next event, where there is one that fits the room behind what lies there.

@@ -1,11 +1,12 @@
 //! The host calls the other side several times.
 
-ghost use Rattle.std.specs.Prelude.{◌≡◌, ◌<◌, ◌↔◌, ◌∷◌, IsTrue, IfOk, IfErr, IsUtf8, MatchOption, length, take, drop};
+ghost use Rattle.std.specs.Prelude.{◌≡◌, ◌<◌, ◌↔◌, ◌∷◌, IsTrue, IfOk, IfErr, IsUtf8, MatchOption, length};
 ghost use Rattle.host_calls.specs.Batches.{fit, parts, AreTexts, AreOutgoings, AreNoOutgoings};
-ghost use Rattle.host_calls.specs.Saying.{HasCalledAll};
+ghost use Rattle.host_calls.specs.Saying.{HasCalledAll, HasCalledParts};
 
 use crate::code::Why;
 use crate::outlet::Outlet;
+use crate::part::Part;
 use crate::saying::has_call;
 use crate::texts::outgoing_of;
 use connection::{Outgoing, Refused};
@@ -26,6 +27,19 @@ impl Outlet {
         if !lengths_fit(bytes, lengths) {
             return Err(Why::Settings);
         }
+        self.call_parts(number, bytes, lengths, first)
+    }
+
+    /// Calls the other side several times; the first bytes are the methods and params, cut by the lengths.
+    pub(crate) fn call_parts(
+        &mut self,
+        number: u64,
+        bytes: &[u8],
+        lengths: &[usize],
+        first: &mut u64,
+    ) -> Result<(), Why>
+        ensures { HasCalledParts self.old self.new number (parts bytes.now lengths.now) first.old first.new result }
+    {
         if !has_call(&self.connection, number) {
             return Err(Why::Refused(Refused::NotOpen));
         }
@@ -53,7 +67,7 @@ fn read_calls(
     let mut left = lengths;
     while let Some((method, params, behind)) = next_lengths(left) {
         let part = Part::cut(rest, method, params);
-        let outgoing = outgoing_of(alloc, reader, part.method, part.params)?;
+        let outgoing = outgoing_of(alloc, reader, part.name, part.text)?;
         if outgoings.push(outgoing).is_err() {
             return Err(Why::Refused(Refused::Memory));
         }
@@ -87,7 +101,7 @@ fn are_texts(bytes: &[u8], lengths: &[usize]) -> bool
     let mut left = lengths;
     while let Some((method, params, behind)) = next_lengths(left) {
         let part = Part::cut(rest, method, params);
-        if !is_text(part.method) {
+        if !is_text(part.name) {
             return false;
         }
         rest = part.behind;
@@ -112,36 +126,4 @@ fn next_lengths(lengths: &[usize]) -> Option<(usize, usize, &[usize])>
         [method, params, behind @ ..] => Some((*method, *params, behind)),
         _ => None,
     }
-}
-
-/// One call's bytes, and those behind it.
-#[derive(Clone, Copy)]
-struct Part<'a> {
-    method: &'a [u8],
-    params: &'a [u8],
-    behind: &'a [u8],
-}
-
-impl<'a> Part<'a> {
-    fn cut(bytes: &'a [u8], method: usize, params: usize) -> Part<'a>
-        ensures method { result.method.now ≡ take method bytes.now }
-        ensures params { result.params.now ≡ take params (drop method bytes.now) }
-        ensures behind { result.behind.now ≡ drop params (drop method bytes.now) }
-    {
-        let (method, more) = cut(bytes, method);
-        let (params, behind) = cut(more, params);
-        Part {
-            method,
-            params,
-            behind,
-        }
-    }
-}
-
-/// The first bytes, as many as there are up to this number, and the others.
-fn cut(bytes: &[u8], count: usize) -> (&[u8], &[u8])
-    ensures first { result.0.now ≡ take count bytes.now }
-    ensures behind { result.1.now ≡ drop count bytes.now }
-{
-    bytes.split_at(count.min(bytes.len()))
 }

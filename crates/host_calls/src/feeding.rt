@@ -5,8 +5,9 @@ ghost use Rattle.connection_history.specs.declared.event.Event.{Event};
 ghost use Rattle.connection_history.specs.History.{History};
 ghost use Rattle.connection.specs.Connections.{IsDone, StandsAfter};
 ghost use Rattle.outbox.specs.Output.{given_of};
-ghost use Rattle.host_calls.specs.Feeding.{HasFed, taken};
+ghost use Rattle.host_calls.specs.Feeding.{HasFed, HasTakenSome, taken};
 
+use crate::asking::Got;
 use crate::code::Why;
 use crate::outlet::Outlet;
 
@@ -27,6 +28,21 @@ impl Outlet {
         ensures left { self.new ≡ taken self.old (length room.old) }
     {
         self.connection.take(room)
+    }
+
+    /// Moves them in the same way, and tells whether nothing was moved for want of room. Then the count is how many are to
+    /// be written, with Contents the length of the next text.
+    pub fn take_counted(&mut self, room: &mut [u8], count: &mut usize) -> Got
+        ensures { HasTakenSome self.old self.new room.old room.new count.new result }
+    {
+        let pending = self.connection.pending();
+        let moved = self.take(room);
+        if moved == 0 && pending > 0 {
+            *count = pending;
+            return Got::Small;
+        }
+        *count = moved;
+        Got::Done
     }
 
     /// Whether all is done, and no event waits here.

@@ -7,9 +7,14 @@ mod batch;
 mod code;
 mod feeding;
 mod outlet;
+mod part;
 mod saying;
+mod sayings;
+mod telling;
 mod texts;
 
-pub use asking::Got;
+pub use asking::{Got, Packed};
 pub use code::{Why, code_of, code_of_got};
 pub use outlet::Outlet;
+pub use sayings::{AllSaid, Saying, SayingKind};
+pub use telling::Told;

@@ -1,6 +1,6 @@
 //! What the host says.
 
-ghost use Rattle.std.specs.Prelude.{◌≡◌, true, IfOk, IfErr};
+ghost use Rattle.std.specs.Prelude.{◌≡◌, [], true, IfOk, IfErr};
 ghost use Rattle.connection_desk.specs.Desks.{has_call};
 ghost use Rattle.host_calls.specs.Saying.{HasEnded, HasCalled, HasNotified, HasWithdrawn, HasAnswered, HasFailed, HasCancelled, IsAnswer, IsNoAnswer, how_of};
 
@@ -9,7 +9,7 @@ use crate::outlet::Outlet;
 use crate::texts::{failure_of, json_of, outgoing_of};
 use connection::{Answer, Connection, HowEnded, Refused};
 use json_texts::TextReader;
-use rpc_messages::Standard;
+use message_ids::Standard;
 
 impl Outlet {
     pub fn end(&mut self, how: u32) -> Result<(), Why>
@@ -60,6 +60,13 @@ impl Outlet {
         let answer = read_result(&self.connection, &mut self.reader, number, bytes)?;
         self.connection.answer(number, &answer)?;
         Ok(())
+    }
+
+    /// Closes a notification. A request isn't closed without a result.
+    pub fn close(&mut self, number: u64) -> Result<(), Why>
+        ensures { HasAnswered self.old self.new number [] result }
+    {
+        self.answer(number, &[])
     }
 
     pub fn fail(&mut self, number: u64, code: i64, message: &[u8], extra: &[u8]) -> Result<(), Why>

@@ -40,7 +40,7 @@ part_is text part from end stands below within =
 
 -- ---- strings
 
-or_seven : (a b c d e f g : Bool) → (a || b || c || d || e || f || g) ≡ true → (a ≡ true) ⊎ ((b ≡ true) ⊎ ((c ≡ true) ⊎ ((d ≡ true) ⊎ ((e ≡ true) ⊎ ((f ≡ true) ⊎ (g ≡ true))))))
+pub or_seven : (a b c d e f g : Bool) → (a || b || c || d || e || f || g) ≡ true → (a ≡ true) ⊎ ((b ≡ true) ⊎ ((c ≡ true) ⊎ ((d ≡ true) ⊎ ((e ≡ true) ⊎ ((f ≡ true) ⊎ (g ≡ true))))))
 or_seven true b c d e f g h = inl refl
 or_seven false true c d e f g h = inr (inl refl)
 or_seven false false true d e f g h = inr (inr (inl refl))
@@ -75,7 +75,7 @@ pub escape-more : (s : List ℕ) (x : ℕ) → escape (s ++ x ∷ []) ≡ escape
 escape-more [] x = append-nil (escape_byte x)
 escape-more (y ∷ s) x = ap (λ l. escape_byte y ++ l) (escape-more s x) ∙ sym (append_assoc (escape_byte y) (escape s) (escape_byte x))
 
-escape-append : (s t : List ℕ) → escape (s ++ t) ≡ escape s ++ escape t
+pub escape-append : (s t : List ℕ) → escape (s ++ t) ≡ escape s ++ escape t
 escape-append [] t = refl
 escape-append (y ∷ s) t = ap (λ l. escape_byte y ++ l) (escape-append s t) ∙ sym (append_assoc (escape_byte y) (escape s) (escape t))
 

@@ -5,6 +5,7 @@ use Rattle.std.proofs.lemmas.List.{append-nil}
 use Rattle.std.proofs.lemmas.Str.{is_utf8-from_IsUtf8, IsUtf8-from_is_utf8}
 use Rattle.std.specs.Str.{IsUtf8, is_utf8}
 use Rattle.json.specs.Json.{Json, value, if_last}
+use Rattle.json.specs.Lex.{tokens}
 use Rattle.json.specs.Print.{print}
 use Rattle.json.specs.Tree.{json_tokens, depth, HasNumbers}
 use Rattle.json.proofs.Printed.Tokens.{tokens-print}
@@ -46,3 +47,9 @@ value_of_no_text levels bytes not_text = unless_text (is_utf8 bytes) levels byte
 pub IfOk-follows : {T E : Type 0} {P Q : T → Type 0} (r : Result T E) → ((v : T) → P v → Q v) → IfOk r P → IfOk r Q
 IfOk-follows (Ok v) f h = f v h
 IfOk-follows (Err e) f h = h
+
+-- ---- texts with the same tokens
+
+pub value_of-same : (levels : ℕ) (text compact : List ℕ) → IsUtf8 text → IsUtf8 compact → tokens compact ≡ tokens text → value_of levels text ≡ value_of levels compact
+value_of-same levels text compact utf8 compact_utf8 same =
+    sym (value_of_text levels text text utf8 refl) ∙ ap (λ ts. option_and_then (λ p. if_last p.0 p.1) (value levels ts)) (sym same) ∙ value_of_text levels compact compact compact_utf8 refl

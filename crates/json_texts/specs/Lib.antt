@@ -1,2 +1,3 @@
+pub mod Compacting
 pub mod Standing
 pub mod Texts

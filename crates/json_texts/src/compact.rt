@@ -1,10 +1,13 @@
 //! Compact values, told apart from others without a look at their tokens.
 
-ghost use Rattle.std.specs.Prelude.{◌≡◌, ◌≤◌, ◌<◌, ◌+◌, ◌-◌, IfSome, IsTrue, length, get_or};
+ghost use Rattle.std.specs.Prelude.{◌≡◌, ◌≢◌, ◌≤◌, ◌<◌, ◌+◌, ◌-◌, IfSome, IsTrue, ◌∷◌, length, get_or, drop, slice_range};
+ghost use Rattle.std.specs.List.{prefix_len};
+ghost use Rattle.std.specs.Char.{is_ascii_digit};
 ghost use Rattle.std.specs.Str.{IsUtf8};
 ghost use Rattle.json.specs.Print.{IsNumber, escape};
 ghost use Rattle.json_texts.specs.Texts.{IsJsonText};
 ghost use Rattle.json_texts.specs.Standing.{Stands, HasString, HasNumber, HasValue, HasItems, HasMembers, HasName, is_escape_letter};
+ghost use Rattle.json_texts.specs.Compacting.{HasShortest};
 
 use crate::json_text::MOST_LEVELS;
 use crate::plain::plain_end;
@@ -120,18 +123,34 @@ fn string_end(text: &[u8], from: usize) -> Option<usize>
     ensures string { IfSome result (λ end. HasString text.now from end) }
     ensures bounds { IfSome result (λ end. (from < end) × (end ≤ length text.now)) }
 {
+    let end = shortest_end(text, from)?;
+    if byte_at(text, end) == b'"' {
+        Some(end + 1)
+    } else {
+        None
+    }
+}
+
+/// In a string, the place of the closing quote or of the first escape that has a shorter form. There is none where neither
+/// comes.
+pub(crate) fn shortest_end(text: &[u8], from: usize) -> Option<usize>
+    requires { from ≤ length text.now }
+    ensures part { IfSome result (λ end. HasShortest text.now from end) }
+    ensures stop { IfSome result (λ end. get_or text.now end 0 ≢ 34 → get_or text.now end 0 ≡ 92) }
+    ensures bounds { IfSome result (λ end. (from ≤ end) × (end < length text.now)) }
+{
     let mut at = from;
     while at < text.len() {
         let stop = plain_end(text, at);
         let byte = byte_at(text, stop);
         if byte == b'"' {
-            return Some(stop + 1);
+            return Some(stop);
         }
         if byte != b'\\' {
             return None;
         }
         if !is_short_escape(byte_at(text, stop + 1)) {
-            return None;
+            return Some(stop);
         }
         at = stop + 2;
     }
@@ -152,7 +171,7 @@ fn is_short_escape(letter: u8) -> bool
         | (letter == b't')
 }
 
-fn word_end(text: &[u8], from: usize, word: &[u8]) -> Option<usize>
+pub(crate) fn word_end(text: &[u8], from: usize, word: &[u8]) -> Option<usize>
     requires { from ≤ length text.now }
     ensures word { IfSome result (λ end. Stands text.now from word.now end) }
     ensures bounds { IfSome result (λ end. end ≡ from + length word.now) }
@@ -165,7 +184,75 @@ fn word_end(text: &[u8], from: usize, word: &[u8]) -> Option<usize>
     }
 }
 
-fn number_end(text: &[u8], from: usize) -> Option<usize>
+pub(crate) fn number_end(text: &[u8], from: usize) -> Option<usize>
+    requires { from ≤ length text.now }
+    ensures number { IfSome result (λ end. HasNumber text.now from end) }
+    ensures bounds { IfSome result (λ end. (from < end) × (end ≤ length text.now)) }
+{
+    if !begins_number(byte_at(text, from)) {
+        return None;
+    }
+    match whole_end(text, from) {
+        Some(end) => Some(end),
+        None => any_number_end(text, from),
+    }
+}
+
+#[inline(always)]
+fn begins_number(byte: u8) -> bool {
+    (byte >= b'0') & (byte <= b'9') | (byte == b'-')
+}
+
+/// The end of a whole number. There is none where a fraction or an exponent may follow.
+#[inline(always)]
+fn whole_end(text: &[u8], from: usize) -> Option<usize>
+    requires { from ≤ length text.now }
+    ensures number { IfSome result (λ end. HasNumber text.now from end) }
+    ensures bounds { IfSome result (λ end. (from < end) × (end ≤ length text.now)) }
+{
+    if byte_at(text, from) == b'-' {
+        return natural_end(text, from + 1);
+    }
+    natural_end(text, from)
+}
+
+/// The same of one without a sign.
+#[inline(always)]
+fn natural_end(text: &[u8], from: usize) -> Option<usize>
+    requires { from ≤ length text.now }
+    ensures number { IfSome result (λ end. IsNumber (slice_range text.now from end)) }
+    ensures signed { IfSome result (λ end. IsNumber (45 ∷ slice_range text.now from end)) }
+    ensures bounds { IfSome result (λ end. (from < end) × (end ≤ length text.now)) }
+{
+    let end = digits_end(text, from);
+    if end == from {
+        return None;
+    }
+    if byte_at(text, from) == b'0' && end != from + 1 {
+        return None;
+    }
+    match byte_at(text, end) {
+        b'.' | b'e' | b'E' => None,
+        _ => Some(end),
+    }
+}
+
+#[inline(always)]
+fn digits_end(text: &[u8], from: usize) -> usize
+    requires { from ≤ length text.now }
+    ensures value { result ≡ from + prefix_len is_ascii_digit (drop from text.now) }
+    ensures bound { result ≤ length text.now }
+{
+    let mut at = from;
+    while at < text.len() && text[at] >= b'0' && text[at] <= b'9' {
+        at += 1;
+    }
+    at
+}
+
+/// Apart, since few numbers have a fraction or an exponent.
+#[inline(never)]
+fn any_number_end(text: &[u8], from: usize) -> Option<usize>
     requires { from ≤ length text.now }
     ensures number { IfSome result (λ end. HasNumber text.now from end) }
     ensures bounds { IfSome result (λ end. (from < end) × (end ≤ length text.now)) }
@@ -196,7 +283,7 @@ fn is_of_number(byte: u8) -> bool
 
 /// The byte at a place, or 0 past the end.
 #[inline(always)]
-fn byte_at(text: &[u8], at: usize) -> u8
+pub(crate) fn byte_at(text: &[u8], at: usize) -> u8
     ensures { result ≡ get_or text.now at 0 }
 {
     if at < text.len() { text[at] } else { 0 }

@@ -50,6 +50,14 @@ impl JsonText {
         })
     }
 
+    /// A text that is compact, with no new memory.
+    pub(crate) fn of_compact(text: Text) -> JsonText
+        requires { IsJsonText text }
+        ensures { result ≡ text }
+    {
+        JsonText { text }
+    }
+
     /// A copy of a text that is compact.
     pub(crate) fn copy_of(alloc: Global, text: &str) -> Result<JsonText, AllocError>
         requires { IsJsonText text.now }

@@ -1,6 +1,6 @@
 //! From bytes to values, and from values to their texts.
 
-ghost use Rattle.std.specs.Prelude.{◌≡◌, ◌≤◌, IfOk, IfSome, OnOk, option_map};
+ghost use Rattle.std.specs.Prelude.{◌≡◌, ◌≤◌, Some, IfOk, IfSome, OnOk, option_map};
 ghost use Rattle.std.specs.Str.{IsUtf8};
 ghost use Rattle.json.specs.Tree.{HasNumbers, depth};
 ghost use Rattle.json.specs.Value.{value_view};
@@ -8,7 +8,9 @@ ghost use Rattle.json_texts.specs.Texts.{json_text, text_value, value_of, compac
 ghost use Rattle.json_texts.specs.declared.json_text.TheConstants.{MOST_LEVELS};
 
 use crate::compact::is_compact;
+use crate::compacting::compacted;
 use crate::json_text::{JsonText, MOST_LEVELS};
+use crate::utf8::utf8_text;
 use json::{Error, Reader, Scratch, Value};
 use json_values::Text;
 use std::alloc::{AllocError, Global};
@@ -28,7 +30,7 @@ pub fn read_value<'a>(
     ensures writable { IfOk result (λ v. IfSome v (λ j. HasNumbers (value_view j))) }
     ensures nests { IfOk result (λ v. IfSome v (λ j. depth (value_view j) ≤ levels)) }
 {
-    let Ok(text) = simdutf8::compat::from_utf8(bytes) else {
+    let Some(text) = utf8_text(bytes) else {
         return Ok(None);
     };
     read_str(alloc, text, levels, scratch)
@@ -105,13 +107,16 @@ impl TextReader {
     pub fn read(&mut self, bytes: &[u8]) -> Result<Option<JsonText>, AllocError>
         ensures { IfOk result (λ text. text ≡ compact_text MOST_LEVELS bytes.now) }
     {
-        let Ok(text) = simdutf8::compat::from_utf8(bytes) else {
+        let Some(text) = utf8_text(bytes) else {
             return Ok(None);
         };
         if is_compact(text) {
             return Ok(Some(JsonText::copy_of(self.alloc, text)?));
         }
-        self.read_tokens(text)
+        match read_compacted(self.alloc, text)? {
+            Some(read) => Ok(Some(read)),
+            None => self.read_tokens(text),
+        }
     }
 
     fn read_tokens(&mut self, text: &str) -> Result<Option<JsonText>, AllocError>
@@ -133,6 +138,19 @@ impl TextReader {
             None => new_scratch(self.alloc),
         }
     }
+}
+
+/// The compact text of a value whose text is made compact first. There is none where this isn't seen to be one.
+fn read_compacted(alloc: Global, text: &str) -> Result<Option<JsonText>, AllocError>
+    ensures { IfOk result (λ r. IfSome r (λ read. compact_text MOST_LEVELS text.now ≡ Some read)) }
+{
+    let Some(compact) = compacted(alloc, text)? else {
+        return Ok(None);
+    };
+    if !is_compact(compact.as_str()) {
+        return Ok(None);
+    }
+    Ok(Some(JsonText::of_compact(compact)))
 }
 
 fn read_text(

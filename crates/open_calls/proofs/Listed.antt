@@ -2,9 +2,9 @@
 use Rattle.std.proofs.Common.{◌≡◌, ℕ, Bool, true, false, refl, ap, sym, ◌∙◌, ◌&&◌, ◌==◌, if◌then◌else◌, Option, Some, None, Result, Ok, Err, OnOk, OnErr}
 use Rattle.std.specs.Ordering.{is_eq}
 use Rattle.std.specs.BTreeMap as tree
-use Rattle.rpc_messages.specs.declared.id.Id.{Id}
-use Rattle.rpc_messages.specs.Ids.{same_id, id_cmp}
-use Rattle.rpc_messages.proofs.Ids.{same-by_cmp, same-is}
+use Rattle.message_ids.specs.declared.id.Id.{Id}
+use Rattle.message_ids.specs.Ids.{same_id, id_cmp}
+use Rattle.message_ids.proofs.Ids.{same-by_cmp, same-is}
 use Rattle.open_calls.specs.declared.numbers.Numbers.{Numbers}
 use Rattle.open_calls.specs.Inner.{is_in, has_number}
 

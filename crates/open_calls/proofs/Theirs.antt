@@ -2,9 +2,9 @@
 use Rattle.std.proofs.Common.{◌≡◌, ℕ, ◌<◌, ◌≤◌, ◌==◌, ◌&&◌, not, Bool, true, false, cond, if◌then◌else◌, List, Option, Some, None, refl, ap, sym, subst, ◌∙◌, nat_le}
 use Rattle.std.proofs.lemmas.Bool.{eqb-true, leb-true, le-leb}
 use Rattle.std.specs.Option.{option_map}
-use Rattle.rpc_messages.specs.declared.id.Id.{Id}
-use Rattle.rpc_messages.specs.Ids.{same_id, has_id}
-use Rattle.rpc_messages.proofs.Ids.{same-is}
+use Rattle.message_ids.specs.declared.id.Id.{Id}
+use Rattle.message_ids.specs.Ids.{same_id, has_id}
+use Rattle.message_ids.proofs.Ids.{same-is}
 use Rattle.open_calls.specs.declared.their_call.TheirCall.{TheirCall}
 use Rattle.open_calls.specs.declared.numbers_by_id.NumbersById.{NumbersById}
 use Rattle.open_calls.specs.Numbered.{at, up_to, number_of_first, Ascending}

@@ -1,10 +1,10 @@
 ghost use Rattle.std.specs.Prelude.{◌≡◌, ℕ, ◌<◌, ◌==◌, ◌&&◌, true, false, Some, if◌then◌else◌, OnOk, OnErr, IfSome, IfNone, MatchOption};
-ghost use Rattle.rpc_messages.specs.declared.id.Id.{Id};
-ghost use Rattle.rpc_messages.specs.Ids.{same_id};
+ghost use Rattle.message_ids.specs.declared.id.Id.{Id};
+ghost use Rattle.message_ids.specs.Ids.{same_id};
 ghost use Rattle.open_calls.specs.Inner.{is_alone};
 
 use crate::other_numbers::OtherNumbers;
-use rpc_messages::Id;
+use message_ids::Id;
 use std::alloc::{AllocError, Global};
 
 /// Numbers of requests, by their ids. A request that is alone takes no place in the tree, which needs memory.

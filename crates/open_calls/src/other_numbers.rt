@@ -1,9 +1,9 @@
 ghost use Rattle.std.specs.Prelude.{◌≡◌, ℕ, ◌<◌, ◌==◌, ◌&&◌, true, false, if◌then◌else◌, OnOk, OnErr, MatchOption};
-ghost use Rattle.rpc_messages.specs.declared.id.Id.{Id};
-ghost use Rattle.rpc_messages.specs.Ids.{same_id};
+ghost use Rattle.message_ids.specs.declared.id.Id.{Id};
+ghost use Rattle.message_ids.specs.Ids.{same_id};
 
 use crate::numbers::Numbers;
-use rpc_messages::Id;
+use message_ids::Id;
 use std::alloc::{AllocError, Global};
 use std::collections::BTreeMap;
 

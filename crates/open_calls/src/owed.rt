@@ -142,6 +142,7 @@ fn put_each(bytes: &mut Vec<u8>, slots: &[Option<Vec<u8>>]) -> Result<(), AllocE
         bytes.old.items ++ batch_text (slot_texts (seen_slots slots.now))) }
     ensures front { OnErr result (StartsWith bytes.new.items bytes.old.items) }
 {
+    bytes.reserve(array_len(slots))?;
     bytes.push(b'[')?;
     put_slot(bytes, &slots[0])?;
     for slot in &slots[1..] {
@@ -149,6 +150,16 @@ fn put_each(bytes: &mut Vec<u8>, slots: &[Option<Vec<u8>>]) -> Result<(), AllocE
         put_slot(bytes, slot)?;
     }
     bytes.extend_from_slice(b"]")
+}
+
+/// The length of the array. Room for all of it at once is just that, where room that grows may be twice as large.
+fn array_len(slots: &[Option<Vec<u8>>]) -> usize {
+    let mut len: usize = 1;
+    for slot in slots {
+        let text_len = slot.as_ref().map_or(0, Vec::len);
+        len = len.saturating_add(text_len).saturating_add(1);
+    }
+    len
 }
 
 fn put_slot(bytes: &mut Vec<u8>, slot: &Option<Vec<u8>>) -> Result<(), AllocError>

@@ -1,4 +1,4 @@
-use rpc_messages::Id;
+use message_ids::Id;
 
 /// A call of the other side that is open.
 #[derive(Drop)]

@@ -1,12 +1,12 @@
 ghost use Rattle.std.specs.Prelude.{◌≡◌, ℕ, ◌+◌, ◌-◌, ◌<◌, ◌≤◌, ◌^◌, ◌++◌, ◌∷◌, [], length, OnOk, OnErr, IfOk, Option, Some, None, MatchOption, option_copied};
 ghost use Rattle.open_calls.specs.Inner.{is_listed, IsWithNumber, IsWithoutNumber};
-ghost use Rattle.rpc_messages.specs.declared.id.Id.{Id};
+ghost use Rattle.message_ids.specs.declared.id.Id.{Id};
 ghost use Rattle.open_calls.specs.Numbered.{at, without, up_to, changed_at, Ascending};
 
 use crate::numbers_by_id::NumbersById;
 use crate::row::Row;
 use crate::their_call::TheirCall;
-use rpc_messages::Id;
+use message_ids::Id;
 use std::alloc::{AllocError, Global};
 use std::marker::Model;
 

@@ -6,8 +6,8 @@ use Rattle.rpc_messages.specs.Numbering.{numbers_in}
 use Rattle.rpc_messages.specs.Replies.{replies}
 use Rattle.rpc_messages.specs.declared.reply.Reply.{Reply}
 use Rattle.rpc_messages.specs.declared.reply.Reply.TheVariants.{Standard as Fixed}
-use Rattle.rpc_messages.specs.declared.standard.Standard.{Standard}
-use Rattle.rpc_messages.specs.declared.standard.Standard.TheVariants.{Cancelled}
+use Rattle.message_ids.specs.declared.standard.Standard.{Standard}
+use Rattle.message_ids.specs.declared.standard.Standard.TheVariants.{Cancelled}
 use Rattle.method_steps.specs.Steps.{MethodTable}
 use Rattle.handler_future.specs.declared.message.Message.{Message}
 use Rattle.handler_future.specs.Evaluation.{Replies, Program, evaluation}

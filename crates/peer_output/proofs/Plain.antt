@@ -3,9 +3,9 @@ use Rattle.std.proofs.Common.{◌≡◌, ℕ, zero, suc, ◌+◌, ◌<◌, ◌�
 use Rattle.std.proofs.lemmas.List.Elements.{All-nil, All-append, All-cons}
 use Rattle.std.specs.Prelude.{slice_get}
 use Rattle.rpc_messages.specs.declared.call.Call.{Call}
-use Rattle.rpc_messages.specs.declared.id.Id.{Id}
+use Rattle.message_ids.specs.declared.id.Id.{Id}
 use Rattle.rpc_messages.specs.declared.reply.Reply.TheVariants.{Standard as Fixed}
-use Rattle.rpc_messages.specs.declared.standard.Standard.TheVariants.{MethodNotFound}
+use Rattle.message_ids.specs.declared.standard.Standard.TheVariants.{MethodNotFound}
 use Rattle.rpc_messages.specs.Dues.{Due, call_request, entry_request, requests_from, unit_requests, dues}
 use Rattle.rpc_messages.specs.Entry.{SeenEntry, call, reply, stray, invalid}
 use Rattle.rpc_messages.specs.Numbering.{numbers_of, numbers_in, unit_numbers, units_numbers}

@@ -8,10 +8,10 @@ use Rattle.rpc_messages.specs.Entry.{SeenEntry, call, reply, stray, invalid}
 use Rattle.rpc_messages.specs.Numbering.{numbers_in}
 use Rattle.rpc_messages.specs.Replies.{call_numbered, after_call, reply_to, replies}
 use Rattle.rpc_messages.specs.declared.call.Call.{Call}
-use Rattle.rpc_messages.specs.declared.id.Id.{Id}
+use Rattle.message_ids.specs.declared.id.Id.{Id}
 use Rattle.rpc_messages.specs.declared.reply.Reply.{Reply}
 use Rattle.rpc_messages.specs.declared.reply.Reply.TheVariants.{Standard}
-use Rattle.rpc_messages.specs.declared.standard.Standard.TheVariants.{NoReply}
+use Rattle.message_ids.specs.declared.standard.Standard.TheVariants.{NoReply}
 use Rattle.rpc_messages.proofs.Stream.{call_numbered-front, call_numbered-unknown, after_call-append, after_call-append_later, reply_to-append_found}
 use Rattle.method_steps.specs.Steps.{MethodTable}
 use Rattle.handler_future.specs.Evaluation.{Replies}

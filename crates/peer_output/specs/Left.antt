@@ -1,6 +1,6 @@
 -- The units that are left, as the desk keeps them: which of their requests are finished, and with what.
 use Rattle.std.specs.Prelude.{ℕ, ◌+◌, List, [], ◌∷◌, Option, Some, None, option_map}
-use Rattle.rpc_messages.specs.declared.id.Id.{Id}
+use Rattle.message_ids.specs.declared.id.Id.{Id}
 use Rattle.rpc_messages.specs.declared.reply.Reply.{Reply}
 use Rattle.rpc_messages.specs.Dues.{unit_kind}
 use Rattle.rpc_messages.specs.Entry.{SeenEntry, call, reply, stray, invalid}

@@ -2,7 +2,7 @@
 
 ghost use Rattle.std.specs.Prelude.{◌≡◌, ◌↔◌, ℕ, List, [], ◌∷◌, ◌++◌, map, All};
 ghost use Rattle.rpc_messages.specs.declared.reply.Reply.TheVariants.{Standard};
-ghost use Rattle.rpc_messages.specs.declared.standard.Standard.TheVariants.{MethodNotFound};
+ghost use Rattle.message_ids.specs.declared.standard.Standard.TheVariants.{MethodNotFound};
 ghost use Rattle.rpc_messages.specs.Dues.{Due, dues};
 ghost use Rattle.rpc_messages.specs.Replies.{entries_along};
 ghost use Rattle.rpc_messages.specs.Unit.{SeenUnit};

@@ -1,10 +1,10 @@
 -- Numbers are finished, and a cancel can reach fewer.
 use Rattle.std.proofs.Common.{◌≡◌, ℕ, zero, suc, ◌+◌, ◌<◌, ◌≤◌, List, [], ◌∷◌, set, slice_index_or, Bool, true, false, ◌&&◌, if◌then◌else◌, is_some, Option, Some, None, refl, ap, ◌∙◌, arith}
-use Rattle.rpc_messages.specs.Ids.{has_id}
-use Rattle.rpc_messages.specs.declared.id.Id.{Id}
+use Rattle.message_ids.specs.Ids.{has_id}
+use Rattle.message_ids.specs.declared.id.Id.{Id}
 use Rattle.rpc_messages.specs.declared.reply.Reply.{Reply}
 use Rattle.rpc_messages.specs.declared.reply.Reply.TheVariants.{Standard as Fixed}
-use Rattle.rpc_messages.specs.declared.standard.Standard.TheVariants.{Cancelled}
+use Rattle.message_ids.specs.declared.standard.Standard.TheVariants.{Cancelled}
 use Rattle.answer_desk.specs.declared.open_call.OpenCall.{OpenCall}
 use Rattle.answer_desk.specs.State.{State, numbers_with, marked, is_in_reach, is_open, number_at, reply_of, without_reply, with_reached, with_end}
 use Rattle.handler_future.specs.State.{HandlerState}

@@ -68,9 +68,10 @@ report_of s = record {
   polls = s.polls;
 }
 
--- The input is over, nothing is left to do or to write, and no sink has failed.
+-- The input is over, nothing is left to do or to write, and neither a sink nor a handler has failed.
 pub record IsDone (s : SessionState) : Type 0 where
   pub over : s.close ≢ None
   pub not_broken : s.is_broken ≡ false
+  pub not_failed : s.has_failed ≡ false
   pub gone : (n : ℕ) → stage_at s.core n ≡ Gone
   pub answered : s.core.desk.units ≡ []

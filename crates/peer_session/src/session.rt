@@ -105,7 +105,7 @@ impl<'a> Session<'a> {
     pub fn is_done(&self) -> bool
         ensures { IsTrue result ↔ IsDone (view self.now) }
     {
-        self.close.is_some() && !self.is_broken && self.runs.are_done()
+        self.close.is_some() && !self.is_broken && !self.has_failed && self.runs.are_done()
     }
 
     /// What was taken and written so far. Before the end of the input, `end` is `Close::Clean`.

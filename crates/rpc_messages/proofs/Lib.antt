@@ -11,6 +11,5 @@ mod Fronts
 mod KeyLemmas
 mod TakenMember
 mod Tokens
-pub mod Ids
 pub mod Stream
 pub mod Units

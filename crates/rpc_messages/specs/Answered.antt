@@ -7,7 +7,7 @@ use Rattle.rpc_messages.specs.Envelope.{SeenEnvelope}
 use Rattle.json_values.specs.Whole.{whole}
 use Rattle.rpc_messages.specs.declared.reply.Reply.{Reply}
 use Rattle.rpc_messages.specs.declared.reply.Reply.TheVariants.{Done, Error, Standard}
-use Rattle.rpc_messages.specs.declared.standard.Standard.TheVariants.{InvalidReply}
+use Rattle.message_ids.specs.declared.standard.Standard.TheVariants.{InvalidReply}
 
 -- null counts as absent
 abbrev pub unless_null : Option Data → Option Data

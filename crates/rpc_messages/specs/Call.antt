@@ -7,8 +7,8 @@ use Rattle.serde_json.specs.Find.{get, as_str}
 use Rattle.json_values.specs.Whole.{whole}
 use Rattle.rpc_messages.specs.Envelope.{SeenEnvelope}
 use Rattle.rpc_messages.specs.declared.call.Call.{Call}
-use Rattle.rpc_messages.specs.declared.id.Id.{Id}
-use Rattle.rpc_messages.specs.declared.id.Id.TheVariants.{Null, Text, Signed, Unsigned}
+use Rattle.message_ids.specs.declared.id.Id.{Id}
+use Rattle.message_ids.specs.declared.id.Id.TheVariants.{Null, Text, Signed, Unsigned}
 use Rattle.rpc_messages.specs.declared.params.Params.{Params}
 use Rattle.rpc_messages.specs.declared.params.Params.TheVariants.{Omitted, Whole, Fractional}
 

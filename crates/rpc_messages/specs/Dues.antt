@@ -1,12 +1,12 @@
 -- The answers that are due to units (JSON-RPC 2.0, sections 5 and 6).
 use Rattle.std.specs.Prelude.{ℕ, ◌+◌, List, [], ◌∷◌, ◌++◌, map, Option, Some, None}
-use Rattle.rpc_messages.specs.declared.id.Id.{Id}
-use Rattle.rpc_messages.specs.declared.id.Id.TheVariants.{Null}
+use Rattle.message_ids.specs.declared.id.Id.{Id}
+use Rattle.message_ids.specs.declared.id.Id.TheVariants.{Null}
 use Rattle.rpc_messages.specs.declared.kind.Kind.{Kind}
 use Rattle.rpc_messages.specs.declared.kind.Kind.TheVariants.{Single, Batch}
 use Rattle.rpc_messages.specs.declared.reply.Reply.{Reply}
 use Rattle.rpc_messages.specs.declared.reply.Reply.TheVariants.{Standard}
-use Rattle.rpc_messages.specs.declared.standard.Standard.TheVariants.{ParseError, InvalidRequest}
+use Rattle.message_ids.specs.declared.standard.Standard.TheVariants.{ParseError, InvalidRequest}
 use Rattle.rpc_messages.specs.declared.unit_answer.Answer.{Answer}
 use Rattle.rpc_messages.specs.declared.unit_answer.Answer.TheVariants as answer
 use Rattle.rpc_messages.specs.Entry.{SeenEntry, call, reply, stray, invalid}

@@ -4,12 +4,10 @@ pub mod Dues
 pub mod Entry
 pub mod Envelope
 pub mod Held
-pub mod Ids
 pub mod Inner
 pub mod Key
 pub mod Numbering
 pub mod Parts
 pub mod Replies
-pub mod Standard
 pub mod Texts
 pub mod Unit

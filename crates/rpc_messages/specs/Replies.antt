@@ -6,7 +6,7 @@ use Rattle.rpc_messages.specs.Unit.{SeenUnit}
 use Rattle.rpc_messages.specs.declared.call.Call.{Call}
 use Rattle.rpc_messages.specs.declared.reply.Reply.{Reply}
 use Rattle.rpc_messages.specs.declared.reply.Reply.TheVariants.{Standard}
-use Rattle.rpc_messages.specs.declared.standard.Standard.TheVariants.{NoReply}
+use Rattle.message_ids.specs.declared.standard.Standard.TheVariants.{NoReply}
 
 -- the entries of units, in the order of the stream
 abbrev pub entries_along : List SeenUnit → List SeenEntry

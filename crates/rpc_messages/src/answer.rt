@@ -7,12 +7,12 @@ ghost use Rattle.serde_json.specs.Read.{read, max_depth};
 ghost use Rattle.serde_json.specs.View.{items_of};
 ghost use Rattle.serde_json.specs.Written.{compact_text};
 ghost use Rattle.rpc_messages.specs.Parts.{IsReadBack, done_text, error_text};
-ghost use Rattle.rpc_messages.specs.Texts.{answer_of, answer_text_of, id_data, batch_text_of, AreTextsOf};
+ghost use Rattle.rpc_messages.specs.Texts.{answer_of, answer_text_of, id_data, batch_text_of, AreTextsOf, error_data, standard_error};
 
-use crate::id::Id;
 use crate::parts::{put_id, put_value};
 use crate::reply::Reply;
 use json_values::Json;
+use message_ids::{Id, Standard};
 use std::alloc::{AllocError, Global};
 
 /// The room that is made for what stands around a response's result or error, in bytes. A long id takes more.
@@ -71,7 +71,28 @@ fn put_response(
             let text = error.to_json(alloc)?.to_bytes(alloc)?;
             put_error(alloc, bytes, id, text.as_slice())
         }
-        Reply::Standard(standard) => put_error(alloc, bytes, id, standard.text().as_bytes()),
+        Reply::Standard(standard) => put_error(
+            alloc,
+            bytes,
+            id,
+            standard_text(*standard).as_bytes(),
+        ),
+    }
+}
+
+/// The text of a fixed error, with no space (JSON-RPC 2.0, section 5.1).
+fn standard_text(standard: Standard) -> &'static str
+    ensures { result.now ≡ compact_text (error_data (standard_error standard)) }
+{
+    match standard {
+        Standard::ParseError => r#"{"code":-32700,"message":"Parse error"}"#,
+        Standard::InvalidRequest => r#"{"code":-32600,"message":"Invalid Request"}"#,
+        Standard::MethodNotFound => r#"{"code":-32601,"message":"Method not found"}"#,
+        Standard::InvalidParams => r#"{"code":-32602,"message":"Invalid params"}"#,
+        Standard::InternalError => r#"{"code":-32603,"message":"Internal error"}"#,
+        Standard::Cancelled => r#"{"code":-32800,"message":"Request cancelled"}"#,
+        Standard::NoReply => r#"{"code":-32000,"message":"No reply"}"#,
+        Standard::InvalidReply => r#"{"code":-32603,"message":"Invalid reply"}"#,
     }
 }
 

@@ -2,9 +2,9 @@
 
 ghost use Rattle.std.specs.Prelude.{◌≡◌, option_copied};
 
-use crate::id::Id;
 use crate::params::Params;
 use json_values::Text;
+use message_ids::Id;
 
 /// A call of the other side (JSON-RPC 2.0, section 4): a request, or a notification, which has no id.
 #[derive(Debug, Drop)]

@@ -3,6 +3,7 @@
 ghost use Rattle.std.specs.Prelude.{◌≡◌};
 
 use json_values::{Json, JsonObject, Text};
+use message_ids::Standard;
 use std::alloc::{AllocError, Global};
 
 /// An error (JSON-RPC 2.0, section 5.1); `extra` is its member `data`.
@@ -15,7 +16,18 @@ pub struct ErrorValue {
 
 impl ErrorValue {
     ghost use Rattle.std.specs.Prelude.{◌≡◌, IfOk};
-    ghost use Rattle.rpc_messages.specs.Texts.{error_data};
+    ghost use Rattle.rpc_messages.specs.Texts.{error_data, standard_error};
+
+    /// The fixed error with its code and message, and no `data`.
+    pub fn standard(alloc: Global, standard: Standard) -> Result<ErrorValue, AllocError>
+        ensures { IfOk result (λ error. error ≡ standard_error standard) }
+    {
+        Ok(ErrorValue {
+            code: standard.code(),
+            message: Text::copy_of(alloc, standard.message())?,
+            extra: None,
+        })
+    }
 
     /// The error object, of copies.
     pub fn to_json(&self, alloc: Global) -> Result<Json, AllocError>

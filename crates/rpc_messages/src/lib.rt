@@ -5,7 +5,6 @@ mod answer;
 mod call;
 mod entry;
 mod error_value;
-mod id;
 mod key;
 mod kind;
 mod our_calls;
@@ -14,7 +13,6 @@ mod params;
 mod parts;
 mod read;
 mod reply;
-mod standard;
 mod unit;
 mod unit_answer;
 mod unit_reader;
@@ -23,12 +21,12 @@ pub use answer::{answer_text, batch_text, put_answer};
 pub use call::{Call, cancel_target};
 pub use entry::Entry;
 pub use error_value::ErrorValue;
-pub use id::Id;
 pub use key::{
     MOST_NUMBERS, MOST_TURNS, call_key, keys_are_what_is_written, limits_of_keys_in_figures,
     read_key,
 };
 pub use kind::Kind;
+pub use message_ids::{Id, Standard};
 pub use our_calls::{
     call_text, calls_text, notice_text, put_call, put_calls, put_notice, put_withdrawal,
     withdraw_text,
@@ -36,7 +34,6 @@ pub use our_calls::{
 pub use outgoing::Outgoing;
 pub use params::Params;
 pub use reply::Reply;
-pub use standard::Standard;
 pub use unit::Unit;
 pub use unit_answer::{Answer, put_unit_answer};
 pub use unit_reader::{UnitReader, read_unit};

@@ -9,10 +9,10 @@ ghost use Rattle.rpc_messages.specs.Key.{key_text};
 ghost use Rattle.rpc_messages.specs.Parts.{IsReadBack};
 ghost use Rattle.rpc_messages.specs.Texts.{id_data};
 
-use crate::id::Id;
 use itoa::{Buffer, Integer};
 use json::Writer;
 use json_values::Json;
+use message_ids::Id;
 use std::alloc::{AllocError, Global};
 use std::mem;
 

@@ -3,8 +3,8 @@
 ghost use Rattle.std.specs.Prelude.{◌≡◌};
 
 use crate::error_value::ErrorValue;
-use crate::standard::Standard;
 use json_values::Json;
+use message_ids::Standard;
 use std::alloc::AllocError;
 
 /// What a request or a call ended with: its result, an error, or one of the fixed errors.

@@ -6,10 +6,9 @@ ghost use Rattle.rpc_messages.specs.Dues.{answer_seen, text_of, unit_text};
 ghost use Rattle.rpc_messages.specs.Texts.{batch_text_of};
 
 use crate::answer::put_answer;
-use crate::id::Id;
 use crate::kind::Kind;
 use crate::reply::Reply;
-use crate::standard::Standard;
+use message_ids::{Id, Standard};
 use std::alloc::{AllocError, Global};
 
 /// What an entry is answered with.

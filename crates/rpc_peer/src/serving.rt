@@ -23,8 +23,16 @@ impl<'a, G: Gate, K: Sink> Clerk<'a, G, K> {
     {
         what_a_stream_wrote();
         let bells = self.bells;
-        let mut patience = Patience::new(self.yields);
+        // (Jobs come home soon, and input when it likes: what is learnt of the one says nothing of the other.)
+        let mut for_jobs = Patience::new(self.yields);
+        let mut for_input = Patience::new(self.yields);
         for _ in rt.forever() {
+            let awaits_jobs = self.has_jobs_out();
+            let patience = if awaits_jobs {
+                &mut for_jobs
+            } else {
+                &mut for_input
+            };
             let key = patience.announce(&bells.clerk);
             let has_come = self.settle()?;
             if self.stream.is_done() {
@@ -38,6 +46,11 @@ impl<'a, G: Gate, K: Sink> Clerk<'a, G, K> {
             }
         }
         unreachable!()
+    }
+
+    /// Whether a job is in a slot, so that one may come home.
+    fn has_jobs_out(&self) -> bool {
+        self.slots.next_in_use(&self.seat, 0).is_some()
     }
 
     /// Takes in what has come, from the slots and through the ring, writes what is due then, and tells whether anything has come.

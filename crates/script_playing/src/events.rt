@@ -5,7 +5,7 @@ use connection::{Call, Event, Reply, ReplyError, Report};
 use itoa::{Buffer, Integer};
 use json::Writer;
 use json_values::Text;
-use rpc_messages::Id;
+use message_ids::Id;
 use std::alloc::{AllocError, Global};
 
 /// Puts what an action gives behind a line.

@@ -4,7 +4,7 @@ use crate::given::Givens;
 use crate::said::Said;
 use crate::why::Why;
 use connection::{Answer, Connection, HowEnded, Refused, Settings};
-use rpc_messages::Standard;
+use message_ids::Standard;
 use script_actions::{Action, SaidCall, SaidError, SaidSettings};
 use std::alloc::Global;
 

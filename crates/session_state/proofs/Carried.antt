@@ -1,6 +1,6 @@
 -- What carries a number from one place of the stream to another, where it isn't finished by the way.
 use Rattle.std.proofs.Common.{◌≡◌, ℕ, ◌<◌, List, Bool, false, Option, Some, None, inl, inr, refl, ◌∙◌}
-use Rattle.rpc_messages.specs.declared.standard.Standard.{Standard}
+use Rattle.message_ids.specs.declared.standard.Standard.{Standard}
 use Rattle.rpc_messages.specs.Entry.{SeenEntry}
 use Rattle.rpc_messages.specs.Numbering.{numbers_in}
 use Rattle.rpc_messages.specs.Replies.{reply_to}

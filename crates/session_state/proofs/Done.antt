@@ -4,14 +4,14 @@ use Rattle.std.proofs.Math.ListN.{get_or-map}
 use Rattle.std.proofs.lemmas.List.{get_or_past}
 use Rattle.std.specs.List.{list_all}
 use Rattle.rpc_messages.specs.declared.call.Call.{Call}
-use Rattle.rpc_messages.specs.declared.id.Id.{Id}
+use Rattle.message_ids.specs.declared.id.Id.{Id}
 use Rattle.rpc_messages.specs.declared.params.Params.{Params}
 use Rattle.rpc_messages.specs.declared.params.Params.TheVariants.{Omitted, Whole, Fractional}
 use Rattle.rpc_messages.specs.Entry.{SeenEntry, call, reply, stray, invalid}
 use Rattle.rpc_messages.specs.Numbering.{numbers_of, numbers_in, unit_numbers, units_numbers}
 use Rattle.rpc_messages.specs.Replies.{calls_in}
 use Rattle.rpc_messages.specs.Unit.{SeenUnit, unreadable, single, batch}
-use Rattle.rpc_messages.specs.declared.standard.Standard.TheVariants.{MethodNotFound}
+use Rattle.message_ids.specs.declared.standard.Standard.TheVariants.{MethodNotFound}
 use Rattle.method_steps.specs.Steps.{MethodTable, place_of}
 use Rattle.answer_desk.specs.State.{State, number_at}
 use Rattle.answer_desk.specs.Waiting.{request, is_finished, is_whole, behind_front}

@@ -1,6 +1,6 @@
 -- What a session at rest has left nothing to do of: cancels of handlers that are here, and calls at fault.
 use Rattle.std.proofs.Common.{◌≡◌, ◌≢◌, ℕ, ◌<◌, ◌≤◌, length, Bool, true, false, Option, inl, inr, sym, ap, subst, ◌∙◌, arith}
-use Rattle.rpc_messages.specs.declared.standard.Standard.{Standard}
+use Rattle.message_ids.specs.declared.standard.Standard.{Standard}
 use Rattle.rpc_messages.specs.Numbering.{numbers_in, units_numbers}
 use Rattle.method_steps.specs.Steps.{MethodTable}
 use Rattle.answer_desk.specs.State.{number_at, is_marked_number}

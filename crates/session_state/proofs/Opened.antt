@@ -5,10 +5,10 @@ use Rattle.std.proofs.lemmas.List.{length-append, length-replicate, get_or_appen
 use Rattle.std.specs.Option.{option_and_then}
 use Rattle.std.specs.Prelude.{slice_get}
 use Rattle.rpc_messages.specs.declared.call.Call.{Call}
-use Rattle.rpc_messages.specs.declared.id.Id.{Id}
+use Rattle.message_ids.specs.declared.id.Id.{Id}
 use Rattle.rpc_messages.specs.declared.params.Params.{Params}
 use Rattle.rpc_messages.specs.declared.params.Params.TheVariants.{Omitted, Whole, Fractional}
-use Rattle.rpc_messages.specs.declared.standard.Standard.TheVariants.{MethodNotFound}
+use Rattle.message_ids.specs.declared.standard.Standard.TheVariants.{MethodNotFound}
 use Rattle.rpc_messages.specs.Dues.{unit_kind}
 use Rattle.rpc_messages.specs.Entry.{SeenEntry, call, reply, stray, invalid}
 use Rattle.rpc_messages.specs.Numbering.{numbers_in, entries_in, unit_numbers, units_numbers}

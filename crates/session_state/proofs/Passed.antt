@@ -4,11 +4,11 @@ use Rattle.std.proofs.lemmas.Bool.{cases_lt, cases_eq, ne_eqb}
 use Rattle.std.proofs.lemmas.List.{length-set}
 use Rattle.std.specs.Option.{option_map, option_and_then, option_map_or}
 use Rattle.rpc_messages.specs.declared.call.Call.{Call}
-use Rattle.rpc_messages.specs.declared.id.Id.{Id}
+use Rattle.message_ids.specs.declared.id.Id.{Id}
 use Rattle.rpc_messages.specs.declared.reply.Reply.{Reply}
-use Rattle.rpc_messages.specs.declared.standard.Standard.{Standard}
+use Rattle.message_ids.specs.declared.standard.Standard.{Standard}
 use Rattle.rpc_messages.specs.Entry.{SeenEntry, call, reply}
-use Rattle.rpc_messages.specs.Ids.{has_id}
+use Rattle.message_ids.specs.Ids.{has_id}
 use Rattle.rpc_messages.specs.Numbering.{numbers_of, numbers_in, units_numbers}
 use Rattle.rpc_messages.specs.Replies.{first_reply, reply_to}
 use Rattle.method_steps.specs.Steps.{MethodTable}

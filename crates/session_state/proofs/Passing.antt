@@ -1,7 +1,7 @@
 -- What becomes of numbers over one entry, and over several.
 use Rattle.std.proofs.Common.{◌≡◌, ℕ, List, ◌++◌, map, Option, Some, None, false, inl, inr, refl, sym, ap, subst, ◌∙◌}
 use Rattle.rpc_messages.specs.declared.reply.Reply.TheVariants.{Standard as Fixed}
-use Rattle.rpc_messages.specs.declared.standard.Standard.TheVariants.{Cancelled}
+use Rattle.message_ids.specs.declared.standard.Standard.TheVariants.{Cancelled}
 use Rattle.rpc_messages.specs.Entry.{SeenEntry}
 use Rattle.rpc_messages.specs.Replies.{entries_along}
 use Rattle.method_steps.specs.Steps.{MethodTable}

@@ -3,10 +3,10 @@ use Rattle.std.proofs.Common.{◌≡◌, ◌≢◌, ℕ, ◌+◌, ◌<◌, ◌�
 use Rattle.std.proofs.lemmas.Bool.{cases_lt, cases_eq, ltb-true}
 use Rattle.std.specs.Option.{option_map}
 use Rattle.rpc_messages.specs.declared.call.Call.{Call}
-use Rattle.rpc_messages.specs.declared.id.Id.{Id}
+use Rattle.message_ids.specs.declared.id.Id.{Id}
 use Rattle.rpc_messages.specs.declared.reply.Reply.TheVariants.{Standard as Fixed}
-use Rattle.rpc_messages.specs.declared.standard.Standard.{Standard}
-use Rattle.rpc_messages.specs.declared.standard.Standard.TheVariants.{Cancelled}
+use Rattle.message_ids.specs.declared.standard.Standard.{Standard}
+use Rattle.message_ids.specs.declared.standard.Standard.TheVariants.{Cancelled}
 use Rattle.rpc_messages.specs.Entry.{SeenEntry, call}
 use Rattle.rpc_messages.specs.Numbering.{numbers_in, units_numbers}
 use Rattle.method_steps.specs.Steps.{MethodTable}

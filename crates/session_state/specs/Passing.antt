@@ -1,8 +1,8 @@
 -- What becomes of numbers as entries are passed: each stays as it was, or is finished, by its own fault or by a cancel.
 use Rattle.std.specs.Prelude.{◌≡◌, ◌⊎◌, ℕ, List, ◌++◌, map, filter, true, not, Some, None, is_some}
 use Rattle.rpc_messages.specs.declared.reply.Reply.TheVariants.{Standard as Fixed}
-use Rattle.rpc_messages.specs.declared.standard.Standard.{Standard}
-use Rattle.rpc_messages.specs.declared.standard.Standard.TheVariants.{Cancelled}
+use Rattle.message_ids.specs.declared.standard.Standard.{Standard}
+use Rattle.message_ids.specs.declared.standard.Standard.TheVariants.{Cancelled}
 use Rattle.rpc_messages.specs.Entry.{SeenEntry}
 use Rattle.rpc_messages.specs.Replies.{reply_to}
 use Rattle.handler_future.specs.State.{HandlerState}

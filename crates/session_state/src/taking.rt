@@ -1,7 +1,7 @@
 //! What a unit that is taken makes of a session, and of its past. Each law is the contract of a function that does nothing.
 
 ghost use Rattle.std.specs.Prelude.{◌≡◌, ◌≢◌, ◌+◌, ℕ, List, [], ◌∷◌, ◌++◌, true, false, Bool, Option, None};
-ghost use Rattle.rpc_messages.specs.declared.standard.Standard.{Standard};
+ghost use Rattle.message_ids.specs.declared.standard.Standard.{Standard};
 ghost use Rattle.rpc_messages.specs.Entry.{SeenEntry};
 ghost use Rattle.rpc_messages.specs.Numbering.{numbers_in};
 ghost use Rattle.rpc_messages.specs.Unit.{SeenUnit};

@@ -8,8 +8,7 @@ use Rattle.peer_session.specs.SessionState.{SessionState}
 use Rattle.peer_session.specs.declared.report.Close.{Close}
 use Rattle.stream_session.specs.Inner.Known.{Known}
 use Rattle.stream_session.specs.Stream.{Fed, StreamState, StreamStands, TakesNext}
-use Rattle.stream_session.specs.declared.next.Next.{Next}
-use Rattle.stream_session.specs.declared.next.Next.TheVariants.{Nothing, End}
+use Rattle.stream_session.specs.declared.next.Next.TheVariants.{Nothing}
 use Rattle.stream_session.proofs.Streams.{end-taken}
 use Rattle.stream_session.proofs.Units.{ended-same}
 
@@ -26,36 +25,32 @@ none-waits (frame ∷ items) few = absurd (omega (arith, few))
 -- ---- the end behind them
 
 -- what is taken where this closes the input
-abbrev pub TakesLast : Option Close → SessionState → Next → SessionState → Type 0
-TakesLast last s next after = (last ≡ None → (next ≡ Nothing) × (after ≡ s)) × ((c : Close) → last ≡ Some c → (next ≡ End) × (after ≡ ended s c))
+abbrev pub TakesLast : Option Close → SessionState → SessionState → Type 0
+TakesLast last s after = (last ≡ None → after ≡ s) × ((c : Close) → last ≡ Some c → after ≡ ended s c)
 
-pub broken-last : (last : Option Close) (s : SessionState) (next : Next) (after : SessionState) → TakesLast last s next after → after.is_broken ≡ s.is_broken
-broken-last None s next after takes = ap (λ (x : SessionState). x.is_broken) (takes.0 refl).1
-broken-last (Some c) s next after takes = ended-same s after c (takes.1 c refl).1
+pub broken-last : (last : Option Close) (s after : SessionState) → TakesLast last s after → after.is_broken ≡ s.is_broken
+broken-last None s after takes = ap (λ (x : SessionState). x.is_broken) (takes.0 refl)
+broken-last (Some c) s after takes = ended-same s after c (takes.1 c refl)
 
-module _ (s : StreamState) (is_open : s.session.close ≡ None) (none : s.waiting ≡ []) (next : Next) (after : SessionState) (takes : TakesLast s.last s.session next after) where
+module _ (s : StreamState) (is_open : s.session.close ≡ None) (none : s.waiting ≡ []) (after : SessionState) (takes : TakesLast s.last s.session after) where
   abbrev now : StreamState
   now = record { decoder = s.decoder; waiting = s.waiting; last = s.last; session = after }
 
-  taken-by : (last : Option Close) → s.last ≡ last → TakesNext s next now
-  taken-by None is =
-      let nothing = takes.0 is in
-      subst (λ n. TakesNext s n now) (sym nothing.0) (record { none_waits = none; is_closed = λ some. absurd (some is) })
+  taken-by : (last : Option Close) → s.last ≡ last → TakesNext s Nothing now
+  taken-by None is = record { none_waits = none; is_closed = λ some. absurd (some is) }
   taken-by (Some c) is =
-      let ends = takes.1 c is in
-      let closed : after.close ≡ Some c = ap (λ (x : SessionState). x.close) (ends.1 ∙ ap (ended_at s.session c) is_open) in
-      subst (λ n. TakesNext s n now) (sym ends.0)
-      (record { none_waits = none; is_closed = λ some open_still. absurd (let clash : Some c ≡ None = sym closed ∙ open_still in cc) })
+      let closed : after.close ≡ Some c = ap (λ (x : SessionState). x.close) (takes.1 c is ∙ ap (ended_at s.session c) is_open) in
+      record { none_waits = none; is_closed = λ some open_still. absurd (let clash : Some c ≡ None = sym closed ∙ open_still in cc) }
 
-  pub last-taken : TakesNext s next now
+  pub last-taken : TakesNext s Nothing now
   last-taken = taken-by s.last refl
 
   stands-by : (last : Option Close) → s.last ≡ last → (laws : Known) (fed : Fed) (jobs : ℕ → Option HandlerState) (sink : Option (List ℕ)) → StreamStands fed jobs s sink
       → StreamStands fed jobs now sink
   stands-by None is laws fed jobs sink had =
-      subst (λ x. StreamStands fed jobs (record { decoder = s.decoder; waiting = s.waiting; last = s.last; session = x }) sink) (sym (takes.0 is).1) had
+      subst (λ x. StreamStands fed jobs (record { decoder = s.decoder; waiting = s.waiting; last = s.last; session = x }) sink) (sym (takes.0 is)) had
   stands-by (Some c) is laws fed jobs sink had =
-      subst (λ x. StreamStands fed jobs (record { decoder = s.decoder; waiting = s.waiting; last = s.last; session = x }) sink) (sym (takes.1 c is).1)
+      subst (λ x. StreamStands fed jobs (record { decoder = s.decoder; waiting = s.waiting; last = s.last; session = x }) sink) (sym (takes.1 c is))
       (end-taken laws fed jobs s sink had is_open none c is)
 
   pub last-stands : (laws : Known) (fed : Fed) (jobs : ℕ → Option HandlerState) (sink : Option (List ℕ)) → StreamStands fed jobs s sink → StreamStands fed jobs now sink

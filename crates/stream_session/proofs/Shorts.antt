@@ -182,10 +182,10 @@ module _ (laws : Known) (fed : Fed) (jobs : ℕ → Option HandlerState) (s : St
 
   -- ---- it is whole
 
-  pub whole-run : IsDone s.session → s.session.has_failed ≡ false → IsRun fed.table fed.limits fed.bytes fed.ending fed.before sink (report_of s.session)
-  whole-run done well =
+  pub whole-run : IsDone s.session → IsRun fed.table fed.limits fed.bytes fed.ending fed.before sink (report_of s.session)
+  whole-run done =
       let over = had.once_closed done.over in
-      let all = whole laws fed.table fed.limits had.units had.items s.session had.out had.session done well in
+      let all = whole laws fed.table fed.limits had.units had.items s.session had.out had.session done in
       record {
         frames = had.frames;
         standing = had.standing;

@@ -4,7 +4,7 @@ use Rattle.std.specs.Prelude.{nat_lt}
 use Rattle.rpc_messages.specs.Entry.{SeenEntry, call, reply, stray, invalid}
 use Rattle.rpc_messages.specs.Numbering.{entries_in, numbers_of}
 use Rattle.rpc_messages.specs.Unit.{SeenUnit}
-use Rattle.rpc_messages.specs.declared.id.Id.{Id}
+use Rattle.message_ids.specs.declared.id.Id.{Id}
 use Rattle.rpc_messages.specs.declared.reply.Reply.{Reply}
 use Rattle.method_steps.specs.Steps.{MethodTable, Step}
 use Rattle.answer_desk.specs.State.{with_reached, with_reply}

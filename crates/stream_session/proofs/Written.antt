@@ -104,8 +104,8 @@ module _ (laws : Known) (table : MethodTable) (limits : Limits) (units : List Se
       (within-counted (count_numbers s) (count_calls items) had.polls
       (laws.done_polls table s.core jobs items had.polls (had.polls_fit well) done.gone)))
 
-  pub whole : IsDone s → s.has_failed ≡ false → IsWhole table units items (report_of s)
-  whole done well =
+  pub whole : IsDone s → IsWhole table units items (report_of s)
+  whole done =
       let stands : StandsAfter table true s.core jobs units items = subst (λ b. StandsAfter table b s.core jobs units items) (over-some s.close done.over) had.stands in
       record {
         allowed = laws.is_whole table s.core jobs units items stands done.gone done.answered;
@@ -113,7 +113,7 @@ module _ (laws : Known) (table : MethodTable) (limits : Limits) (units : List Se
         messages = had.messages;
         call_frames = had.call_frames;
         answers = had.answers;
-        polls = few done well;
+        polls = few done done.not_failed;
       }
 
 -- ---- what a drain leaves, with no job ready or out
@@ -128,6 +128,7 @@ module _ (laws : Known) (table : MethodTable) (s : SessionState) (jobs : ℕ →
       record {
         over = over;
         not_broken = unbroken;
+        not_failed = had.well;
         gone = λ n. ap (λ (c : Core). stage_at c n) had.core_is ∙ all.0 n;
         answered = ap (λ (c : Core). c.desk.units) had.core_is ∙ all.1;
       }

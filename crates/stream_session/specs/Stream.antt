@@ -20,7 +20,7 @@ use Rattle.stream_session.specs.Standing.{SessionStands}
 use Rattle.stream_session.specs.declared.next.InputEnd.{InputEnd}
 use Rattle.stream_session.specs.declared.next.InputEnd.TheVariants.{Finished, Failed}
 use Rattle.stream_session.specs.declared.next.Next.{Next}
-use Rattle.stream_session.specs.declared.next.Next.TheVariants.{Content, End, Nothing}
+use Rattle.stream_session.specs.declared.next.Next.TheVariants.{Content, Nothing}
 use Rattle.stream_session.specs.declared.stream.StreamSession.{StreamSession}
 
 -- ---- what it was fed
@@ -118,5 +118,4 @@ pub record IsTaken (s : StreamState) : Type 0 where
 -- One content fewer waits; or nothing is left.
 abbrev pub TakesNext : StreamState → Next → StreamState → Type 0
 TakesNext s Content after = 1 + length after.waiting ≡ length s.waiting
-TakesNext s End after = IsTaken after
 TakesNext s Nothing after = IsTaken after

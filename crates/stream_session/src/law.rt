@@ -86,7 +86,7 @@ pub fn what_sessions_wrote()
         s.close ≢ None → s.is_broken ≡ false → IsDone s }
     ensures whole { (table : MethodTable) (limits : LimitsOf) (units : List SeenUnit)
         (items : List Item) (s : SessionState) (jobs : ℕ → Option HandlerState) →
-        SessionStands table limits units items s jobs → IsDone s → s.has_failed ≡ false →
+        SessionStands table limits units items s jobs → IsDone s →
         IsWhole table units items (report_of s) }
 {
     known();
@@ -99,7 +99,7 @@ pub fn what_a_stream_wrote()
         (sink : Option (List ℕ)) → StreamStands fed jobs s sink → StopsShort fed sink }
     ensures whole { (fed : Fed) (jobs : ℕ → Option HandlerState) (s : StreamState)
         (sink : Option (List ℕ)) → StreamStands fed jobs s sink → IsDone s.session →
-        s.session.has_failed ≡ false → IsRun fed.table fed.limits fed.bytes fed.ending fed.before
+        IsRun fed.table fed.limits fed.bytes fed.ending fed.before
         sink (report_of s.session) }
     ensures jobs { (fed : Fed) (jobs others : ℕ → Option HandlerState) (s : StreamState)
         (sink : Option (List ℕ)) → StreamStands fed jobs s sink →

@@ -3,11 +3,9 @@
 /// What was taken of a stream.
 #[derive(Clone, Copy, Debug, PartialEq, Eq)]
 pub enum Next {
-    /// A content. Others may wait, or an end.
+    /// A content. Others may wait.
     Content,
-    /// The end of the input, or a fault of its frames. Nothing comes behind it.
-    End,
-    /// Nothing was there.
+    /// No content: all that came has been taken, with what closes the input where that is known.
     Nothing,
 }
 

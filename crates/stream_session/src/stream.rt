@@ -15,7 +15,6 @@ ghost use Rattle.stream_session.specs.Promise.{close_of};
 ghost use Rattle.peer_session.specs.Session.{view};
 ghost use Rattle.peer_session.specs.SessionState.{IsDone, report_of};
 ghost use Rattle.peer_session.specs.Turned.{Turned};
-ghost use Rattle.stream_session.specs.declared.next.Next.TheVariants.{Nothing, End as Ends};
 ghost use Rattle.stream_session.specs.Standing.{HasDrained};
 ghost use Rattle.stream_session.specs.Stream.{Fed, IsTaken, StopsShort, StreamStands, TakesNext, fed_nothing, stream_of, with_end, with_piece};
 
@@ -73,7 +72,7 @@ impl<'a> StreamSession<'a> {
     }
 
     /// Cuts a piece of the input; its contents wait. Those that wait from before are taken first. Once the session is
-    /// closed the piece is let go.
+    /// closed, and behind an end, the piece is let go.
     ///
     /// # Errors
     /// Where there is no memory. Contents that waited may have been taken by then; nothing of the piece was, and it may be fed
@@ -85,6 +84,9 @@ impl<'a> StreamSession<'a> {
         ensures refused { (fed : Fed) (jobs : ℕ → Option HandlerState) (sink : Option (List ℕ)) →
             StreamStands fed jobs (stream_of self.old) sink →
             OnErr result (StreamStands fed jobs (stream_of self.new) sink) }
+        ensures behind_an_end { (fed : Fed) (jobs : ℕ → Option HandlerState) (sink : Option (List ℕ)) →
+            StreamStands fed jobs (stream_of self.old) sink → (stream_of self.old).last ≢ None →
+            StreamStands fed jobs (stream_of self.new) sink }
         ensures broken { (stream_of self.new).session.is_broken
             ≡ (stream_of self.old).session.is_broken }
     {
@@ -104,13 +106,14 @@ impl<'a> StreamSession<'a> {
         Ok(())
     }
 
-    /// The input has come to its end; behind the contents that wait it closes the session. After an end another one
-    /// changes nothing.
+    /// The input has come to its end; behind the contents that wait it closes the session. Where an end is known already,
+    /// as a fault of the frames, this one changes nothing.
     pub fn end(&mut self, end: InputEnd)
         ensures ended { (fed : Fed) (jobs : ℕ → Option HandlerState) (sink : Option (List ℕ)) →
             StreamStands fed jobs (stream_of self.old) sink → fed.ending ≡ Unfinished →
             StreamStands (with_end fed end) jobs (stream_of self.new) sink }
         ensures last { (stream_of self.new).last ≢ None }
+        ensures again { (stream_of self.old).last ≢ None → stream_of self.new ≡ stream_of self.old }
         ensures session { (stream_of self.new).session ≡ (stream_of self.old).session }
     {
         known();
@@ -145,7 +148,8 @@ impl<'a> StreamSession<'a> {
             return Ok(Next::Nothing);
         }
         let Some(content) = self.waiting.front() else {
-            return Ok(take_last(&mut self.session, self.last));
+            take_last(&mut self.session, self.last);
+            return Ok(Next::Nothing);
         };
         self.session.take(content)?;
         drop(self.waiting.pop_front());
@@ -161,6 +165,7 @@ impl<'a> StreamSession<'a> {
             StreamStands fed jobs (stream_of self.old) sink →
             StreamStands fed jobs (stream_of self.new) sink }
         ensures takes { OnOk result (IsTaken (stream_of self.new)) }
+        ensures last { (stream_of self.new).last ≡ (stream_of self.old).last }
         ensures broken { (stream_of self.new).session.is_broken
             ≡ (stream_of self.old).session.is_broken }
     {
@@ -257,17 +262,13 @@ impl<'a> StreamSession<'a> {
 }
 
 /// Takes what closes the input, if that is known.
-fn take_last(session: &mut Session<'_>, last: Option<Close>) -> Next
-    ensures none { last ≡ None → (result ≡ Nothing) × (view session.new ≡ view session.old) }
+fn take_last(session: &mut Session<'_>, last: Option<Close>)
+    ensures none { last ≡ None → view session.new ≡ view session.old }
     ensures some { (close : CloseOf) → last ≡ Some close →
-        (result ≡ Ends) × (view session.new ≡ ended (view session.old) close) }
+        view session.new ≡ ended (view session.old) close }
 {
-    match last {
-        None => Next::Nothing,
-        Some(close) => {
-            session.end(close);
-            Next::End
-        }
+    if let Some(close) = last {
+        session.end(close);
     }
 }
 

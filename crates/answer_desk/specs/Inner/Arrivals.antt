@@ -1,6 +1,6 @@
 -- What a unit that arrives brings to the desk.
 use Rattle.std.specs.Prelude.{ℕ, ◌+◌, ◌++◌, List, [], ◌∷◌, Option, Some, None, length}
-use Rattle.rpc_messages.specs.declared.id.Id.{Id}
+use Rattle.message_ids.specs.declared.id.Id.{Id}
 use Rattle.answer_desk.specs.declared.waiting_unit.Due.{Due}
 use Rattle.answer_desk.specs.declared.waiting_unit.Due.TheVariants.{ParseError, InvalidRequest, Nothing, Answer}
 use Rattle.answer_desk.specs.declared.kept.Kept.{Kept}

@@ -1,6 +1,6 @@
 -- A window over the numbers: those before it are all over.
 use Rattle.std.specs.Prelude.{◌≡◌, ◌≤◌, ◌<◌, ◌+◌, ◌++◌, ◌&&◌, nat_lt, ℕ, List, [], ◌∷◌, Bool, true, false, length, map, take, drop, replicate, is_some, MatchOption, Option, None}
-use Rattle.rpc_messages.specs.declared.id.Id.{Id}
+use Rattle.message_ids.specs.declared.id.Id.{Id}
 use Rattle.rpc_messages.specs.declared.key.TheConstants.{MOST_NUMBERS}
 use Rattle.answer_desk.specs.declared.kept.Kept.{Kept}
 use Rattle.answer_desk.specs.declared.requests_by_id.RequestsById.{RequestsById}

@@ -3,13 +3,13 @@ use Rattle.std.specs.Prelude.{◌≡◌, ℕ, ◌+◌, ◌-◌, ◌<◌, ◌==�
 use Rattle.std.specs.Ordering.{nat_cmp}
 use Rattle.std.specs.BTreeMap as tree
 use Rattle.std.specs.BTreeSet as sorted
-use Rattle.rpc_messages.specs.declared.id.Id.{Id}
+use Rattle.message_ids.specs.declared.id.Id.{Id}
 use Rattle.answer_desk.specs.declared.kept.Kept.{Kept}
 use Rattle.answer_desk.specs.declared.kept.Kept.TheVariants.{Open, Answered}
 use Rattle.answer_desk.specs.declared.requests_by_id.RequestsById.{RequestsById}
 use Rattle.answer_desk.specs.Seen.{kept_at, open_number}
 use Rattle.answer_desk.specs.Inner.Kept.{is_marked_at}
-use Rattle.rpc_messages.specs.Ids.{id_cmp}
+use Rattle.message_ids.specs.Ids.{id_cmp}
 use Rattle.answer_desk.specs.State.{is_in_reach}
 
 -- a cancel of this id would mark the number

@@ -10,8 +10,8 @@ use connection::{
 use itoa::Buffer;
 use json_texts::{JsonText, TextReader};
 use json_values::Text;
+use message_ids::Standard;
 use program_edge::Failure;
-use rpc_messages::Standard;
 use std::alloc::{AllocError, Global};
 use std::io::Write;
 

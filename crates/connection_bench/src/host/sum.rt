@@ -1,5 +1,5 @@
 //! The method `add`.
-use rpc_messages::Standard;
+use message_ids::Standard;
 
 /// The sum of the whole numbers in the compact text of an array.
 ///

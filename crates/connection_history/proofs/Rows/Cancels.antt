@@ -3,7 +3,7 @@ use Rattle.std.proofs.Common.{◌≡◌, List, [], ◌∷◌, ◌++◌, codes, t
 use Rattle.std.specs.Fmt.{digits}
 use Rattle.json.specs.Print.{escape_byte}
 use Rattle.connection_messages.specs.declared.answer.Answer.TheVariants as answers
-use Rattle.rpc_messages.specs.declared.standard.Standard.TheVariants.{Cancelled}
+use Rattle.message_ids.specs.declared.standard.Standard.TheVariants.{Cancelled}
 use Rattle.connection_history.specs.declared.close.Close.TheVariants.{Clean}
 use Rattle.connection_messages.specs.Texts.{error_head, code_text, error_rest, error_end}
 use Rattle.connection_history.specs.declared.event.Event.TheVariants as event

@@ -1,6 +1,6 @@
 -- The words of the worked rows. What happened is listed in its order, the earliest first.
 use Rattle.std.proofs.Common.{ℕ, List, [], codes, map, true, Option, Some, None}
-use Rattle.rpc_messages.specs.declared.id.Id.TheVariants.{Unsigned}
+use Rattle.message_ids.specs.declared.id.Id.TheVariants.{Unsigned}
 use Rattle.connection_messages.specs.declared.answer.Answer.TheVariants as answers
 use Rattle.connection_messages.specs.declared.call.Call.{Call}
 use Rattle.connection_messages.specs.declared.entry.Entry.{Entry}

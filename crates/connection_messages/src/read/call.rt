@@ -13,7 +13,7 @@ use crate::entry::Entry;
 use json::Value;
 use json_texts::text_of;
 use json_values::{Negative, Text};
-use rpc_messages::Id;
+use message_ids::Id;
 use std::alloc::{AllocError, Global};
 
 /// The method of a cancel (LSP 3.17, "Cancellation Support").

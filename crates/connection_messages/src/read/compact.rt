@@ -3,7 +3,7 @@
 
 ghost use Rattle.std.specs.Prelude.{◌≡◌, Bool, IfOk, IfSome, IsTrue, false};
 ghost use Rattle.json.specs.Print.{quoted, escape};
-ghost use Rattle.connection_messages.specs.Envelope.{HasBatch, GivesId, GivesParams, GivesVersion, GivesCall, GivesEntry, GivesReply};
+ghost use Rattle.connection_messages.specs.Envelope.{HasBatch, GivesId, GivesParams, GivesVersion, GivesCall, GivesEntry, GivesReply, GivesCancel, GivesTarget};
 ghost use Rattle.connection_messages.specs.Params.{is_structured};
 ghost use Rattle.connection_messages.specs.Reading.{unit_of};
 
@@ -15,9 +15,9 @@ use crate::call::Call;
 use crate::entry::Entry;
 use crate::reply::Reply;
 use crate::unit::Unit;
-use json_texts::plain_end;
+use json_texts::{compacted, plain_end};
 use json_values::{Items, Text};
-use rpc_messages::Id;
+use message_ids::Id;
 use std::alloc::{AllocError, Global};
 
 /// The unit of a content that is seen to be one compact call or result, or a batch of such.
@@ -31,6 +31,20 @@ pub(crate) fn read_compact(
     match text.as_bytes().first() {
         Some(b'[') => read_batch(alloc, cancels, text),
         _ => read_single(alloc, cancels, text),
+    }
+}
+
+/// The same of a content whose text isn't compact, once it is made so.
+pub(crate) fn read_compacted(
+    alloc: Global,
+    cancels: bool,
+    text: &str,
+) -> Result<Option<Unit>, AllocError>
+    ensures { IfOk result (λ u. IfSome u (λ unit. unit ≡ unit_of cancels false text.now)) }
+{
+    match compacted(alloc, text)? {
+        Some(compact) => read_compact(alloc, cancels, compact.as_str()),
+        None => Ok(None),
     }
 }
 
@@ -109,10 +123,44 @@ fn read_envelope(
         return Ok(None);
     };
     if cancels && method == CANCEL {
-        return Ok(None);
+        return read_cancel(alloc, envelope);
     }
     match read_call(alloc, envelope, method)? {
         Some(call) => Ok(Some(Entry::Call(call))),
+        None => Ok(None),
+    }
+}
+
+/// A cancel. One whose target isn't seen to be a string or a whole number from 0 on is left to the reader of tokens.
+fn read_cancel(alloc: Global, envelope: &Envelope<'_>) -> Result<Option<Entry>, AllocError>
+    ensures { IfOk result (λ e. IfSome e (λ entry. GivesCancel envelope.now entry)) }
+{
+    let (None, Some(params)) = (envelope.id, envelope.params) else {
+        return Ok(None);
+    };
+    match read_target(alloc, params)? {
+        Some(target) => Ok(Some(Entry::Cancel(target))),
+        None => Ok(None),
+    }
+}
+
+fn read_target(alloc: Global, params: &str) -> Result<Option<Id>, AllocError>
+    ensures { IfOk result (λ t. IfSome t (λ target. GivesTarget params.now target)) }
+{
+    let Some((members, end)) = envelope_at(params, 0, MOST_DEPTH - 1) else {
+        return Ok(None);
+    };
+    if end != params.len() {
+        return Ok(None);
+    }
+    let Some(part) = members.id else {
+        return Ok(None);
+    };
+    if let Some(number) = unsigned(part) {
+        return Ok(Some(Id::Unsigned(number)));
+    }
+    match plain(part) {
+        Some(text) => Ok(Some(Id::Text(Text::copy_of(alloc, text)?))),
         None => Ok(None),
     }
 }

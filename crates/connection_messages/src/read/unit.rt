@@ -7,12 +7,12 @@ ghost use Rattle.json.specs.Value.{value_view, items_view};
 ghost use Rattle.connection_messages.specs.Reading.{entries_of, batch_of, value_unit, unit_of};
 ghost use Rattle.connection_messages.specs.declared.read.unit.TheConstants.{MOST_DEPTH};
 
-use super::compact::read_compact;
+use super::compact::{read_compact, read_compacted};
 use super::entry::{read_entries, read_entry};
 use crate::entry::Entry;
 use crate::unit::Unit;
 use json::{Scratch, Value};
-use json_texts::read_str;
+use json_texts::{read_str, utf8_text};
 use json_values::Items;
 use lsp_frames::Frame;
 use std::alloc::{AllocError, Global};
@@ -74,10 +74,13 @@ impl UnitReader {
         ensures unit { IfOk result (λ u. u ≡ unit_of self.old false content.now) }
         ensures cancels { self.new ≡ self.old }
     {
-        let Ok(text) = simdutf8::compat::from_utf8(content) else {
+        let Some(text) = utf8_text(content) else {
             return Ok(Unit::Unreadable);
         };
-        match read_compact(self.alloc, self.cancels, text)? {
+        if let Some(unit) = read_compact(self.alloc, self.cancels, text)? {
+            return Ok(unit);
+        }
+        match read_compacted(self.alloc, self.cancels, text)? {
             Some(unit) => Ok(unit),
             None => self.read_tokens(text),
         }

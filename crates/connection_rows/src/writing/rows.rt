@@ -2,7 +2,7 @@
 
 use super::Name::{Null, Signed, Text, Unsigned};
 use super::Said::{self, Call, Calls, Error, Fixed, Notice, Result, Withdrawal};
-use rpc_messages::Standard;
+use message_ids::Standard;
 
 pub const ROWS: &[(&str, Said)] = &[
     // A result has the id of its request, and keeps its digits.

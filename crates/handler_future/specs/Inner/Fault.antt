@@ -1,7 +1,7 @@
 -- What a step's value is in the code: the value, the error that ends the method, or want of memory.
 use Rattle.std.specs.Prelude.{◌≡◌, Result, Ok, Err, Vec, List}
 use Rattle.std.specs.declared.alloc.Global.{Global}
-use Rattle.rpc_messages.specs.declared.standard.Standard.{Standard}
+use Rattle.message_ids.specs.declared.standard.Standard.{Standard}
 use Rattle.method_steps.specs.declared.filling.FillFault.{FillFault}
 use Rattle.method_steps.specs.declared.filling.FillFault.TheVariants as fault
 use Rattle.handler_future.specs.Act.{error_at}

@@ -6,7 +6,7 @@ use Rattle.serde_json.proofs.OnLiterals.{serde_json_on_literals}
 use Rattle.serde_json.specs.Data.{null}
 use Rattle.rpc_messages.specs.Unit.{unit_of}
 use Rattle.rpc_messages.specs.declared.reply.Reply.TheVariants.{Standard}
-use Rattle.rpc_messages.specs.declared.standard.Standard.TheVariants.{Cancelled}
+use Rattle.message_ids.specs.declared.standard.Standard.TheVariants.{Cancelled}
 use Rattle.rpc_messages.specs.Replies.{entries_along}
 use Rattle.handler_future.specs.declared.message.Message.{Message}
 use Rattle.handler_future.specs.declared.message.Message.TheVariants as messages

@@ -1,4 +1,4 @@
-//! Limits of contents and of numbers. (`checks/program.py` plays the same rows by the program, cut at each place.)
+//! Limits of contents and of numbers. (`checks/test_program.py` plays the same rows by the program, cut at each place.)
 
 use super::{METHODS, table};
 use crate::cuts;

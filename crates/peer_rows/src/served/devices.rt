@@ -1,4 +1,4 @@
-//! Devices that fail, the source at each place. (`checks/serving.py` has the output fail at each place.)
+//! Devices that fail, the source at each place. (`checks/test_serving.py` has the output fail at each place.)
 
 use super::{ASK, CONFIRM, CONFIRMED, Given, METHODS, NO_REPLY, NOT_FOUND, REPLY, UNKNOWN};
 use crate::told::{holds, holds_at};

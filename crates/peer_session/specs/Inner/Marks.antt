@@ -1,6 +1,6 @@
 -- How many numbers a cancel can reach yet.
 use Rattle.std.specs.Prelude.{ℕ, ◌+◌, List, [], ◌∷◌, Option, if◌then◌else◌}
-use Rattle.rpc_messages.specs.declared.id.Id.{Id}
+use Rattle.message_ids.specs.declared.id.Id.{Id}
 use Rattle.answer_desk.specs.State.{is_in_reach}
 use Rattle.answer_desk.specs.declared.open_call.OpenCall.{OpenCall}
 

@@ -14,9 +14,9 @@ use crate::entry::Entry;
 use crate::error_value::ErrorValue;
 use crate::key::read_key;
 use crate::reply::Reply;
-use crate::standard::Standard;
 use json_reading::Piece;
 use json_values::Json;
+use message_ids::Standard;
 use serde_json::Value;
 use std::alloc::{AllocError, Global};
 

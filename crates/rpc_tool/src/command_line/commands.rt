@@ -5,7 +5,7 @@ use program_edge::{CommandOption, FlagOption, NumberOption, Program, ProgramComm
 /// The program, with all of its commands.
 pub static PROGRAM: Program = Program {
     name: "rpc_tool",
-    version: "0.2.0",
+    version: "0.3.0",
     about: "A JSON-RPC 2.0 peer over standard input and output, framed as in the Language Server Protocol",
     commands: &[SERVE, PLAY, CHECK],
     needs_command: true,

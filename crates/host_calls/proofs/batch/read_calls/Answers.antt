@@ -20,9 +20,9 @@ loop-method-preserved c =
     let pushed : c.push.new.self.items ≡ made ++ it ∷ [] = c.push.ensures.items ∙ ap (λ (b : Bool). if b then made ++ it ∷ [] else made) c.if-is_err.ensures.negation in
     let Made_so : List Outgoing → Type 0 = λ made. Made all behind made in (
       c.loop-method.invariant.0,
-      subst Made_so (sym pushed) (made-one all (parts rest left) behind (part.method.now, part.params.now) made it c.loop-method.invariant.1
-          (parts-next rest left c.in-Some.behind.now part.method.now part.params.now part.behind.now c.in-Some.method c.in-Some.params
-          c.in-Some.ensures c.cut-part.ensures.method c.cut-part.ensures.params c.cut-part.ensures.behind)
+      subst Made_so (sym pushed) (made-one all (parts rest left) behind (part.name.now, part.text.now) made it c.loop-method.invariant.1
+          (parts-next rest left c.in-Some.behind.now part.name.now part.text.now part.behind.now c.in-Some.method c.in-Some.params
+          c.in-Some.ensures c.cut-part.ensures.name c.cut-part.ensures.text c.cut-part.ensures.behind)
           c.in_ok-outgoing.ensures.ok),
     )
 

@@ -8,10 +8,11 @@ use Rattle.open_calls.proofs.owed.put_each.Goals as goal
 pub loop-slot-init : goal.loop-slot-init
 loop-slot-init c =
     let one = slot_text (seen_slot c.index-slots-0.result) in
+    let begun : c.push.new.self.items ≡ c.args.bytes.now.items ++ 91 ∷ [] = c.in_ok-push.ensures.items ∙ ap (λ l. l ++ 91 ∷ []) c.reserve.ensures.items in
     record {
       text = refl;
       front = starts_with_append c.put_slot.new.bytes.items c.args.bytes.now.items (91 ∷ one)
-          (put_two c.args.bytes.now.items (91 ∷ []) one c.push.new.self.items c.put_slot.new.bytes.items c.in_ok-push.ensures.items c.in_ok-put_slot.ensures.ok);
+          (put_two c.args.bytes.now.items (91 ∷ []) one c.push.new.self.items c.put_slot.new.bytes.items begun c.in_ok-put_slot.ensures.ok);
     }
 
 pub loop-slot-preserved : goal.loop-slot-preserved
@@ -33,12 +34,13 @@ pub returns-clause-ok : goal.returns-clause-ok
 returns-clause-ok c =
     let others = take (length c.args.slots.now - 1) (drop 1 c.args.slots.now) in
     let none : drop c.loop-slot.slot-index others ≡ [] = drop_all c.loop-slot.slot-index others (omega arith) in
+    let begun : c.push.new.self.items ≡ c.args.bytes.now.items ++ 91 ∷ [] = c.in_ok-push.ensures.items ∙ ap (λ l. l ++ 91 ∷ []) c.reserve.ensures.items in
     OnOk-map c.extend_from_slice.result
     (λ last. last
     ∙ ap (λ left. c.loop-slot.bytes.items ++ later (texts_in left)) (sym none)
     ∙ c.loop-slot.invariant.text
     ∙ whole_array c.args.bytes.now.items c.push.new.self.items c.put_slot.new.bytes.items c.args.slots.now c.index-slots-0.result c.requires
-    c.index-slots-0.is c.in_ok-push.ensures.items c.in_ok-put_slot.ensures.ok)
+    c.index-slots-0.is begun c.in_ok-put_slot.ensures.ok)
     (put_last c.extend_from_slice.result _ _ _ c.extend_from_slice.ensures.items)
 
 pub returns-clause-front : goal.returns-clause-front

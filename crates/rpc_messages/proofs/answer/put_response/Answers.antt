@@ -41,7 +41,7 @@ returns-in-Standard-clause-text c =
     let e = standard_error c.in-Standard.standard in
     OnOk-map c.put_error-in-Standard.result
     (put_error c.args.bytes.now.items c.put_error-in-Standard.new.bytes.items c.args.id.now e c.args.reply.now c.as_bytes.result.now (ap (answer_of c.args.id.now) c.in-Standard.is)
-    (c.as_bytes.ensures.value ∙ c.text.ensures))
+    (c.as_bytes.ensures.value ∙ c.standard_text.ensures))
     c.put_error-in-Standard.ensures.text
 
 pub returns-in-Standard-clause-reads_back : goal.returns-in-Standard-clause-reads_back

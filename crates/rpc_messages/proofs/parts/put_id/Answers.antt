@@ -1,6 +1,6 @@
 -- An id's text is read back.
 use Rattle.std.proofs.Common.{◌<◌, ◌^◌, FitsSigned, w64, refl, arith}
-use Rattle.rpc_messages.specs.declared.id.Id.TheVariants.{Null, Text, Signed, Unsigned}
+use Rattle.message_ids.specs.declared.id.Id.TheVariants.{Null, Text, Signed, Unsigned}
 use Rattle.rpc_messages.proofs.AnswerTexts.{always, id_reads_back, id_whole, signed_sound}
 use Rattle.rpc_messages.proofs.parts.put_id.Goals as goal
 

@@ -7,7 +7,7 @@ pub returns-clause-short : goal.returns-clause-short
 returns-clause-short c = λ fed jobs s sink had. short c.known.ensures fed jobs s sink had
 
 pub returns-clause-whole : goal.returns-clause-whole
-returns-clause-whole c = λ fed jobs s sink had is_done well. whole-run c.known.ensures fed jobs s sink had is_done well
+returns-clause-whole c = λ fed jobs s sink had is_done. whole-run c.known.ensures fed jobs s sink had is_done
 
 pub returns-clause-jobs : goal.returns-clause-jobs
 returns-clause-jobs c = λ fed jobs others s sink had same. same-jobs c.known.ensures fed jobs s sink had others same

@@ -13,4 +13,4 @@ pub returns-clause-done : goal.returns-clause-done
 returns-clause-done c = λ table s jobs had none_ready none_out over unbroken. done c.known.ensures table s jobs had none_ready none_out over unbroken
 
 pub returns-clause-whole : goal.returns-clause-whole
-returns-clause-whole c = λ table limits units items s jobs had is_done well. whole c.known.ensures table limits units items s jobs had is_done well
+returns-clause-whole c = λ table limits units items s jobs had is_done. whole c.known.ensures table limits units items s jobs had is_done

@@ -1,5 +1,5 @@
 use Rattle.std.proofs.Common.{◌≡◌, ◌≤◌, ℕ, map, take, false}
-use Rattle.rpc_messages.specs.declared.id.Id.{Id}
+use Rattle.message_ids.specs.declared.id.Id.{Id}
 use Rattle.answer_desk.specs.declared.requests_by_id.RequestsById.{RequestsById}
 use Rattle.answer_desk.specs.Inner.Kept.{kept_in}
 use Rattle.answer_desk.specs.Inner.Requests.{is_listed, IsWithAdded}

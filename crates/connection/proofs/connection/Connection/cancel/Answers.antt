@@ -1,6 +1,6 @@
 use Rattle.std.proofs.Common.{◌≡◌, None, OnOk, subst, ap, ◌∙◌}
 use Rattle.std.proofs.lemmas.Result.{on_ok_weaker, IfErr-weaker}
-use Rattle.rpc_messages.specs.declared.standard.Standard.TheVariants.{Cancelled}
+use Rattle.message_ids.specs.declared.standard.Standard.TheVariants.{Cancelled}
 use Rattle.connection_messages.specs.declared.answer.Answer.TheVariants.{Standard}
 use Rattle.connection_history.specs.History.{answered}
 use Rattle.connection_history.specs.Refusals.{refusal, after, cancel_of}

@@ -1,14 +1,16 @@
--- The calls that were read are those that are made.
-use Rattle.std.proofs.Common.{List, refl, sym, ◌∙◌, subst}
-use Rattle.connection_messages.specs.declared.outgoing.Outgoing.{Outgoing}
-use Rattle.host_calls.specs.Batches.{parts, AreOutgoings}
+-- The lengths fit, and the calls are those that they cut.
+use Rattle.std.proofs.Common.{◌≡◌, ℕ, List, true, Ok, Err, sym, ◌∙◌, inr}
+use Rattle.host_calls.specs.declared.outlet.Outlet.{Outlet}
+use Rattle.host_calls.specs.Batches.{fit, parts}
+use Rattle.host_calls.specs.Codes.{Said}
+use Rattle.host_calls.specs.Saying.{HasCalledAll, HasCalledParts}
 use Rattle.host_calls.proofs.outlet.Outlet.call_batch.Goals as goal
 
+cut : (a b : Outlet) (n : ℕ) (bytes lengths : List ℕ) (k key : ℕ) (said : Said) → fit bytes lengths ≡ true
+    → HasCalledParts a b n (parts bytes lengths) k key said → HasCalledAll a b n bytes lengths k key said
+cut a b n bytes lengths k key (Ok u) e h = (h.0, e, h.1, h.2)
+cut a b n bytes lengths k key (Err why) e h = (h.0, h.1, inr (e, h.2))
+
 pub returns : goal.returns
-returns c =
-    let Are_so : List Outgoing → Type 0 = λ os. AreOutgoings (parts c.args.bytes.now c.args.lengths.now) os in (
-      refl,
-      sym c.lengths_fit.ensures ∙ c.if-not-lengths_fit.false,
-      c.in_ok-first.ensures.key,
-      (c.deref.result.now, subst Are_so (sym c.deref.ensures.value) c.in_ok-outgoings.ensures.ok, ((c.in_ok-first.ensures.settings, c.in_ok-first.ensures.stream, c.in_ok-first.ensures.taken), c.in_ok-first.ensures.ok)),
-    )
+returns c = cut c.args.self.now c.call_parts.new.self c.args.number c.args.bytes.now c.args.lengths.now c.args.first.now c.call_parts.new.first c.call_parts.result
+    (sym c.lengths_fit.ensures ∙ c.if-not-lengths_fit.false) c.call_parts.ensures

@@ -1,6 +1,6 @@
 -- What waits, or what was told, is at hand.
 use Rattle.std.proofs.Common.{◌≡◌, None, sym, ◌∙◌}
-use Rattle.host_calls.proofs.Telling.{waits, asked, failed}
+use Rattle.host_calls.proofs.AtHand.{waits, asked, failed}
 use Rattle.host_calls.proofs.outlet.Outlet.fetch.Goals as goal
 
 pub returns-in-Some-clause-ok : goal.returns-in-Some-clause-ok

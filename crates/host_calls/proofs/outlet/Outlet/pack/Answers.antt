@@ -1,5 +1,5 @@
 -- What was fetched is what is handed over.
-use Rattle.host_calls.proofs.Telling.{packs-told}
+use Rattle.host_calls.proofs.AtHand.{packs-told}
 use Rattle.host_calls.proofs.outlet.Outlet.pack.Goals as goal
 
 pub returns-in-Ok-To : goal.returns-in-Ok-To

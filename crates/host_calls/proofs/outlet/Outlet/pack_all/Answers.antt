@@ -1,6 +1,6 @@
 -- Each turn packs one event more.
 use Rattle.std.proofs.Common.{◌+◌, refl}
-use Rattle.host_calls.proofs.Packed.{packed-none, packed-one_more}
+use Rattle.host_calls.proofs.PackedSoFar.{packed-none, packed-one_more}
 use Rattle.host_calls.proofs.outlet.Outlet.pack_all.Goals as goal
 
 pub loop-count-init : goal.loop-count-init

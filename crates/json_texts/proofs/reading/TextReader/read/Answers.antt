@@ -5,4 +5,4 @@ use Rattle.json_texts.proofs.ReadBack.{value_of_no_text}
 use Rattle.json_texts.proofs.reading.TextReader.read.Goals as goal
 
 pub returns-in_default : goal.returns-in_default
-returns-in_default c = ap (option_map json_text) (value_of_no_text MOST_LEVELS c.args.bytes.now (λ utf8. absurd (c.in_default.ensures.cases.0 utf8)))
+returns-in_default c = ap (option_map json_text) (value_of_no_text MOST_LEVELS c.args.bytes.now (λ utf8. absurd (c.in_default.ensures utf8)))

@@ -34,4 +34,4 @@ returns-clause-ok g c = λ fed goes_on had.
     let done = c.what_sessions_wrote.ensures.done fed.table s.session (λ n. None) settled.written.drained settled.none_ready (λ n. refl) over
     settled.written.plays.session.unbroken in
     subst (IsPlay fed.table fed.limits fed.bytes fed.before sink) (sym c.report.ensures)
-    (c.what_a_stream_wrote.ensures.whole all (λ n. None) s sink settled.written.plays done settled.written.drained.well)
+    (c.what_a_stream_wrote.ensures.whole all (λ n. None) s sink settled.written.plays done)

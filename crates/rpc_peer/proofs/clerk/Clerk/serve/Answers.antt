@@ -15,7 +15,7 @@ returns-then-is_done-clause-ok g c = λ start had.
     record {
       whole = subst (IsRun start.table start.limits (bytes_of (received self.ring)) (ending_of (received self.ring)) start.taken sink) (sym c.report.ensures)
           (c.what_a_stream_wrote.ensures.whole (fed_by start.table start.limits (received self.ring) start.taken) now.after.jobs (stream_of self.stream) sink
-          now.after.stands (c.is_done.ensures.0 c.if-is_done.true) c.in_ok-has_come.ensures.drained.well);
+          now.after.stands (c.is_done.ensures.0 c.if-is_done.true));
       ring = now.ring;
       unfailing = now.unfailing;
     }

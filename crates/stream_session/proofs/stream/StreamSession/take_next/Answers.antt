@@ -10,20 +10,20 @@ pub returns-in_default-clause-stands : goal.returns-in_default-clause-stands
 returns-in_default-clause-stands c = λ fed jobs sink had.
     let s = stream_of c.args.self.now in
     last-stands s (was-open s.session.close c.is_open.result c.is_open.ensures c.if-not-is_open.false)
-    (none-waits s.waiting c.in_default.ensures.item.3) c.take_last.result (view c.take_last.new.session)
+    (none-waits s.waiting c.in_default.ensures.item.3) (view c.take_last.new.session)
     (c.take_last.ensures.none, c.take_last.ensures.some) c.known.ensures fed jobs sink had
 
 pub returns-in_default-clause-takes : goal.returns-in_default-clause-takes
 returns-in_default-clause-takes c =
     let s = stream_of c.args.self.now in
     last-taken s (was-open s.session.close c.is_open.result c.is_open.ensures c.if-not-is_open.false)
-    (none-waits s.waiting c.in_default.ensures.item.3) c.take_last.result (view c.take_last.new.session)
+    (none-waits s.waiting c.in_default.ensures.item.3) (view c.take_last.new.session)
     (c.take_last.ensures.none, c.take_last.ensures.some)
 
 pub returns-in_default-clause-broken : goal.returns-in_default-clause-broken
 returns-in_default-clause-broken c =
     let s = stream_of c.args.self.now in
-    broken-last s.last s.session c.take_last.result (view c.take_last.new.session) (c.take_last.ensures.none, c.take_last.ensures.some)
+    broken-last s.last s.session (view c.take_last.new.session) (c.take_last.ensures.none, c.take_last.ensures.some)
 
 pub returns-clause-stands : goal.returns-clause-stands
 returns-clause-stands c = λ fed jobs sink had.

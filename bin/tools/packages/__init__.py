@@ -1,0 +1,1 @@
+"""The packages of a release, each made of the files that are checked in: the same sources give the same packages, byte for byte."""

@@ -1,0 +1,37 @@
+"""What packages are made of: the version, and files of the repository as files of an archive."""
+import os
+import subprocess
+
+from tools.archives import File
+from tools.repository import TOP, Fault, read_bytes, read_text
+
+RELEASED = f"{TOP}/release"
+PROGRAM, SHARED, STATIC, HEADER = "rpc_tool", "libbullmyrtle.so.1", "libbullmyrtle.a", "bullmyrtle.h"
+
+
+def version():
+    """The version, which stands in one place."""
+    return read_text(f"{TOP}/VERSION").strip()
+
+
+def released(name):
+    return read_bytes(f"{RELEASED}/{name}")
+
+
+def filled(file):
+    """A text of packaging/ with the version in it."""
+    return read_text(f"{TOP}/packaging/{file}").replace("@VERSION@", version()).encode()
+
+
+def tracked(folder):
+    """The files of a folder that are checked in, by their names in it."""
+    ended = subprocess.run(["git", "ls-files", "-z", "--", "."], cwd=f"{TOP}/{folder}", capture_output=True, check=False)
+    if ended.returncode:
+        raise Fault(f"{folder}: git can't list its files: {ended.stderr.decode().strip()}")
+    return sorted(it for it in ended.stdout.decode().split("\0") if it)
+
+
+def file_of(source, name):
+    """A file of the repository under another name."""
+    is_run = os.access(f"{TOP}/{source}", os.X_OK)
+    return File(name, read_bytes(f"{TOP}/{source}"), 0o755 if is_run else 0o644)

@@ -1,0 +1,232 @@
+'use strict'
+// The lower floor: one end of a JSON-RPC conversation, without input and output. Its texts are JSON.
+
+const { inspect, types: { isUint8Array } } = require('node:util')
+const { native, HOWS, FRAMINGS, ORDERS, TOLD, LARGE_CODE, SAY, BEFORE_HEADS, HEAD, borrowHeads, returnHeads } =
+  require('./native')
+const { check } = require('./refused')
+
+const NOTHING = Buffer.alloc(0)
+const BLANK = Buffer.from(' ') // (bytes that aren't JSON: none at all would be no text)
+const NOT_UTF8 = Buffer.from([0xff])
+const KEY = 2 // where the key of a call stands in what is said
+const LARGEST = 2n ** 64n
+
+const isWellFormed = String.prototype.isWellFormed
+  ? text => text.isWellFormed()
+  : text => !/[\ud800-\udbff](?![\udc00-\udfff])|(?<![\ud800-\udbff])[\udc00-\udfff]/.test(text)
+
+function whole(value, name) {
+  const isWhole = typeof value === 'bigint' ? value >= 0n && value < LARGEST : Number.isSafeInteger(value) && value >= 0
+  if (!isWhole) throw new TypeError(`${name} has to be a whole number from 0 on, and is ${inspect(value)}`)
+  return value
+}
+
+function errorCode(value) {
+  const isWhole = typeof value === 'bigint' ? BigInt.asIntN(64, value) === value : Number.isSafeInteger(value)
+  if (!isWhole) throw new TypeError(`the code of an error has to be a whole number, and is ${inspect(value)}`)
+  return value
+}
+
+/** The UTF-8 of a text. Half a surrogate pair has none, so the connection is given bytes that it refuses. */
+function text(value, name) {
+  if (typeof value === 'string') return isWellFormed(value) ? Buffer.from(value) : NOT_UTF8
+  if (isUint8Array(value)) return value
+  throw new TypeError(`${name} has to be a string or a Uint8Array, and is ${inspect(value)}`)
+}
+
+function json(value, name) {
+  if (value === undefined) return NOTHING
+  const bytes = text(value, name)
+  return bytes.length === 0 ? BLANK : bytes
+}
+
+function oneOf(names, value, name) {
+  const at = names.indexOf(value)
+  if (at < 0) throw new TypeError(`${name} has to be ${names.map(it => `'${it}'`).join(' or ')}, and is ${inspect(value)}`)
+  return at
+}
+
+/** A limit as the addon takes it. There 0 is the greatest, and here it is none. */
+function limit(value, name, greatest) {
+  if (value === undefined) return 0
+  const it = BigInt(whole(value, name))
+  if (it === 0n) check(8)
+  return it > greatest ? greatest : it
+}
+
+/** Gives the events that one crossing told, whose texts are one string. */
+function read({ heads }, texts, ids) {
+  const told = []
+  const gap = heads[3]
+  let at = 0
+  for (let i = 0, head = BEFORE_HEADS; i < heads[1]; i++, head += HEAD) {
+    const name = texts.substring(at, at + heads[head + 3])
+    at += heads[head + 3] + gap
+    const body = heads[head + 4] ? texts.substring(at, at + heads[head + 4]) : undefined
+    at += heads[head + 4] + gap
+    const id = heads[head + 5] ? texts.substring(at, at + heads[head + 5]) : undefined
+    at += heads[head + 5]
+    told.push(event(heads, head, name, body, id))
+  }
+  return told
+}
+
+function event(heads, head, name, body, id) {
+  const kind = heads[head] & 15
+  const flags = (heads[head] & (LARGE_CODE - 1)) >> 4
+  const number = heads[head + 1]
+  switch (kind) {
+    case TOLD.call: return { kind: 'call', number, method: name, params: body, id, isRequest: flags === 1 }
+    case TOLD.cancelled: return { kind: 'cancelled', number }
+    case TOLD.replied:
+      if (flags === 0) return { kind: 'replied', key: number, result: body }
+      return { kind: 'failed', key: number, code: codeIn(heads, head), message: name, data: body }
+    case TOLD.unanswered: return { kind: 'unanswered', key: number }
+    default: return { kind: 'over', how: HOWS[flags] }
+  }
+}
+
+/** An error's code: a BigInt where a number wouldn't be exact. */
+function codeIn(heads, head) {
+  if (!(heads[head] & LARGE_CODE)) return heads[head + 2]
+  return new BigInt64Array(heads.buffer, heads.byteOffset, heads.length)[head + 2]
+}
+
+function countsOf([calls, requests, open, waiting, ownCalls, answersWritten, unreadable, invalid, ignored]) {
+  return { calls, requests, open, waiting, ownCalls, answersWritten, unreadable, invalid, ignored }
+}
+
+class Connection {
+  #handle
+  #framing
+
+  constructor({ framing = 'frames', order = 'as-answered', cancels = true, content, calls } = {}) {
+    const made = native.open(
+      oneOf(FRAMINGS, framing, 'framing'), oneOf(ORDERS, order, 'order'), cancels ? 1 : 0,
+      Number(limit(content, 'content', 2n ** 32n - 1n)), limit(calls, 'calls', LARGEST - 1n)
+    )
+    if (typeof made === 'number') check(made)
+    this.#handle = made
+    this.#framing = framing
+  }
+
+  // The input
+
+  feed(bytes) {
+    check(native.feed(this.#handle, bytes))
+  }
+
+  end(isFailed = false) {
+    check(native.end(this.#handle, isFailed))
+  }
+
+  // Events
+
+  /** `feed` and then `events`, in one crossing. */
+  fed(bytes) {
+    return this.#all(place => native.fed(this.#handle, bytes, place, true))
+  }
+
+  events() {
+    return this.#all(place => native.events(this.#handle, place, true))
+  }
+
+  nextEvent() {
+    const room = borrowHeads()
+    try {
+      const texts = native.next(this.#handle, room.place)
+      check(room.heads[0])
+      return texts === undefined ? undefined : read(room, texts)[0]
+    } finally {
+      returnHeads(room)
+    }
+  }
+
+  #all(first) {
+    const room = borrowHeads()
+    const told = []
+    try {
+      let texts = first(room.place)
+      for (;;) {
+        if (told.length === 0) check(room.heads[0]) // (what was told before isn't lost)
+        if (texts === undefined) return told
+        for (const it of read(room, texts)) told.push(it)
+        if (!room.heads[2]) return told
+        texts = native.events(this.#handle, room.place, true)
+      }
+    } finally {
+      returnHeads(room)
+    }
+  }
+
+  // Saying
+
+  #say(kind, number, code, first = NOTHING, second = NOTHING) {
+    check(native.sayOne(this.#handle, kind, number, code, first, second))
+  }
+
+  call(number, method, params) {
+    this.#say(SAY.call, whole(number, 'the number'), 0, text(method, 'the method'), json(params, 'params'))
+    return native.says[KEY]
+  }
+
+  callBatch(number, calls) {
+    const parts = []
+    for (const [method, params] of calls) parts.push(text(method, 'the method'), json(params, 'params'))
+    const lengths = Uint32Array.from(parts, it => it.length)
+    check(native.callBatch(this.#handle, whole(number, 'the number'), Buffer.concat(parts), lengths))
+    return native.says[KEY]
+  }
+
+  notify(method, params) {
+    this.#say(SAY.notify, 0, 0, text(method, 'the method'), json(params, 'params'))
+  }
+
+  withdraw(key) {
+    this.#say(SAY.withdraw, whole(key, 'the key'), 0)
+  }
+
+  answer(number, result) {
+    this.#say(SAY.answer, whole(number, 'the number'), 0, json(result, 'the result'))
+  }
+
+  fail(number, code, message = '', data) {
+    const words = [text(message, 'the message'), json(data, 'data')]
+    this.#say(SAY.fail, whole(number, 'the number'), errorCode(code), ...words)
+  }
+
+  cancel(number) {
+    this.#say(SAY.cancel, whole(number, 'the number'), 0)
+  }
+
+  // The output
+
+  get pending() {
+    return native.pending(this.#handle)
+  }
+
+  take(most = Infinity) {
+    const size = native.pending(this.#handle)
+    if (this.#framing === 'contents' && size > most) return Buffer.alloc(0)
+    const room = Buffer.allocUnsafe(Math.min(size, most))
+    native.take(this.#handle, room)
+    return room
+  }
+
+  // What has happened
+
+  get isDone() {
+    return native.isDone(this.#handle)
+  }
+
+  counts() {
+    return countsOf(native.counts(this.#handle))
+  }
+
+  close() {
+    native.close(this.#handle)
+  }
+}
+
+module.exports = { Connection, isWellFormed, countsOf }

@@ -1,0 +1,59 @@
+'use strict'
+// The addon, and the numbers by which it is spoken to (those of include/bullmyrtle.h and of addon/addon.c).
+
+const fs = require('node:fs')
+const path = require('node:path')
+
+const FILE = 'bullmyrtle-linux-x64.node'
+
+/** Where the addon may lie: where the variable says, in the package, or in the repository. */
+function places() {
+  if (process.env.BULLMYRTLE_ADDON) return [path.resolve(process.env.BULLMYRTLE_ADDON)]
+  return [path.join(__dirname, '..', 'prebuilt', FILE), path.join(__dirname, '..', '..', '..', 'release', FILE)]
+}
+
+function load() {
+  const here = `${process.platform}-${process.arch}`
+  if (here !== 'linux-x64') throw new Error(`bullmyrtle runs on Linux on x86-64 with glibc, and this is ${here}`)
+  const tried = places()
+  const found = tried.find(it => fs.existsSync(it))
+  if (found === undefined) throw new Error(`bullmyrtle's addon isn't there: ${tried.join(', ')}`)
+  return require(found)
+}
+
+const native = load()
+
+/** What a call gives. */
+const CODES = [
+  'Ok', 'NoMemory', 'NotOpen', 'NotWaiting', 'InputOver', 'NotJson', 'NotText', 'Small', 'BadSettings', 'Empty', 'Full'
+]
+const OK = 0
+/** Why an input is over. */
+const HOWS = [
+  'Clean', 'BadHead', 'BadLength', 'TwoLengths', 'TooLarge', 'NoLength', 'HeadTooLong', 'Truncated', 'Read', 'Full'
+]
+const FRAMINGS = ['frames', 'lines', 'contents']
+const ORDERS = ['as-answered', 'as-came']
+/** The kinds of events. In a head, 16 times its flags stand beside the kind; LARGE_CODE where the code is a BigInt. */
+const TOLD = { call: 1, cancelled: 2, replied: 3, unanswered: 4, over: 5 }
+const LARGE_CODE = 256
+/** What can be said. ALONE stands beside a kind where there is no second text. */
+const SAY = { answer: 1, fail: 2, call: 3, notify: 4, withdraw: 5, cancel: 6, close: 7 }
+const ALONE = 16
+/** How many numbers stand before the heads, and how many each has; the same of what is said; how many sayings cross. */
+const BEFORE_HEADS = 4
+const HEAD = 6
+const BEFORE_SAYINGS = 1
+const SAYING = 3
+const MOST_SAYINGS = 1024
+
+/** Arrays of heads that nobody reads now. Who hears of events borrows one, since a stream in memory may nest. */
+const free = []
+let made = 0
+const borrowHeads = () => free.pop() ?? { heads: native.heads(), place: made++ }
+const returnHeads = it => { free.push(it) }
+
+module.exports = {
+  native, CODES, OK, HOWS, FRAMINGS, ORDERS, TOLD, LARGE_CODE, SAY, ALONE, BEFORE_HEADS, HEAD, BEFORE_SAYINGS, SAYING,
+  MOST_SAYINGS, borrowHeads, returnHeads
+}

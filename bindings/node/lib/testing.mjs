@@ -1,0 +1,4 @@
+import testing from './testing.js'
+
+export const { joined, carry } = testing
+export default testing

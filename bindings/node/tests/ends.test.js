@@ -1,0 +1,228 @@
+'use strict'
+// The ends: why there are, what becomes of calls and answers, and the end of a process.
+
+const assert = require('node:assert/strict')
+const { test } = require('node:test')
+const path = require('node:path')
+const { spawn } = require('node:child_process')
+const { once } = require('node:events')
+const { PassThrough, Writable } = require('node:stream')
+const { bullmyrtle, Raw, request, notice, until, sleep, rejectsWith, withBoth, frame } = require('./helping')
+
+const { ConnectionErrors, ErrorCodes } = bullmyrtle
+
+/** How a connection ends that gets these bytes, and then its input's end, or an error of its stream. */
+async function endOf(bytes, options = {}, error) {
+  const raw = new Raw(options)
+  const errors = []
+  const closes = []
+  raw.connection.onError(([it]) => errors.push(it.message))
+  raw.connection.onClose(it => closes.push(it))
+  raw.listen()
+  raw.input.write(bytes)
+  if (error) raw.input.destroy(error)
+  else raw.input.end()
+  await until(() => closes.length)
+  await sleep(2)
+  assert.equal(closes.length, 1)
+  assert.equal(raw.connection.reason, closes[0])
+  return { how: closes[0].how, error: closes[0].error?.message, errors, written: raw.written, connection: raw.connection }
+}
+
+test('each end has its reason', async () => {
+  const content = '{"jsonrpc":"2.0","method":"m"}'
+  const rows = [
+    ['Clean', '', {}], ['Clean', `Content-Length: ${content.length}\r\n\r\n${content}`, {}], ['BadHead', 'x\r\n\r\n', {}],
+    ['BadLength', 'Content-Length: x\r\n\r\n', {}], ['TwoLengths', 'Content-Length: 1\r\nContent-Length: 1\r\n\r\n', {}],
+    ['TooLarge', 'Content-Length: 101\r\n\r\n', { content: 100 }], ['NoLength', 'Content-Type: a\r\n\r\n', {}],
+    ['HeadTooLong', `A: ${'x'.repeat(5000)}`, {}], ['Truncated', 'Content-Length: 10\r\n\r\nxx', {}],
+    ['Full', `Content-Length: ${content.length}\r\n\r\n${content}`.repeat(2), { calls: 1 }],
+    ['TooLarge', 'x'.repeat(200), { framing: 'lines', content: 100 }], ['Clean', 'x', { framing: 'lines' }]
+  ]
+  for (const [how, bytes, options] of rows) {
+    const found = await endOf(Buffer.from(bytes), options)
+    assert.equal(found.how, how, bytes)
+    assert.equal(found.errors.length, how === 'Clean' ? 0 : 1, `${how}: ${found.errors}`)
+    assert.equal(found.error, found.errors[0])
+  }
+  const broken = await endOf(Buffer.from(''), {}, new Error('reset'))
+  assert.deepEqual([broken.how, broken.error, broken.errors], ['Read', 'reset', ['reset']])
+})
+
+test('calls that wait are rejected at the end, and no more can be made', async () => {
+  const raw = new Raw().listen()
+  const call = raw.connection.sendRequest('m')
+  const batch = raw.connection.sendBatch([['a'], ['b']])
+  await until(() => raw.written.length === 2)
+  assert.equal(raw.connection.hasPendingResponse(), true)
+  raw.input.end()
+  await rejectsWith(call, ErrorCodes.PendingResponseRejected, 'Pending response rejected since the input is over')
+  await rejectsWith(batch, ErrorCodes.PendingResponseRejected)
+  await until(() => raw.connection.reason)
+  assert.equal(raw.connection.hasPendingResponse(), false)
+  for (const act of [() => raw.connection.sendRequest('m'), () => raw.connection.sendNotification('m'), () => raw.connection.listen(), () => raw.connection.sendBatch([['m']])]) {
+    assert.throws(act, { code: ConnectionErrors.Closed, message: 'Connection is closed.' })
+  }
+})
+
+test('requests that go on at the end are answered all the same', async () => {
+  const raw = new Raw().listen()
+  raw.connection.onRequest('slow', async () => { await sleep(20); return 'late' })
+  raw.write(request(1, 'slow'))
+  raw.input.end()
+  await until(() => raw.connection.reason)
+  assert.equal(raw.connection.open, 1)
+  await raw.connection.settled()
+  await raw.connection.drained()
+  assert.deepEqual(raw.written, [{ id: 1, jsonrpc: '2.0', result: 'late' }])
+})
+
+test('a call made in the same turn as the end is rejected', async () => {
+  const raw = new Raw().listen()
+  raw.input.end()
+  await until(() => raw.input.readableEnded)
+  const call = raw.connection.reason ? Promise.reject(new bullmyrtle.ConnectionError(1, '')) : raw.connection.sendRequest('m')
+  await assert.rejects(call)
+})
+
+test('dispose: calls are rejected, what was said is written, nothing is heard', () => withBoth(server => {
+  server.onRequest('slow', () => new Promise(() => {}))
+}, async (client, server, log, both) => {
+  const disposed = []
+  client.onDispose(it => disposed.push(it))
+  const call = client.sendRequest('slow')
+  const seen = []
+  server.onNotification('last', () => seen.push('last'))
+  client.sendNotification('last')
+  client.dispose()
+  client.dispose()
+  await rejectsWith(call, ErrorCodes.PendingResponseRejected, 'Pending response rejected since connection got disposed')
+  await until(() => seen.length)
+  assert.deepEqual(disposed, [undefined])
+  assert.deepEqual(client.reason, { how: 'Disposed' })
+  assert.equal(client.counts().ownCalls, 1)
+  both.down.write(frame(notice('x')))
+  for (const act of [() => client.sendRequest('m'), () => client.listen(), () => client.onRequest('m', () => 1)]) {
+    assert.throws(act, { code: ConnectionErrors.Disposed, message: 'Connection is disposed.' })
+  }
+  assert.deepEqual([client.pending, client.open], [0, 0])
+  await client.drained()
+}))
+
+test('dispose inside a handler, and inside a write that brings bytes', async () => {
+  for (const when of ['plain', 'async']) {
+    const raw = new Raw().listen()
+    raw.connection.onRequest('plain', () => { raw.connection.dispose(); return 1 })
+    raw.connection.onRequest('async', async () => { await null; raw.connection.dispose(); return 1 })
+    raw.write(request(1, when), request(2, when))
+    await sleep(5)
+    assert.deepEqual(raw.written, [])
+  }
+  const input = new PassThrough()
+  let connection
+  const output = new Writable({ write(chunk, encoding, done) { connection.dispose(); done() } })
+  connection = bullmyrtle.createMessageConnection(input, output)
+  connection.listen()
+  const call = connection.sendRequest('m')
+  await rejectsWith(call, ErrorCodes.PendingResponseRejected)
+})
+
+test('listening twice, and calling before it', () => {
+  const { connection } = new Raw()
+  assert.throws(() => connection.sendRequest('m'), /Call listen\(\) first/)
+  connection.listen()
+  assert.throws(() => connection.listen(), { code: ConnectionErrors.AlreadyListening, message: 'Connection is already listening' })
+  connection.dispose()
+})
+
+test('an input that has ended before anybody listens', async () => {
+  const input = new PassThrough()
+  input.end()
+  input.resume()
+  await once(input, 'end')
+  const connection = bullmyrtle.createMessageConnection(input, new PassThrough())
+  connection.listen()
+  await until(() => connection.reason?.how === 'Clean')
+})
+
+test('an output that fails', async () => {
+  const input = new PassThrough()
+  const output = new Writable({ write(chunk, encoding, done) { done(new Error('no reader')) } })
+  const connection = bullmyrtle.createMessageConnection(input, output)
+  const errors = []
+  connection.onError(([it]) => errors.push(it.message))
+  connection.listen()
+  const call = connection.sendRequest('m')
+  await rejectsWith(call, ErrorCodes.PendingResponseRejected)
+  assert.deepEqual([connection.reason.how, connection.reason.error.message, errors], ['OutputClosed', 'no reader', ['no reader']])
+  await connection.drained()
+  input.write(frame(request(1, 'm')))
+  await sleep(5)
+  connection.dispose()
+})
+
+test('end() ends the output behind all that was said', () => withBoth(() => {}, async (client, server) => {
+  const seen = []
+  server.onNotification('n', () => seen.push('n'))
+  server.onClose(it => seen.push(it.how))
+  client.sendNotification('n')
+  client.end()
+  await until(() => seen.length === 2)
+  assert.deepEqual(seen, ['n', 'Clean'])
+}))
+
+// Processes
+
+const RUN = path.join(__dirname, 'run_server.js')
+
+async function ran(protocol, ...steps) {
+  const child = spawn(process.execPath, [RUN, protocol], { stdio: ['pipe', 'pipe', 'pipe'] })
+  let out = ''
+  let errors = ''
+  child.stdout.on('data', it => { out += it })
+  child.stderr.on('data', it => { errors += it })
+  for (const step of steps) {
+    if (typeof step === 'function') await step(() => out, child)
+    else child.stdin.write(protocol === 'mcp' ? `${JSON.stringify(step)}\n` : frame(step))
+  }
+  child.stdin.end()
+  const [status] = await once(child, 'close')
+  return { status, out, errors }
+}
+
+test('run: all is answered, and the status is 0', async () => {
+  const found = await ran('mcp', request(1, 'late', { ms: 50 }), request(2, 'print'))
+  assert.equal(found.status, 0)
+  assert.deepEqual(found.out.split('\n').filter(Boolean).map(it => JSON.parse(it).id).sort(), [1, 2])
+  assert.match(found.errors, /by console/)
+  assert.match(found.errors, /by stdout/)
+})
+
+test('run: a handler that never answers has its grace', async () => {
+  const { status, out } = await ran('mcp', request(1, 'never'))
+  assert.deepEqual([status, JSON.parse(out)], [1, { error: { code: -32800, message: 'Request cancelled' }, id: 1, jsonrpc: '2.0' }])
+})
+
+test('run: stop(status), a broken head, an input that ends inside a frame', async () => {
+  assert.equal((await ran('lsp', notice('exit', { status: 7 }))).status, 7)
+  assert.equal((await ran('lsp', notice('exit'))).status, 0)
+  assert.equal((await ran('lsp', (out, child) => { child.stdin.write('x\r\n\r\n') })).status, 1)
+  assert.equal((await ran('lsp', (out, child) => { child.stdin.write('Content-Length: 5\r\n\r\n') })).status, 1)
+})
+
+test('run: megabytes of answers are written before the process ends', async () => {
+  const found = await ran('mcp', request(1, 'large', { size: 8_000_000 }), notice('exit', { status: 3 }))
+  assert.equal(found.status, 3)
+  assert.equal(JSON.parse(found.out).result.length, 8_000_000)
+})
+
+test('run: nobody reads', async () => {
+  const found = await ran('mcp', (out, child) => { child.stdout.destroy() }, request(1, 'large', { size: 1_000_000 }), () => sleep(200))
+  assert.equal(found.status, 1)
+})
+
+test('run: a process that ends itself has written what fitted the pipe', async () => {
+  const found = await ran('mcp', request(1, 'print'), (out) => until(() => out().includes('\n')), request(2, 'die'))
+  assert.equal(found.status, 9)
+  assert.equal(JSON.parse(found.out).id, 1)
+})

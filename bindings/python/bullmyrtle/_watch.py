@@ -1,0 +1,284 @@
+"""What a session remembers of its input: where a fault is, and what couldn't be read."""
+from __future__ import annotations
+
+import asyncio
+import contextlib
+import logging
+import time
+from typing import Any, Callable, List, Mapping, Optional, Protocol, Sequence, Tuple
+
+from . import _ends
+from ._ends import SHOWN, End, Late, Place
+from ._settings import MOST_CONTENT
+from .connection import Connection, Counts
+from .errors import Closed, Refused
+from .events import Event, Over
+
+log = logging.getLogger("bullmyrtle")
+
+# How much of the stream's beginning is kept, to find the frame at fault in; and how often a line of counts may come.
+_KEPT, _SECONDS = 8192, 1.0
+
+
+class Process(Protocol):
+    """A client's server, as far as it is told of."""
+
+    @property
+    def status(self) -> Optional[int]:
+        """What it ended with."""
+
+    @property
+    def last(self) -> bytes:
+        """The last of what it wrote to its standard error."""
+
+
+class _Lines:
+    """The line that is not at its end yet."""
+
+    def __init__(self) -> None:
+        self.start = 0
+        self.first = b""
+        self.length = 0
+
+    def add(self, data: bytes) -> None:
+        if data.endswith(b"\n"):  # (as most pieces do)
+            self.start += self.length + len(data)
+            self.first, self.length = b"", 0
+            return
+        at = data.rfind(b"\n") + 1
+        if at:
+            self.start, self.length, self.first = self.start + self.length + at, 0, b""
+        if len(self.first) <= SHOWN:
+            self.first += data[at : at + SHOWN]
+        self.length += len(data) - at
+
+    def fault(self, data: bytes, most: int) -> Tuple[int, bytes]:
+        """The first line that is too long, where one is, up to what has been read last."""
+        start, length, first, at = self.start, self.length, self.first, 0
+        while True:
+            end = data.find(b"\n", at)
+            if end < 0:
+                break
+            is_cr = data[end - 1 : end] == b"\r" if end > at else False
+            if length + end - at - is_cr > most:
+                break
+            start, length, first, at = start + length + end + 1 - at, 0, b"", end + 1
+        return start, (first + data[at : at + SHOWN])[:SHOWN]
+
+
+class Watch:
+    """Sees each piece of the input, and what was told of it."""
+
+    def __init__(self, settings: Mapping[str, Any], cancels: bool, is_client: bool) -> None:
+        self._settings, self._cancels, self._is_client = settings, cancels, is_client
+        self._counts: Optional[Callable[[], Counts]] = None
+        self._is_busy: Callable[[], bool] = lambda: False
+        self._fed = 0
+        self._kept = b""
+        self._lines = _Lines() if settings["framing"] == "lines" else None
+        self._how: Optional[str] = None
+        self._place: Optional[Place] = None
+        self._said = (0, 0)
+        self._next = 0.0
+        self._timer: Optional[asyncio.TimerHandle] = None
+        #: The server's process, where a client has started one.
+        self.process: Optional[Process] = None
+        #: How many calls of our own waited for a reply when the input was over.
+        self.lost = 0
+        #: Whether this side has said that it says no more.
+        self.is_finished = False
+        self._is_meant = False  # (whether it had when the input was over)
+
+    def begin(self, counts: Callable[[], Counts], is_busy: Callable[[], bool]) -> None:
+        """Begins, with what gives the connection's counts, and what says whether it can't be asked just now."""
+        self._counts, self._is_busy = counts, is_busy
+
+    def read(self, data: bytes, told: Sequence[Event]) -> None:
+        """A piece was read, and these events were told of it."""
+        if self._how is not None:
+            return
+        if len(self._kept) < _KEPT:
+            self._kept += data[: _KEPT - len(self._kept)]
+        if told and type(told[-1]) is Over:
+            self._how = told[-1].how
+            self._is_meant = self.is_finished
+            if _ends.is_fault(self._how):
+                self._place = self._find(data)
+        elif not told or time.monotonic() >= self._next:
+            self._look()
+        if self._lines is not None:
+            self._lines.add(data)
+        self._fed += len(data)
+
+    # The place of a fault
+
+    def _find(self, data: bytes) -> Place:
+        piece = self._fed, data[:SHOWN]
+        if self._lines is not None:
+            most = self._settings["content"] or MOST_CONTENT
+            return Place(*self._lines.fault(data, most), *piece)
+        if self._settings["framing"] == "contents":
+            return Place(self._fed, data[:SHOWN], *piece)
+        try:
+            offset = self._frame_at_fault(self._fed + len(data))
+        except (Refused, Closed):
+            offset = None
+        first = None if offset is None else self._kept[offset : offset + SHOWN]
+        return Place(offset, first, *piece)
+
+    def _frame_at_fault(self, fed: int) -> Optional[int]:
+        """Where the frame at fault begins, if the stream's beginning, which is kept, reaches as far.
+
+        A connection like the session's is told again what came, up to each of a few places: one has read as many
+        messages as there are just from the last one's end on.
+        """
+        many, how = self._told_again(len(self._kept))
+        if how != self._how and not (self._how == "Truncated" and fed == len(self._kept)):
+            return None
+        low, high = 0, len(self._kept)
+        while low < high:
+            middle = (low + high) // 2
+            if self._told_again(middle)[0] < many:
+                low = middle + 1
+            else:
+                high = middle
+        return low
+
+    def _told_again(self, size: int) -> Tuple[int, Optional[str]]:
+        """How many messages, or parts of batches, the first bytes have, and what fault."""
+        with Connection(cancels=self._cancels, **self._settings) as again:
+            told = again.fed(self._kept[:size])
+            counts = again.counts()
+            how = told[-1].how if told and isinstance(told[-1], Over) else None
+            return len(told) - (how is not None) + counts.unreadable + counts.invalid + counts.ignored, how
+
+    # What couldn't be read
+
+    def _look(self, is_last: bool = False) -> None:
+        """Says how many messages couldn't be read, where it has become more."""
+        assert self._counts is not None
+        now = time.monotonic()
+        if self._is_busy():
+            self._timer = (
+                None if is_last else asyncio.get_running_loop().call_later(_SECONDS, self._look_again)
+            )
+            return
+        counts = self._counts()
+        found = counts.unreadable, counts.invalid
+        if found != self._said and now < self._next and not is_last:
+            if self._timer is None:
+                loop = asyncio.get_running_loop()
+                self._timer = loop.call_later(self._next - now, self._look_again)
+            return
+        if found != self._said:
+            self._said = found
+            log.info("%s", self._counted(counts))
+        self._next = now + _SECONDS
+
+    def _look_again(self) -> None:
+        self._timer = None
+        self._look()
+
+    def _counted(self, counts: Counts) -> str:
+        parts: List[str] = []
+        for count, one, many in (
+            (counts.unreadable, "that couldn't be read (-32700)", "that couldn't be read (-32700)"),
+            (
+                counts.invalid,
+                "that was neither a call nor a reply (-32600)",
+                "that were neither a call nor a reply (-32600)",
+            ),
+        ):
+            if count:
+                noun = "" if parts else "message " if count == 1 else "messages "
+                parts.append(f"{count} {noun}{one if count == 1 else many}")
+        first = self._kept[:SHOWN]
+        hint = ""
+        if self._lines is not None and first[:8].lower() == b"content-":
+            side = "Client(.., " if self._is_client else "Server("
+            hint = f': are these frames? {side}framing="frames")'
+        return (
+            f"{' and '.join(parts)} came so far, besides {counts.calls} call{'s' * (counts.calls != 1)}; "
+            f"the first bytes of all were {first!r}{hint}"
+        )
+
+    # The end
+
+    def because(self, how: str) -> None:
+        """Something else than the input ends the session, unless that has a fault already."""
+        if self._how in (None, "Clean"):
+            self._how = how
+
+    def _input_text(self) -> str:
+        how = self._how or "Cancelled"
+        if self._place is not None:
+            return _ends.fault_text(how, self._place, self._settings, self._is_client)
+        if how == "Full":
+            return f"all calls came that the setting calls={self._settings['calls']} allows"
+        return _ends.TEXTS["Lost" if self._is_client and how == "Clean" else how]
+
+    def _with_process(self, text: str, is_whole: bool) -> str:
+        if self.process is None:
+            return text
+        status = self.process.status
+        if status is not None or self._how == "Clean":  # (what goes on after a fault is no surprise)
+            text = f"{text}; {_ends.exit_text(status)}"
+        last = self.process.last.decode(errors="replace").strip() if is_whole else ""
+        return f"{text}; the last of its standard error:\n{last}" if last else text
+
+    def why(self) -> str:
+        """What `Unanswered` says."""
+        return self._with_process(f"the input is over: {self._input_text()}", is_whole=True)
+
+    def over(self, end: Optional[End]) -> str:
+        """What `Closed` says."""
+        if end is None or (end.is_clean and not self._is_client):
+            return "the session is over"
+        if end.is_clean:
+            return "the session with the server is over"
+        return self._with_process(f"the session is over: {end.text}", is_whole=True)
+
+    def end(self, status: Optional[int], late: Sequence[Late], is_out: bool, grace: float) -> End:
+        """How the session ended, told where it didn't end well."""
+        if self._timer is not None:
+            self._timer.cancel()
+        if self._counts is not None:
+            with contextlib.suppress(Closed):
+                self._look(is_last=True)
+        how = self._how or "Cancelled"
+        text = self._input_text()
+        if how in ("Clean", "Stopped"):
+            how, text = self._other_faults(how, text, status, late, is_out, grace)
+        place, process = self._place, self.process
+        end = End(
+            how,
+            text,
+            status,
+            None if place is None else place.offset,
+            None if place is None else place.first,
+            sum(it.is_request for it in late),
+            None if process is None else process.status,
+            b"" if process is None else process.last,
+        )
+        if not end.is_clean:
+            who = "session with the server" if self._is_client else "session"
+            log.warning("the %s ended: %s", who, self._with_process(text, is_whole=False))
+        return end
+
+    def _other_faults(
+        self, how: str, text: str, status: Optional[int], late: Sequence[Late], is_out: bool, grace: float
+    ) -> Tuple[str, str]:
+        """What was wrong, though the input ended well."""
+        if status is None:
+            return "Cancelled", _ends.TEXTS["Cancelled"]
+        if late:
+            return "Late", _ends.late_text(late, grace)
+        if not is_out:
+            return "Unwritten", _ends.TEXTS["Unwritten"]
+        has_failed = self.process is not None and bool(self.process.status)
+        if self._is_client and how == "Clean" and not self._is_meant and (self.lost or has_failed):
+            calls = (
+                f", while {self.lost} call{'s' * (self.lost != 1)} waited for a reply" if self.lost else ""
+            )
+            return "Lost", _ends.TEXTS["Lost"] + calls
+        return how, text

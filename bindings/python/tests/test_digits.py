@@ -1,0 +1,221 @@
+"""Whole numbers of many digits: how many there may be is a setting, whatever the interpreter's own bound is."""
+import asyncio
+import json
+import subprocess
+import sys
+import time
+import unittest
+
+from helping import Case, environment, joined, logged, notice
+
+from bullmyrtle import BadSettings, Client, Connection, Error, NotJson, Server, _json, events
+
+# The bound that interpreters have, and that the package has where nothing else is said.
+MOST = 4300
+
+
+def number(digits):
+    """A number of so many digits, and none of its digits tells where it stands."""
+    return 10 ** (digits - 1) * 9 + 123_456_789
+
+
+class Default(Case):
+    def run_both(self, use, server=None, client=None):
+        async def main():
+            both = server or Server(), client or Client()
+            for it in both:
+                it.method("echo")(lambda params: params)
+                it.method("type")(lambda params: type(params[0]).__name__)
+            both[0].method("number")(lambda params: number(params[0]))
+
+            @both[0].method("data")
+            def data(params):
+                raise Error(1, "x", [number(params[0])])
+
+            @both[0].method("ask")
+            async def ask(params, request):
+                return await request.call("number", params)
+
+            both[1].method("number")(lambda params: number(params[0]))
+            async with joined(*both) as joint:
+                await use(*both, joint)
+
+        self.wait(main())
+
+    async def refused(self, awaitable, code, *words):
+        with self.assertRaises(Error) as caught:
+            await awaitable
+        self.assertEqual(caught.exception.code, code, caught.exception)
+        for it in words:
+            self.assertIn(it, caught.exception.message)
+
+    def test_up_to_the_bound_all_goes_through_both_ways(self):
+        async def use(server, client, _):
+            for digits in (1, 19, 20, 21, 400, 640, 641, MOST - 1, MOST):
+                for it in (number(digits) if digits > 9 else 7, -number(max(digits, 9))):
+                    self.assertEqual(await client.call("echo", [it, {"a": [it]}]), [it, {"a": [it]}])
+            self.assertEqual(await client.call("number", [MOST]), number(MOST))
+            self.assertEqual(await client.call("ask", [MOST]), number(MOST))
+
+        self.run_both(use)
+
+    def test_own_values_over_it_are_no_json(self):
+        async def use(server, client, _):
+            for it in (number(MOST + 1), -number(MOST + 1), {"a": [10**20_000]}):
+                with self.assertRaises(NotJson):
+                    client.call("echo", [it])
+                with self.assertRaises(NotJson):
+                    client.notify("echo", [it])
+            with logged() as log:
+                await self.refused(client.call("number", [MOST + 1]), -32603, "the result isn't JSON")
+                await self.refused(client.call("data", [MOST + 1]), -32603, "the error isn't JSON")
+            self.assertEqual(len(log.errors), 2)
+
+        self.run_both(use)
+
+    def test_params_over_it_are_refused(self):
+        async def use(server, client, session):
+            await self.refused(client.call("echo", [number(MOST + 1)]), -32602, "4,300 digits")
+            await self.refused(client.call("echo", {"a": -number(MOST + 1)}), -32602, "4,300 digits")
+            # (digits that are no whole number have no bound)
+            self.assertEqual(await client.call("type", ["1" * 9000]), "str")
+            self.assertEqual(await client.call("type", [1.5]), "float")
+
+        self.run_both(use, client=Client(digits=20_000))
+
+    def test_a_reply_over_it_raises_an_error_and_data_over_it_stay_text(self):
+        async def use(server, client, _):
+            await self.refused(client.call("number", [MOST + 1]), -32603, "the result can't be read")
+            with self.assertRaises(Error) as caught:
+                await client.call("data", [MOST + 1])
+            text = "[9" + "0" * (MOST - 9) + "123456789]"
+            self.assertEqual((caught.exception.code, caught.exception.data), (1, text))
+            with self.assertRaises(Error) as caught:
+                await client.call("data", [MOST])
+            self.assertEqual(caught.exception.data, [number(MOST)])
+
+        self.run_both(use, server=Server(digits=20_000))
+
+    def test_another_bound(self):
+        for digits in (20, 700, 12_000):
+
+            async def use(server, client, _, digits=digits):
+                self.assertEqual(await client.call("echo", [number(digits)]), [number(digits)])
+                self.assertEqual(await client.call("ask", [digits]), number(digits))
+                with self.assertRaises(NotJson):
+                    client.call("echo", [number(digits + 1)])
+
+            self.run_both(use, Server(digits=digits), Client(digits=digits))
+
+    def test_bounds_that_there_are_none(self):
+        for it in (19, 0, -1, None, "20", True, 4300.0):
+            for side in (Server, Client):
+                with self.assertRaises(BadSettings):
+                    side(digits=it)
+
+    def test_the_lower_floor_passes_all_digits(self):
+        connection = Connection("lines")
+        digits = b"7" * 100_000
+        (call,) = connection.fed(b'{"jsonrpc":"2.0","id":1,"method":"x","params":[%s]}\n' % digits)
+        self.assertEqual(call, events.Call(1, "x", b"[%s]" % digits, b"1"))
+        connection.answer(1, digits)
+        self.assertEqual(connection.take(1 << 20), b'{"id":1,"jsonrpc":"2.0","result":%s}\n' % digits)
+
+
+class Streams(Case):
+    """A cancel with a number that is too long is a cancel all the same, and what stands behind it is read."""
+
+    def test_over_tcp(self):
+        async def main():
+            server = Server(framing="lines")
+            server.method("echo")(lambda params: params)
+
+            @server.method("slow")
+            async def slow():
+                await asyncio.sleep(20)
+
+            listening = await asyncio.start_server(server.serve_async, "127.0.0.1", 0)
+            for member in ("x", "requestId"):
+                reader, writer = await asyncio.open_connection(*listening.sockets[0].getsockname())
+                writer.write(b'{"jsonrpc":"2.0","id":1,"method":"slow"}\n')
+                await asyncio.sleep(0.01)
+                params = {"requestId": 1, member: 0}
+                text = json.dumps(notice("notifications/cancelled", params)).replace(
+                    f'"{member}": 0', f'"{member}": {"1" * 5000}'
+                )
+                writer.write(
+                    text.encode() + b"\n" + b'{"jsonrpc":"2.0","id":2,"method":"echo","params":[2]}\n'
+                )
+                found = {}
+                while 2 not in found or (member == "x" and 1 not in found):
+                    answer = json.loads(await asyncio.wait_for(reader.readline(), 5))
+                    found[answer["id"]] = answer
+                self.assertEqual(found[2]["result"], [2])
+                if member == "x":
+                    self.assertEqual(found[1]["error"]["code"], -32800)
+                writer.close()
+            await self.until(lambda: not server._sessions)
+            listening.close()
+
+        with logged():
+            self.wait(main())
+
+
+class Interpreters(Case):
+    """The interpreter's own bound is neither asked for nor changed."""
+
+    SCRIPT = """
+import sys
+from bullmyrtle import _json
+before = sys.get_int_max_str_digits() if hasattr(sys, "get_int_max_str_digits") else None
+for digits in (20, 640, 4300, 5000):
+    loads, dumps = _json.with_digits(digits)
+    number = 10 ** (digits - 1) * 9 + 7
+    text = b"9" + b"0" * (digits - 2) + b"7"
+    for value, said in ((number, text), (-number, b"-" + text), ([{"a": number}], b'[{"a":' + text + b"}]")):
+        assert dumps(value) == said, (digits, dumps(value)[:50])
+        assert loads(said) == value, digits
+    for said in (b"1" + text, b"-1" + text, b"[" + text + b"1]"):
+        try:
+            loads(said)
+        except ValueError as error:
+            assert "digits" in str(error)
+        else:
+            assert False, digits
+    for value in (number * 10, [-number * 10]):
+        try:
+            dumps(value)
+        except ValueError as error:
+            assert "digits" in str(error), error
+        else:
+            assert False, digits
+    assert loads(b'["' + text + text + b'",1.' + text + b"]")[0] == (text + text).decode()
+after = sys.get_int_max_str_digits() if hasattr(sys, "get_int_max_str_digits") else None
+assert before == after
+"""
+
+    def test_each_bound_of_the_interpreters(self):
+        for bound in ("0", "640", "4300", "100000"):
+            with self.subTest(bound):
+                subprocess.run(
+                    [sys.executable, "-c", self.SCRIPT],
+                    env=environment(PYTHONINTMAXSTRDIGITS=bound),
+                    check=True,
+                )
+
+    def test_what_it_costs_is_at_most_about_quadratic(self):
+        loads, dumps = _json.with_digits(10**6)
+        times = []
+        for it in (number(20_000), number(80_000)):
+            took = []
+            for _ in range(3):
+                began = time.process_time()
+                self.assertEqual(loads(dumps([it])), [it])
+                took.append(time.process_time() - began)
+            times.append(min(took))
+        # (four times the digits take 16 times as long where it is quadratic, and 64 times where it is cubic)
+        self.assertLess(times[1], 32 * times[0])
+
+
+if __name__ == "__main__":
+    unittest.main()

@@ -1,0 +1,610 @@
+"""An end that says why: one line that a person understands, and the same as data."""
+import asyncio
+import logging
+import os
+import subprocess
+import sys
+import tempfile
+import textwrap
+import time
+import unittest
+
+from helping import Case, command, environment, frame, joined, logged, notice, request
+
+from bullmyrtle import LATER, BadSettings, Client, Closed, NoMemory, Server, Unanswered
+from bullmyrtle.testing import Memory
+
+LINE = b'{"jsonrpc":"2.0","method":"add","params":[1,2],"id":7}\n'
+ADD = frame(request(1, "echo", [1]))
+LINES = 'is this line framing? Server(framing="lines")'
+
+
+class Raw(Memory):
+    """A channel whose other half is the test."""
+
+    def feed(self, *pieces):
+        for it in pieces:
+            self._session.received(it)
+
+
+def a_server(**settings):
+    server = Server(**{"grace": 0.05, **settings})
+    server.method("echo")(lambda params: params)
+
+    @server.method("wait")
+    async def wait(params):
+        await asyncio.sleep(20)
+
+    @server.method("forget")
+    def forget(params, request):
+        return LATER
+
+    return server
+
+
+class Ends(Case):
+    def end(self, server, *pieces, use=lambda server, channel: channel._session.input_ended(False)):
+        """How a session ends that is fed with these, and what is logged at WARNING."""
+
+        async def main():
+            channel = Raw()
+            channel._other = Raw()
+            serving = asyncio.ensure_future(server.serve_over(channel))
+            await asyncio.sleep(0)
+            session = server.session
+            self.assertIsNone(session.ended)
+            channel.feed(*pieces)
+            use(server, channel)
+            try:
+                status = await serving
+            except asyncio.CancelledError:
+                status = None
+            self.assertEqual(session.ended, server.ended)
+            self.assertEqual(session.ended.status, status)
+            return session.ended
+
+        with logged() as log:
+            end = self.wait(main())
+        lines = [it.getMessage() for it in log.records if it.levelno == logging.WARNING]
+        self.assertEqual(len(lines), 0 if end.is_clean else 1, lines)
+        for it in lines:
+            self.assertIn(end.text, it)
+            self.assertNotIn("\n", it)
+        return end
+
+    def check(self, pieces, how, offset, first, *words, **settings):
+        end = self.end(a_server(**settings), *pieces)
+        self.assertEqual((end.how, end.offset, end.first), (how, offset, first))
+        self.assertEqual(end.status, 1)
+        if offset is not None:
+            self.assertIn(f"byte {offset}", end.text)
+            self.assertIn(repr(first), end.text)
+        for it in words:
+            self.assertIn(it, end.text)
+        return end
+
+    def test_lines_to_a_framed_server(self):
+        self.check([LINE], "BadHead", 0, LINE, LINES)
+        self.check([b"[" + LINE], "BadHead", 0, b"[" + LINE, LINES)
+        self.check([LINE[:20]], "Truncated", 0, LINE[:20], LINES)
+        long = b'{"jsonrpc":"2.0","method":"' + b"x" * 100 + b'"}\n'
+        self.check([long], "BadHead", 0, long[:64], LINES)
+
+    def test_each_fault_of_a_head(self):
+        for given, how, words in (
+            (b"hello\n", "BadHead", "Content-Length"),
+            (b"Content-Length: 5\n\n", "BadHead", "CR LF"),
+            (b"\xef\xbb\xbfContent-Length: 2\r\n\r\n{}", "BadHead", "byte order mark"),
+            (b"GET / HTTP/1.1\r\nHost: x\r\n\r\n", "BadHead", "HTTP"),
+            (b"Content-Length: x\r\n\r\n", "BadLength", "1 to 10 digits"),
+            (b"Content-Length: 5\r\nContent-Length: 5\r\n\r\n", "TwoLengths", "two"),
+            (b"Content-Type: x\r\n\r\n", "NoLength", "without Content-Length"),
+            (b"A: " + b"x" * 5000, "HeadTooLong", "4,096"),
+            (b"Content-Length: 99999999\r\n\r\n", "TooLarge", "16,777,216"),
+            (b"Content-Length: 9\r\n\r\n{}", "Truncated", "ended inside a message"),
+            (b"Content-Le", "Truncated", "ended inside a message"),
+        ):
+            for before in (b"", ADD, 3 * ADD):
+                with self.subTest(given=given[:30], before=len(before)):
+                    self.check([before + given], how, len(before), given[:64], words)
+        self.check(
+            [b"Content-Length: 101\r\n\r\n"],
+            "TooLarge",
+            0,
+            b"Content-Length: 101\r\n\r\n",
+            "100",
+            content=100,
+        )
+
+    def test_cuts_change_nothing(self):
+        given = ADD + b"hello\nand more"
+        for cut in range(1, len(given)):
+            # (what comes behind the piece with the fault isn't read any more)
+            seen = given if cut < len(ADD) + len(b"hello\n") else given[:cut]
+            self.check([given[:cut], given[cut:]], "BadHead", len(ADD), seen[len(ADD) :])
+        self.check([bytes([it]) for it in given], "BadHead", len(ADD), b"hello\n")
+
+    def test_behind_what_is_kept(self):
+        """Where the frame began isn't known any more, and what was read last is."""
+        many = 500 * ADD
+        end = self.check([many, b"hello\nand more"], "BadHead", None, None)
+        self.assertIn(f"in what was read from byte {len(many)} on, b'hello\\nand more'", end.text)
+
+    def test_what_comes_behind_a_fault_doesnt_count(self):
+        self.check([LINE, LINE, ADD], "BadHead", 0, LINE)
+
+    def test_a_long_line(self):
+        good = b'{"jsonrpc":"2.0","method":"echo","id":1}\n'
+        long = b'{"jsonrpc":"2.0","method":"echo","params":["' + b"x" * 100 + b'"],"id":2}\n'
+        given = good + b"\n \r\n" + good + long + good + long
+        offset = 2 * len(good) + 4
+        for pieces in (
+            [given],
+            [given, good],
+            *([given[:cut], given[cut:]] for cut in range(1, len(given), 7)),
+            [bytes([it]) for it in given],
+        ):
+            self.check(
+                pieces, "TooLarge", offset, long[:64], "more than 100 bytes", framing="lines", content=100
+            )
+        # (exactly as long as it may be, and a CR too)
+        fits = b"x" * 100
+        self.assertTrue(
+            self.end(a_server(framing="lines", content=100), fits + b"\r\n" + fits + b"\n").is_clean
+        )
+        self.check([fits + b"\n" + fits + b"y"], "TooLarge", 101, fits[:64], framing="lines", content=100)
+
+    def test_reading_that_fails(self):
+        end = self.end(a_server(), ADD, use=lambda server, channel: channel._session.input_ended(True))
+        self.assertEqual((end.how, end.offset, end.status), ("Read", None, 1))
+        self.assertIn("reading failed", end.text)
+
+    def test_nobody_reads(self):
+        end = self.end(a_server(), ADD, use=lambda server, channel: channel._session.broke())
+        self.assertEqual((end.how, end.status), ("Broken", 1))
+        self.assertIn("nobody reads", end.text)
+
+    def test_too_many_calls(self):
+        end = self.end(a_server(calls=2), 3 * ADD)
+        self.assertEqual((end.how, end.status), ("Full", 1))
+        self.assertIn("calls=2", end.text)
+
+    def test_no_answer_in_time(self):
+        wait, forget = frame(request(1, "wait")), frame(request(2, "forget"))
+        end = self.end(a_server(), wait, forget, frame(notice("wait")))
+        self.assertEqual((end.how, end.unanswered, end.status), ("Late", 2, 1))
+        self.assertIn("wait didn't end within the grace of 0.05 seconds", end.text)
+        self.assertIn("forget returned LATER, and request.answer or request.fail was never called", end.text)
+        many = self.end(a_server(), *(frame(request(it, "wait")) for it in range(1000)))
+        self.assertEqual(many.unanswered, 1000)
+        self.assertLess(len(many.text), 500)
+
+    def test_a_fault_comes_before_what_follows_from_it(self):
+        end = self.end(a_server(), frame(request(1, "wait")), LINE)
+        self.assertEqual((end.how, end.unanswered), ("BadHead", 1))
+
+    def test_no_memory(self):
+        def refuse(server, channel):
+            def fed(data):
+                raise NoMemory()
+
+            server.session._connection.fed = fed
+            channel.feed(ADD)
+
+        end = self.end(a_server(), ADD, use=refuse)
+        self.assertEqual((end.how, end.status), ("Memory", 1))
+        self.assertIn("memory", end.text)
+
+    def test_cancelled_by_the_host(self):
+        def cancel(server, channel):
+            for it in asyncio.all_tasks():
+                if "serve_over" in repr(it):
+                    it.cancel()
+
+        end = self.end(a_server(), ADD, use=cancel)
+        self.assertEqual((end.how, end.status, end.is_clean), ("Cancelled", None, False))
+
+    def test_clean_ones(self):
+        end = self.end(a_server(), ADD)
+        self.assertEqual((end.how, end.status, end.is_clean, end.offset), ("Clean", 0, True, None))
+        for status in (0, 1, 5):
+            end = self.end(a_server(), ADD, ADD[:9], use=lambda server, channel: server.stop(status))
+            self.assertEqual((end.how, end.status, end.is_clean), ("Stopped", status, True))
+
+    def test_of_a_server(self):
+        server = a_server()
+        self.assertIsNone(server.ended)
+
+        async def main():
+            async with joined(server):
+                self.assertIsNone(server.ended)
+            self.assertEqual(server.ended.how, "Clean")
+            async with joined(server):
+                pass
+            with self.assertRaises(RuntimeError) as caught:
+                server.ended
+            self.assertIn("session.ended", str(caught.exception))
+
+        self.wait(main())
+
+    def test_later_calls_are_told(self):
+        async def main():
+            server = a_server()
+            caught = []
+
+            @server.method("ask")
+            async def ask(params, request):
+                for call in (request.call, server.call):
+                    try:
+                        await call("never")
+                    except Unanswered as error:
+                        caught.append(str(error))
+
+            channel = Raw()
+            channel._other = Raw()
+            serving = asyncio.ensure_future(server.serve_over(channel))
+            await asyncio.sleep(0)
+            channel.feed(frame(request(1, "ask")))
+            await asyncio.sleep(0)
+            channel.feed(LINE)
+            await serving
+            return server, caught
+
+        with logged():
+            server, caught = self.wait(main())
+        self.assertEqual(len(caught), 2)
+        for it in caught:
+            self.assertIn(LINES, it)
+        with self.assertRaises(Closed) as error:
+            server.call("x")
+        self.assertIn(LINES, str(error.exception))
+
+
+class OnStandardError(Case):
+    """Without any logging set up, the line is there to be read."""
+
+    def run_server(self, given, text="server.method('echo')(lambda params: params)\n"):
+        with tempfile.TemporaryDirectory() as room:
+            file = os.path.join(room, "server.py")
+            head = "import sys\nfrom bullmyrtle import LATER, Server\nserver = Server(grace=0.05)\n"
+            with open(file, "w", encoding="utf-8") as it:
+                it.write(head + text + "sys.exit(server.run())\n")
+            how = {"env": environment(), "capture_output": True, "timeout": 60, "check": False}
+            got = subprocess.run(command(file), input=given, **how)
+        return got.returncode, got.stderr.decode().splitlines()
+
+    def test_lines_to_a_framed_server(self):
+        self.assertEqual(
+            self.run_server(b'{"jsonrpc":"2.0","method":"echo"}\n'),
+            (
+                1,
+                [
+                    "the session ended: a message can't be read, at byte 0: "
+                    'b\'{"jsonrpc":"2.0","method":"echo"}\\n\': '
+                    'is this line framing? Server(framing="lines")'
+                ],
+            ),
+        )
+
+    def test_a_forgotten_answer(self):
+        text = "server.method('m')(lambda params, request: LATER)\n"
+        status, lines = self.run_server(frame(request(1, "m")), text)
+        self.assertEqual(status, 1)
+        self.assertIn("m returned LATER, and request.answer or request.fail was never called", lines[-1])
+
+    def test_an_interrupt(self):
+        text = "server.method('m')(lambda: __import__('os').kill(__import__('os').getpid(), 2))\n"
+        status, lines = self.run_server(frame(request(1, "m")), text)
+        self.assertEqual((status, len(lines)), (1, 1))
+        self.assertEqual(lines[0], "the session ended: it was interrupted, as by Ctrl-C")
+
+    def test_an_exit_says_nothing(self):
+        text = "server.method('m')(lambda: sys.exit(3))\n"
+        self.assertEqual(self.run_server(frame(request(1, "m")), text), (3, []))
+
+
+class Scripts(Case):
+    """A client of a script that is written here."""
+
+    def setUp(self):
+        room = tempfile.TemporaryDirectory()
+        self.addCleanup(room.cleanup)
+        self.room = room.name
+
+    def script(self, text):
+        file = os.path.join(self.room, "server.py")
+        with open(file, "w", encoding="utf-8") as it:
+            it.write(textwrap.dedent(text))
+        return file
+
+    def client(self, text, **more):
+        return Client([sys.executable, self.script(text)], grace=2, **{"stderr": lambda data: None, **more})
+
+
+class Processes(Scripts):
+    """What a client says of a server that ends."""
+
+    def told(self, client):
+        """The text of what a call raises, that of a later one, and the one line that is logged."""
+
+        async def main():
+            async with client:
+                with self.assertRaises((Unanswered, Closed)) as first:
+                    await client.call("x")
+                with self.assertRaises((Unanswered, Closed)) as second:
+                    await client.call("x")
+            with self.assertRaises(Closed) as third:
+                client.call("x")
+            return [str(it.exception) for it in (first, second, third)]
+
+        with logged() as log:
+            texts = self.wait(main())
+        lines = [it.getMessage() for it in log.records if it.levelno == logging.WARNING]
+        self.assertEqual(len(lines), 1, lines)
+        self.assertNotIn("\n", lines[0])
+        return [*texts, *lines]
+
+    def test_a_banner(self):
+        client = self.client("print('Welcome to server 1.0', flush=True)\nimport sys; sys.stdin.read()\n")
+        for it in self.told(client):
+            self.assertIn(
+                "at byte 0: b'Welcome to server 1.0\\n': the server wrote something else than messages to its "
+                "standard output, as a banner or what it prints, which belongs on its standard error",
+                it,
+            )
+        self.assertEqual((client.ended.how, client.ended.offset), ("BadHead", 0))
+        self.assertEqual(client.ended.first, b"Welcome to server 1.0\n")
+
+    def test_lines(self):
+        client = self.client(
+            'print(\'{"jsonrpc":"2.0","method":"x"}\', flush=True)\nimport sys; sys.stdin.read()\n'
+        )
+        for it in self.told(client):
+            self.assertIn('is this line framing? Client(.., framing="lines")', it)
+
+    def test_a_traceback(self):
+        client = self.client("raise KeyError('there is no such thing')\n")
+        *texts, line = self.told(client)
+        for it in texts:
+            self.assertIn("the server ended with status 1", it)
+            self.assertIn("KeyError: 'there is no such thing'", it)
+        self.assertIn("the server ended with status 1", line)
+        self.assertEqual((client.ended.exit_status, client.ended.is_clean), (1, False))
+        self.assertIn(b"KeyError", client.ended.stderr)
+
+    def test_killed(self):
+        client = self.client(
+            "import os, sys\nsys.stderr.write('so far'); sys.stderr.flush()\nos.kill(os.getpid(), 9)\n"
+        )
+        for it in self.told(client):
+            self.assertIn("the server was killed by SIGKILL", it)
+        self.assertEqual((client.ended.exit_status, client.ended.stderr), (-9, b"so far"))
+
+    def test_it_stays_but_says_no_more(self):
+        client = self.client("import os, sys\nos.close(1)\nsys.stdin.read()\n", stderr="inherit")
+        began = time.monotonic()
+        first, second, after, line = self.told(client)
+        for it in (first, second, line):
+            self.assertIn("its process still runs", it)
+        self.assertIn("the server ended with status 0", after)
+        self.assertLess(time.monotonic() - began, 5)
+
+    def test_a_clean_end_says_nothing(self):
+        async def main():
+            async with client:
+                self.assertEqual(await client.call("echo", [1]), [1])
+            self.assertEqual(await client.close(), 0)
+            self.assertEqual((client.ended.how, client.ended.is_clean), ("Clean", True))
+            self.assertEqual((client.ended.exit_status, client.ended.stderr), (0, b""))
+
+        file = self.script(
+            """
+            import sys
+            from bullmyrtle import Server
+            server = Server()
+            server.method("echo")(lambda params: params)
+            sys.exit(server.run())
+            """
+        )
+        client = Client(command(file), env=environment())
+        with logged() as log:
+            self.wait(main())
+        self.assertEqual(log.texts, [])
+
+    def test_one_that_has_to_be_killed(self):
+        text = "import signal, sys, time\nsignal.signal(signal.SIGTERM, signal.SIG_IGN)\n"
+        client = self.client(text + "print(end='', flush=True)\ntime.sleep(60)\n")
+        client._grace = 0.3
+
+        async def main():
+            async with client:
+                await asyncio.sleep(0.3)
+            return await client.close()
+
+        with logged() as log:
+            self.assertEqual(self.wait(main()), -9)
+        (line,) = [it for it in log.texts if "killed" in it]
+        self.assertIn("didn't end within the grace of 0.3 seconds", line)
+
+
+class StandardErrors(Scripts):
+    LOUD = """
+        import os, sys, time
+        for it in range(3):
+            os.write(2, b"line %d\\n" % it)
+        while os.read(0, 100):
+            pass
+    """
+
+    def run_loud(self, text=LOUD, **more):
+        async def main():
+            async with client:
+                await asyncio.sleep(0.3)
+            return client.ended
+
+        client = self.client(text, **more)
+        with logged():
+            return self.wait(main())
+
+    def test_it_is_passed_on_as_it_comes(self):
+        code = """
+            import asyncio, sys
+            from bullmyrtle import Client
+            async def main():
+                async with Client([sys.executable, sys.argv[1]]) as client:
+                    sys.stdin.read()
+            asyncio.run(main())
+        """
+        loud = self.script(
+            "import os, sys\nos.write(2, b'at once\\n')\nsys.stdin.read()\nos.write(2, b'at last\\n')\n"
+        )
+        host = os.path.join(self.room, "host.py")
+        with open(host, "w", encoding="utf-8") as it:
+            it.write(
+                textwrap.dedent(code).replace("sys.stdin.read()", "await asyncio.get_running_loop().run_in_executor(None, sys.stdin.read)")
+            )
+        pipes = {"stdin": subprocess.PIPE, "stderr": subprocess.PIPE, "env": environment()}
+        with subprocess.Popen(command(host, loud), bufsize=0, **pipes) as process:
+            self.assertEqual(process.stderr.readline(), b"at once\n")
+            process.stdin.close()
+            self.assertEqual(process.stderr.read(), b"at last\n")
+            self.assertEqual(process.wait(20), 0)
+
+    def test_a_callback(self):
+        heard = []
+        end = self.run_loud(stderr=heard.append)
+        self.assertEqual((b"".join(heard), end.stderr), (b"line 0\nline 1\nline 2\n",) * 2)
+
+    def test_a_callback_that_raises(self):
+        def fail(data):
+            raise KeyError("no")
+
+        self.assertEqual(self.run_loud(stderr=fail).stderr, b"line 0\nline 1\nline 2\n")
+
+    def test_a_file(self):
+        with tempfile.TemporaryFile() as it:
+            end = self.run_loud(stderr=it)
+            it.seek(0)
+            self.assertEqual((it.read(), end.stderr), (b"line 0\nline 1\nline 2\n", b""))
+
+    def test_inherited(self):
+        code = """
+            import asyncio, os, sys
+            from bullmyrtle import Client
+            async def main():
+                async with Client([sys.executable, sys.argv[1]], stderr="inherit") as client:
+                    pass
+            asyncio.run(main())
+        """
+        asks = self.script("import os\nos.write(2, os.readlink('/proc/self/fd/2').encode())\n")
+        host = os.path.join(self.room, "host.py")
+        with open(host, "w", encoding="utf-8") as it:
+            it.write(textwrap.dedent(code))
+        with tempfile.NamedTemporaryFile(dir=self.room) as it:
+            subprocess.run(command(host, asks), stderr=it, env=environment(), timeout=60, check=True)
+            it.seek(0)
+            self.assertEqual(it.read().decode(), it.name)
+
+    def test_other_choices(self):
+        for it in ("nowhere", 5.5, object()):
+            with self.assertRaises(BadSettings) as caught:
+                Client(["server"], stderr=it)
+            self.assertIn("'inherit'", str(caught.exception))
+
+    def test_the_last_4_kb_of_much(self):
+        end = self.run_loud(
+            "import os, sys\nfor it in range(20000):\n    os.write(2, b'%06d\\n' % it)\nsys.stdin.read()\n"
+        )
+        self.assertEqual(len(end.stderr), 4096)
+        self.assertTrue(end.stderr.endswith(b"019998\n019999\n"))
+
+    def test_nothing_is_left_behind(self):
+        """Also where a child of the server has its standard error, and stays."""
+        text = "import subprocess, sys\nsubprocess.Popen(['sleep', '3'], stdin=subprocess.DEVNULL, stdout=subprocess.DEVNULL)\n"
+        before = len(os.listdir("/proc/self/fd"))
+        began = time.monotonic()
+        self.run_loud(text + "sys.stdin.read()\n")
+        self.assertEqual(len(os.listdir("/proc/self/fd")), before)
+        self.assertLess(time.monotonic() - began, 2.5)
+
+
+class Counted(Case):
+    """Messages that can't be read, or are none: one line at INFO, at most once a second."""
+
+    def lines(self, *pieces, server=None, naps=()):
+        async def main():
+            it = server or a_server(framing="lines")
+            channel = Raw()
+            channel._other = Raw()
+            serving = asyncio.ensure_future(it.serve_over(channel))
+            await asyncio.sleep(0)
+            for at, piece in enumerate(pieces):
+                channel.feed(piece)
+                await asyncio.sleep(naps[at] if at < len(naps) else 0)
+                seen.append(len(self.of(log)))
+            channel._session.input_ended(False)
+            await serving
+
+        seen = []
+        root = logging.getLogger("bullmyrtle")
+        before = root.level
+        root.setLevel(logging.INFO)
+        try:
+            with logged() as log:
+                self.wait(main())
+        finally:
+            root.setLevel(before)
+        return self.of(log), seen
+
+    @staticmethod
+    def of(log):
+        return [
+            it.getMessage()
+            for it in log.records
+            if it.levelno == logging.INFO and "came so far" in it.getMessage()
+        ]
+
+    def test_at_once(self):
+        lines, seen = self.lines(b"hello\n")
+        self.assertEqual((len(lines), seen), (1, [1]))
+        self.assertIn("1 message that couldn't be read (-32700) came so far", lines[0])
+        self.assertIn("b'hello\\n'", lines[0])
+        lines, _ = self.lines(b"5\n6\n")
+        self.assertIn("2 messages that were neither a call nor a reply (-32600) came so far", lines[0])
+        lines, _ = self.lines(b"hello\n5\nhello\n")
+        self.assertEqual(
+            lines,
+            [
+                "2 messages that couldn't be read (-32700) and 1 that was neither a call nor a reply (-32600) "
+                "came so far, besides 0 calls; the first bytes of all were b'hello\\n5\\nhello\\n'"
+            ],
+        )
+
+    def test_frames_to_a_server_of_lines(self):
+        lines, _ = self.lines(ADD)
+        self.assertIn('are these frames? Server(framing="frames")', lines[0])
+
+    def test_none(self):
+        self.assertEqual(self.lines(b'{"jsonrpc":"2.0","method":"echo","id":1}\n\n')[0], [])
+
+    def test_once_a_second(self):
+        good = b'{"jsonrpc":"2.0","method":"echo","id":1}\n'
+        lines, seen = self.lines(*[b"hello\n"] * 5, good, good, naps=[0, 0, 0, 0, 0, 1.3, 0])
+        self.assertEqual(seen, [1, 1, 1, 1, 1, 2, 2])
+        self.assertIn("5 messages", lines[-1])
+
+    def test_at_the_end(self):
+        lines, seen = self.lines(b"hello\n", b"hello\n")
+        self.assertEqual(seen, [1, 1])
+        self.assertEqual(len(lines), 2)
+        self.assertIn("2 messages", lines[-1])
+
+    def test_beside_good_ones(self):
+        good = b'{"jsonrpc":"2.0","method":"echo","id":1}\n'
+        lines, _ = self.lines(good + b"hello\n" + good)
+        self.assertEqual(len(lines), 1)
+        self.assertIn("besides 2 calls", lines[0])
+
+
+if __name__ == "__main__":
+    unittest.main()

@@ -1,0 +1,84 @@
+"""How the tests of this folder run: the program is there before the first, and the last line is 'N passed, M failed'.
+
+Where a tool is missing a test is skipped, and told in a line 'SKIPPED: ..', as the scripts of this folder do. Tests
+that measure time or memory have the mark `alone`: bin/test runs them while nothing else runs."""
+from collections import Counter
+from typing import Any
+
+import pytest
+
+from support import expecting, ran
+
+
+class Tally:
+    """What is told at the end by the process that runs the tests, or has others run them."""
+
+    def __init__(self) -> None:
+        self.comparisons, self.status = 0, 0
+
+
+TALLY = Tally()
+
+
+def is_worker(config: pytest.Config) -> bool:
+    return hasattr(config, "workerinput")
+
+
+def shared(config: pytest.Config, way: str) -> dict[str, Any]:
+    """What a worker is told, or tells, by the process that has it run."""
+    found: dict[str, Any] = getattr(config, way)
+    return found
+
+
+def pytest_addoption(parser: pytest.Parser) -> None:
+    parser.addoption(
+        "--player",
+        metavar="FILE",
+        help="the program that plays the rows of played_rows/, in place of the peer_bench that the gate built",
+    )
+    parser.addoption(
+        "--rows", metavar="FILE", action="append", help="a file of rows to play in place of those of played_rows/"
+    )
+
+
+def pytest_configure(config: pytest.Config) -> None:
+    """Builds the program where it isn't built yet; the workers are told where it is."""
+    if is_worker(config):
+        ran.BUILT = shared(config, "workerinput")["program"]
+    elif not config.option.collectonly and not config.option.help:
+        try:
+            ran.build()
+        except ran.Unbuilt as fault:
+            pytest.exit(f"there is no program: {fault}", 1)
+
+
+@pytest.hookimpl(optionalhook=True)  # type: ignore[misc]
+def pytest_configure_node(node: Any) -> None:
+    node.workerinput["program"] = ran.BUILT
+
+
+@pytest.hookimpl(optionalhook=True)  # type: ignore[misc]
+def pytest_testnodedown(node: Any, error: object) -> None:
+    TALLY.comparisons += getattr(node, "workeroutput", {}).get("comparisons", 0)
+
+
+def pytest_sessionfinish(session: pytest.Session, exitstatus: int) -> None:
+    TALLY.status = exitstatus
+    if is_worker(session.config):
+        shared(session.config, "workeroutput")["comparisons"] = expecting.Made.number
+
+
+def pytest_unconfigure(config: pytest.Config) -> None:
+    """The last lines: what was skipped, and the tally."""
+    reporter = config.pluginmanager.get_plugin("terminalreporter")
+    if is_worker(config) or reporter is None or config.option.collectonly or config.option.help:
+        return
+    found = {kind: len(reporter.stats.get(kind, [])) for kind in ("passed", "failed", "error")}
+    # (a run that was interrupted, or found no test, failed too)
+    failed = found["failed"] + found["error"] or int(TALLY.status != 0)
+    for why, times in Counter(
+        it.longrepr[2].removeprefix("Skipped: ") for it in reporter.stats.get("skipped", [])
+    ).items():
+        print(f"SKIPPED: {why}{f' ({times} tests)' if times > 1 else ''}")
+    print(f"{TALLY.comparisons + expecting.Made.number:,} comparisons in {found['passed'] + found['failed']:,} tests")
+    print(f"{found['passed']} passed, {failed} failed", flush=True)

@@ -1,0 +1,144 @@
+"""Plays each stream of examples/ with the table there, read as it comes, lazily, and with the last method first, and
+compares what is printed with the file beside the stream; and runs the commands of its page, of the first one and of the
+page on commands. The page on connections shows the host that the gate runs. Each link of a page leads somewhere, and
+the page on changes begins with the program's version."""
+import glob
+import os
+import re
+import subprocess
+from typing import Iterator, NamedTuple
+
+import pytest
+
+from support import pages, ran
+from support.expecting import COUNT, check, same
+from support.naming import named
+
+FOLDER = os.path.join(ran.TOP, "examples")
+TABLE = os.path.join(FOLDER, "toolbox.toml")
+# The files that a page has its reader write.
+FILES = {"toml": "first.toml", "python": "first.py"}
+# The ways to play, and the endings of their outputs: where there is none of a way's own, it is as for the first.
+WAYS: list[tuple[list[str], str]] = [([], ".out"), (["--lazy"], ".lazy.out"), (["--last"], ".last.out")]
+
+# Streams
+
+STREAMS = sorted(os.path.basename(it)[: -len(".in")] for it in glob.glob(f"{FOLDER}/*.in"))
+
+
+@pytest.mark.parametrize("name", STREAMS)
+def test_stream(name: str) -> None:
+    for words, ending in WAYS:
+        own = os.path.join(FOLDER, name + ending)
+        output = ran.text_of(own if os.path.exists(own) else os.path.join(FOLDER, f"{name}.out"))
+        for piece in ("1", "7", "65536"):
+            pages.check_play(
+                COUNT, name, ["--table", TABLE, *words, "--piece", piece], ran.text_of(FOLDER, f"{name}.in"), output
+            )
+
+
+def test_there_are_streams() -> None:
+    check(len(STREAMS) >= 3, f"{STREAMS}")
+
+
+def test_each_output_is_compared() -> None:
+    """It belongs to a stream and a way."""
+    known = {name + ending for name in STREAMS for _, ending in WAYS}
+    strange = [it for it in os.listdir(FOLDER) if it.endswith(".out") and it not in known]
+    check(not strange, f"{strange}")
+
+
+# Commands of pages
+
+
+class Command(NamedTuple):
+    """A command of a page, the files that the page has had its reader write, and what it prints."""
+
+    page: str
+    text: str
+    files: dict[str, str]
+    printed: str
+
+
+PAGES = (("examples", "README.md"), ("README.md",), ("docs", "commands.md"))
+
+
+def blocks_of(place: tuple[str, ...]) -> list[pages.Block]:
+    return [it for it in pages.read_blocks(*place) if it[0]]
+
+
+def commands_of(place: tuple[str, ...]) -> Iterator[Command]:
+    """The commands of a page. A block of one of the kinds of FILES is that file of the commands below."""
+    blocks, files = blocks_of(place), dict[str, str]()
+    for (mark, text), (_, printed) in zip(blocks, blocks[1:]):
+        if mark in FILES:
+            files = {**files, FILES[mark]: text}
+        elif mark == "sh":
+            yield Command("/".join(place), text, files, printed)
+
+
+COMMANDS = [it for place in PAGES for it in commands_of(place)]
+
+
+@pytest.mark.parametrize("place", named(PAGES, "/".join))
+def test_blocks_of_page(place: tuple[str, ...]) -> None:
+    """Each is a command, or what it prints."""
+    pages.check_fences(COUNT, *place)
+    kinds = [mark for mark, _ in blocks_of(place) if mark not in FILES]
+    check(kinds and kinds == ["sh", "out"] * (len(kinds) // 2), f"{kinds}")
+
+
+@pytest.mark.parametrize("command", named(COMMANDS, lambda it: f"{it.page} {it.text[:60]}"))
+def test_command(command: Command) -> None:
+    files = {name: ran.file_of(name, text) for name, text in command.files.items()}
+    text = re.sub("|".join(FILES.values()), lambda it: files[it[0]], command.text)
+    ended = subprocess.run(["sh", "-c", text], cwd=ran.TOP, capture_output=True, timeout=120, check=False)
+    # (a block ends with an LF, and frames need none)
+    output = ended.stdout.decode() + ("" if ended.stdout.endswith(b"\n") else "\n")
+    same((ended.returncode, output), (0, command.printed), f"{text!r}; it said {ended.stderr!r}")
+
+
+# The page on connections shows the smallest host, what it reads and what it writes, just as the gate has them.
+
+
+def test_fences_of_page_on_connections() -> None:
+    pages.check_fences(COUNT, "docs", "connection.md")
+
+
+@pytest.mark.parametrize("mark, file", (("rust", "src/main.rt"), ("in", "stdin"), ("out", "stdout")))
+def test_host_on_page_on_connections(mark: str, file: str) -> None:
+    shown = dict(pages.read_blocks("docs", "connection.md"))
+    same(shown.get(mark), ran.text_of("crates", "connection_example", file))
+
+
+# Links
+
+
+def prose_of(file: str) -> str:
+    return re.sub(r"^```.*?^```", "", ran.text_of(file), flags=re.M | re.S)
+
+
+def anchors_of(file: str) -> set[str]:
+    """The names by which a page's headings are linked."""
+    headings = re.findall(r"^#+ (.*)$", prose_of(file), re.M)
+    return {re.sub(r"[^\w\- ]", "", it.strip().lower()).replace(" ", "-") for it in headings}
+
+
+LINKING = [os.path.relpath(it, ran.TOP) for it in sorted(glob.glob(f"{ran.TOP}/*.md") + glob.glob(f"{ran.TOP}/*/*.md"))]
+
+
+@pytest.mark.parametrize("page", LINKING)
+def test_links(page: str) -> None:
+    """Each link that doesn't leave the repository leads to a file, and to a heading where it names one."""
+    page = os.path.join(ran.TOP, page)
+    for link in re.findall(r"\]\((?!http)([^)\s]+)\)", prose_of(page)):
+        place, _, heading = link.partition("#")
+        file = os.path.join(os.path.dirname(page), place) if place else page
+        check(os.path.exists(file) and (not heading or heading in anchors_of(file)), f"{link} leads nowhere")
+
+
+def test_latest_changes_are_those_of_this_version() -> None:
+    """Behind those that no version has yet."""
+    _, printed, _ = ran.run(["--version"])
+    latest = re.search(r"^## (?!Unreleased$)(\S+?),?(?: |$)", ran.text_of("CHANGELOG.md"), re.M)
+    check(latest and printed.decode() == f"rpc_tool {latest[1]}\n", f"{printed!r}")

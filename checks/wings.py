@@ -1,0 +1,60 @@
+#!/usr/bin/env python3
+"""The groups of crates.txt keep to their rule: the floor (values, streams, messages) stands on itself alone, and of the two wings on it, the
+table peer and the connection, neither names a crate of the other. So an edit in one wing proves nothing of the other again."""
+import os
+import re
+import sys
+
+from support import ran
+
+sys.path.insert(0, f"{ran.TOP}/bin")
+from tools.repository import Listing, read_text  # noqa: E402 (the folder of the commands is on the path only now)
+
+FLOOR = ["values", "streams", "messages"]
+WINGS = ["the table peer", "the connection"]
+TOPS = ["programs", "tests"]
+
+
+def groups_of(text):
+    """Of each crate the group that it stands in; and the groups, in their order."""
+    groups, order, group = {}, [], None
+    for line in text.split("\n"):
+        if heading := re.fullmatch(r"# == ([^:]*)(:.*)?", line):
+            group = heading[1]
+            order.append(group)
+        elif crate := re.match(r"(\w+)[ :]", line):
+            groups[crate[1]] = group
+    return groups, order
+
+
+def may_name(group, other):
+    """Whether a crate of a group may name one of another."""
+    if group in FLOOR:
+        return other in FLOOR and FLOOR.index(other) <= FLOOR.index(group)
+    return other in FLOOR or other == group or (group in TOPS and other != "tests")
+
+
+def broken(text):
+    """The crates that name one that they may not."""
+    groups, _ = groups_of(text)
+    libraries = Listing(text).libraries
+    return [f"{name} names {it}" for name in libraries for it in libraries[name] if it in groups and not may_name(groups[name], groups[it])]
+
+
+def main():
+    count = ran.Count()
+    text = read_text(f"{ran.TOP}/crates.txt")
+    groups, order = groups_of(text)
+    count.same("the groups, in their order", order, [*FLOOR, *WINGS, *TOPS])
+    count.same("crates without a group", [it for it in Listing(text).lines if groups.get(it) is None], [])
+    count.same("crates with a folder", sorted(groups), sorted(os.listdir(f"{ran.TOP}/crates")))
+    count.same("crates that name one that they may not", broken(text), [])
+    # (a look that can't fail shows nothing)
+    beam = text.replace("connection_messages:", "connection_messages: rpc_messages")
+    count.same("a beam between the wings", broken(beam), ["connection_messages names rpc_messages"])
+    count.same("a floor on a wing", broken(text.replace("message_ids:", "message_ids: rpc_messages")), ["message_ids names rpc_messages"])
+    return count.end()
+
+
+if __name__ == "__main__":
+    sys.exit(main())
