@@ -95,12 +95,13 @@ pub fn check<R: Files + AllocGlobal, W: Write>(
 ) -> Result<Close, RunFailure> {
     let text = read_file(rt, options.table, &mut notes.failure)?;
     let (table, text) = judge(rt.alloc(), text, notes)?;
-    notes.is_there = true;
     let methods = table.len();
     let picture = match options.explain {
         true => drawn(rt.alloc(), text.as_slice())?,
         false => String::new(rt.alloc()),
     };
+    // (what finds no memory until then is the table's)
+    notes.is_there = true;
     let picture = picture.as_str();
     if write!(output, "ok: {methods} methods\n{picture}").is_err() || output.flush().is_err() {
         return Err(RunFailure::Program(Failure::Write));
