@@ -113,6 +113,31 @@ def checked(refused: Refused) -> None:
         )
 
 
+PICTURE = b"""\
+ok: 0 methods
+
+  |                                     |  opening
+  |<- hello ----------------------------|  1 call to r
+  |-- reply --------------------------->|
+  |<- ready ----------------------------|  2 notify
+"""
+
+
+def drawn(refused: Refused) -> None:
+    """A picture is written whole or not at all, and what found no memory is the table's."""
+    file = rows.file_of(rows.OPENING)
+    missing = f"  file: {file}\n  missing: memory for the table\n".encode()
+
+    def is_well(status: int, wrote: bytes, said: bytes, was_refused: bool) -> bool:
+        if (status, wrote, said) == (0, PICTURE, b""):
+            return True
+        # (before the words are read nothing is explained)
+        told = ((1, NO_MEMORY), (1, NO_MEMORY + missing), (2, NO_TABLE + missing))
+        return was_refused and wrote == b"" and (status, said) in told
+
+    refused.each("a picture", [ran.BUILT, "check", "--table", file, "--explain"], b"", is_well)
+
+
 def served(refused: Refused) -> None:
     """Rows by `serve` with two workers. A cancel may find its handler parked, out or not turned yet."""
     asked, cancelled = [rows.called("1.1"), rows.answered("true")], [
@@ -189,7 +214,7 @@ def check_all(count: ran.Count) -> None:
     if ran.lacks("cc", refusals.WHY):
         return
     refused = Refused(count)
-    for it in (played, checked, served, explained):
+    for it in (played, checked, drawn, served, explained):
         it(refused)
     for name in GO_ON:
         refused.test(name, lambda status, *_: status == 0, WAYS[:1])

@@ -382,7 +382,7 @@ NOT_TOML = "table: NotToml, method 0, step 0"
 def not_toml(cause: str) -> Row:
     path = path_of("refused.toml")
     run = with_file("refused.toml", "version = 1\n\n[[method]\n", words_of("check", "--table", path))
-    return Row("a text that isn't TOML", run, NOT_TOML, (f"file: {path}", "line: 3", cause), 2)
+    return Row("a text that isn't TOML", run, NOT_TOML, (f"file: {path}", "line: 3", "column: 10", cause), 2)
 
 
 def test_text_that_isnt_toml() -> None:
@@ -409,10 +409,6 @@ def test_page_has_kinds_of_first_lines() -> None:
 @pytest.mark.parametrize("command", ("play", "serve"))
 def test_run_that_ends_well(command: str) -> None:
     same(ran.run([command, "--explain"], FRAME), (0, rows.frames(rows.NOT_FOUND), b""))
-
-
-def test_check_that_ends_well() -> None:
-    same(of_table("check")(["--explain"]), (0, b"ok: 6 methods\n", b""))
 
 
 # Words are refused as if their control characters stood escaped in them, and shown so.

@@ -1,5 +1,8 @@
 /* How a thread waits.
 
+   A look may be taken at once with the key before it. If a bell rang between the two, the key is old; then either the
+   round finds something, and the key makes no difference, or it is as if it had never been, and the next one begins.
+
    Looks without a key only read. A round of looks that finds nothing is as if it had never been, and one that finds
    something does the same with a key as without. So the model takes a key in each round. With FINE each round is
    free to take one or not, which is more than any number of looks: so it doesn't matter what a thread has learnt of how

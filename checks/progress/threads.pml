@@ -4,10 +4,10 @@ inline hire() {
   do
   :: workers_hired < WORKERS ->
      if
-     :: atomic { workers_at_work++; run Worker(workers_hired); workers_hired++ }
 #if FAULTS
      :: is_refused = true; break
 #endif
+     :: atomic { workers_at_work++; run Worker(workers_hired); workers_hired++ }
      fi
   :: else -> break
   od
@@ -15,13 +15,13 @@ inline hire() {
 
 inline begin_reading() {
   if
+#if FAULTS
+  :: is_refused = true
+#endif
 #if READER
   :: run Reader()
 #else
   :: d_step { ring!JOBS; ring!ENDS; reader_has_ended = true }
-#endif
-#if FAULTS
-  :: is_refused = true
 #endif
   fi
 }

@@ -2,11 +2,13 @@
 #![tactic(auto)]
 
 mod command_line;
+mod drawing;
 mod explanation;
 mod input;
 mod limits;
 mod noted;
 mod output;
+mod picture;
 mod pieces;
 mod playing;
 mod program;

@@ -39,7 +39,7 @@ where
             serve_streams(rt, options, &mut input, &mut output, &mut table)
         }
         Subcommand::Play(options) => play(rt, options, &mut input, &mut output, &mut table),
-        Subcommand::Check(options) => check(rt, options.table, &mut output, &mut table),
+        Subcommand::Check(options) => check(rt, options, &mut output, &mut table),
     };
     let status = tell_end(outcome, errors);
     if asked.explain {

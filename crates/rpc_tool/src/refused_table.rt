@@ -25,22 +25,26 @@ pub fn tell_refused<E: Write>(
         Err(error) if error.is_memory() => Ok(()),
         Err(error) => {
             let start = error.span().map_or(0, |span| span.start);
-            let line = line_of(text.as_slice(), start);
+            let (line, column) = place_of(text.as_slice(), start);
             writeln!(errors, "  line: {line}")?;
+            writeln!(errors, "  column: {column}")?;
             tell_cause(error.message(), errors)
         }
     }
 }
 
-/// The number of the line in which this byte stands, from 1.
-fn line_of(text: &[u8], place: usize) -> usize {
-    let mut line = 1usize;
+/// The line in which this byte stands and the column, both from 1. A column counts characters.
+fn place_of(text: &[u8], place: usize) -> (usize, usize) {
+    let (mut line, mut column) = (1usize, 1usize);
     for byte in text.iter().take(place) {
         if *byte == b'\n' {
             line = line.saturating_add(1);
+            column = 1;
+        } else if *byte & 0xC0 != 0x80 {
+            column = column.saturating_add(1);
         }
     }
-    line
+    (line, column)
 }
 
 /// What stands at the place of a fault.
@@ -120,7 +124,7 @@ fn item_at<'a>(table: &'a Table, name: &str, number: u32) -> Option<&'a Table> {
     items.get(number.saturating_sub(1) as usize)?.as_table()
 }
 
-fn text_at<'a>(table: Option<&'a Table>, name: &str) -> Option<&'a str> {
+pub fn text_at<'a>(table: Option<&'a Table>, name: &str) -> Option<&'a str> {
     table?.get(name)?.as_str()
 }
 

@@ -1,4 +1,6 @@
 //! The table of methods, read from its file and judged.
+use crate::command_line::CheckOptions;
+use crate::drawing::drawn;
 use crate::noted::NotedReader;
 use crate::reading::read_all;
 use crate::run_failure::RunFailure;
@@ -6,6 +8,7 @@ use crate::run_notes::{RefusedText, TableNotes};
 use method_steps::{Table, TableFault};
 use program_edge::Failure;
 use rpc_peer::Close;
+use std::alloc::Global;
 use std::fs;
 use std::io::{Error, ErrorKind, Write};
 use std::rt::Files;
@@ -20,21 +23,25 @@ pub fn table_in<R: Files + AllocGlobal>(
     notes: &mut TableNotes,
 ) -> Result<Table, RunFailure> {
     let table = match path {
-        Some(path) => read_table(rt, path, notes)?,
+        Some(path) => {
+            let text = read_file(rt, path, &mut notes.failure)?;
+            let (table, _text) = judge(rt.alloc(), text, notes)?;
+            table
+        }
         None => Table::empty(rt.alloc()),
     };
     notes.is_there = true;
     Ok(table)
 }
 
-fn read_table<R: Files + AllocGlobal>(
-    rt: &R,
-    path: &str,
+/// The table that a text stands for, and the text. One that is refused goes to the notes.
+fn judge(
+    alloc: Global,
+    text: Vec<u8>,
     notes: &mut TableNotes,
-) -> Result<Table, RunFailure> {
-    let text = read_file(rt, path, &mut notes.failure)?;
-    match Table::read(rt.alloc(), text.as_slice()) {
-        Ok(table) => Ok(table),
+) -> Result<(Table, Vec<u8>), RunFailure> {
+    match Table::read(alloc, text.as_slice()) {
+        Ok(table) => Ok((table, text)),
         Err(fault) => {
             notes.refused = Some(RefusedText { text, fault });
             Err(refused(fault))
@@ -78,15 +85,25 @@ fn refused(fault: TableFault) -> RunFailure {
     }
 }
 
-/// The command `check`: reads the table in a file, and says how many methods it has. It reads no input, so that ends cleanly.
+/// The command `check`: reads the table in a file, says how many methods it has, and draws them where that is asked for.
+/// It reads no input, so that ends cleanly.
 pub fn check<R: Files + AllocGlobal, W: Write>(
     rt: &R,
-    path: &str,
+    options: CheckOptions<'_>,
     output: &mut W,
     notes: &mut TableNotes,
 ) -> Result<Close, RunFailure> {
-    let methods = table_in(rt, Some(path), notes)?.len();
-    if writeln!(output, "ok: {methods} methods").is_err() || output.flush().is_err() {
+    let text = read_file(rt, options.table, &mut notes.failure)?;
+    let (table, text) = judge(rt.alloc(), text, notes)?;
+    let methods = table.len();
+    let picture = match options.explain {
+        true => drawn(rt.alloc(), text.as_slice())?,
+        false => String::new(rt.alloc()),
+    };
+    // (what finds no memory until then is the table's)
+    notes.is_there = true;
+    let picture = picture.as_str();
+    if write!(output, "ok: {methods} methods\n{picture}").is_err() || output.flush().is_err() {
         return Err(RunFailure::Program(Failure::Write));
     }
     Ok(Close::Clean)

@@ -45,7 +45,7 @@ const CHECK: ProgramCommand = ProgramCommand {
     about: "Judge a table of methods, and say how many methods it has",
     options: &[
         CommandOption::Text(JUDGED_TABLE),
-        CommandOption::Flag(EXPLAIN),
+        CommandOption::Flag(EXPLAIN_TABLE),
     ],
 };
 
@@ -120,4 +120,10 @@ pub const CALLS: NumberOption = NumberOption {
 pub const EXPLAIN: FlagOption = FlagOption {
     name: "explain",
     help: "Add lines to the one on standard error that says why a run ended: what failed, where and why",
+};
+
+/// What `check` explains.
+pub const EXPLAIN_TABLE: FlagOption = FlagOption {
+    name: "explain",
+    help: "Draw what the table does, or add lines to the one on standard error: what is at fault, where and why",
 };

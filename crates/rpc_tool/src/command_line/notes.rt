@@ -4,7 +4,8 @@
 pub const NOTES: &str = "\
 Status and standard error:
   A run that does all that it was asked has the status 0 and writes nothing to standard error. Otherwise one
-  line says why. --explain adds lines after it: what failed, where and why.
+  line says why. --explain adds lines after it: what failed, where and why. Of a table that is well formed
+  check --explain draws what it does.
 
   0                                  The input ended between two frames, or the table is well formed
   1  input ended: BadHead            A line of a head isn't name:value CR LF

@@ -1,6 +1,7 @@
 //! The words of a command line, read.
 use super::commands::{
-    CALLS, CONTENT, EXPLAIN, JUDGED_TABLE, LAST, LAZY, LINES, PIECE, PROGRAM, TABLE, WORKERS,
+    CALLS, CONTENT, EXPLAIN, EXPLAIN_TABLE, JUDGED_TABLE, LAST, LAZY, LINES, PIECE, PROGRAM, TABLE,
+    WORKERS,
 };
 use super::subcommand::{CheckOptions, LimitOptions, PlayOptions, ServeOptions, Subcommand};
 use program_edge::{Refusal, Words};
@@ -18,7 +19,7 @@ pub fn read<'a>(alloc: Global, words: &'a [String]) -> Result<Subcommand<'a>, Re
         // Words without a command are refused, and `check` without its table.
         _ => Subcommand::Check(CheckOptions {
             table: words.text(&JUDGED_TABLE).unwrap_or(""),
-            explain: words.flag(&EXPLAIN),
+            explain: words.flag(&EXPLAIN_TABLE),
         }),
     })
 }

@@ -55,6 +55,6 @@ pub struct PlayOptions<'a> {
 pub struct CheckOptions<'a> {
     /// The file of the table of methods.
     pub table: &'a str,
-    /// Whether standard error says more than one line.
+    /// Whether the table is drawn, and standard error says more than one line where it is refused.
     pub explain: bool,
 }
