@@ -2,6 +2,8 @@
 methods in its own code: sums, calls back, unknown methods, notifications, cancels, batches, broken contents, inputs
 that end early, and devices that fail. Each row is worked out by hand from the page, and is played whole, cut, and while
 the other side waits for each line."""
+import glob
+import os
 import subprocess
 from typing import IO, Callable, NamedTuple
 
@@ -9,197 +11,38 @@ import pytest
 
 from support import needing, ran
 from support.expecting import same
-from support.naming import named
+from support.naming import named, word_of
+from support.row_language import Unread, read_file, wire_of
 
+FOLDER = os.path.join(ran.TOP, "checks", "hosted_rows")
 SMALL = 7
 
 
 class Row(NamedTuple):
-    """Lines that come, marked by `<`, and those that are written, marked by `>`, in an order that any cut keeps."""
+    """What comes and what is written, marked by `<` and `>`, in an order that any cut keeps; and `$` where the input ends
+    before the last of these is written."""
 
     name: str
-    lines: str
+    messages: list[tuple[str, bytes]]
+    forms: list[str]
 
 
-def error(number: str, code: int, message: str) -> str:
-    return f'{{"error":{{"code":{code},"message":"{message}"}},"id":{number},"jsonrpc":"2.0"}}'
+def message_of(line: str) -> tuple[str, bytes]:
+    wire = wire_of(line)
+    if line == "end closed":
+        return "$", b""
+    if wire is None or wire.times > 1 or wire.is_bytes or wire.is_joined:
+        raise Unread(f"neither a content nor `end closed`: {line}")
+    return "<" if wire.comes else ">", wire.bytes
 
 
-NO_METHOD, NO_PARAMS = (-32601, "Method not found"), (-32602, "Invalid params")
-CANCELLED, NO_REPLY, INVALID, PARSE = (
-    (-32800, "Request cancelled"),
-    (-32000, "No reply"),
-    (-32600, "Invalid Request"),
-    (-32700, "Parse error"),
-)
-FAULT, INTERNAL = (-32603, "Invalid reply"), (-32603, "Internal error")
-SPACED, A_1, TEXT_A = '{ "a" : 1.0}', '{"a":1.0}', '"a"'
-UNKNOWN = (("nope", "1"), ("", "null"), ("Add", '"x"'))
-DEEP = "[" * 124 + "]" * 124
-
-
-def asked(method: str, params: str, number: str) -> str:
-    return f'{{"jsonrpc":"2.0","method":"{method}","params":{params},"id":{number}}}'
-
-
-def answered(number: str, result: str) -> str:
-    return f'{{"id":{number},"jsonrpc":"2.0","result":{result}}}'
-
-
-def sums() -> str:
-    rows = (
-        ("[1,2,3]", "6"),
-        ("[]", "0"),
-        ("[ -5 , 2 ]", "-3"),
-        ("[-0]", "0"),
-        ("[9223372036854775806,1]", "9223372036854775807"),
-        ("[-9223372036854775808]", "-9223372036854775808"),
-    )
-    return "\n".join(f"< {asked('add', params, '1')}\n> {answered('1', sum_)}" for params, sum_ in rows)
-
-
-def no_sums() -> str:
-    rows = (
-        ("[1.5]", NO_PARAMS),
-        ("[1e2]", NO_PARAMS),
-        ('["1"]', NO_PARAMS),
-        ("[[1]]", NO_PARAMS),
-        ("[null]", NO_PARAMS),
-        ('{"a":1}', NO_PARAMS),
-        ("null", NO_PARAMS),
-        ("[9223372036854775808]", NO_PARAMS),
-        ("[9223372036854775807,1]", INTERNAL),
-        ("[-9223372036854775808,-1]", INTERNAL),
-    )
-    return "\n".join(f"< {asked('add', params, '1')}\n> {error('1', *why)}" for params, why in rows)
-
-
-def replied(key: int, result: str) -> str:
-    return f'{{"jsonrpc":"2.0","id":{key},"result":{result}}}'
-
-
-def confirm(key: int, params: str) -> str:
-    return f'{{"id":{key},"jsonrpc":"2.0","method":"confirm","params":{params}}}'
-
-
-def lines(*pairs: str) -> str:
-    """Lines, each behind its mark."""
-    return "\n".join(pairs)
-
-
-PARAMS = '["x",1.50]'
-ASK = asked("ask", '["x", 1.50]', "7")
-FIRST = lines(f"< {ASK}", f"> {confirm(1, PARAMS)}")
-CANCEL = '{"jsonrpc":"2.0","method":"$/cancelRequest","params":{"id":%d}}'
-ONE = lines(f"< {asked('add', '[1]', '1')}", f"> {answered('1', '1')}")
-FAILED = '{"jsonrpc":"2.0","id":1,"error":{"code":5,"message":"n\\u006f","data":[ 1 ]}}'
-FAILED_7 = '{"error":{"code":5,"data":[1],"message":"no"},"id":7,"jsonrpc":"2.0"}'
-FAULTY = '{"jsonrpc":"1","id":1,"result":1}'
-NOTICE = '{"jsonrpc":"2.0","method":"note"}'
-INVALID_NULL = error("null", *INVALID)
-
-ROWS = (
-    Row("sums", sums()),
-    Row("no sums", no_sums()),
-    Row("a call back", lines(FIRST, f"< {replied(1, SPACED)}", f"> {answered('7', A_1)}")),
-    Row("a call back that fails", lines(FIRST, f"< {FAILED}", f"> {FAILED_7}")),
-    Row(
-        "a call back with a faulty reply",
-        lines(FIRST, f"< {FAULTY}", f"> {error('7', *FAULT)}", f"< {replied(1, '1')}"),
-    ),
-    Row(
-        "calls back without params, with an object, and with what nests too deep",
-        lines(
-            '< {"jsonrpc":"2.0","method":"ask","id":"a"}',
-            '> {"id":1,"jsonrpc":"2.0","method":"confirm"}',
-            f"< {asked('ask', '{ }', '2')}",
-            f"> {confirm(2, '{}')}",
-            f"< {asked('ask', DEEP, '3')}",
-            f"> {error('3', *NO_PARAMS)}",
-            f"< {replied(2, 'null')}",
-            f"> {answered('2', 'null')}",
-            f"< {replied(1, '5')}",
-            f"> {answered(TEXT_A, '5')}",
-            f"< {replied(1, '6')}",
-        ),
-    ),
-    Row(
-        "a reply that nests too deep to be said again",
-        lines(FIRST, f"< {replied(1, DEEP)}", f"> {error('7', *INTERNAL)}"),
-    ),
-    Row(
-        "unknown methods",
-        lines(
-            *(it for method, id_ in UNKNOWN for it in (f"< {asked(method, '[1]', id_)}", f"> {error(id_, *NO_METHOD)}"))
-        ),
-    ),
-    Row(
-        "notifications",
-        lines(
-            f"< {NOTICE}", '< {"jsonrpc":"2.0","method":"add","params":[1]}', '< {"jsonrpc":"2.0","method":"ask"}', ONE
-        ),
-    ),
-    Row(
-        "a cancel",
-        lines(
-            FIRST,
-            f"< {CANCEL % 7}",
-            f"> {CANCEL % 1}",
-            f"> {error('7', *CANCELLED)}",
-            f"< {replied(1, '5')}",
-            f"< {CANCEL % 7}",
-            f"< {ASK}",
-            f"> {confirm(2, PARAMS)}",
-            f"< {replied(2, 'true')}",
-            f"> {answered('7', 'true')}",
-        ),
-    ),
-    Row(
-        "a batch, whose answer waits for a reply",
-        lines(
-            f"< [{ASK},{asked('add', '[1]', '8')},5,{NOTICE},{asked('nope', '[]', '9')}]",
-            f"> {confirm(1, PARAMS)}",
-            ONE,
-            f"< [{replied(1, '[]')}]",
-            f"> [{answered('7', '[]')},{answered('8', '1')},{INVALID_NULL},{error('9', *NO_METHOD)}]",
-        ),
-    ),
-    Row(
-        "a batch of a request and its cancel",
-        lines(f"< [{ASK},{CANCEL % 7}]", f"> {confirm(1, PARAMS)}", f"> {CANCEL % 1}", f"> [{error('7', *CANCELLED)}]"),
-    ),
-    Row(
-        "broken contents",
-        lines(
-            "< {",
-            f"> {error('null', *PARSE)}",
-            "< []",
-            f"> {INVALID_NULL}",
-            "< 5",
-            f"> {INVALID_NULL}",
-            "< [5,5]",
-            f"> [{INVALID_NULL},{INVALID_NULL}]",
-            ONE,
-        ),
-    ),
-    Row(
-        "calls back without a reply",
-        lines(
-            FIRST,
-            f"< {ASK}",
-            f"> {confirm(2, PARAMS)}",
-            "$",
-            f"> {error('7', *NO_REPLY)}",
-            f"> {error('7', *NO_REPLY)}",
-        ),
-    ),
-    Row("nothing", ""),
-)
-
-
-def messages(row: Row) -> list[tuple[str, bytes]]:
-    """What comes, what is written, and the end of the input where it isn't last."""
-    return [(it[:1], it[2:].encode()) for it in row.lines.split("\n") if it]
+def rows_of(file: str) -> list[Row]:
+    """The rows of a file of checks/hosted_rows; support/row_language.py has their language. Their ways are framings."""
+    with open(file, encoding="utf-8", newline="") as it:
+        facts, blocks = read_file(it.read())
+    if facts or not all({*it.ways} <= {*FORMS} for it in blocks):
+        raise Unread(f"{file}: a row with ways other than {', '.join(FORMS)}, or lines that hold for all rows: {facts}")
+    return [Row(it.name, [*map(message_of, it.lines)], it.ways) for it in blocks]
 
 
 def framed(content: bytes) -> bytes:
@@ -214,8 +57,10 @@ FORMS: dict[str, tuple[list[str], Callable[[bytes], bytes]]] = {
     "frames": (["host"], framed),
     "lines": (["host", "--lines"], lined),
 }
-ROW = pytest.mark.parametrize("row", named(ROWS))
-IN_FORM = pytest.mark.parametrize("form", FORMS)
+ROWS = [row for file in sorted(glob.glob(f"{FOLDER}/*.txt")) for row in rows_of(file)]
+IN_FORM = pytest.mark.parametrize(
+    "row, form", [pytest.param(row, form, id=f"{word_of(row.name)}-{form}") for row in ROWS for form in row.forms]
+)
 
 
 @pytest.fixture(scope="session")
@@ -226,11 +71,10 @@ def program() -> str:
 def streams(row: Row, form: str) -> tuple[bytes, bytes]:
     """All that comes, and all that is written."""
     put = FORMS[form][1]
-    given, wanted = (b"".join(put(it) for mark, it in messages(row) if mark == way) for way in "<>")
+    given, wanted = (b"".join(put(it) for mark, it in row.messages if mark == way) for way in "<>")
     return given, wanted
 
 
-@ROW
 @IN_FORM
 def test_row(program: str, row: Row, form: str) -> None:
     """What is written for the contents of one piece is that of one after the other."""
@@ -244,7 +88,6 @@ def opened(program: str, words: list[str]) -> "subprocess.Popen[bytes]":
     )
 
 
-@ROW
 @IN_FORM
 @pytest.mark.parametrize("size", (1, SMALL))
 def test_row_cut(program: str, row: Row, form: str, size: int) -> None:
@@ -257,13 +100,12 @@ def test_row_cut(program: str, row: Row, form: str, size: int) -> None:
     same((it.returncode, output, errors), (0, wanted, b""))
 
 
-@ROW
 @IN_FORM
 def test_row_waited_for(program: str, row: Row, form: str) -> None:
     """The other side reads what is written for each content before it sends the next."""
     words, put = FORMS[form]
     with opened(program, words) as it:
-        for mark, content in messages(row):
+        for mark, content in row.messages:
             if mark == "<":
                 ran.pipe(it.stdin).write(put(content))
             elif mark == "$":
@@ -289,7 +131,27 @@ def exactly(stream: IO[bytes], length: int) -> bytes:
 
 # An input that ends early or is broken: what came before is answered, and what was asked back is answered too.
 
-CALL, KEY, GONE = framed(ASK.encode()), framed(confirm(1, PARAMS).encode()), framed(error("7", *NO_REPLY).encode())
+
+def asked(method: str, params: str, number: str) -> str:
+    return f'{{"jsonrpc":"2.0","method":"{method}","params":{params},"id":{number}}}'
+
+
+def answered(number: str, result: str) -> str:
+    return f'{{"id":{number},"jsonrpc":"2.0","result":{result}}}'
+
+
+def replied(key: int, result: str) -> str:
+    return f'{{"jsonrpc":"2.0","id":{key},"result":{result}}}'
+
+
+def confirm(key: int, params: str) -> str:
+    return f'{{"id":{key},"jsonrpc":"2.0","method":"confirm","params":{params}}}'
+
+
+NO_REPLY = '{"error":{"code":-32000,"message":"No reply"},"id":7,"jsonrpc":"2.0"}'
+
+CALL, KEY = framed(asked("ask", '["x", 1.50]', "7").encode()), framed(confirm(1, '["x",1.50]').encode())
+GONE = framed(NO_REPLY.encode())
 ENDS = [
     ("the input ends inside a head", CALL + b"Content-Le", "Truncated"),
     ("the input ends inside a content", CALL + b"Content-Length: 5\r\n\r\n{", "Truncated"),

@@ -15,7 +15,8 @@ from support import cases, needing, rows
 from support.cases import Case, Ran
 from support.expecting import check, same
 from support.naming import named, word_of
-from support.row_files import COUNTS, FOLDER, WAYS, Row, Unread, read_rows
+from support.row_files import COUNTS, FOLDER, WAYS, Row, read_rows
+from support.row_language import Unread
 
 # A right file, and texts of it with what breaks them.
 RIGHT = "Rows.\ntables: none\n\na row: eager\n<2 []\n<< \\r\nor\n= numbers 0, polls 0\n"

@@ -13,7 +13,7 @@ PARTS = ("pages", "rows", "python", "rust", "c", "node", "proofs")
 # The part of a file whose name doesn't begin with that of its part. What stands nowhere is of the rows.
 OF = {
     **dict.fromkeys(("examples", "methods", "pictures", "embedding"), "pages"),
-    **dict.fromkeys(("wrong_bodies", "wrong_body_judge", "tried", "planted"), "proofs"),
+    **dict.fromkeys(("wrong_bodies", "wrong_body_judge", "tried", "planted", "wings", "progress"), "proofs"),
 }
 
 

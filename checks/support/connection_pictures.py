@@ -9,7 +9,6 @@ FEWEST = 3
 
 # The arrows of a picture, each with the action that it stands for, and what that gives: of the wire on the left, and of
 # the host on the right.
-SETTINGS = "settings contents as-answered cancels 16777216 1000"
 ARROWS = (
     (re.compile(r"  \|-- (\S.*\S) -+>\| +\|"), lambda came: (f"feed '{came}'", "ok")),
     (re.compile(r"  \|<- (\S.*\S) -+\| +\|"), lambda goes: ("take 1000", f"bytes '{goes}'")),
@@ -45,17 +44,8 @@ def picture_of(count: Any, name: str, text: str) -> rows.Row:
     lines = [it for it in text.splitlines() if "--" in it]
     found = [say(it[1]) for line in lines for arrow, say in ARROWS if (it := arrow.fullmatch(line))]
     count.check("each arrow of a picture is read", len(found) == len(lines), f"{len(found)} of {len(lines)}")
-    return rows.row_of(
-        "\n".join(
-            [
-                name,
-                SETTINGS,
-                *(f"{action} => {gives}" for action, gives in found),
-                "next => none",
-                "pending => pending 0",
-            ]
-        )
-    )
+    actions = (f"{action} => {gives}" for action, gives in found)
+    return rows.row_in("\n".join([f"{name}: contents", *actions, "next => none", "pending => pending 0"]))
 
 
 def pictures(count: Any) -> list[rows.Row]:

@@ -1,8 +1,16 @@
-"""Rows of checks/connection_rows: scripts that are written by hand, with what each action gives.
+"""Rows of checks/connection_rows, of a connection and its host: what comes and goes, and what the host does between.
 
-The first line of a file says what it is about. A row begins after an empty line with its name, and then has an action a
-line, in the language of connection_script.py. After ` => ` stands what the action gives; where nothing stands there,
-that is `ok`.
+row_language.py has their language. The ways of a row are the settings of its connection: a framing, and what is other
+than in STANDARD, as in `a content that is too long: lines content 30`. With `settings` for its ways a row begins with
+an action of that name. What comes in is fed, in the connection's framing; what goes out is all that a `take` gives.
+Beside these a row has an action a line, in the language of connection_script.py. After ` => ` stands what the action
+gives; where nothing stands there, that is `ok`:
+
+    a call, and its reply: lines
+    < {"jsonrpc":"2.0","method":"delete","id":7}
+    next => call 1 'delete' - '7'
+    call 1 'confirm' '["a.txt"]' => key 1
+    > {"id":1,"jsonrpc":"2.0","method":"confirm","params":["a.txt"]}
 
 Where that language has HEX, a row has parts joined by `+`, each of which may have a count before it, as `200*'['`:
 
@@ -19,10 +27,15 @@ from typing import Iterator
 from support import connection_script as script
 from support import ran
 from support import rows as hostile
+from support.row_files import frame
+from support.row_language import Block, Unread, Wire, block_of, read_file, wire_of
 
 FOLDER = os.path.join(ran.TOP, "checks", "connection_rows")
 PART = re.compile(r"(?:([0-9]+)\*)?(?:(frame|line|)'([^']*)'|((?:[0-9a-f]{2})+))")
 WORD = re.compile(r"(?:[^ ']|'[^']*')+")
+# The settings that a row has where its ways say nothing else, behind the framing; and how much a `take` asks for.
+STANDARD = ("as-answered", "cancels", "16777216", "1000")
+ROOM = 1000
 # The most places at which a feed is cut.
 MOST_CUTS = 400
 # Lines that are no action.
@@ -134,17 +147,83 @@ def joined(word: str) -> str:
     return script.hex_of(b"".join(map(bytes_of, parts)))
 
 
-def row_of(text: str) -> Row:
-    name, *lines = text.strip("\n").split("\n")
-    pairs = [it.partition(" => ") for it in lines]
-    actions = tuple(script.action_of(plain(action.strip())) for action, _, _ in pairs)
-    return Row(name, actions, tuple(plain(gives.strip()) or "ok" for _, _, gives in pairs))
+def settings_of(ways: list[str]) -> list[str]:
+    """The settings that a row's ways stand for, as words of an action."""
+    framing, order, cancels, content, calls = ways[0], *STANDARD
+    rest = iter(ways[1:])
+    for it in rest:
+        if it in script.ORDERS:
+            order = it
+        elif it in script.CANCELS:
+            cancels = it
+        elif it == "content":
+            content = next(rest, "")
+        elif it == "calls":
+            calls = next(rest, "")
+        else:
+            raise Unread(f"a way that isn't known: {it}")
+    return ["settings", framing, order, cancels, content, calls]
+
+
+def framed(wire: Wire, framing: str) -> bytes:
+    """What comes or goes by a line, in a framing."""
+    if not wire.is_bytes and framing == "frames":
+        return frame(wire.text) * wire.times
+    return (wire.bytes + (b"\n" if not wire.is_bytes and framing == "lines" else b"")) * wire.times
+
+
+class Reading:
+    """A row as it is read, line by line."""
+
+    def __init__(self, block: Block) -> None:
+        self.framing = ""
+        self.pairs: list[tuple[str, str]] = []  # the actions, and what each gives
+        self.piece = b""  # what came or went by the line before
+        if block.ways != ["settings"]:
+            self.act(" ".join(settings_of(block.ways)), "")
+        for line in block.lines:
+            self.take(line)
+
+    def take(self, line: str) -> None:
+        if wire := wire_of(line):
+            self.move(wire)
+        else:
+            action, _, gives = line.partition(" => ")
+            self.act(action.strip(), gives.strip())
+
+    def act(self, action: str, gives: str) -> None:
+        self.pairs.append((plain(action), plain(gives) or "ok"))
+        if action.startswith("settings "):
+            self.framing = action.split(" ")[1]
+
+    def move(self, wire: Wire) -> None:
+        """What comes is fed, and what goes is taken, in one piece with the line before where that is so."""
+        if wire.is_joined:
+            self.pairs.pop()
+        self.piece = (self.piece if wire.is_joined else b"") + framed(wire, self.framing)
+        told = script.hex_of(self.piece)
+        self.pairs.append((f"feed {told}", "ok") if wire.comes else (f"take {ROOM}", f"bytes {told}"))
+
+
+def row_of(block: Block) -> Row:
+    try:
+        pairs = Reading(block).pairs
+        return Row(block.name, tuple(script.action_of(it) for it, _ in pairs), tuple(gives for _, gives in pairs))
+    except ValueError as fault:
+        raise Unread(f"{block.name}: {fault}") from fault
+
+
+def row_in(text: str) -> Row:
+    """One row by itself."""
+    return row_of(block_of(text))
 
 
 def rows_of(file: str) -> list[Row]:
-    with open(file, encoding="utf-8") as it:
-        _, *texts = re.split(r"\n\n+", it.read())
-    return [row_of(it) for it in texts]
+    with open(file, encoding="utf-8", newline="") as it:
+        facts, blocks = read_file(it.read())
+    if facts:
+        raise Unread(f"{file}: lines that hold for all rows: {facts}")
+    return [row_of(it) for it in blocks]
 
 
 def hosted(name: str, given: bytes, output: bytes, end: str) -> Row:

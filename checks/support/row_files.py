@@ -1,18 +1,17 @@
-"""Reads the rows of checks/played_rows: what comes in, and what has to go out.
+"""Reads the rows of checks/played_rows, of the peer with a table: what comes in, and what has to go out.
 
-The first line of a file says what its rows are about, and the second by the methods of which tables they are played.
-Then come the rows, each with an empty line before it:
+row_language.py has their language. The second line of a file says by the methods of which tables its rows are played.
+Beside what comes in and goes out, which is one stream each, a row has these lines:
 
-    a call back and its reply: eager lazy served        its name, and its ways
-    < {"jsonrpc":"2.0","method":"ask","id":7}           a content that comes in; <3 has it come three times
-    << Content-Length: 40\\r\\n                           bytes that come in
-    > {"id":7,"jsonrpc":"2.0","result":true}            a content that goes out; >> bytes that do
+    a call back and its reply: eager lazy served        its ways: see WAYS, or a number of workers
     or                                                  after it, another output that there may be
     ! TwoLengths                                        how the input ends, where it doesn't end clean
     = numbers 1, answers 1                              what is counted, or a part of it"""
 import os
 import re
 from dataclasses import dataclass, field
+
+from support.row_language import Block, Unread, Wire, read_file, wire_of
 
 FOLDER = os.path.join(os.path.dirname(os.path.dirname(os.path.abspath(__file__))), "played_rows")
 TABLES = ("none", "methods", "opening", "each")
@@ -27,11 +26,6 @@ WAYS = {
 }
 COUNTS = {"numbers": "numbers", "messages": "messages", "call frames": "calls", "answers": "answers", "polls": "polls"}
 ENDS = ("BadHead", "BadLength", "TwoLengths", "TooLarge", "NoLength", "HeadTooLong", "Truncated", "Workers")
-ESCAPES = {r"\r": "\r", r"\n": "\n", r"\t": "\t", r"\x7f": "\x7f"}
-
-
-class Unread(Exception):
-    """A line that isn't understood."""
 
 
 def frame(content: str | bytes) -> bytes:
@@ -53,18 +47,20 @@ class Row:
     contents: list[str] = field(default_factory=list)
     is_of_contents: bool = True  # no other bytes come in or go out, and one output
 
-
-def unescaped(text: str) -> bytes:
-    def character(found: re.Match[str]) -> str:
-        if found[0] not in ESCAPES:
-            raise Unread(f"{found[0]} stands for nothing")
-        return ESCAPES[found[0]]
-
-    return re.sub(r"\\x..|\\.?", character, text).encode()
+    def take(self, wire: Wire) -> None:
+        """Takes what comes in or goes out."""
+        piece = (wire.bytes if wire.is_bytes else frame(wire.text)) * wire.times
+        self.is_of_contents &= not wire.is_bytes
+        if wire.comes:
+            self.stream += piece
+            self.given += [wire.text] * wire.times
+        else:
+            self.outputs[-1] += piece
+            self.contents += [wire.text] * wire.times
 
 
 def read_counts(text: str) -> dict[str, int]:
-    found = {}
+    found: dict[str, int] = {}
     for it in text.split(", "):
         name, _, number = it.rpartition(" ")
         if name not in COUNTS or name in found or not number.isdecimal():
@@ -75,19 +71,9 @@ def read_counts(text: str) -> dict[str, int]:
 
 def read_line(row: Row, line: str) -> None:
     """Takes a line into the row that it is of."""
-    passed = re.fullmatch(r"(<<?|>>?)([1-9]\d*)? (.*)", line)
-    mark, _, text = line.partition(" ")
-    if passed:
-        mark, times, text = passed.groups()
-        many, is_bytes = int(times or 1), len(mark) > 1
-        piece = unescaped(text) if is_bytes else frame(text)
-        row.is_of_contents &= not is_bytes
-        if mark.startswith("<"):
-            row.stream += piece * many
-            row.given += [text] * many
-        else:
-            row.outputs[-1] += piece * many
-            row.contents += [text] * many
+    wire, (mark, _, text) = wire_of(line), line.partition(" ")
+    if wire:
+        row.take(wire)
     elif line == "or":
         row.outputs.append(b"")
         row.is_of_contents = False
@@ -99,30 +85,25 @@ def read_line(row: Row, line: str) -> None:
         raise Unread("a line of no kind")
 
 
-def read_row(text: str) -> Row:
-    head, *lines = text.split("\n")
-    name, found, ways = head.rpartition(": ")
-    if not found or not all(it in WAYS or it.isdecimal() for it in ways.split(" ")):
-        raise Unread(f"a row without a name, or with a way that isn't known: {head}")
-    row = Row(name, ways.split(" "))
-    for line in lines:
+def row_of(block: Block) -> Row:
+    if not all(it in WAYS or it.isdecimal() for it in block.ways):
+        raise Unread(f"{block.name}: a way that isn't known: {block.ways}")
+    row = Row(block.name, block.ways)
+    for line in block.lines:
         try:
             read_line(row, line)
         except Unread as fault:
-            raise Unread(f"{name}: {fault}: {line}") from fault
+            raise Unread(f"{block.name}: {fault}: {line}") from fault
     return row
 
 
 def read_rows(text: str) -> tuple[list[str], list[Row]]:
     """The tables that a file names, and its rows."""
-    head, *texts = text.removesuffix("\n").split("\n\n")
-    tables = re.fullmatch(r"[A-Z].*\.\ntables: (\w+(?: \w+)*)", head)
+    facts, blocks = read_file(text)
+    tables = re.fullmatch(r"tables: (\w+(?: \w+)*)", facts[0]) if len(facts) == 1 else None
     if not tables or not {*tables[1].split()} <= {*TABLES}:
-        raise Unread(f"no line that says what the rows are about, or none with tables that are known: {head}")
-    found = [read_row(it) for it in texts]
-    if not found or len({it.name for it in found}) < len(found):
-        raise Unread("no rows, or two of one name")
-    return tables[1].split(), found
+        raise Unread(f"no line with tables that are known: {facts}")
+    return tables[1].split(), [row_of(it) for it in blocks]
 
 
 def rows_of(name: str) -> tuple[list[str], list[Row]]:
