@@ -166,7 +166,7 @@ def play(words, room):
 
 
 def cancelled(it):
-    """Of many completions at once the last one is cancelled, and a cancel reaches nothing. All of it arrives as one piece."""
+    """Of many completions at once the last one is cancelled, and one cancel reaches nothing; all arrives as one piece."""
     many = [it.id + at for at in range(1, 7)]
     it.id = many[-1]
     asked = [{"id": id_, "method": "textDocument/completion", "params": place(18, 17)} for id_ in many]

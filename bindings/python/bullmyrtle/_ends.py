@@ -15,10 +15,10 @@ _CLEAN = ("Clean", "Stopped", "Exited")
 class End(NamedTuple):
     """How a session ended."""
 
-    #: "Clean"; "Stopped", by `stop`; "Exited", by `sys.exit` in a method; the name of a fault of the input, as "BadHead";
-    #: or "Read", "Full", "Broken" (the output can't be written), "NoStreams" (they were closed from the start), "Late" (calls
-    #: had no answer in time), "Unwritten", "Memory", "Failed", "Interrupted", "Cancelled", or "Lost" (a client's server ended by
-    #: itself)
+    #: "Clean"; "Stopped", by `stop`; "Exited", by `sys.exit` in a method; the name of a fault of the input, as
+    #: "BadHead"; or "Read", "Full", "Broken" (the output can't be written), "NoStreams" (they were closed from the
+    #: start), "Late" (calls had no answer in time), "Unwritten", "Memory", "Failed", "Interrupted", "Cancelled", or
+    #: "Lost" (a client's server ended by itself)
     how: str
     text: str  #: what was wrong, and what to do
     status: Optional[int] = None  #: what serving gave, or None where it was cancelled

@@ -11,7 +11,7 @@ import unittest
 
 from helping import Case, command, environment, frame, joined, logged, notice, request
 
-from bullmyrtle import LATER, BadSettings, Client, Closed, NoMemory, Server, Unanswered
+from bullmyrtle import LATER, BadSettings, Client, Closed, NoMemory, Server, Unanswered, _process
 from bullmyrtle.testing import Memory
 
 LINE = b'{"jsonrpc":"2.0","method":"add","params":[1,2],"id":7}\n'
@@ -452,7 +452,7 @@ class StandardErrors(Scripts):
             from bullmyrtle import Client
             async def main():
                 async with Client([sys.executable, sys.argv[1]]) as client:
-                    sys.stdin.read()
+                    await asyncio.get_running_loop().run_in_executor(None, sys.stdin.read)
             asyncio.run(main())
         """
         loud = self.script(
@@ -460,9 +460,7 @@ class StandardErrors(Scripts):
         )
         host = os.path.join(self.room, "host.py")
         with open(host, "w", encoding="utf-8") as it:
-            it.write(
-                textwrap.dedent(code).replace("sys.stdin.read()", "await asyncio.get_running_loop().run_in_executor(None, sys.stdin.read)")
-            )
+            it.write(textwrap.dedent(code))
         pipes = {"stdin": subprocess.PIPE, "stderr": subprocess.PIPE, "env": environment()}
         with subprocess.Popen(command(host, loud), bufsize=0, **pipes) as process:
             self.assertEqual(process.stderr.readline(), b"at once\n")
@@ -520,12 +518,26 @@ class StandardErrors(Scripts):
 
     def test_nothing_is_left_behind(self):
         """Also where a child of the server has its standard error, and stays."""
-        text = "import subprocess, sys\nsubprocess.Popen(['sleep', '3'], stdin=subprocess.DEVNULL, stdout=subprocess.DEVNULL)\n"
+        text = "import subprocess, sys\nnull = subprocess.DEVNULL\n"
+        text += "subprocess.Popen(['sleep', '3'], stdin=null, stdout=null)\n"
         before = len(os.listdir("/proc/self/fd"))
         began = time.monotonic()
         self.run_loud(text + "sys.stdin.read()\n")
         self.assertEqual(len(os.listdir("/proc/self/fd")), before)
         self.assertLess(time.monotonic() - began, 2.5)
+
+    def test_a_child_that_goes_on_writing(self):
+        text = "import subprocess, sys\nnull = subprocess.DEVNULL\n"
+        text += "subprocess.Popen(['sh', '-c', 'yes >&2'], stdin=null, stdout=null)\nsys.stdin.read()\n"
+        began = time.monotonic()
+        end = self.run_loud(text)
+        self.assertEqual((end.how, len(end.stderr)), ("Clean", 4096))
+        self.assertLess(time.monotonic() - began, 10)
+        # (the child may be slower than who reads; so here is one that isn't)
+        endless, reads = _process._ErrorOutput.__new__(_process._ErrorOutput), []
+        endless.read = lambda: len(reads) < 100_000 and not reads.append(1)
+        endless.read_what_is_there()
+        self.assertLess(len(reads), 100)
 
 
 class Counted(Case):
