@@ -358,8 +358,7 @@ class Answering(Asking):
 
     def _may_answer(self, request: Request) -> bool:
         """Whether a request isn't cancelled; raises what the connection would, where it can't be asked."""
-        if self._is_closed:
-            raise Closed("the connection is closed")
+        self._check_that_it_can_be_put_off()
         if request.number not in self._open and not request.is_cancelled:
             raise NotOpen(f"{request.method}: the request is answered already")
         return not request.is_cancelled

@@ -110,9 +110,10 @@ class Asking:
         if self._aside is None:
             first = self._said_calls(texts, is_batch, request)
             replies = [self._reply_to(key, request) for key in range(first, first + len(texts))]
-        elif not texts:
-            raise Empty()
         else:
+            self._check_that_it_can_be_put_off()
+            if not texts:
+                raise Empty()
             replies = [Reply(self, 0) for _ in texts]
             self._put_off.append(functools.partial(self._call_later, texts, is_batch, request, replies))
         return asyncio.gather(*replies, return_exceptions=is_gathered) if is_batch else replies[0]
@@ -200,10 +201,15 @@ class Asking:
             self._connection.notify(method, text)
             self._said += AROUND + len(text or b"")
             self._flush_soon()
-        elif text is not None and text[:1] not in (b"[", b"{"):
-            raise NotJson()
         else:
+            self._check_that_it_can_be_put_off()
+            if text is not None and text[:1] not in (b"[", b"{"):
+                raise NotJson()
             self._put_off.append(functools.partial(self._notify_later, method, text))
+
+    def _check_that_it_can_be_put_off(self) -> None:
+        if self._is_closed:
+            raise Closed(self.watch.over(self.ended))
 
     def _notify_later(self, method: str, text: Optional[bytes]) -> None:
         if self._is_closed:

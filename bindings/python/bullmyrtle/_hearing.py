@@ -368,10 +368,10 @@ class Hearing(Talking):
 
     def _has_much_to_write(self) -> bool:
         """Writes what can be written, and says whether so much is left that no call begins."""
+        self._flush()
         if self._is_stopped or self._is_broken:
             self._said = 0
             return False
-        self._flush()
         self._said = self.pending + self._channel.waiting
         return self._said > _MUCH
 

@@ -237,6 +237,8 @@ class Session(Hearing):
         put_off, self._put_off = self._put_off, []
         for it in put_off:
             self._do(it)
+        if self._aside is not None and not self._aside.done():
+            self._aside.set_result(None)
         self._pool.close()
         await self._channel.close(seconds)
         if not is_read_aside:
