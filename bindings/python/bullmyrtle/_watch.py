@@ -177,7 +177,8 @@ class Watch:
 
     def _look_again(self) -> None:
         self._timer = None
-        self._look()
+        with contextlib.suppress(Closed):
+            self._look()
 
     def _counted(self, counts: Counts) -> str:
         parts: List[str] = []

@@ -314,12 +314,13 @@ class Aside(Case):
                 loop.call_soon_threadsafe(is_read.set_result, None)
 
             sending = loop.run_in_executor(None, send)
-            took = []
+            took, began = [], time.perf_counter()
             while not is_read.done():
-                began = time.perf_counter()
                 await client.call("echo", [1])
-                took.append(time.perf_counter() - began)
                 await asyncio.sleep(0.001)
+                now = time.perf_counter()
+                took.append(now - began)
+                began = now
             await sending
             stream.close()
             await client.close()
