@@ -25,6 +25,7 @@ def large(id_, size=100_000):
     return line(request(id_, "size", ["x" * size]))
 
 
+@unittest.skipIf(OVER != "library", "large contents: the model isn't made for so much")
 class Aside(Case):
     """While a large content is read in another thread, the session waits and the others go on."""
 
@@ -296,7 +297,6 @@ class Aside(Case):
 
         self.wait(main())
 
-    @unittest.skipIf(OVER != "library", "the model isn't made for so much")
     def test_other_sessions_answer_in_time(self):
         """The longest that a session waits for an answer, while another one gets a content of 16 MB."""
 
@@ -341,6 +341,7 @@ class Aside(Case):
             self.assertLess(min(self.wait(main(), 60)), 0.05)
 
 
+@unittest.skipIf(OVER != "library", "large contents: the model isn't made for so much")
 class SlowReader(Case):
     """Calls begin as long as what is said is read; all else is told on."""
 
@@ -577,6 +578,7 @@ class SlowReader(Case):
         self.wait(main())
 
 
+@unittest.skipIf(OVER != "library", "large contents: the model isn't made for so much")
 class Many(Case):
     def test_reading_stops_while_many_calls_wait_for_their_turn(self):
         async def main():

@@ -19,8 +19,8 @@ from helping import OVER, Case, joined, logged, notice, request
 
 from bullmyrtle import LATER, Client, Error, Server
 
-CONNECTIONS = int(os.environ.get("BULLMYRTLE_STORM", "240" if OVER == "library" else "40"))
-RACES = int(os.environ.get("BULLMYRTLE_RACES", "1500" if OVER == "library" else "200"))
+CONNECTIONS = int(os.environ.get("BULLMYRTLE_STORM", "240"))
+RACES = int(os.environ.get("BULLMYRTLE_RACES", "1500"))
 AT_ONCE = 60
 
 
@@ -28,6 +28,7 @@ def line(value):
     return json.dumps(value).encode() + b"\n"
 
 
+@unittest.skipIf(OVER != "library", "storms: the model isn't made for so much")
 class Storms(Case):
     def left(self):
         """How many descriptors and threads there are."""
@@ -158,6 +159,7 @@ class Storms(Case):
             self.served(listen, connect)
 
 
+@unittest.skipIf(OVER != "library", "storms: the model isn't made for so much")
 class Races(Case):
     """Each kind of method, cancelled as it ends: the request has one answer, and nothing waits for ever."""
 
