@@ -345,13 +345,13 @@ class Aside(Case):
 class SlowReader(Case):
     """Calls begin as long as what is said is read; all else is told on."""
 
-    def piped(self, use, count=188, size=1_000_000):
-        """Serves what 17 KB ask for, of which nothing is read at first."""
+    def piped(self, use, count=60, size=1_000_000):
+        """Serves what 6 KB ask for, of which nothing is read at first."""
 
         async def main():
             given, theirs = os.pipe()
             ours, taken = os.pipe()
-            server, began = Server(framing="lines", grace=30), []
+            server, began = Server(framing="lines", grace=60), []
 
             @server.method("much")
             def much(params):
@@ -361,7 +361,7 @@ class SlowReader(Case):
             serving = asyncio.ensure_future(server.serve_over(Descriptors(given, taken)))
             await asyncio.sleep(0)
             asked = b"".join(line(request(it, "much", [it])) for it in range(count))
-            self.assertLess(len(asked), 17_000)
+            self.assertLess(len(asked), 6_000)
             read = self.reader(ours)
             await use(server, began, lambda data: os.write(theirs, data), asked, read)
             os.close(theirs)
@@ -401,8 +401,8 @@ class SlowReader(Case):
             self.assertEqual(set(await read(2)), {0, 1})
 
         status, answers, began = self.piped(use)
-        self.assertEqual((status, began), (0, list(range(188))))
-        self.assertEqual(len(answers), 186)
+        self.assertEqual((status, began), (0, list(range(60))))
+        self.assertEqual(len(answers), 58)
 
     def test_replies_cancels_and_notifications_of_tasks_are_told_on(self):
         async def use(server, began, write, asked, read):
@@ -428,17 +428,15 @@ class SlowReader(Case):
                 asked
                 + line({"jsonrpc": "2.0", "id": key[0], "result": "Ys"})
                 + line(notice("notifications/cancelled", {"requestId": "slow"}))
-                + b"".join(
-                    line(notice("notifications/cancelled", {"requestId": it})) for it in range(100, 188)
-                )
+                + b"".join(line(notice("notifications/cancelled", {"requestId": it})) for it in range(40, 60))
             )
             await self.until(lambda: len(told) == 2)
             self.assertEqual((sorted(told), began), (["Ys", "cancelled"], [0, 1]))
 
         status, answers, began = self.piped(use)
         # (those that were cancelled meanwhile never begin)
-        self.assertEqual((status, began), (0, list(range(100))))
-        self.assertEqual({answers[it]["error"]["code"] for it in range(100, 188)}, {-32800})
+        self.assertEqual((status, began), (0, list(range(40))))
+        self.assertEqual({answers[it]["error"]["code"] for it in range(40, 60)}, {-32800})
 
     def test_the_end_is_told_on(self):
         async def use(server, began, write, asked, read):
@@ -529,14 +527,14 @@ class SlowReader(Case):
             stream = socket.socket()
             stream.setsockopt(socket.SOL_SOCKET, socket.SO_RCVBUF, 1 << 16)
             stream.connect(listening.sockets[0].getsockname())
-            stream.sendall(b"".join(line(request(it, "much", [it])) for it in range(188)))
+            stream.sendall(b"".join(line(request(it, "much", [it])) for it in range(60)))
             await self.until(lambda: len(began) >= 2)
             await asyncio.sleep(0.2)
             self.assertLess(len(began), 6)
             stream.shutdown(socket.SHUT_WR)
             read = self.reader(stream.fileno())
-            self.assertEqual(set(await read(None)), set(range(188)))
-            self.assertEqual(began, list(range(188)))
+            self.assertEqual(set(await read(None)), set(range(60)))
+            self.assertEqual(began, list(range(60)))
             stream.close()
             listening.close()
 
