@@ -164,6 +164,7 @@ class Races(Case):
     """Each kind of method, cancelled as it ends: the request has one answer, and nothing waits for ever."""
 
     framing = "frames"
+    usual = 0.01  # (about how many seconds a call takes, so that cancels come about its end)
 
     def a_server(self):
         server, loop = Server(framing=self.framing, grace=20), asyncio.get_running_loop()
@@ -229,9 +230,15 @@ class Races(Case):
             name, member = "notifications/cancelled", "requestId"
         params = [chance.randrange(1000), "x" * chance.choice([1, 1, 1, 70_000])]
         call = client.call(kind, params)
-        wait = chance.choice([None, 0, 0.0001, 0.001, 0.01, 0.1])
-        if wait is not None:
-            await asyncio.sleep(wait * chance.random())
+        loop = asyncio.get_running_loop()
+        began, wait = loop.time(), chance.choice([0, 1, 2, 3])
+
+        def answered(_):
+            self.usual += (min(1, loop.time() - began) - self.usual) / 10
+
+        call.add_done_callback(answered)
+        if wait:
+            await asyncio.sleep(wait * chance.random() * self.usual)
         if chance.random() < 0.2 and call.cancel():
             with self.assertRaises(asyncio.CancelledError):
                 await call
