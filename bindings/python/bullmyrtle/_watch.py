@@ -200,7 +200,7 @@ class Watch:
             hint = f': are these frames? {side}framing="frames")'
         return (
             f"{' and '.join(parts)} came so far, besides {counts.calls} call{'s' * (counts.calls != 1)}; "
-            f"the first bytes of all were {first!r}{hint}"
+            f"the input began with {first!r}{hint}"
         )
 
     # The end
@@ -236,7 +236,10 @@ class Watch:
         if end is None or (end.is_clean and not self._is_client):
             return "the session is over"
         if end.is_clean:
-            return "the session with the server is over"
+            text = "the session with the server is over"
+            if self._is_meant:
+                return text
+            return self._with_process(f"{text}: {_ends.TEXTS['Lost']}", is_whole=True)
         return self._with_process(f"the session is over: {end.text}", is_whole=True)
 
     def end(self, status: Optional[int], late: Sequence[Late], is_out: bool, grace: float) -> End:

@@ -61,6 +61,8 @@ class Ends(Case):
                 status = None
             self.assertEqual(session.ended, server.ended)
             self.assertEqual(session.ended.status, status)
+            if session.ended.how != "Stopped":
+                self.assertEqual(session.ended.is_clean, status == 0)
             return session.ended
 
         with logged() as log:
@@ -411,6 +413,23 @@ class Processes(Scripts):
             self.wait(main())
         self.assertEqual(log.texts, [])
 
+    def test_it_ends_by_itself_and_well(self):
+        async def main():
+            async with client:
+                await self.until(lambda: client.ended)
+                with self.assertRaises(Closed) as caught:
+                    client.call("x")
+                return str(caught.exception)
+
+        client = self.client("print(end='')\n")
+        with logged() as log:
+            said = self.wait(main())
+        self.assertEqual(
+            said,
+            "the session with the server is over: the server closed its output; the server ended with status 0",
+        )
+        self.assertEqual((log.texts, client.ended.how), ([], "Clean"))
+
     def test_one_that_has_to_be_killed(self):
         text = "import signal, sys, time\nsignal.signal(signal.SIGTERM, signal.SIG_IGN)\n"
         client = self.client(text + "print(end='', flush=True)\ntime.sleep(60)\n")
@@ -588,7 +607,7 @@ class Counted(Case):
             lines,
             [
                 "2 messages that couldn't be read (-32700) and 1 that was neither a call nor a reply (-32600) "
-                "came so far, besides 0 calls; the first bytes of all were b'hello\\n5\\nhello\\n'"
+                "came so far, besides 0 calls; the input began with b'hello\\n5\\nhello\\n'"
             ],
         )
 
