@@ -50,7 +50,8 @@ class Place(NamedTuple):
 
     @property
     def start(self) -> bytes:
-        return (self.piece if self.first is None else self.first).lstrip()
+        """What the frame or line begins with, where that is known."""
+        return b"" if self.first is None else self.first.lstrip()
 
 
 # What each fault is, by its name.

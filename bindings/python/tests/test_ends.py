@@ -131,6 +131,12 @@ class Ends(Case):
         many = 500 * ADD
         end = self.check([many, b"hello\nand more"], "BadHead", None, None)
         self.assertIn(f"in what was read from byte {len(many)} on, b'hello\\nand more'", end.text)
+        # (what that begins with says nothing of the frame at fault)
+        for piece in (ADD + b"hello\n", b'{"a":1}\n', b"GET / HTTP/1.1\r\n"):
+            end = self.check([many, piece], "BadHead", None, None)
+            self.assertTrue(
+                end.text.endswith(": each message begins with `Content-Length: N`, CR LF, CR LF"), end.text
+            )
 
     def test_what_comes_behind_a_fault_doesnt_count(self):
         self.check([LINE, LINE, ADD], "BadHead", 0, LINE)
