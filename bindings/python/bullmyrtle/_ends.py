@@ -4,10 +4,12 @@ from __future__ import annotations
 import signal
 from typing import Any, List, Mapping, NamedTuple, Optional, Sequence
 
+from ._log import shown
+
 #: How much of a frame or line at fault is told.
 SHOWN = 64
-# How many methods are named that didn't end.
-_NAMED = 3
+# How many methods are named that didn't end, and how much of a name is shown.
+_NAMED, _NAME = 3, 80
 
 _CLEAN = ("Clean", "Stopped", "Exited")
 
@@ -122,7 +124,7 @@ def late_text(calls: Sequence[Late], grace: float) -> str:
         how = f"didn't end within the grace of {grace:g} seconds"
         if it.is_later:
             how = "returned LATER, and request.answer or request.fail was never called"
-        said = f"{it.method} {how}"
+        said = f"{shown(it.method, _NAME)} {how}"
         if said not in parts:
             parts.append(said)
     more = f", and {len(parts) - _NAMED} others" if len(parts) > _NAMED else ""

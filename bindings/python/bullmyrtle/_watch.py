@@ -3,18 +3,16 @@ from __future__ import annotations
 
 import asyncio
 import contextlib
-import logging
 import time
 from typing import Any, Callable, List, Mapping, Optional, Protocol, Sequence, Tuple
 
 from . import _ends
 from ._ends import SHOWN, End, Late, Place
+from ._log import log
 from ._settings import MOST_CONTENT
 from .connection import Connection, Counts
 from .errors import Closed, Refused
 from .events import Event, Over
-
-log = logging.getLogger("bullmyrtle")
 
 # How much of the stream's beginning is kept, to find the frame at fault in; and how often a line of counts may come.
 _KEPT, _SECONDS = 8192, 1.0
