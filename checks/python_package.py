@@ -18,7 +18,8 @@ VARIABLE = "BULLMYRTLE_LIBRARY"
 # What starts no process, so that it is quick over the stand-in.
 WITHOUT_PROCESSES = ["test_connection", "test_methods", "test_calls", "test_loop", "test_trace", "test_random"]
 WITHOUT_PROCESSES += ["test_registering", "test_ends.Ends", "test_ends.Counted", "test_many.Sessions", "test_many.WebSockets"]
-FEWEST, FEWEST_WITHOUT_PROCESSES = 285, 170
+WITHOUT_PROCESSES += ["test_digits.Default", "test_digits.Streams", "test_faults.LastResort", "test_faults.NoThreads", "test_faults.Open"]
+FEWEST, FEWEST_WITHOUT_PROCESSES = 340, 200
 SECONDS = 900
 
 

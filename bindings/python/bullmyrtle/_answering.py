@@ -187,7 +187,7 @@ class Answering(Asking):
             raise
         except BaseException as error:
             self._when_read(self._ended, request, None, error)
-            if isinstance(error, asyncio.CancelledError):
+            if issubclass(type(error), asyncio.CancelledError):  # (which doesn't ask the exception itself)
                 raise
         else:
             self._when_read(self._ended, request, result, None)

@@ -133,11 +133,13 @@ class Hearing(Talking):
     def _read_aside(self, data: bytes) -> None:
         """Reads in a thread of its own. Until it has, the loop's thread doesn't call the connection."""
         self._to_read.append(data)
-        if self._aside is not None:
-            return
-        self._aside = self.loop.create_future()
-        self._pause("aside")
-        self.take = lambda most: b""
+        if self._aside is None:
+            self._aside = self.loop.create_future()
+            self._pause("aside")
+            self.take = lambda most: b""
+            self._start_thread()
+
+    def _start_thread(self) -> None:
         self._is_in_thread = True
         try:
             threading.Thread(target=self._read_in_thread, name="bullmyrtle-reading", daemon=True).start()
@@ -170,19 +172,19 @@ class Hearing(Talking):
         """A large content, or a part of it, is read: what was put off is done, and all goes on."""
         if self._is_closed or self._aside is None:
             return
-        aside, self._aside = self._aside, None
-        self.take = self._connection.take
         for data, told in pieces:
             self._do(functools.partial(self._take_in, data, told))
+        if self._to_read and fault is None:
+            self._start_thread()
+            return
+        aside, self._aside = self._aside, None
+        self.take = self._connection.take
         if fault is not None and not isinstance(fault, InputOver):
             self._fail_to_read(fault)
         put_off, self._put_off = self._put_off, []
         for it in put_off:
             self._do(it)
         aside.set_result(None)
-        if self._to_read:
-            self._read_aside(self._to_read.popleft())
-            return
         self._resume("aside")
         if not self._is_going:
             self._go_on()

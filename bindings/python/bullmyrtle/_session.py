@@ -194,10 +194,13 @@ class Session(Hearing):
 
     async def _cancel_all(self) -> None:
         """Ends what didn't end in time; a task that doesn't let itself be cancelled is left."""
+        if self._held:
+            names = ", ".join(sorted({it.method for it in self._held}))[:100]
+            log.error(
+                "%d calls didn't begin in time, since what was said wasn't read: %s", len(self._held), names
+            )
         while self._held:
-            event = self._held.popleft()
-            log.error("%s: it couldn't begin in time, since nobody read what was said", event.method)
-            self._never_begin(event.number)
+            self._never_begin(self._held.popleft().number)
         for request in list(self._open.values()):
             log.error("%s: it didn't end in time, and is cancelled", request.method)
             self._cancel(request)
