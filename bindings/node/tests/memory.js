@@ -28,7 +28,7 @@ const WAYS = {
     client.sendRequest('never', { text: 'x'.repeat(1000) })
     await client.sendRequest('m', { text: 'x'.repeat(1000) })
   },
-  waiting() {
+  async waiting() {
     const input = new PassThrough()
     const connection = createMessageConnection(input, new PassThrough({ highWaterMark: 10 }), undefined, { stalled: 0 })
     connection.onRequest('m', () => 'x'.repeat(100_000))

@@ -73,7 +73,7 @@ test('what is said waits while the output is full, and goes on at its drain', as
   connection.drained().then(() => { isOut = true })
   input.write(frame(request('last', 'nobody')))
   for (;;) {
-    const found = messages(whole(Buffer.concat(taken))).map(it => it.id)
+    const found = messages(Buffer.concat(taken)).map(it => it.id)
     if (found.includes('last')) break
     if (!found.includes(2)) assert.equal(isOut, false)
     release()
@@ -85,17 +85,6 @@ test('what is said waits while the output is full, and goes on at its drain', as
   assert.deepEqual([input.isPaused(), connection.pending, errors], [false, 0, []])
   connection.dispose()
 })
-
-/** The whole frames of some bytes. */
-function whole(bytes) {
-  let at = 0
-  for (;;) {
-    const end = bytes.indexOf('\r\n\r\n', at)
-    const over = end < 0 ? Infinity : end + 4 + Number(bytes.subarray(at + 16, end))
-    if (over > bytes.length) return bytes.subarray(0, at)
-    at = over
-  }
-}
 
 test('who does not read is told of after a while, and once', async () => {
   const output = new Writable({ highWaterMark: 10, write() {} })
