@@ -18,8 +18,8 @@ enum { BEFORE_HEADS = 4, HEAD = 6, MOST_EVENTS = 64 };
 enum { BEFORE_SAYINGS = 1, SAYING = 3, MOST_SAYINGS = 1024 };
 /* An event takes 64 bytes at least, so no more of them fit such a room than there are heads for. */
 enum { EVENTS_ROOM = 64 * MOST_EVENTS, TEXTS_ROOM = 1 << 16 };
-/* A room that had to grow over this is given back once it was used. One below it is kept: a block of some megabytes that
- * is given back at each message costs more in faults of its pages than it holds. */
+/* A room that had to grow over this is given back once it was used. One below it is kept: a block of some megabytes
+ * that is given back at each message costs more in faults of its pages than it holds. */
 enum { KEPT = 1 << 23 };
 /* What V8 is told that a connection holds outside of its heap. */
 enum { OUTSIDE = 4096 };
@@ -81,9 +81,10 @@ static uint64_t whole(napi_env env, napi_value value)
     uint64_t got = 0;
     double other = 0;
     bool is_whole;
-    if (napi_get_value_bigint_uint64(env, value, &got, &is_whole) != napi_ok && napi_get_value_double(env, value, &other) == napi_ok)
-        got = (uint64_t)other;
-    return got;
+    if (napi_get_value_bigint_uint64(env, value, &got, &is_whole) == napi_ok)
+        return got;
+    napi_get_value_double(env, value, &other);
+    return (uint64_t)other;
 }
 
 static int64_t error_code(napi_env env, napi_value value)
@@ -91,9 +92,10 @@ static int64_t error_code(napi_env env, napi_value value)
     int64_t got = 0;
     double other = 0;
     bool is_whole;
-    if (napi_get_value_bigint_int64(env, value, &got, &is_whole) != napi_ok && napi_get_value_double(env, value, &other) == napi_ok)
-        got = (int64_t)other;
-    return got;
+    if (napi_get_value_bigint_int64(env, value, &got, &is_whole) == napi_ok)
+        return got;
+    napi_get_value_double(env, value, &other);
+    return (int64_t)other;
 }
 
 static bool flag(napi_env env, napi_value value)
@@ -103,8 +105,8 @@ static bool flag(napi_env env, napi_value value)
     return got;
 }
 
-/* The bytes of a Uint8Array. They are never at NULL. (napi_get_buffer_info ends the process where it gets anything else,
- * up to Node.js 18.) */
+/* The bytes of a Uint8Array. They are never at NULL. (napi_get_buffer_info ends the process where it gets anything
+ * else, up to Node.js 18.) */
 static bool bytes_of(napi_env env, napi_value value, bytes *got)
 {
     static uint8_t nothing[1];
@@ -205,8 +207,8 @@ static napi_value close_one(napi_env env, napi_callback_info info)
 
 /* Events */
 
-/* Asks for as many events as fit the room, which grows for one that is too large. Gives a code, and writes how many bytes
- * and events there are, and whether there may be more. */
+/* Asks for as many events as fit the room, which grows for one that is too large. Gives a code, and writes how many
+ * bytes and events there are, and whether there may be more. */
 static int32_t ask(bm_connection *at, bytes *room, size_t *used, uint32_t *count, bool *has_more)
 {
     if (!grow(room, EVENTS_ROOM))
@@ -510,8 +512,8 @@ static saying read_saying(const double *said, bytes *rest)
     return it;
 }
 
-/* Says all, in their order, each by itself. In the place of each kind comes its code, and in that of a call's number its
- * key; in the first place how many were refused. */
+/* Says all, in their order, each by itself. In the place of each kind comes its code, and in that of a call's number
+ * its key; in the first place how many were refused. */
 static void say_all(bm_connection *at, double *says, uint32_t count, bytes texts)
 {
     uint32_t refused = 0;
@@ -528,7 +530,7 @@ static void say_all(bm_connection *at, double *says, uint32_t count, bytes texts
     says[0] = refused;
 }
 
-/* The UTF-8 of a string, in the shared room. Where it is short there is room for it in any case, and it isn't measured. */
+/* The UTF-8 of a string, in the shared room. A short one has room in any case, and isn't measured. */
 static bool texts_of(crossing *to, napi_value value, bytes *texts)
 {
     bytes *room = &to->shared->texts;
@@ -567,7 +569,7 @@ static napi_value say(napi_env env, napi_callback_info info)
     return number(env, (double)bm_take(&to.it->at, out.at, out.length));
 }
 
-/* sayOne(handle, kind, number, code, first, second): a code; says[2] is the key of a call. The texts are Uint8Arrays. */
+/* sayOne(handle, kind, number, code, first, second): a code; says[2] is a call's key. The texts are Uint8Arrays. */
 static napi_value say_alone(napi_env env, napi_callback_info info)
 {
     crossing to;

@@ -111,7 +111,7 @@ class Wire {
   /** Calls several times in one message: the first key, or a refusal's name. */
   callBatch(calls) {
     this.#cross(NOTHING)
-    const parts = calls.flatMap(([method, json]) => [Buffer.from(method), json === undefined ? NOTHING : Buffer.from(json)])
+    const parts = calls.flat().map(it => (it === undefined ? NOTHING : Buffer.from(it)))
     const code = native.callBatch(this.#handle, 0, Buffer.concat(parts), Uint32Array.from(parts, it => it.length))
     this.#schedule()
     return code === OK ? native.says[KEY] : CODES[code]
@@ -173,13 +173,14 @@ class Wire {
     return taken
   }
 
-  /** What was refused of that which came before a call or a notification of ours: kind, number, why. */
+  /** What was refused that isn't a call or a notification, which have who waits for them: kind, number, why. */
   #refusals(count) {
     const found = []
     for (let i = 0; i < count; i++) {
       const code = native.says[BEFORE_SAYINGS + i * SAYING]
       const kind = this.#said[i * SAYING] & (ALONE - 1)
-      if (code !== OK && kind !== SAY.call) found.push([kind, this.#said[i * SAYING + 1], CODES[code]])
+      if (code === OK || kind === SAY.call || kind === SAY.notify) continue
+      found.push([kind, this.#said[i * SAYING + 1], CODES[code]])
     }
     return found
   }
@@ -211,7 +212,7 @@ class Wire {
         if ((this.#isBlocked && !isForced) || (taken < room.length && !this.#isContents)) break
         const rest = native.pending(this.#handle)
         if (rest === 0) break
-        room = rest <= sharedRoom().length ? sharedRoom() : Buffer.allocUnsafeSlow(this.#isContents ? rest : Math.min(rest, MOST))
+        room = this.#roomFor(rest)
         taken = native.take(this.#handle, room)
       }
       // (a stream in memory may have brought bytes, and they answers, before write returned)
@@ -223,6 +224,11 @@ class Wire {
     const has = this.#isToBeWritten && !this.#isBlocked
     this.#isToBeWritten = false
     return has
+  }
+
+  #roomFor(length) {
+    if (length <= sharedRoom().length) return sharedRoom()
+    return Buffer.allocUnsafeSlow(this.#isContents ? length : Math.min(length, MOST))
   }
 
   #write(room, taken) {
@@ -247,7 +253,7 @@ class Wire {
     for (const it of this.#unblocked.splice(0)) it()
   }
 
-  /** Stops the input where very much waits: two sides that stop as soon as a write does wait for each other for ever. */
+  /** Stops the input where very much waits. Two sides that stop as soon as a write does wait for each other. */
   #pause() {
     if (this.#isPaused || native.pending(this.#handle) <= this.pauseOver) return
     this.#isPaused = true
