@@ -209,9 +209,10 @@ static napi_value close_one(napi_env env, napi_callback_info info)
 
 /* Asks for as many events as fit the room, which grows for one that is too large. Gives a code, and writes how many
  * bytes and events there are, and whether there may be more. */
-static int32_t ask(bm_connection *at, bytes *room, size_t *used, uint32_t *count, bool *has_more)
+static int32_t ask(bm_connection *at, shared *rooms, size_t *used, uint32_t *count, bool *has_more)
 {
-    if (!grow(room, EVENTS_ROOM))
+    bytes *room = &rooms->events;
+    if (!grow(room, EVENTS_ROOM) || !grow(&rooms->texts, EVENTS_ROOM)) /* (the second for what string_of_all puts) */
         return BM_NO_MEMORY;
     int32_t code = bm_next_all(at, room->at, EVENTS_ROOM, used, count);
     *has_more = true;
@@ -310,13 +311,11 @@ static bool put_texts(const uint8_t *texts, const bm_event *event, bool wants_id
 }
 
 /* The string of many events: their texts, one behind the other. */
-static napi_value string_of_all(crossing *to, uint32_t count, size_t used, bool wants_ids, double *head)
+static napi_value string_of_all(crossing *to, uint32_t count, bool wants_ids, double *head)
 {
     const uint8_t *begin = to->shared->events.at, *at = begin;
     bool is_plain = true;
     napi_value made = NULL;
-    if (!grow(&to->shared->texts, used))
-        return no_memory(to->env);
     uint8_t *end = to->shared->texts.at;
     for (uint32_t i = 0; i < count; i++, head += HEAD) {
         bm_event event;
@@ -345,7 +344,7 @@ static napi_value told(crossing *to, uint32_t place, bool wants_ids)
     napi_value made = NULL;
     bytes *room = &to->shared->events;
     double *heads = to->shared->heads[place];
-    int32_t code = ask(&to->it->at, room, &used, &count, &has_more);
+    int32_t code = ask(&to->it->at, to->shared, &used, &count, &has_more);
     heads[0] = code;
     heads[1] = code == BM_OK ? count : 0;
     heads[2] = has_more;
@@ -358,7 +357,7 @@ static napi_value told(crossing *to, uint32_t place, bool wants_ids)
         put_head(&event, heads + BEFORE_HEADS);
         made = string_of_one(to->env, room->at + sizeof event, &event, heads + BEFORE_HEADS);
     } else
-        made = string_of_all(to, count, used, wants_ids, heads + BEFORE_HEADS);
+        made = string_of_all(to, count, wants_ids, heads + BEFORE_HEADS);
     give_back(room);
     give_back(&to->shared->texts);
     return made;
@@ -416,7 +415,8 @@ static napi_value next(napi_env env, napi_callback_info info)
     return told_one(&to, place);
 }
 
-/* fed(handle, bytes, heads, wantsIds) */
+/* fed(handle, bytes, heads, wantsIds). A code is that of the bytes, none of which were taken then; where they were, and
+ * there is no memory for an event, none is told, and there may be more. */
 static napi_value fed(napi_env env, napi_callback_info info)
 {
     crossing to;
@@ -426,12 +426,16 @@ static napi_value fed(napi_env env, napi_callback_info info)
         return NULL;
     if (!bytes_of(env, to.given[1], &piece))
         return thrown(env, "ERR_INVALID_ARG_TYPE", "bytes are needed");
+    double *heads = to.shared->heads[place];
     int32_t code = bm_feed(&to.it->at, piece.at, piece.length);
-    if (code == BM_OK)
-        return told(&to, place, flag(env, to.given[3]));
-    to.shared->heads[place][0] = code;
-    to.shared->heads[place][1] = 0;
-    return NULL;
+    napi_value texts = code == BM_OK ? told(&to, place, flag(env, to.given[3])) : NULL;
+    bool is_taken = code == BM_OK;
+    if (is_taken && heads[0] != BM_OK)
+        heads[2] = true;
+    heads[0] = code;
+    if (!is_taken)
+        heads[1] = heads[2] = 0;
+    return texts;
 }
 
 /* feed(handle, bytes): a code */
@@ -530,6 +534,14 @@ static void say_all(bm_connection *at, double *says, uint32_t count, bytes texts
     says[0] = refused;
 }
 
+/* The same where there is no memory for the texts. */
+static void refuse_all(double *says, uint32_t count)
+{
+    for (uint32_t i = 0; i < count; i++)
+        says[BEFORE_SAYINGS + i * SAYING] = BM_NO_MEMORY;
+    says[0] = count;
+}
+
 /* The UTF-8 of a string, in the shared room. A short one has room in any case, and isn't measured. */
 static bool texts_of(crossing *to, napi_value value, bytes *texts)
 {
@@ -560,12 +572,11 @@ static napi_value say(napi_env env, napi_callback_info info)
     napi_get_value_uint32(env, to.given[1], &count);
     if (!bytes_of(env, to.given[4], &out) || count > MOST_SAYINGS)
         return thrown(env, "ERR_INVALID_ARG_TYPE", "a room is needed");
-    if (count) {
-        if (!texts_of(&to, to.given[2], &texts))
-            return no_memory(env);
+    if (count && texts_of(&to, to.given[2], &texts)) {
         say_all(&to.it->at, to.shared->says, count, texts);
         give_back(&to.shared->texts);
-    }
+    } else if (count)
+        refuse_all(to.shared->says, count);
     return number(env, (double)bm_take(&to.it->at, out.at, out.length));
 }
 

@@ -10,6 +10,7 @@ const { sharedRoom, MOST } = require('./outputs')
 
 const NOTHING = Buffer.alloc(0)
 const KEY = 2 // where the key of a call stands that is said alone
+const RETRY = 10 // so many milliseconds after memory was refused, events are asked for again
 const FEW = 64 // an array of more sayings isn't kept
 const flushOf = wire => wire.flush()
 
@@ -287,7 +288,7 @@ class Wire {
   feed(bytes) {
     if (this.#hasEnded || this.#isFreed) return
     if (this.#isHeld) return void this.#later.push(bytes)
-    this.#hearBy(place => native.fed(this.#handle, bytes, place, this.#wantsIds))
+    this.#hearBy(place => native.fed(this.#handle, bytes, place, this.#wantsIds), true)
     this.flush() // (also without events: broken input has answers)
     this.#feedLater()
   }
@@ -312,24 +313,25 @@ class Wire {
     this.flush()
   }
 
-  #hearBy(ask) {
+  #hearBy(ask, isFed = false) {
     const room = borrowHeads()
     this.#isHeld = true
     try {
-      this.#hear(room, ask(room.place))
+      this.#hear(room, ask(room.place), isFed)
     } finally {
       this.#isHeld = false
       returnHeads(room)
     }
   }
 
-  #hear(room, told) {
+  #hear(room, told, hasFed) {
     const { heads, place } = room
     const hearer = this.#hearer
     let texts = told
+    let isFed = hasFed
     for (;;) {
-      if (heads[0] !== OK) return void hearer.fault(CODES[heads[0]])
-      if (texts === undefined) return
+      if (heads[0] !== OK) return isFed ? hearer.fault(CODES[heads[0]]) : this.#hearLater()
+      if (texts === undefined) return heads[2] ? this.#hearLater() : undefined
       const gap = heads[3]
       for (let left = heads[1], head = BEFORE_HEADS, at = 0; left > 0; left--, head += HEAD) {
         const word = heads[head]
@@ -347,7 +349,17 @@ class Wire {
       if (!heads[2]) return
       if (this.#count && !this.#isFlushing) this.#cross(NOTHING) // (few open calls cost the connection less than many)
       texts = native.events(this.#handle, place, this.#wantsIds)
+      isFed = false
     }
+  }
+
+  /** There was no memory for an event, which comes again. */
+  #hearLater() {
+    setTimeout(() => {
+      if (this.#isFreed || this.#isHeld) return
+      this.#hearBy(place => native.events(this.#handle, place, this.#wantsIds))
+      this.flush()
+    }, RETRY)
   }
 
   /** Does something during which nothing crosses; what is said in it is written later, with what follows. */
