@@ -144,6 +144,11 @@ class MessageConnection {
     this.#report(new Error(`nothing of the output was taken for ${seconds} seconds: ${this.#wire.pending} bytes wait`))
   }
 
+  outputFailed(error) {
+    this.#report(error)
+    this.#outputClosed(error)
+  }
+
   pause() { this.#from.stream?.pause() }
   resume() { this.#from.stream?.resume() }
 
@@ -279,7 +284,8 @@ class MessageConnection {
     } catch (reason) {
       return this.#fail(number, request, ErrorCodes.InternalError, `the error's data are no JSON: ${describe(reason)}`)
     }
-    this.#wire.fail(number, error.code, error.message, json)
+    const whole = Number.isSafeInteger(error.code) ? error.code : ErrorCodes.UnknownErrorCode
+    this.#wire.fail(number, whole, error.message, json)
     this.#tracing?.sentResponse(JSON.parse(request.id), request.method, request.started, error.toJson())
   }
 

@@ -82,7 +82,11 @@ class Wire {
   }
 
   fail(number, code, message, json) {
-    if (UNUSUAL.test(message)) return void this.#sayAlone(SAY.fail, number, code, message, json)
+    if (UNUSUAL.test(message)) {
+      const refused = this.#sayAlone(SAY.fail, number, code, message, json)
+      if (refused !== OK) this.#hearer.refused(SAY.fail, number, CODES[refused])
+      return
+    }
     this.#push(json === undefined ? SAY.fail | ALONE : SAY.fail, number, code)
     this.#text(message)
     if (json !== undefined) this.#text(json)
@@ -233,12 +237,22 @@ class Wire {
   }
 
   #write(room, taken) {
-    if (this.#isGone || this.#output.write(room, taken) || this.#isBlocked) return
+    if (this.#isGone || this.#put(room, taken) || this.#isBlocked) return
     this.#isBlocked = true
     this.#output.onDrain(() => this.#drained())
     if (this.stalled) {
       this.#stall = setTimeout(() => this.#hearer.stalled(this.stalled), this.stalled)
       this.#stall.unref()
+    }
+  }
+
+  /** Whether the output takes more. */
+  #put(room, taken) {
+    try {
+      return this.#output.write(room, taken)
+    } catch (error) {
+      this.#hearer.outputFailed(error)
+      return true
     }
   }
 
