@@ -1,8 +1,8 @@
 """The package for Node.js in bindings/node, over the released addon. The addon is the one that its sources and the released library give, byte
 for byte; its declarations are those of Node.js's own headers; it calls nothing else. The package's own tests pass, with the examples, what
 docs/node.md shows, the types by TypeScript's compiler, and editors' sessions. A player of scripts over the lower floor gives what the model of
-docs/connection.md does, for its rows and for random sessions. Tests and rows pass once more with the addon under AddressSanitizer. Each
-Node.js that is named in the variable NODES, separated by colons, is tried, or else the one on the PATH. What needs a tool that is missing is
+docs/connection.md does, for its rows and for random sessions. Tests pass once more with the addon under AddressSanitizer, and others with each
+request for memory refused in turn. Each Node.js that is named in the variable NODES, separated by colons, is tried, or else the one on the PATH. What needs a tool that is missing is
 skipped, and told."""
 import glob
 import os
@@ -27,7 +27,7 @@ SECONDS = 600
 # What of the C library the addon and the library in it call.
 LIBC = {"calloc", "free", "malloc", "memchr", "memcpy", "memmove", "memset", "realloc"}
 # The tests that go through all of the addon, and start no process.
-SANITIZED = ("connection", "requests", "calls", "bad_use", "streams", "ends")
+SANITIZED = [f"{it}.test" for it in ("connection", "requests", "calls", "bad_use", "streams", "ends")]
 HEADERS = "console.log(require('path').join(process.execPath, '..', '..', 'include', 'node'))"
 
 
@@ -74,7 +74,7 @@ def check_declarations(count: ran.Count, node: str) -> None:
 
 
 def ran_tests(node: str, names: list[str], env: dict[str, str]) -> tuple[int, str]:
-    files = [f"{PACKAGE}/tests/{it}.test.js" for it in names] or sorted(glob.glob(f"{PACKAGE}/tests/*.test.js"))
+    files = [f"{PACKAGE}/tests/{it}.js" for it in names] or sorted(glob.glob(f"{PACKAGE}/tests/*.test.js"))
     words = [node, "--test", "--test-reporter=tap", *files]
     try:
         ended = subprocess.run(words, cwd=PACKAGE, env={**os.environ, **env}, capture_output=True, text=True, timeout=SECONDS, check=False)
@@ -128,7 +128,19 @@ def check_sanitized(count: ran.Count, node: str) -> None:
         got = compiled(node, words, f"{room}/addon.node")
         count.check("the addon is built for AddressSanitizer", got[0] == 0, f"{got}")
         env = {"LD_PRELOAD": ":".join(runtimes), "ASAN_OPTIONS": "detect_leaks=0", "BULLMYRTLE_ADDON": f"{room}/addon.node"}
-        check_tests(count, node, ", under AddressSanitizer", [*SANITIZED], env, 60)
+        check_tests(count, node, ", under AddressSanitizer", SANITIZED, env, 60)
+
+
+def check_refused_memory(count: ran.Count, node: str) -> None:
+    """Each request for memory of the addon and of the library is refused in turn."""
+    if not headers_of(node) or shutil.which("cc") is None:
+        print("SKIPPED: memory that is refused to the addon, which needs cc and Node.js's headers", flush=True)
+        return
+    with tempfile.TemporaryDirectory() as room:
+        words = ["-shared", "-fvisibility=hidden", "-D_GNU_SOURCE", "-Wl,--wrap=malloc,--wrap=calloc,--wrap=realloc"]
+        got = compiled(node, [*words, f"{PACKAGE}/tests/refused_memory.c"], f"{room}/addon.node")
+        count.check("the addon is built with what refuses memory", got[0] == 0, f"{got}")
+        check_tests(count, node, ", without memory", ["refused_memory"], {"BULLMYRTLE_ADDON": f"{room}/addon.node"}, 3)
 
 
 def main() -> None:
@@ -144,6 +156,7 @@ def main() -> None:
     if nodes:
         check_sessions(count)
         check_sanitized(count, nodes[0])
+        check_refused_memory(count, nodes[0])
     count.end()
 
 

@@ -18,8 +18,8 @@ enum { BEFORE_HEADS = 4, HEAD = 6, MOST_EVENTS = 64 };
 enum { BEFORE_SAYINGS = 1, SAYING = 3, MOST_SAYINGS = 1024 };
 /* An event takes 64 bytes at least, so no more of them fit such a room than there are heads for. */
 enum { EVENTS_ROOM = 64 * MOST_EVENTS, TEXTS_ROOM = 1 << 16 };
-/* A room that had to grow over this is given back once it was used. One below it is kept: a block of some megabytes that
- * is given back at each message costs more in faults of its pages than it holds. */
+/* A room that had to grow over this is given back once it was used. One below it is kept: a block of some megabytes
+ * that is given back at each message costs more in faults of its pages than it holds. */
 enum { KEPT = 1 << 23 };
 /* What V8 is told that a connection holds outside of its heap. */
 enum { OUTSIDE = 4096 };
@@ -81,9 +81,10 @@ static uint64_t whole(napi_env env, napi_value value)
     uint64_t got = 0;
     double other = 0;
     bool is_whole;
-    if (napi_get_value_bigint_uint64(env, value, &got, &is_whole) != napi_ok && napi_get_value_double(env, value, &other) == napi_ok)
-        got = (uint64_t)other;
-    return got;
+    if (napi_get_value_bigint_uint64(env, value, &got, &is_whole) == napi_ok)
+        return got;
+    napi_get_value_double(env, value, &other);
+    return (uint64_t)other;
 }
 
 static int64_t error_code(napi_env env, napi_value value)
@@ -91,9 +92,10 @@ static int64_t error_code(napi_env env, napi_value value)
     int64_t got = 0;
     double other = 0;
     bool is_whole;
-    if (napi_get_value_bigint_int64(env, value, &got, &is_whole) != napi_ok && napi_get_value_double(env, value, &other) == napi_ok)
-        got = (int64_t)other;
-    return got;
+    if (napi_get_value_bigint_int64(env, value, &got, &is_whole) == napi_ok)
+        return got;
+    napi_get_value_double(env, value, &other);
+    return (int64_t)other;
 }
 
 static bool flag(napi_env env, napi_value value)
@@ -103,8 +105,8 @@ static bool flag(napi_env env, napi_value value)
     return got;
 }
 
-/* The bytes of a Uint8Array. They are never at NULL. (napi_get_buffer_info ends the process where it gets anything else,
- * up to Node.js 18.) */
+/* The bytes of a Uint8Array. They are never at NULL. (napi_get_buffer_info ends the process where it gets anything
+ * else, up to Node.js 18.) */
 static bool bytes_of(napi_env env, napi_value value, bytes *got)
 {
     static uint8_t nothing[1];
@@ -205,11 +207,12 @@ static napi_value close_one(napi_env env, napi_callback_info info)
 
 /* Events */
 
-/* Asks for as many events as fit the room, which grows for one that is too large. Gives a code, and writes how many bytes
- * and events there are, and whether there may be more. */
-static int32_t ask(bm_connection *at, bytes *room, size_t *used, uint32_t *count, bool *has_more)
+/* Asks for as many events as fit the room, which grows for one that is too large. Gives a code, and writes how many
+ * bytes and events there are, and whether there may be more. */
+static int32_t ask(bm_connection *at, shared *rooms, size_t *used, uint32_t *count, bool *has_more)
 {
-    if (!grow(room, EVENTS_ROOM))
+    bytes *room = &rooms->events;
+    if (!grow(room, EVENTS_ROOM) || !grow(&rooms->texts, EVENTS_ROOM)) /* (the second for what string_of_all puts) */
         return BM_NO_MEMORY;
     int32_t code = bm_next_all(at, room->at, EVENTS_ROOM, used, count);
     *has_more = true;
@@ -308,13 +311,11 @@ static bool put_texts(const uint8_t *texts, const bm_event *event, bool wants_id
 }
 
 /* The string of many events: their texts, one behind the other. */
-static napi_value string_of_all(crossing *to, uint32_t count, size_t used, bool wants_ids, double *head)
+static napi_value string_of_all(crossing *to, uint32_t count, bool wants_ids, double *head)
 {
     const uint8_t *begin = to->shared->events.at, *at = begin;
     bool is_plain = true;
     napi_value made = NULL;
-    if (!grow(&to->shared->texts, used))
-        return no_memory(to->env);
     uint8_t *end = to->shared->texts.at;
     for (uint32_t i = 0; i < count; i++, head += HEAD) {
         bm_event event;
@@ -343,7 +344,7 @@ static napi_value told(crossing *to, uint32_t place, bool wants_ids)
     napi_value made = NULL;
     bytes *room = &to->shared->events;
     double *heads = to->shared->heads[place];
-    int32_t code = ask(&to->it->at, room, &used, &count, &has_more);
+    int32_t code = ask(&to->it->at, to->shared, &used, &count, &has_more);
     heads[0] = code;
     heads[1] = code == BM_OK ? count : 0;
     heads[2] = has_more;
@@ -356,7 +357,7 @@ static napi_value told(crossing *to, uint32_t place, bool wants_ids)
         put_head(&event, heads + BEFORE_HEADS);
         made = string_of_one(to->env, room->at + sizeof event, &event, heads + BEFORE_HEADS);
     } else
-        made = string_of_all(to, count, used, wants_ids, heads + BEFORE_HEADS);
+        made = string_of_all(to, count, wants_ids, heads + BEFORE_HEADS);
     give_back(room);
     give_back(&to->shared->texts);
     return made;
@@ -414,7 +415,8 @@ static napi_value next(napi_env env, napi_callback_info info)
     return told_one(&to, place);
 }
 
-/* fed(handle, bytes, heads, wantsIds) */
+/* fed(handle, bytes, heads, wantsIds). A code is that of the bytes, none of which were taken then; where they were, and
+ * there is no memory for an event, none is told, and there may be more. */
 static napi_value fed(napi_env env, napi_callback_info info)
 {
     crossing to;
@@ -424,12 +426,16 @@ static napi_value fed(napi_env env, napi_callback_info info)
         return NULL;
     if (!bytes_of(env, to.given[1], &piece))
         return thrown(env, "ERR_INVALID_ARG_TYPE", "bytes are needed");
+    double *heads = to.shared->heads[place];
     int32_t code = bm_feed(&to.it->at, piece.at, piece.length);
-    if (code == BM_OK)
-        return told(&to, place, flag(env, to.given[3]));
-    to.shared->heads[place][0] = code;
-    to.shared->heads[place][1] = 0;
-    return NULL;
+    napi_value texts = code == BM_OK ? told(&to, place, flag(env, to.given[3])) : NULL;
+    bool is_taken = code == BM_OK;
+    if (is_taken && heads[0] != BM_OK)
+        heads[2] = true;
+    heads[0] = code;
+    if (!is_taken)
+        heads[1] = heads[2] = 0;
+    return texts;
 }
 
 /* feed(handle, bytes): a code */
@@ -510,8 +516,8 @@ static saying read_saying(const double *said, bytes *rest)
     return it;
 }
 
-/* Says all, in their order, each by itself. In the place of each kind comes its code, and in that of a call's number its
- * key; in the first place how many were refused. */
+/* Says all, in their order, each by itself. In the place of each kind comes its code, and in that of a call's number
+ * its key; in the first place how many were refused. */
 static void say_all(bm_connection *at, double *says, uint32_t count, bytes texts)
 {
     uint32_t refused = 0;
@@ -528,7 +534,15 @@ static void say_all(bm_connection *at, double *says, uint32_t count, bytes texts
     says[0] = refused;
 }
 
-/* The UTF-8 of a string, in the shared room. Where it is short there is room for it in any case, and it isn't measured. */
+/* The same where there is no memory for the texts. */
+static void refuse_all(double *says, uint32_t count)
+{
+    for (uint32_t i = 0; i < count; i++)
+        says[BEFORE_SAYINGS + i * SAYING] = BM_NO_MEMORY;
+    says[0] = count;
+}
+
+/* The UTF-8 of a string, in the shared room. A short one has room in any case, and isn't measured. */
 static bool texts_of(crossing *to, napi_value value, bytes *texts)
 {
     bytes *room = &to->shared->texts;
@@ -558,16 +572,15 @@ static napi_value say(napi_env env, napi_callback_info info)
     napi_get_value_uint32(env, to.given[1], &count);
     if (!bytes_of(env, to.given[4], &out) || count > MOST_SAYINGS)
         return thrown(env, "ERR_INVALID_ARG_TYPE", "a room is needed");
-    if (count) {
-        if (!texts_of(&to, to.given[2], &texts))
-            return no_memory(env);
+    if (count && texts_of(&to, to.given[2], &texts)) {
         say_all(&to.it->at, to.shared->says, count, texts);
         give_back(&to.shared->texts);
-    }
+    } else if (count)
+        refuse_all(to.shared->says, count);
     return number(env, (double)bm_take(&to.it->at, out.at, out.length));
 }
 
-/* sayOne(handle, kind, number, code, first, second): a code; says[2] is the key of a call. The texts are Uint8Arrays. */
+/* sayOne(handle, kind, number, code, first, second): a code; says[2] is a call's key. The texts are Uint8Arrays. */
 static napi_value say_alone(napi_env env, napi_callback_info info)
 {
     crossing to;

@@ -120,11 +120,19 @@ test('dispose inside a handler, and inside a write that brings bytes', async () 
   }
   const input = new PassThrough()
   let connection
-  const output = new Writable({ write(chunk, encoding, done) { connection.dispose(); done() } })
+  let late
+  const output = new Writable({
+    write(chunk, encoding, done) {
+      late ??= assert.rejects(connection.sendRequest('late'), { code: ErrorCodes.PendingResponseRejected })
+      connection.dispose()
+      done()
+    }
+  })
   connection = bullmyrtle.createMessageConnection(input, output)
   connection.listen()
   const call = connection.sendRequest('m')
   await rejectsWith(call, ErrorCodes.PendingResponseRejected)
+  await late
 })
 
 test('listening twice, and calling before it', () => {

@@ -14,19 +14,20 @@ const frame = it => {
 const request = (id, method, params) => ({ jsonrpc: '2.0', id, method, params })
 const notice = (method, params) => ({ jsonrpc: '2.0', method, params })
 
-/** The messages of a stream of frames. */
+/** The messages of a stream of frames, whose last one may still be on its way. */
 function messages(bytes) {
   const found = []
   let rest = bytes
-  while (rest.length) {
+  for (;;) {
     const end = rest.indexOf('\r\n\r\n')
+    if (end < 0) return found
     const length = /^Content-Length: ([0-9]+)$/.exec(rest.subarray(0, end).toString())
     assert.ok(length, `a head: ${rest.subarray(0, 60)}`)
     const over = end + 4 + Number(length[1])
+    if (rest.length < over) return found
     found.push(JSON.parse(rest.subarray(end + 4, over).toString()))
     rest = rest.subarray(over)
   }
-  return found
 }
 
 /** Keeps what is logged. */
@@ -58,7 +59,7 @@ class Raw {
 
   get written() {
     const bytes = Buffer.concat(this.#bytes)
-    return this.isLines ? bytes.toString().split('\n').filter(Boolean).map(it => JSON.parse(it)) : messages(bytes)
+    return this.isLines ? bytes.toString().split('\n').slice(0, -1).map(it => JSON.parse(it)) : messages(bytes)
   }
 
   write(...all) {
