@@ -27,7 +27,7 @@ def test_no_line_of_a_file_that_is_gone() -> None:
 
 def test_each_file_has_one_part() -> None:
     found = [it for part in parts.PARTS for files in parts.files_of([part]) for it in files]
-    same(sorted(map(os.path.basename, found)), FILES)
+    same(sorted(os.path.basename(it) for it in found), FILES)
 
 
 # A file, and the part that it is of.
