@@ -4,7 +4,7 @@
 const assert = require('node:assert/strict')
 const { test } = require('node:test')
 const { PassThrough, Readable } = require('node:stream')
-const { bullmyrtle, Raw, frame, request, until, sleep, withBoth, rejectsWith } = require('./helping')
+const { bullmyrtle, Raw, frame, request, until, withBoth, rejectsWith, turns } = require('./helping')
 
 const { ResponseError, ErrorCodes } = bullmyrtle
 const ring = {}
@@ -85,7 +85,7 @@ test('a handler that answers twice, or never', async () => {
   raw.connection.onRequest('never', () => new Promise(() => {}))
   raw.connection.onRequest('m', () => 'm')
   const found = await raw.say(2, request(1, 'never'), request(2, 'twice'), request(3, 'm'))
-  await sleep(2)
+  await turns()
   assert.deepEqual(found.map(it => it.result), [1, 'm'])
   assert.deepEqual(raw.log.errors, ['Request twice was answered twice.', 'Request twice was answered twice.'])
   assert.equal(raw.connection.open, 1)

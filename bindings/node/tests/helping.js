@@ -3,7 +3,7 @@
 
 const assert = require('node:assert/strict')
 const { PassThrough } = require('node:stream')
-const { setTimeout: sleep } = require('node:timers/promises')
+const { setTimeout: sleep, setImmediate: turn } = require('node:timers/promises')
 const bullmyrtle = require('..')
 const { joined } = require('../lib/testing.js')
 
@@ -83,6 +83,11 @@ async function until(isReached, milliseconds = 20_000) {
   }
 }
 
+/** Waits for so many turns of the loop that all has happened that needs no time. */
+async function turns() {
+  for (let i = 0; i < 50; i++) await turn()
+}
+
 /** Runs something with a server and a client that are joined in memory. */
 async function withBoth(register, act, options = {}) {
   const log = new Log()
@@ -105,4 +110,4 @@ const rejectsWith = (promise, code, message) => assert.rejects(promise, error =>
   return true
 })
 
-module.exports = { bullmyrtle, frame, messages, request, notice, Log, Raw, until, sleep, withBoth, rejectsWith, joined }
+module.exports = { bullmyrtle, frame, messages, request, notice, Log, Raw, until, sleep, turns, withBoth, rejectsWith, joined }

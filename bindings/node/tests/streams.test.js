@@ -8,7 +8,7 @@ const { fork } = require('node:child_process')
 const { EventEmitter, once } = require('node:events')
 const { Duplex, PassThrough, Writable } = require('node:stream')
 const { MessageChannel, Worker } = require('node:worker_threads')
-const { bullmyrtle, Raw, request, notice, frame, messages, until, sleep, withBoth } = require('./helping')
+const { bullmyrtle, Raw, request, notice, frame, messages, until, sleep, withBoth, turns } = require('./helping')
 
 const { createMessageConnection } = bullmyrtle
 
@@ -64,7 +64,7 @@ test('what is said waits while the output is full, and goes on at its drain', as
   connection.onError(([it]) => errors.push(it.message))
   for (let n = 0; n < 4; n++) {
     input.write(frame(request(n, 'large')))
-    await sleep(2)
+    await turns()
   }
   // the stream has one room's worth, the connection the rest, and the input isn't read any more
   assert.ok(Buffer.concat(taken).length <= 65_536 && connection.pending > 200_000, `${connection.pending}`)
@@ -77,7 +77,7 @@ test('what is said waits while the output is full, and goes on at its drain', as
     if (found.includes('last')) break
     if (!found.includes(2)) assert.equal(isOut, false)
     release()
-    await sleep(0)
+    await turns()
   }
   release()
   await until(() => isOut)
@@ -107,7 +107,7 @@ test("a notification's promise waits for the output", async () => {
   connection.listen()
   const done = []
   connection.sendNotification('m').then(() => done.push(1))
-  await sleep(2)
+  await turns()
   assert.deepEqual(done, [])
   release()
   await until(() => done.length)
@@ -143,7 +143,7 @@ test('streams that re-enter', async () => {
   assert.deepEqual(all.map(it => it.n), Array.from({ length: 3000 }, (_, n) => n))
   client.onRequest('lines', () => { throw new Error('a\nb') })
   server.onRequest('lines', () => server.sendRequest('lines').catch(error => error.message))
-  await sleep(1)
+  await turns()
   assert.equal(await client.sendRequest('lines'), 'Request lines failed with message: a\nb')
   const batch = await client.sendBatch([['plain', { n: 1 }], ['deep', { n: 5 }]])
   assert.deepEqual(batch, [{ n: 1 }, 'ground'])
@@ -392,7 +392,7 @@ test('a reader and a writer of streams, without a connection', async () => {
   await until(() => errors.length === 1)
   listening.dispose()
   stream.write(frame(notice('late')))
-  await sleep(2)
+  await turns()
   assert.equal(seen.length, 3)
   assert.throws(() => new bullmyrtle.StreamMessageReader(stream, { contentDecoder: {} }), /has no contentDecoder/)
 })
