@@ -39,7 +39,11 @@ def check_addon(count: ran.Count) -> None:
         called = {it.partition("@")[0] for it in names.decode().split()}
         count.same("what the addon calls", {it for it in called if not it.startswith("napi_")}, LIBC)
         _, names, _ = said(["nm", "-D", "--defined-only", "--format=just-symbols", released])
-        count.same("what is seen of the addon", set(names.decode().split()), {"napi_register_module_v1", "node_api_module_get_api_version_v1"})
+        count.same(
+            "what is seen of the addon",
+            set(names.decode().split()),
+            {"napi_register_module_v1", "node_api_module_get_api_version_v1"},
+        )
     if ran.lacks("rt", "the addon isn't made again"):
         return
     is_same, text = addon.compared(library.RELEASED, library.RELEASED)
@@ -77,7 +81,9 @@ def ran_tests(node: str, names: list[str], env: dict[str, str]) -> tuple[int, st
     files = [f"{PACKAGE}/tests/{it}.js" for it in names] or sorted(glob.glob(f"{PACKAGE}/tests/*.test.js"))
     words = [node, "--test", "--test-reporter=tap", *files]
     try:
-        ended = subprocess.run(words, cwd=PACKAGE, env={**os.environ, **env}, capture_output=True, text=True, timeout=SECONDS, check=False)
+        ended = subprocess.run(
+            words, cwd=PACKAGE, env={**os.environ, **env}, capture_output=True, text=True, timeout=SECONDS, check=False
+        )
     except subprocess.TimeoutExpired as late:
         return 1, f"no end after {SECONDS} seconds: {late.stdout!r}"
     return ended.returncode, ended.stdout + ended.stderr
@@ -90,9 +96,17 @@ def check_tests(count: ran.Count, node: str, way: str, names: list[str], env: di
         if why:
             print(f"SKIPPED: {name}: {why}", flush=True)
         else:
-            found = re.search(rf"^ *not ok \d+ - {re.escape(name)}$(.*?)^ *\.\.\.$", text, re.M | re.S) if is_wrong else None
+            found = (
+                re.search(rf"^ *not ok \d+ - {re.escape(name)}$(.*?)^ *\.\.\.$", text, re.M | re.S)
+                if is_wrong
+                else None
+            )
             count.check(f"{node}{way}: {name}", not is_wrong, found[1].strip()[-1200:] if found else "")
-    count.check(f"{node}{way}: its status", status == 0, text[-1500:] if status and not any(it[0] for it in tests) else f"{status}")
+    count.check(
+        f"{node}{way}: its status",
+        status == 0,
+        text[-1500:] if status and not any(it[0] for it in tests) else f"{status}",
+    )
     done = sum(not why for _, _, why in tests)
     count.check(f"{node}{way}: {fewest} tests at least", done >= fewest, f"{done}")
     print(f"{node}{way}: {done} tests", flush=True)
@@ -124,10 +138,21 @@ def check_sanitized(count: ran.Count, node: str) -> None:
         print("SKIPPED: the addon under AddressSanitizer, which this compiler lacks", flush=True)
         return
     with tempfile.TemporaryDirectory() as room:
-        words = ["-shared", "-fvisibility=hidden", "-g", "-O1", "-fsanitize=address,undefined", "-fno-sanitize-recover=all"]
+        words = [
+            "-shared",
+            "-fvisibility=hidden",
+            "-g",
+            "-O1",
+            "-fsanitize=address,undefined",
+            "-fno-sanitize-recover=all",
+        ]
         got = compiled(node, words, f"{room}/addon.node")
         count.check("the addon is built for AddressSanitizer", got[0] == 0, f"{got}")
-        env = {"LD_PRELOAD": ":".join(runtimes), "ASAN_OPTIONS": "detect_leaks=0", "BULLMYRTLE_ADDON": f"{room}/addon.node"}
+        env = {
+            "LD_PRELOAD": ":".join(runtimes),
+            "ASAN_OPTIONS": "detect_leaks=0",
+            "BULLMYRTLE_ADDON": f"{room}/addon.node",
+        }
         check_tests(count, node, ", under AddressSanitizer", SANITIZED, env, 60)
 
 

@@ -15,8 +15,20 @@ LIBRARY = "libbullmyrtle.so.1"
 VARIABLE = "BULLMYRTLE_LIBRARY"
 # What starts no process, so that it is quick over the stand-in.
 WITHOUT_PROCESSES = ["test_connection", "test_methods", "test_calls", "test_loop", "test_trace", "test_random"]
-WITHOUT_PROCESSES += ["test_registering", "test_ends.Ends", "test_ends.Counted", "test_many.Sessions", "test_many.WebSockets"]
-WITHOUT_PROCESSES += ["test_digits.Default", "test_digits.Streams", "test_faults.LastResort", "test_faults.NoThreads", "test_faults.Open"]
+WITHOUT_PROCESSES += [
+    "test_registering",
+    "test_ends.Ends",
+    "test_ends.Counted",
+    "test_many.Sessions",
+    "test_many.WebSockets",
+]
+WITHOUT_PROCESSES += [
+    "test_digits.Default",
+    "test_digits.Streams",
+    "test_faults.LastResort",
+    "test_faults.NoThreads",
+    "test_faults.Open",
+]
 WITHOUT_PROCESSES += ["test_language_server", "test_middleware", "test_tool_server"]
 FEWEST, FEWEST_WITHOUT_PROCESSES = 440, 285
 SECONDS = 900
@@ -41,11 +53,20 @@ def check(python, over, file, names):
     if file is not None:
         env[VARIABLE] = file
     # (by their names, or all that lie there)
-    words = [python, "-W", "error::RuntimeWarning", "-m", "unittest", *([*names, "-v"] if names else ["discover", "-v", "-s", TESTS, "-t", TESTS])]
+    words = [
+        python,
+        "-W",
+        "error::RuntimeWarning",
+        "-m",
+        "unittest",
+        *([*names, "-v"] if names else ["discover", "-v", "-s", TESTS, "-t", TESTS]),
+    ]
     try:
         ended = subprocess.run(words, cwd=TESTS, env=env, capture_output=True, timeout=SECONDS, check=False)
     except subprocess.TimeoutExpired as late:
-        count.check(f"{python}, over the {over}", False, f"no end after {SECONDS} seconds: {(late.stderr or b'')[-500:]!r}")
+        count.check(
+            f"{python}, over the {over}", False, f"no end after {SECONDS} seconds: {(late.stderr or b'')[-500:]!r}"
+        )
         return
     said = ended.stderr.decode(errors="replace")
     tests = re.search(r"^Ran (\d+) tests? in", said, re.M)
@@ -65,7 +86,10 @@ count = ran.Count()
 found = library()
 for it in [sys.executable, *filter(None, os.environ.get("PYTHONS", "").split(":"))]:
     if found is None:
-        print(f"SKIPPED: the Python package over {LIBRARY}, which isn't there; it runs over a stand-in made of the plain model", flush=True)
+        print(
+            f"SKIPPED: the Python package over {LIBRARY}, which isn't there; it runs over a stand-in made of the plain model",
+            flush=True,
+        )
         check(it, "standin", None, [])
     else:
         check(it, "library", found, [])

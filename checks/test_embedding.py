@@ -42,7 +42,9 @@ def stands_in(file: str, text: str) -> bool:
 def test_shown_of_examples(text: str) -> None:
     """What is shown in C stands in an example."""
     files = glob.glob(os.path.join(ran.TOP, "examples", "c", "*.c"))
-    check(any(stands_in(it, text) for it in files), f"no example has the lines that are shown: {text.splitlines()[0]} ..")
+    check(
+        any(stands_in(it, text) for it in files), f"no example has the lines that are shown: {text.splitlines()[0]} .."
+    )
 
 
 @pytest.fixture(scope="module")

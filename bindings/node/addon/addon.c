@@ -35,9 +35,9 @@ typedef struct {
 
 /* What the connections of a thread share. */
 typedef struct {
-    bytes events;       /* events, as bm_next_all packs them */
-    bytes texts;        /* texts on their way from or to a string */
-    double **heads;     /* arrays of JavaScript that are never given back, one for each depth of nesting */
+    bytes events;   /* events, as bm_next_all packs them */
+    bytes texts;    /* texts on their way from or to a string */
+    double **heads; /* arrays of JavaScript that are never given back, one for each depth of nesting */
     size_t heads_count;
     double *says;
 } shared;
@@ -53,7 +53,6 @@ typedef struct {
     shared *shared;
     connection *it;
 } crossing;
-
 
 /* Values */
 
@@ -152,7 +151,6 @@ static bool begin(crossing *to, napi_env env, napi_callback_info info)
     return false;
 }
 
-
 /* A connection's life */
 
 static void forget(napi_env env, void *data, void *hint)
@@ -203,7 +201,6 @@ static napi_value close_one(napi_env env, napi_callback_info info)
     to.it->at.at = NULL;
     return NULL;
 }
-
 
 /* Events */
 
@@ -459,7 +456,6 @@ static napi_value end(napi_env env, napi_callback_info info)
     return number(env, bm_end(&to.it->at, flag(env, to.given[1]) ? BM_READ_FAILED : BM_CLOSED));
 }
 
-
 /* Saying */
 
 typedef struct {
@@ -609,9 +605,9 @@ static napi_value call_batch(napi_env env, napi_callback_info info)
     napi_typedarray_type type;
     if (!begin(&to, env, info))
         return NULL;
-    if (!bytes_of(env, to.given[2], &texts)
-        || napi_get_typedarray_info(env, to.given[3], &type, &count, (void **)&lengths, NULL, NULL) != napi_ok
-        || type != napi_uint32_array)
+    if (!bytes_of(env, to.given[2], &texts) ||
+        napi_get_typedarray_info(env, to.given[3], &type, &count, (void **)&lengths, NULL, NULL) != napi_ok ||
+        type != napi_uint32_array)
         return thrown(env, "ERR_INVALID_ARG_TYPE", "bytes and their lengths are needed");
     size_t *wide = malloc((count + 1) * sizeof *wide);
     if (wide == NULL)
@@ -623,7 +619,6 @@ static napi_value call_batch(napi_env env, napi_callback_info info)
     to.shared->says[2] = (double)first;
     return number(env, code);
 }
-
 
 /* Taking, and what has happened */
 
@@ -674,7 +669,6 @@ static napi_value counts(napi_env env, napi_callback_info info)
     return made;
 }
 
-
 /* Loading */
 
 /* An array of numbers that JavaScript and this addon both see, and which is never given back. */
@@ -682,8 +676,8 @@ static napi_value numbers(napi_env env, size_t count, double **at)
 {
     napi_value buffer, made = NULL;
     napi_ref kept;
-    if (napi_create_arraybuffer(env, count * sizeof **at, (void **)at, &buffer) == napi_ok
-        && napi_create_typedarray(env, napi_float64_array, count, buffer, 0, &made) == napi_ok)
+    if (napi_create_arraybuffer(env, count * sizeof **at, (void **)at, &buffer) == napi_ok &&
+        napi_create_typedarray(env, napi_float64_array, count, buffer, 0, &made) == napi_ok)
         napi_create_reference(env, made, 1, &kept);
     return made;
 }
@@ -727,9 +721,9 @@ __attribute__((visibility("default"))) napi_value napi_register_module_v1(napi_e
     static const struct {
         const char *name;
         napi_callback call;
-    } calls[] = {{"open", open_one}, {"close", close_one}, {"heads", heads},       {"feed", feed},
-                 {"fed", fed},       {"events", events},   {"next", next},         {"end", end},
-                 {"say", say},       {"take", take},       {"sayOne", say_alone},  {"callBatch", call_batch},
+    } calls[] = {{"open", open_one}, {"close", close_one}, {"heads", heads},      {"feed", feed},
+                 {"fed", fed},       {"events", events},   {"next", next},        {"end", end},
+                 {"say", say},       {"take", take},       {"sayOne", say_alone}, {"callBatch", call_batch},
                  {"counts", counts}, {"pending", pending}, {"isDone", is_done}};
     if (bm_interface() != BM_INTERFACE)
         return thrown(env, "ERR_BULLMYRTLE_INTERFACE", "the library has another interface");

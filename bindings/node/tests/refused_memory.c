@@ -1,5 +1,5 @@
-/* Linked around the addon by --wrap: refuses the request for memory that the variable REFUSE_NTH counts to, from when it
- * is set, and then sets REFUSE_NTH to the word `refused`. */
+/* Linked around the addon by --wrap: refuses the request for memory that the variable REFUSE_NTH counts to, from when
+ * it is set, and then sets REFUSE_NTH to the word `refused`. */
 #include <stdlib.h>
 #include <string.h>
 

@@ -198,18 +198,18 @@ class Aside(Case):
                 await asyncio.sleep(20)
 
             client, session = await joint()
-            slow = client.call("slow")
+            waiting = client.call("slow")
             await self.until(lambda: began)
             blocked = self.Blocked(session)
             large = client.call("size", ["x" * 100_000])
             await blocked.reached()
-            client.notify("notifications/cancelled", {"requestId": slow.key})
+            client.notify("notifications/cancelled", {"requestId": waiting.key})
             client.session.finish()
             await asyncio.sleep(0.05)
-            self.assertFalse(slow.done())
+            self.assertFalse(waiting.done())
             blocked.let_go()
             with self.assertRaises(Error) as caught:
-                await slow
+                await waiting
             self.assertEqual((caught.exception.code, await large), (-32800, 100_000))
 
         self.assertEqual(self.served(use).texts, [])
