@@ -47,11 +47,16 @@ def run(words):
         raise Fault(f"the addon can't be built: {' '.join(words[:1])} ended with status {ended.returncode}\n{ended.stdout}{ended.stderr}")
 
 
+def together(library):
+    """The word for a library that goes through what is said and told by itself."""
+    return ["-DTOGETHER"] if b" bm_say_all(" in read_bytes(f"{library}/{HEADER}") else []
+
+
 def make(library, made):
     """Makes the addon over the library in a folder."""
     tools = f"{kit.folder()}/toolchain"
     with tempfile.TemporaryDirectory(prefix="addon-") as room:
-        run([f"{tools}/bin/clang", *COMPILED, f"-I{library}", "-c", f"{FOLDER}/addon.c", "-o", f"{room}/addon.o"])
+        run([f"{tools}/bin/clang", *COMPILED, *together(library), f"-I{library}", "-c", f"{FOLDER}/addon.c", "-o", f"{room}/addon.o"])
         words = [f"{tools}/bin/ld.lld", *LINKED, "-soname", ADDON, f"--version-script={FOLDER}/addon.map", f"{room}/addon.o"]
         run([*words, f"{library}/{STATIC}", f"{tools}/lib/libc.so.6", "-o", made])
 
