@@ -5,6 +5,9 @@
  *   say    answers, calls, notifications and withdrawals in, as numbers in an array and ONE string; bytes out
  * since a crossing costs little, and a string much. The other calls are those of the header, one by one.
  *
+ * With TOGETHER, which bin/tools/addon.py says where the header has bm_say_all, the library goes through what is said
+ * and told by itself; without, it is asked for each.
+ *
  * Nothing here is global: what connections share belongs to the thread of JavaScript that loaded the addon. No call of
  * JavaScript is made from here, so rooms are free again when a crossing is over. */
 #include "outside.h"
@@ -35,9 +38,16 @@ typedef struct {
 
 /* What the connections of a thread share. */
 typedef struct {
+<<<<<<< HEAD
     bytes events;   /* events, as bm_next_all packs them */
     bytes texts;    /* texts on their way from or to a string */
     double **heads; /* arrays of JavaScript that are never given back, one for each depth of nesting */
+=======
+    bytes events;       /* events, as bm_next_all packs them */
+    bytes texts;        /* texts on their way from or to a string */
+    bytes sayings;      /* what is said, as bm_say_all takes it */
+    double **heads;     /* arrays of JavaScript that are never given back, one for each depth of nesting */
+>>>>>>> cb59d3ab997204cec5dbea906caac442892522f0
     size_t heads_count;
     double *says;
 } shared;
@@ -204,34 +214,79 @@ static napi_value close_one(napi_env env, napi_callback_info info)
 
 /* Events */
 
-/* Asks for as many events as fit the room, which grows for one that is too large. Gives a code, and writes how many
- * bytes and events there are, and whether there may be more. */
-static int32_t ask(bm_connection *at, shared *rooms, size_t *used, uint32_t *count, bool *has_more)
+#ifdef TOGETHER
+
+/* Asks for as many events as fit the room, behind a piece of input where there is one. */
+static int32_t tell(bm_connection *at, const bytes *piece, bytes *room, size_t length, bm_told *told)
+{
+    if (piece)
+        return bm_fed(at, piece->at, piece->length, room->at, length, MOST_EVENTS, told);
+    bm_tell(at, room->at, length, MOST_EVENTS, told);
+    return BM_OK;
+}
+
+static int32_t ask(bm_connection *at, const bytes *piece, shared *rooms, uint32_t *count, bool *has_more, bool *is_fed)
 {
     bytes *room = &rooms->events;
+    bm_told told = {0};
+    *count = 0;
     if (!grow(room, EVENTS_ROOM) || !grow(&rooms->texts, EVENTS_ROOM)) /* (the second for what string_of_all puts) */
         return BM_NO_MEMORY;
-    int32_t code = bm_next_all(at, room->at, EVENTS_ROOM, used, count);
+    int32_t code = tell(at, piece, room, EVENTS_ROOM, &told);
+    *is_fed = code == BM_OK;
+    if (code == BM_OK && told.count == 0 && told.stopped == BM_STOP_ROOM) {
+        size_t need = told.needed; /* just as much as is needed, so that one event alone is told */
+        if (!grow(room, need))
+            return BM_NO_MEMORY;
+        tell(at, NULL, room, need, &told);
+    }
+    if (code != BM_OK)
+        return code;
+    *count = told.count;
+    *has_more = told.stopped != BM_STOP_NONE;
+    return told.count == 0 && told.stopped == BM_STOP_NO_MEMORY ? BM_NO_MEMORY : BM_OK;
+}
+
+#else
+
+/* Asks for as many events as fit the room, which grows for one that is too large. Gives a code, and writes how many
+ * bytes and events there are, and whether there may be more. */
+static int32_t tell(bm_connection *at, shared *rooms, uint32_t *count, bool *has_more)
+{
+    bytes *room = &rooms->events;
+    size_t used = 0;
+    if (!grow(room, EVENTS_ROOM) || !grow(&rooms->texts, EVENTS_ROOM)) /* (the second for what string_of_all puts) */
+        return BM_NO_MEMORY;
+    int32_t code = bm_next_all(at, room->at, EVENTS_ROOM, &used, count);
     *has_more = true;
     if (code == BM_SMALL) { /* just as much as is needed, so that one event alone is told */
-        size_t need = *used;
-        return grow(room, need) ? bm_next_all(at, room->at, need, used, count) : BM_NO_MEMORY;
+        size_t need = used;
+        return grow(room, need) ? bm_next_all(at, room->at, need, &used, count) : BM_NO_MEMORY;
     }
     if (code != BM_OK || *count == 0) {
         *has_more = false;
         return code;
     }
     /* what doesn't fit came behind the last that did, so it is enough to ask once whether something is there */
-    size_t from = (*used + 7) / 8 * 8, rest = 0;
+    size_t from = (used + 7) / 8 * 8, rest = 0;
     uint32_t further = 0;
     *has_more = from >= EVENTS_ROOM || bm_next_all(at, room->at + from, EVENTS_ROOM - from, &rest, &further) != BM_OK;
     if (further) {
-        *used = from + rest;
         *count += further;
         *has_more = true;
     }
     return code;
 }
+
+/* The same behind a piece of input, where there is one. */
+static int32_t ask(bm_connection *at, const bytes *piece, shared *rooms, uint32_t *count, bool *has_more, bool *is_fed)
+{
+    int32_t code = piece ? bm_feed(at, piece->at, piece->length) : BM_OK;
+    *is_fed = code == BM_OK;
+    return *is_fed ? tell(at, rooms, count, has_more) : code;
+}
+
+#endif
 
 /* Writes an event's head. Its lengths are those of bytes. */
 static void put_head(const bm_event *event, double *head)
@@ -333,18 +388,17 @@ static napi_value string_of_all(crossing *to, uint32_t count, bool wants_ids, do
 
 /* Writes a code to heads[0], how many events there are to [1], whether there may be more to [2], how many units stand
  * between two texts to [3], and then the heads. Gives the texts, or nothing where there is no event. */
-static napi_value told(crossing *to, uint32_t place, bool wants_ids)
+static napi_value told(crossing *to, const bytes *piece, uint32_t place, bool wants_ids)
 {
-    size_t used = 0;
     uint32_t count = 0;
-    bool has_more = false;
+    bool has_more = false, is_fed = false;
     napi_value made = NULL;
     bytes *room = &to->shared->events;
     double *heads = to->shared->heads[place];
-    int32_t code = ask(&to->it->at, to->shared, &used, &count, &has_more);
-    heads[0] = code;
+    int32_t code = ask(&to->it->at, piece, to->shared, &count, &has_more, &is_fed);
+    heads[0] = piece && is_fed ? BM_OK : code;
     heads[1] = code == BM_OK ? count : 0;
-    heads[2] = has_more;
+    heads[2] = has_more || (piece && is_fed && code != BM_OK);
     heads[3] = count == 1;
     if (code != BM_OK || count == 0)
         return NULL;
@@ -399,7 +453,7 @@ static napi_value events(napi_env env, napi_callback_info info)
     uint32_t place;
     if (!begin(&to, env, info) || !place_of(&to, to.given[1], &place))
         return NULL;
-    return told(&to, place, flag(env, to.given[2]));
+    return told(&to, NULL, place, flag(env, to.given[2]));
 }
 
 /* next(handle, heads) */
@@ -423,16 +477,7 @@ static napi_value fed(napi_env env, napi_callback_info info)
         return NULL;
     if (!bytes_of(env, to.given[1], &piece))
         return thrown(env, "ERR_INVALID_ARG_TYPE", "bytes are needed");
-    double *heads = to.shared->heads[place];
-    int32_t code = bm_feed(&to.it->at, piece.at, piece.length);
-    napi_value texts = code == BM_OK ? told(&to, place, flag(env, to.given[3])) : NULL;
-    bool is_taken = code == BM_OK;
-    if (is_taken && heads[0] != BM_OK)
-        heads[2] = true;
-    heads[0] = code;
-    if (!is_taken)
-        heads[1] = heads[2] = 0;
-    return texts;
+    return told(&to, &piece, place, flag(env, to.given[3]));
 }
 
 /* feed(handle, bytes): a code */
@@ -457,6 +502,12 @@ static napi_value end(napi_env env, napi_callback_info info)
 }
 
 /* Saying */
+
+#ifdef TOGETHER
+enum { SAYING_SIZE = sizeof(bm_saying) };
+#else
+enum { SAYING_SIZE = 0 };
+#endif
 
 typedef struct {
     uint32_t kind;
@@ -512,10 +563,62 @@ static saying read_saying(const double *said, bytes *rest)
     return it;
 }
 
+#ifdef TOGETHER
+
+/* Writes a thing to say as bm_say_all takes it, and moves its texts to where those before end: there they lie without
+ * line feeds. */
+static void put_saying(bm_saying *to, const saying *it, uint8_t **end)
+{
+    static const uint32_t kinds[] = {[ANSWER] = BM_SAY_ANSWER, [FAIL] = BM_SAY_FAIL,         [CALL] = BM_SAY_CALL,
+                                     [NOTIFY] = BM_SAY_NOTIFY, [WITHDRAW] = BM_SAY_WITHDRAW, [CANCEL] = BM_SAY_CANCEL,
+                                     [CLOSE] = BM_SAY_CLOSE};
+    bool is_answer = it->kind == ANSWER;
+    bool is_withdrawal = it->kind == WITHDRAW;
+    *to = (bm_saying){.kind = it->kind <= CLOSE ? kinds[it->kind] : 0, .code = it->code};
+    to->number = is_withdrawal ? 0 : it->number;
+    to->key = is_withdrawal ? it->number : 0;
+    to->name_len = is_answer ? 0 : it->first.length;
+    to->text_len = is_answer ? it->first.length : it->second.length;
+    memmove(*end, it->first.at, it->first.length);
+    memmove(*end + it->first.length, it->second.at, it->second.length);
+    *end += it->first.length + it->second.length;
+}
+
+/* Writes what came of a thing that was said. */
+static void put_said(double *said, const bm_saying *it)
+{
+    said[0] = it->said;
+    if (it->kind == BM_SAY_CALL)
+        said[1] = (double)it->key;
+}
+
+/* Says all, in their order, each by itself, and takes bytes. In the place of each kind comes its code, and in that of a
+ * call's number its key; in the first place how many were refused. */
+static size_t say_all(crossing *to, uint32_t count, bytes texts, bytes out)
+{
+    double *says = to->shared->says;
+    uint8_t *begin = texts.at, *end = texts.at;
+    bm_saying *sayings = (bm_saying *)to->shared->sayings.at;
+    bm_said all = {0};
+    for (uint32_t i = 0; i < count; i++) {
+        saying it = read_saying(says + BEFORE_SAYINGS + i * SAYING, &texts);
+        put_saying(&sayings[i], &it, &end);
+    }
+    bm_say_all(&to->it->at, sayings, count, begin, (size_t)(end - begin), out.at, out.length, &all);
+    for (uint32_t i = 0; i < count; i++)
+        put_said(says + BEFORE_SAYINGS + i * SAYING, &sayings[i]);
+    says[0] = (double)all.refused;
+    return all.taken;
+}
+
+#else
+
 /* Says all, in their order, each by itself. In the place of each kind comes its code, and in that of a call's number
  * its key; in the first place how many were refused. */
-static void say_all(bm_connection *at, double *says, uint32_t count, bytes texts)
+static size_t say_all(crossing *to, uint32_t count, bytes texts, bytes out)
 {
+    bm_connection *at = &to->it->at;
+    double *says = to->shared->says;
     uint32_t refused = 0;
     for (uint32_t i = 0; i < count; i++) {
         double *said = says + BEFORE_SAYINGS + i * SAYING;
@@ -528,7 +631,10 @@ static void say_all(bm_connection *at, double *says, uint32_t count, bytes texts
         refused += code != BM_OK;
     }
     says[0] = refused;
+    return bm_take(at, out.at, out.length);
 }
+
+#endif
 
 /* The same where there is no memory for the texts. */
 static void refuse_all(double *says, uint32_t count)
@@ -568,12 +674,15 @@ static napi_value say(napi_env env, napi_callback_info info)
     napi_get_value_uint32(env, to.given[1], &count);
     if (!bytes_of(env, to.given[4], &out) || count > MOST_SAYINGS)
         return thrown(env, "ERR_INVALID_ARG_TYPE", "a room is needed");
-    if (count && texts_of(&to, to.given[2], &texts)) {
-        say_all(&to.it->at, to.shared->says, count, texts);
-        give_back(&to.shared->texts);
-    } else if (count)
+    if (count == 0)
+        return number(env, (double)bm_take(&to.it->at, out.at, out.length));
+    if (!grow(&to.shared->sayings, count * SAYING_SIZE) || !texts_of(&to, to.given[2], &texts)) {
         refuse_all(to.shared->says, count);
-    return number(env, (double)bm_take(&to.it->at, out.at, out.length));
+        return number(env, (double)bm_take(&to.it->at, out.at, out.length));
+    }
+    size_t taken = say_all(&to, count, texts, out);
+    give_back(&to.shared->texts);
+    return number(env, (double)taken);
 }
 
 /* sayOne(handle, kind, number, code, first, second): a code; says[2] is a call's key. The texts are Uint8Arrays. */
@@ -707,6 +816,7 @@ static void forget_shared(napi_env env, void *data, void *hint)
     (void)env, (void)hint;
     free(it->events.at);
     free(it->texts.at);
+    free(it->sayings.at);
     free(it->heads);
     free(it);
 }
