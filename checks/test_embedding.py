@@ -1,5 +1,6 @@
 """A stranger with docs/embedding.md: its commands are run in a copy of what the repository has for hosts, without the
 Rattle kit on the PATH, and print what stands below them. What it shows of an example stands there."""
+import glob
 import os
 import shutil
 import subprocess
@@ -31,12 +32,18 @@ def test_blocks_of_page() -> None:
     check(kinds and kinds == ["sh", "out"] * (len(kinds) // 2), f"{kinds}")
 
 
-def test_shown_of_the_client() -> None:
-    """Each line that is shown of the client stands there, in this order."""
-    for text in (it for mark, it in BLOCKS if mark == "c"):
-        lines = iter([line.strip() for line in ran.text_of("examples", "c", "client.c").split("\n")])
-        for line in text.splitlines():
-            check(line.strip() in lines, f"the client hasn't the line that is shown: {line.strip()}")
+def stands_in(file: str, text: str) -> bool:
+    """Whether each line of a text stands in a file, in this order."""
+    with open(file, encoding="ascii") as it:
+        lines = iter([line.strip() for line in it])
+    return all(line.strip() in lines for line in text.splitlines())
+
+
+@pytest.mark.parametrize("number", range(sum(mark == "c" for mark, _ in BLOCKS)))
+def test_shown_in_c(number: int) -> None:
+    """What is shown in C stands in an example."""
+    text = [it for mark, it in BLOCKS if mark == "c"][number]
+    check(any(stands_in(it, text) for it in glob.glob(f"{ran.TOP}/examples/c/*.c")), f"no example has {text}")
 
 
 @pytest.fixture(scope="module")
