@@ -57,13 +57,13 @@ def test_what_measures_is_known_to() -> None:
 
 
 def test_files_without_types() -> None:
-    """Each that pyproject.toml lists is there."""
+    """Each that pyproject.toml lists is there; a name that ends with .* is a folder of modules."""
     settings = tomllib.loads(ran.text_of("pyproject.toml"))
     (listed,) = [it["module"] for it in settings["tool"]["mypy"]["overrides"]]
-    places = {name: [f"{folder}/{name.replace('.', '/')}" for folder in ("checks", "bench", "bin")] for name in listed}
-    gone = [
-        name
-        for name, at in places.items()
-        if not any(os.path.isfile(f"{ran.TOP}/{it}{end}") for it in at for end in ("", ".py"))
-    ]
+    gone = [it for it in listed if not any(is_there(folder, it) for folder in ("checks", "bench", "bin"))]
     check(not gone, f"{gone}")
+
+
+def is_there(folder: str, name: str) -> bool:
+    at = os.path.join(ran.TOP, folder, name.removesuffix(".*").replace(".", "/"))
+    return os.path.isdir(at) if name.endswith(".*") else os.path.isfile(at) or os.path.isfile(f"{at}.py")

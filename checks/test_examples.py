@@ -90,6 +90,7 @@ def test_blocks_of_page(place: tuple[str, ...]) -> None:
 
 @pytest.mark.parametrize("command", named(COMMANDS, lambda it: f"{it.page} {it.text[:60]}"))
 def test_command(command: Command) -> None:
+    ran.built()  # (which bin/rpc_tool would do too)
     files = {name: ran.file_of(name, text) for name, text in command.files.items()}
     text = re.sub("|".join(FILES.values()), lambda it: files[it[0]], command.text)
     ended = subprocess.run(["sh", "-c", text], cwd=ran.TOP, capture_output=True, timeout=120, check=False)
