@@ -37,6 +37,17 @@ VALUES = frozenset((dict, list, str, int, float, bool, type(None)))
 class Answering(Asking):
     """The side of a session that answers."""
 
+    __slots__ = (
+        "_methods",
+        "_most_open",
+        "_open_requests",
+        "_is_choosy",
+        "_pool",
+        "_open",
+        "_by_id",
+        "_tasks",
+    )
+
     _is_stopped: bool
     _change: Optional["asyncio.Future[None]"]
     _changed: Callable[[], None]
@@ -190,7 +201,10 @@ class Answering(Asking):
             if issubclass(type(error), asyncio.CancelledError):  # (which doesn't ask the exception itself)
                 raise
         else:
-            self._when_read(self._ended, request, result, None)
+            if self._aside is None:
+                self._ended(request, result, None)
+            else:
+                self._when_read(self._ended, request, result, None)
         finally:
             self._task_ended(request.task)
 
@@ -243,13 +257,16 @@ class Answering(Asking):
                 log.error("%s: it had answered its request already, and then returned a result too", name)
             return
         try:
-            text = self.text_of(result)
+            try:
+                text = self._json.dumps(result)
+            except (KeyboardInterrupt, SystemExit):
+                raise
+            except BaseException as error:
+                raise NotJson(words_of_error(error)) from error
             self._said += AROUND + len(text)
             self._connection.answer(number, text)
         except NotOpen:
             pass
-        except (KeyboardInterrupt, SystemExit):
-            raise
         except NotJson as error:
             self._isnt_json(number, name, "its result", error)
         if request is not None:

@@ -34,6 +34,18 @@ log = logging.getLogger("bullmyrtle")
 class Hearing(Talking):
     """The side of a session that takes in what the other side says."""
 
+    __slots__ = (
+        "_events",
+        "_held",
+        "_is_going",
+        "_cancels",
+        "_gone",
+        "_unread",
+        "_to_read",
+        "_is_in_thread",
+        "_pauses",
+    )
+
     _channel: Channel
     _answer_quickly: Callable[[int, bytes], None]
     take: Callable[[int], bytes]
@@ -62,11 +74,10 @@ class Hearing(Talking):
 
     def received(self, data: bytes) -> None:
         """Bytes of the input."""
-        if self._is_closed:
-            return
         self._unread += len(data)
-        if self._unread > _LARGE or self._aside is not None:
-            self._read_aside(data)
+        if self._unread > _LARGE:
+            if not self._is_closed:
+                self._read_aside(data)
             return
         try:
             told = self._connection.fed(data)
@@ -179,6 +190,8 @@ class Hearing(Talking):
             return
         aside, self._aside = self._aside, None
         self.take = self._connection.take
+        if pieces and pieces[-1][1]:
+            self._unread = 0
         if fault is not None and not isinstance(fault, InputOver):
             self._fail_to_read(fault)
         put_off, self._put_off = self._put_off, []
@@ -203,7 +216,7 @@ class Hearing(Talking):
 
     def _take_in(self, data: bytes, told: List[Event]) -> None:
         """A piece was read. A request whose cancel is among what was told never begins, if its turn hasn't come."""
-        if told:
+        if told and self._aside is None:
             self._unread = 0
         self.watch.read(data, told)
         if self._cancels:
@@ -211,7 +224,7 @@ class Hearing(Talking):
             self._cancels.clear()
         elif self._takes_tool_cancels and (len(told) > 1 or self._events or self._held):
             self._note_tool_cancels(told)
-        self._events.extend(told)
+        self._events += told
 
     def _note_tool_cancels(self, told: List[Event]) -> None:
         name = self._cancel_by
@@ -300,7 +313,7 @@ class Hearing(Talking):
             self._is_going = has_more or has_begun and (is_later or not self._channel.takes_turns)
             if self._is_going:
                 self.loop.call_soon(self._go_on, True)
-        if self._pauses or len(waiting) > _MANY:
+        if has_more or self._pauses:
             self._pause_while_many_wait()
         if has_begun or has_told:
             self._flush_soon()  # (whatever goes on now may have more to say)
@@ -395,6 +408,6 @@ class Hearing(Talking):
                 self._held.append(event)
 
     def _go_on_where_held(self) -> None:
-        """What there was to write is written."""
-        if self._held and not self._is_going and not self._is_closed:
+        """What there was to write is written, and so calls that were held go on."""
+        if self._held and not self._is_going and not self._is_closed and self._channel.is_idle:
             self._go_on()

@@ -29,6 +29,30 @@ _DROPPED = 1 << 20
 class Session(Hearing):
     """One connection in an event loop, with the methods that answer its calls."""
 
+    __slots__ = (
+        "loop",
+        "_soon",
+        "_channel",
+        "_connection",
+        "take",
+        "_answer_quickly",
+        "_cancel_by",
+        "_takes_tool_cancels",
+        "_grace",
+        "_has_begun",
+        "_has_flush",
+        "_is_closed",
+        "_is_stopped",
+        "_is_broken",
+        "_is_unheard",
+        "_over",
+        "_change",
+        "_status",
+        "state",
+        "ended",
+        "watch",
+    )
+
     def __init__(
         self,
         methods: Methods,
@@ -89,13 +113,11 @@ class Session(Hearing):
             self._channel.write()
             if self._is_unheard:
                 self._drop()
-            elif self._said:
-                self._said = 0 if self._channel.is_idle else self.pending + self._channel.waiting
         except (KeyboardInterrupt, SystemExit):
             raise
         except BaseException as fault:
             self._give_up("what is said can't be written", fault)
-        if self._held and not self._said:
+        if self._held and self._channel.is_idle:
             self.loop.call_soon(self._go_on_where_held)
         if self._change is not None:
             self._changed()
@@ -224,6 +246,7 @@ class Session(Hearing):
             self._is_closed = True
             is_read_aside = self._is_in_thread  # (and then that thread closes the connection)
         self.take = lambda most: b""
+        self._unread = 1 << 62  # (so that nothing more is read)
         self._events.clear()
         self._held.clear()
         if self.ended is None:

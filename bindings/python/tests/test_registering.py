@@ -293,6 +293,8 @@ class Parameters(Asking):
         self.refused(alone, "def m(params, request)")
         self.refused(lambda a, b, request: 1, "def m(params, request)", "def m(a, b, *, request)")
         self.refused(lambda a, b, /, *, c: 1, "def m(a, b, c)")
+        self.refused(lambda ls, params: 1, "the params come first", "def m(params, request)")
+        self.refused(lambda a, *, params: 1, "the params come first")
 
         def odd(a, b: set):
             return 1
