@@ -79,8 +79,10 @@ def version_with(data):
 
 def modules():
     """The package's files, by their names in the wheel."""
-    names = sorted(it for it in os.listdir(os.path.join(HERE, NAME)) if it.endswith((".py", ".typed")))
-    return {f"{NAME}/{it}": read(NAME, it) for it in names}
+    names = []
+    for folder, _, files in os.walk(os.path.join(HERE, NAME)):
+        names += [os.path.join(folder, it) for it in files if it.endswith((".py", ".typed"))]
+    return {os.path.relpath(it, HERE): read(it) for it in sorted(names)}
 
 
 def metadata(of):

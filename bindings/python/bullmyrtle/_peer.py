@@ -25,6 +25,7 @@ from ._ends import End
 from ._json import DIGITS
 from ._library import ORDERS
 from ._marks import marked, name_of
+from ._middleware import Middleware, Wrapped, checked_middleware, limited
 from ._params import Method, Methods
 from ._protocols import PROTOCOLS, ProtocolName
 from ._request import Reply, Said
@@ -36,6 +37,7 @@ from .errors import Closed
 
 F = TypeVar("F", bound=Callable[..., Any])
 T = TypeVar("T")
+M = TypeVar("M", bound=Callable[..., Any])
 
 CancelBy = Literal["$/cancelRequest", "notifications/cancelled", "by framing"]
 Framing = Literal["frames", "lines"]
@@ -109,13 +111,15 @@ class Peer:
         self._digits, self._most_open = digits, open
         self._trace = trace
         self._methods = Methods()
+        self._middlewares: List[Middleware] = []
         self._sessions: Dict[Session, None] = {}
         self._served = 0
         self._last: Optional[Session] = None
 
     @classmethod
     def _setting_names(cls) -> List[str]:
-        parameters = inspect.signature(cls.__init__).parameters.values()
+        functions = [vars(it)["__init__"] for it in cls.__mro__[:-1] if "__init__" in vars(it)]
+        parameters = [it for function in functions for it in inspect.signature(function).parameters.values()]
         return [it.name for it in parameters if it.kind is inspect.Parameter.KEYWORD_ONLY]
 
     # Methods
@@ -125,10 +129,18 @@ class Peer:
         ...
 
     @overload
-    def method(self, name: Optional[str] = None, *, thread: bool = False) -> Callable[[F], F]:
+    def method(
+        self, name: Optional[str] = None, *, thread: bool = False, timeout: Optional[float] = None
+    ) -> Callable[[F], F]:
         ...
 
-    def method(self, name: Union[Callable[..., Any], str, None] = None, *, thread: bool = False) -> Any:
+    def method(
+        self,
+        name: Union[Callable[..., Any], str, None] = None,
+        *,
+        thread: bool = False,
+        timeout: Optional[float] = None,
+    ) -> Any:
         """Register a function as the method of this name, or of its own where none is given.
 
         What its parameters get:
@@ -140,14 +152,16 @@ class Peer:
 
         A plain function runs on the loop's thread, when its call comes; an `async def` starts then, and others may come
         while it awaits; one with `thread=True` runs in a thread of its own. What it returns is the result. A
-        notification's result is nothing.
+        notification's result is nothing. One of the latter two that takes longer than `timeout` seconds is ended, and
+        its request is answered with the error -32803.
         """
         if callable(name):
             return self.method()(name)
         given: Optional[str] = name
 
         def register(function: F) -> F:
-            self._methods.add(Method(name_of(function) if given is None else given, function, thread))
+            made = Method(name_of(function) if given is None else given, function, thread)
+            self._methods.add(limited(made, timeout))
             return function
 
         return register
@@ -180,7 +194,26 @@ class Peer:
         self._methods.takes_dollar = dollar
         return function
 
+    def middleware(self, function: M) -> M:
+        """Register what stands around each method, before a session begins: a generator function that yields once.
+
+        >>> @server.middleware
+        ... def timed(request, params):
+        ...     start = time.monotonic()
+        ...     yield
+        ...     print(request.method, time.monotonic() - start, file=sys.stderr)
+
+        It runs where the method does. What it raises before its `yield` is raised in the method's place; `yield` gives
+        the method's result, or raises what the method raises. The first one that is registered is the outermost.
+        """
+        self._middlewares.append(checked_middleware(function))
+        return function
+
     # Sessions
+
+    def _table(self) -> Methods:
+        """What a session finds its methods in."""
+        return Wrapped(self._methods, self._middlewares) if self._middlewares else self._methods
 
     def _session_over(self, channel: Channel, **other: Any) -> Session:
         """A new session; `other` settings take the place of the peer's."""
@@ -191,7 +224,7 @@ class Peer:
             connection = Traced(plain, self._trace, cancels)
         watch = Watch({**self._settings, **other}, cancels, self._is_client)
         session = Session(
-            self._methods,
+            self._table(),
             channel,
             connection,
             self._cancel_by,

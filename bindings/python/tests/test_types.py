@@ -10,7 +10,7 @@ import unittest
 
 from helping import PACKAGE, TOP, Case
 
-FILES = glob.glob(f"{PACKAGE}/bullmyrtle/*.py") + glob.glob(f"{PACKAGE}/build_backend/*.py")
+FILES = glob.glob(f"{PACKAGE}/bullmyrtle/**/*.py", recursive=True) + glob.glob(f"{PACKAGE}/build_backend/*.py")
 FILES += glob.glob(f"{TOP}/examples/python/*.py")
 
 

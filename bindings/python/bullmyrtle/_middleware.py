@@ -1,0 +1,199 @@
+"""What stands around methods: functions of the user's, time limits, and one method that hands its call on to another."""
+from __future__ import annotations
+
+import asyncio
+import contextlib
+import functools
+import inspect
+import logging
+from typing import Any, Callable, Dict, Generator, List, Optional
+
+from ._params import ASYNC, PLAIN, THREAD, Method, Methods
+from ._request import Request, words_of
+from .errors import Error, InvalidParams, NotOpen
+
+log = logging.getLogger("bullmyrtle")
+
+REQUEST_FAILED = -32803
+
+#: A generator function of the request and its params, as JSON has them: what comes before its `yield` is done before
+#: the method, and what comes behind it afterwards. What it raises before, is raised in the method's place.
+Middleware = Callable[[Request, Any], Generator[None, Any, None]]
+#: What answers a request that took too long.
+Late = Callable[[Request, float], None]
+
+
+def _fitted(method: Method, params: Any) -> Any:
+    """What the method gets for its params. Raises InvalidParams."""
+    try:
+        return method.params(params)
+    except Error:
+        raise
+    except (ValueError, TypeError, RecursionError) as fault:
+        raise InvalidParams(words_of(f"Invalid params: {fault}")) from fault
+
+
+def _called(method: Method, given: Any, request: Request) -> Any:
+    if method.takes == 1:
+        return method.function(given)
+    return method.function(given, request) if method.takes else method.function()
+
+
+def handed(method: Method, params: Any, request: Request) -> Any:
+    """Has another method answer a call: gives the result, or what is to be awaited for it."""
+    call = functools.partial(_called, method, _fitted(method, params), request)
+    return request.in_thread(call) if method.kind is THREAD else call()
+
+
+def _made(method: Method, function: Callable[..., Any], kind: str) -> Method:
+    """A method with the name of another, whose function takes the params as they came, and the request."""
+    other: Method = object.__new__(Method)
+    other.name, other.kind, other.function = method.name, kind, function
+    other.takes, other.fit, other.is_quick = 2, None, False
+    return other
+
+
+# Time limits
+
+
+def answer_late(request: Request, seconds: float) -> None:
+    """Answers a request that took too long with the error -32803."""
+    log.warning("%s took longer than %g seconds", request.method, seconds)
+    request.fail(Error(REQUEST_FAILED, f"Request failed: it took longer than {seconds:g} seconds"))
+
+
+def _end(request: Request, seconds: float, late: Late) -> None:
+    if request.number not in request.session._open:
+        return
+    task = request.task
+    with contextlib.suppress(NotOpen):
+        late(request, seconds)
+    request.is_cancelled = True  # (whatever it does now is no more than it would be after a cancel)
+    if task is not None and not task.done():
+        request.session._end_task(task)
+
+
+def limited(method: Method, seconds: Optional[float], late: Late = answer_late) -> Method:
+    """The method, whose requests are answered by `late` where it takes longer than so many seconds."""
+    if seconds is None:
+        return method
+    limit = float(seconds)
+    if method.kind is PLAIN:
+        raise TypeError(
+            f"{method.name}: nothing can end a plain function in time, since it holds up the loop: "
+            "make it `async def`, or register it with thread=True"
+        )
+
+    async def run(params: Any, request: Request) -> Any:
+        timer = request.session.loop.call_later(limit, _end, request, limit, late)
+        try:
+            return await handed(method, params, request)
+        finally:
+            timer.cancel()
+
+    return _made(method, run, ASYNC)
+
+
+# Functions around methods
+
+
+class _Around:
+    """The middlewares of one call, while it goes on."""
+
+    def __init__(self, middlewares: List[Middleware], request: Request, params: Any) -> None:
+        self._open: List[Generator[None, Any, None]] = []
+        try:
+            for it in middlewares:
+                generator = it(request, params)
+                next(generator)
+                self._open.append(generator)
+        except StopIteration:
+            self.raised(RuntimeError(f"{it!r} has to yield once"))
+        except BaseException as error:
+            self.raised(error)
+
+    def returned(self, result: Any) -> Any:
+        """Tells those around it of the result, the inner ones first, and gives it back."""
+        while self._open:
+            try:
+                self._open.pop().send(result)
+            except StopIteration:
+                continue
+            except BaseException as error:
+                self.raised(error)
+            self.raised(RuntimeError("a middleware has to yield once, and yielded twice"))
+        return result
+
+    def raised(self, error: BaseException) -> None:
+        """Tells those around it of an error, and raises it, or the one that they raise in its place."""
+        while self._open:
+            try:
+                self._open.pop().throw(error)
+            except StopIteration:
+                continue  # (one that only looks at it doesn't take it away from the others)
+            except BaseException as other:
+                error = other
+        raise error
+
+
+def around(method: Method, middlewares: List[Middleware]) -> Method:
+    """The method with middlewares around it, the first one outermost."""
+
+    def run(params: Any, request: Request) -> Any:
+        open_ = _Around(middlewares, request, params)
+        try:
+            result = _called(method, _fitted(method, params), request)
+        except BaseException as error:
+            open_.raised(error)
+        if inspect.isawaitable(result):
+            return _awaited(open_, result)
+        return open_.returned(result)
+
+    async def run_async(params: Any, request: Request) -> Any:
+        open_ = _Around(middlewares, request, params)
+        try:
+            result = await _called(method, _fitted(method, params), request)
+        except BaseException as error:
+            open_.raised(error)
+        return open_.returned(result)
+
+    async def _awaited(open_: _Around, awaitable: Any) -> Any:
+        try:
+            result = await awaitable
+        except BaseException as error:
+            open_.raised(error)
+        return open_.returned(result)
+
+    return _made(method, run_async if method.kind is ASYNC else run, method.kind)
+
+
+class Wrapped(Methods):
+    """A table of methods with middlewares around each."""
+
+    def __init__(self, methods: Methods, middlewares: List[Middleware]) -> None:
+        super().__init__()
+        self._all, self._middlewares = methods, middlewares
+        self._made: Dict[int, Method] = {}
+
+    def _wrapped(self, method: Optional[Method]) -> Optional[Method]:
+        if method is None:
+            return None
+        made = self._made.get(id(method))
+        if made is None:
+            made = self._made[id(method)] = around(method, self._middlewares)
+        return made
+
+    def get(self, name: str, default: Any = None) -> Any:
+        return self._wrapped(self._all.get(name))
+
+    def otherwise(self, name: str) -> Optional[Method]:
+        return self._wrapped(self._all.otherwise(name))
+
+
+def checked_middleware(function: Any) -> Middleware:
+    """The function, where it is a generator function. Raises TypeError."""
+    if not inspect.isgeneratorfunction(function):
+        raise TypeError(
+            f"{function!r} has to be a generator function, as in: def timed(request, params): .. yield .."
+        )
+    return function  # type: ignore[no-any-return]

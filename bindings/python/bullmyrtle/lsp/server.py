@@ -1,0 +1,504 @@
+"""A language server: features by decorator, over `Server`."""
+from __future__ import annotations
+
+import asyncio
+import functools
+import inspect
+import logging
+import sys
+import threading
+from typing import Any, Callable, Dict, Iterable, NoReturn, Optional, TypeVar
+
+from .._channels import Channel
+from .._filling import Filling
+from .._fits import annotation_of, fit_for
+from .._middleware import handed, limited
+from .._params import ASYNC, Method, Methods
+from .._request import LATER, Request
+from .._session import Session
+from ..errors import Error, InvalidParams, INVALID_REQUEST
+from ..server import Server
+from ._capabilities import DYNAMIC, FULL, INCREMENTAL, NEEDED, capabilities_of, encoding_for, merged
+from ._editor import Editor
+from ._life import CURRENT, NEW, RUNNING, SHUT, STARTING, Gate, Life
+from ._text import ENCODINGS
+from .documents import Document, member
+from .workspace import Workspace
+
+log = logging.getLogger("bullmyrtle")
+
+F = TypeVar("F", bound=Callable[..., Any])
+Json = Dict[str, Any]
+
+_SYNC = {"full": FULL, "incremental": INCREMENTAL}
+_THREAD = "__bullmyrtle_thread__"
+
+
+class LanguageServer(Editor, Server):
+    """A language server, as for an editor.
+
+    >>> server = LanguageServer("words", "1.0")
+    >>> @server.feature("textDocument/hover")
+    ... def hover(ls, params):
+    ...     return {"contents": ls.document(params).word_at(params["position"])}
+
+    `server.start_io()` then answers on the standard streams, until the editor says `exit`.
+    """
+
+    def __init__(
+        self,
+        name: str = "",
+        version: Optional[str] = None,
+        *,
+        sync: str = "incremental",
+        position_encodings: Iterable[str] = ENCODINGS,
+        capabilities: Optional[Json] = None,
+        converter: Any = None,
+        **settings: Any,
+    ) -> None:
+        """Make one, without features yet.
+
+        name, version -- what the editor is told
+        sync -- whether the editor tells changes as they are made ("incremental") or whole texts ("full")
+        position_encodings -- those that may be agreed on: "utf-8", "utf-16", "utf-32"
+        capabilities -- what is to be told beside, or in the place of, what the features tell
+        converter -- what makes other types of params, and JSON of results: it has `structure(value, type)` and
+            `unstructure(value)`, as those of cattrs and lsprotocol have
+        settings -- those of a `Server`
+        """
+        super().__init__(**settings)
+        if sync not in _SYNC:
+            raise ValueError(f"documents are kept by 'incremental' or 'full' changes: {sync!r}")
+        self.name, self.version = name, version
+        self._sync = _SYNC[sync]
+        self._encodings = tuple(position_encodings)
+        if not set(self._encodings) <= set(ENCODINGS):
+            raise ValueError(f"the encodings are {', '.join(ENCODINGS)}: {self._encodings!r}")
+        self._by_hand = capabilities or {}
+        self._converter = converter
+        self._features: Dict[str, Optional[Json]] = {}
+        self._users: Dict[str, Method] = {}  # what is called behind what is built in
+        self._commands: Dict[str, Method] = {}
+        self._lives: Dict[Session, Life] = {}
+        self._builtin: Dict[str, Callable[[Any, Life], None]] = {
+            "textDocument/didOpen": lambda params, life: life.workspace.opened(params),
+            "textDocument/didChange": lambda params, life: life.workspace.changed(params),
+            "textDocument/didClose": lambda params, life: life.workspace.closed(params),
+            "workspace/didChangeWorkspaceFolders": lambda params, life: life.workspace.folders_changed(
+                params
+            ),
+            "$/setTrace": _set_trace,
+            "window/workDoneProgress/cancel": _cancel_progress,
+            "initialized": lambda params, life: None,
+        }
+        for method in self._builtin:
+            self._add(method, functools.partial(self._told, method))
+        self._add("initialize", self._initialize)
+        self._add("shutdown", self._shutdown)
+        self._add("exit", self._exit)
+        self._add("workspace/executeCommand", self._execute)
+        self._own = frozenset(self._methods)
+
+    def _add(self, name: str, function: Callable[..., Any]) -> None:
+        self._methods.add(_entered(Method(name, function, False), None))
+
+    # What is registered
+
+    def feature(
+        self,
+        name: str,
+        options: Optional[Json] = None,
+        *,
+        thread: bool = False,
+        timeout: Optional[float] = None,
+    ) -> Callable[[F], F]:
+        """Register a function as the method of this name, and tell the editor that there is one.
+
+        The options go to the capability that tells it. A first parameter that is named `ls`, or annotated with this
+        class, gets the server; the others are as with `Server.method`. `initialize`, `initialized`, `shutdown`, `exit`,
+        and the notifications that tell of documents and folders are done here: a feature of such a name is called
+        behind that, when the document is as it says; one of `exit` before it.
+        """
+        if options is not None:
+            options = self._plain(options)
+        if name in NEEDED and NEEDED[name] not in {**(options or {}), **self._semantic(name)}:
+            raise TypeError(f"{name} needs options with {NEEDED[name]!r}, since nothing else can tell it")
+
+        def register(function: F) -> F:
+            if name in self._features or name == "workspace/executeCommand":
+                hint = ": use command" if name not in self._features else ""
+                raise ValueError(f"there is a feature {name!r} already{hint}")
+            method = self._method(name, function, thread, timeout)
+            if name in self._own:
+                self._users[name] = method
+            else:
+                self._methods.add(method)
+            self._features[name] = options
+            return function
+
+        return register
+
+    def _semantic(self, name: str) -> Json:
+        """What another feature of the same capability, or the program by hand, has told already."""
+        if "semanticTokens" not in name:
+            return self._by_hand if name == "textDocument/onTypeFormatting" else {}
+        told: Json = dict(self._by_hand.get("semanticTokensProvider") or {})
+        for other, options in self._features.items():
+            if "semanticTokens" in other:
+                told.update(options or {})
+        return told
+
+    def command(
+        self, name: str, *, thread: bool = False, timeout: Optional[float] = None
+    ) -> Callable[[F], F]:
+        """Register a function as a command of the editor's. Its parameters are filled by the command's arguments."""
+
+        def register(function: F) -> F:
+            if name in self._commands:
+                raise ValueError(f"there is a command {name!r} already")
+            self._commands[name] = self._method(name, function, thread, timeout, filled)
+            return function
+
+        return register
+
+    @staticmethod
+    def thread() -> Callable[[F], F]:
+        """Mark a function that is to run in a thread; to be written below `feature` or `command`."""
+
+        def mark(function: F) -> F:
+            setattr(function, _THREAD, True)
+            return function
+
+        return mark
+
+    def _method(
+        self,
+        name: str,
+        function: Any,
+        thread: bool,
+        timeout: Optional[float],
+        how: Callable[[Method, Any], Method] = lambda method, function: method,
+    ) -> Method:
+        thread = thread or getattr(function, _THREAD, False)
+        ours = self._converted(self._bound(function))
+        return limited(_entered(how(Method(name, ours, thread), ours), self._converter), timeout)
+
+    def _bound(self, function: Any) -> Any:
+        """The function with the server as its first argument, where it takes that."""
+        try:
+            first = next(iter(inspect.signature(function).parameters.values()), None)
+        except (TypeError, ValueError):
+            return function
+        if first is None or first.kind not in (first.POSITIONAL_ONLY, first.POSITIONAL_OR_KEYWORD):
+            return function
+        if first.name in ("ls", "server") or _names_a_server(function, first.name):
+            return functools.partial(function, self)
+        return function
+
+    def _converted(self, function: Any) -> Any:
+        """The function with params of another type than JSON's, where it asks for one and there is a converter."""
+        if self._converter is None:
+            return function
+        parameters = list(inspect.signature(function).parameters.values())
+        if not parameters or parameters[0].annotation is inspect.Parameter.empty:
+            return function
+        kind = annotation_of(function, parameters[0].name)
+        try:
+            fit_for(kind)
+            return function
+        except TypeError:
+            pass
+        structure, takes_request = self._converter.structure, len(parameters) > 1
+
+        def call(params: Any, request: Request) -> Any:
+            try:
+                value = structure(params, kind)
+            except Exception as error:
+                raise InvalidParams(f"Invalid params: {type(error).__name__}: {error}") from error
+            return function(value, request) if takes_request else function(value)
+
+        async def call_async(params: Any, request: Request) -> Any:
+            return await call(params, request)
+
+        return call_async if inspect.iscoroutinefunction(function) else call
+
+    def _plain(self, value: Any) -> Any:
+        return value if self._converter is None else self._converter.unstructure(value)
+
+    # Sessions
+
+    def _table(self) -> Methods:
+        return Gate(super()._table(), Life())
+
+    def _session_over(self, channel: Channel, **other: Any) -> Session:
+        session = super()._session_over(channel, **other)
+        gate = session._methods
+        assert isinstance(gate, Gate)
+        gate.life.session = session
+        self._lives[session] = gate.life
+        return session
+
+    async def _serve(self, session: Session) -> int:
+        try:
+            return await super()._serve(session)
+        finally:
+            self._lives.pop(session, None)
+
+    def _request(self) -> Optional[Request]:
+        """The request that the code which runs now works on. What it began and left to itself works on none."""
+        request = CURRENT.get()
+        if request is None or request.session not in self._sessions:
+            return None
+        is_here = threading.get_ident() == request.session._thread
+        if is_here and request.task is not None and asyncio.current_task() is not request.task:
+            return None
+        return request if request.is_cancelled or request.number in request.session._open else None
+
+    def _single(self, instead: str) -> Session:
+        """The session that this code works for, or the only one."""
+        request = CURRENT.get()
+        return request.session if request is not None and request.session in self._sessions else super()._single(instead)
+
+    @property
+    def life(self) -> Life:  # type: ignore[override]
+        """What is known of the session."""
+        return self._lives[self._single("it")]
+
+    def call(self, method: str, params: Any = None) -> Any:
+        """Call the editor, on behalf of the request that this code works on, if that isn't answered yet.
+
+        In an `async def` it gives what is to be awaited; in a thread it blocks, and gives the result.
+        """
+        return self._single("it").call_one(method, self._plain(params), self._request())
+
+    def notify(self, method: str, params: Any = None) -> None:
+        """Send the editor a notification. Any thread may do that."""
+        self._single("it").notify(method, self._plain(params))
+
+    # What is known
+
+    @property
+    def workspace(self) -> Workspace:
+        """The open documents, and the folders."""
+        return self.life.workspace
+
+    def document(self, about: Any) -> Document:
+        """An open document, by params that have a `textDocument` or by its URI. In a thread it is a snapshot.
+
+        Raises InvalidParams where it isn't open.
+        """
+        return self.life.workspace.document(about)
+
+    @property
+    def client_capabilities(self) -> Json:
+        """What the editor can do."""
+        return self.life.client_capabilities
+
+    def client_has(self, path: str) -> Any:
+        """One capability of the editor's, as "window.workDoneProgress"; None where it has none."""
+        return self.life.client_has(path)
+
+    @property
+    def initialize_params(self) -> Json:
+        """What `initialize` said."""
+        return self.life.params
+
+    @property
+    def initialization_options(self) -> Any:
+        """What the user's settings gave `initialize`."""
+        return self.life.params.get("initializationOptions")
+
+    @property
+    def position_encoding(self) -> str:
+        """In what positions count: the encoding that was agreed on."""
+        return self.life.workspace.encoding
+
+    # The protocol's life
+
+    def _life_of(self, request: Request) -> Life:
+        return self._lives[request.session]
+
+    def _told(self, name: str, params: Any, request: Request) -> Any:
+        self._builtin[name](params, self._life_of(request))
+        if name == "initialized":
+            self._register_while_it_runs()
+        return self._go_on(name, params, request)
+
+    def _go_on(self, name: str, params: Any, request: Request) -> Any:
+        """What the program's own feature of a built-in name gives."""
+        user = self._users.get(name)
+        return None if user is None else handed(user, params, request)
+
+    def _initialize(self, params: Any, request: Request) -> Any:
+        life = self._life_of(request)
+        if life.state is not NEW:
+            raise Error(INVALID_REQUEST, "Invalid Request: initialize has come already")
+        if not isinstance(params, dict):
+            raise InvalidParams("Invalid params: initialize has an object")
+        life.params, life.state = params, STARTING
+        life.trace = params.get("trace") or "off"
+        encoding = encoding_for(life.client_capabilities, self._encodings)
+        try:
+            life.workspace.begin(params, encoding or "utf-16")
+            told = self._go_on("initialize", params, request)
+        except BaseException:
+            life.state = NEW
+            raise
+        result = functools.partial(self._initialized, life, encoding)
+        return self._later(life, told, result) if inspect.isawaitable(told) else result(told)
+
+    @staticmethod
+    async def _later(life: Life, told: Any, result: Callable[[Any], Json]) -> Json:
+        try:
+            return result(await told)
+        except BaseException:
+            life.state = NEW
+            raise
+
+    def _initialized(self, life: Life, encoding: Optional[str], told: Any) -> Json:
+        made = capabilities_of(self._features, self._commands, self._sync, self._by_hand)
+        if encoding is not None:
+            made["positionEncoding"] = encoding
+        about = {"name": self.name} if self.version is None else {"name": self.name, "version": self.version}
+        result = {"capabilities": made, **({"serverInfo": about} if self.name else {})}
+        life.state = RUNNING
+        return merged(result, told) if isinstance(told, dict) else result
+
+    def _register_while_it_runs(self) -> None:
+        for method, capability in DYNAMIC.items():
+            options = self._features.get(method)
+            if options is not None and self.client_has(capability):
+                asyncio.ensure_future(self._register_quietly(method, options))
+
+    async def _register_quietly(self, method: str, options: Json) -> None:
+        try:
+            await self.register_capability(method, options)
+        except Exception as error:
+            log.warning("%s can't be registered: %s", method, error)
+
+    def _shutdown(self, params: Any, request: Request) -> Any:
+        self._life_of(request).state = SHUT
+        told = self._go_on("shutdown", params, request)
+        return self._nothing(told) if inspect.isawaitable(told) else None
+
+    @staticmethod
+    async def _nothing(told: Any) -> None:
+        await told
+
+    def _exit(self, params: Any, request: Request) -> Any:
+        told = self._go_on("exit", params, request)
+        if inspect.isawaitable(told):
+            return self._exit_later(told, request)
+        self._stop(request)
+        return None
+
+    async def _exit_later(self, told: Any, request: Request) -> None:
+        try:
+            await told
+        finally:
+            self._stop(request)
+
+    def _stop(self, request: Request) -> None:
+        status = 0 if self._life_of(request).state is SHUT else 1
+        request.session.stop(status, grace=0)
+
+    # Commands
+
+    def _execute(self, params: Any, request: Request) -> Any:
+        name = member(params, "command")
+        command = self._commands.get(name) if isinstance(name, str) else None
+        if command is None:
+            raise InvalidParams(f"Invalid params: there is no command {str(name)[:200]!r}")
+        return handed(command, params.get("arguments") or [], request)
+
+    # Ways to run it
+
+    def start_io(self) -> NoReturn:
+        """Answer on the standard streams, and end the process with the status of `run`."""
+        sys.exit(self.run())
+
+    def start_tcp(self, host: str, port: int) -> None:
+        """Answer whoever connects to this address, until the process is interrupted."""
+
+        async def answer(reader: asyncio.StreamReader, writer: asyncio.StreamWriter) -> None:
+            await self.serve_async(reader, writer)
+
+        async def serve() -> None:
+            listening = await asyncio.start_server(answer, host, port)
+            async with listening:
+                await listening.serve_forever()
+
+        try:
+            asyncio.run(serve())
+        except KeyboardInterrupt:
+            pass
+
+
+def filled(method: Method, function: Any) -> Method:
+    """The method, whose one parameter gets one argument, and not all of them, unless it is named `arguments`."""
+    if isinstance(method.fit, Filling) or not method.takes:
+        return method
+    one = next(iter(inspect.signature(function).parameters.values()))
+    if one.name in ("arguments", "args", "params") or method.takes == 2:
+        return method
+    inner, method.fit = method.function, Filling(function, [one], frozenset())
+    method.function = lambda given: inner(*given[0])
+    return method
+
+
+def _set_trace(params: Any, life: Life) -> None:
+    value = member(params, "value")
+    if value not in ("off", "messages", "verbose"):
+        raise InvalidParams(f"Invalid params: there is no such trace: {str(value)[:50]!r}")
+    life.trace = value
+
+
+def _cancel_progress(params: Any, life: Life) -> None:
+    token = member(params, "token")
+    progress = life.progresses.get(token) if type(token) in (str, int) else None
+    if progress is not None:
+        progress.cancel()
+
+
+def _names_a_server(function: Any, name: str) -> bool:
+    """Whether a parameter is annotated with a class of language servers."""
+    try:
+        kind = annotation_of(function, name)
+    except TypeError:
+        return False
+    return inspect.isclass(kind) and issubclass(kind, LanguageServer)
+
+
+def _entered(method: Method, converter: Any) -> Method:
+    """The method, while whose code runs it is known which request it works on."""
+    inner, takes = method.function, method.takes
+
+    def call(given: Any, request: Request) -> Any:
+        return inner() if not takes else inner(given) if takes == 1 else inner(given, request)
+
+    def made(result: Any) -> Any:
+        return (
+            result
+            if converter is None or result is LATER or result is None
+            else converter.unstructure(result)
+        )
+
+    def entered(given: Any, request: Request) -> Any:
+        token = CURRENT.set(request)
+        try:
+            result = call(given, request)
+        finally:
+            CURRENT.reset(token)
+        return _awaited(result) if inspect.isawaitable(result) else made(result)
+
+    async def _awaited(result: Any) -> Any:
+        return made(await result)
+
+    async def entered_async(given: Any, request: Request) -> Any:
+        CURRENT.set(request)
+        return made(await call(given, request))
+
+    method.function, method.takes, method.is_quick = entered, 2, False
+    if method.kind is ASYNC:
+        method.function = entered_async
+    return method

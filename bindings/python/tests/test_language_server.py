@@ -1,0 +1,936 @@
+"""A language server in memory: its life, its capabilities, its documents, and what it asks and tells its editor."""
+import asyncio
+import contextlib
+import dataclasses
+import threading
+import typing
+import unittest
+
+from helping import Case, joined, logged
+
+from bullmyrtle import Client, Error, InvalidParams
+from bullmyrtle._channels import Memory
+from bullmyrtle.lsp import LanguageServer
+
+URI = "file:///tmp/notes.txt"
+DOCUMENT = {"textDocument": {"uri": URI}}
+
+
+def opened(text, version=1, uri=URI):
+    return {"textDocument": {"uri": uri, "languageId": "text", "version": version, "text": text}}
+
+
+def changed(version, *changes, uri=URI):
+    return {"textDocument": {"uri": uri, "version": version}, "contentChanges": list(changes)}
+
+
+def change(start, end, text):
+    places = ({"line": line, "character": character} for line, character in (start, end))
+    return {"range": dict(zip(("start", "end"), places)), "text": text}
+
+
+def at(line, character):
+    return {**DOCUMENT, "position": {"line": line, "character": character}}
+
+
+class Editor(Client):
+    """A client that keeps what it is told, and answers what it is asked by a table of results."""
+
+    def __init__(self, **replies):
+        super().__init__()
+        self.told, self.asked, self.replies = [], [], replies
+        self.fallback(self.came, dollar=True)
+
+    def came(self, params, request):
+        if request.is_notification:
+            self.told.append((request.method, params))
+            return None
+        self.asked.append((request.method, params))
+        reply = self.replies.get(request.method.replace("/", "_").replace("$", ""))
+        if isinstance(reply, Error):
+            raise reply
+        return reply(params) if callable(reply) else reply
+
+    def of(self, method):
+        return [params for name, params in self.told if name == method]
+
+    async def begin(self, capabilities=None, **more):
+        about = {"processId": None, "rootUri": None, "capabilities": capabilities or {}, **more}
+        result = await self.call("initialize", about)
+        self.notify("initialized", {})
+        return result["capabilities"]
+
+
+@contextlib.asynccontextmanager
+async def editing(server, editor=None, capabilities=None, **more):
+    editor = editor or Editor()
+    async with joined(server, editor):
+        await editor.begin(capabilities, **more)
+        yield editor
+
+
+async def code_of(call):
+    try:
+        await call
+    except Error as error:
+        return error.code
+    return 0
+
+
+class Life(Case):
+    def run_life(self, server, *steps):
+        """What the requests of some steps are answered with, and the status at the end."""
+
+        async def main():
+            editor = Editor()
+            ours, theirs = Memory.pair()
+            serving = asyncio.ensure_future(server.serve_over(theirs))
+            editor.attach(ours)
+            codes = []
+            for method, is_request in steps:
+                params = {"capabilities": {}} if method == "initialize" else None
+                if is_request:
+                    codes.append(await code_of(editor.call(method, params)))
+                else:
+                    editor.notify(method, params)
+            if ("exit", False) not in steps:
+                await editor.close()
+            status = await serving
+            await editor.close()
+            return codes, status
+
+        return self.wait(main())
+
+    def server(self):
+        server = LanguageServer("life", "1")
+        self.came = []
+        server.feature("textDocument/hover")(lambda params: self.came.append("hover"))
+        server.feature("textDocument/didSave")(lambda params: self.came.append("didSave"))
+        return server
+
+    def test_a_whole_life(self):
+        steps = [("initialize", True), ("initialized", False), ("textDocument/hover", True)]
+        steps += [("textDocument/didSave", False), ("shutdown", True), ("exit", False)]
+        self.assertEqual(self.run_life(self.server(), *steps), ([0, 0, 0], 0))
+        self.assertEqual(self.came, ["hover", "didSave"])
+
+    def test_what_skips_initialize(self):
+        steps = [
+            ("textDocument/hover", True),
+            ("nothing", True),
+            ("shutdown", True),
+            ("textDocument/didSave", False),
+        ]
+        steps += [("initialize", True), ("nothing", True), ("textDocument/hover", True)]
+        codes, _ = self.run_life(self.server(), *steps)
+        self.assertEqual(codes, [-32002, -32002, -32002, 0, -32601, 0])
+        self.assertEqual(self.came, ["hover"])
+
+    def test_what_initializes_twice(self):
+        codes, _ = self.run_life(
+            self.server(), ("initialize", True), ("initialize", True), ("textDocument/hover", True)
+        )
+        self.assertEqual(codes, [0, -32600, 0])
+
+    def test_what_goes_on_after_shutdown(self):
+        steps = [("initialize", True), ("shutdown", True), ("textDocument/hover", True), ("nothing", True)]
+        steps += [("shutdown", True), ("initialize", True), ("textDocument/didSave", False), ("exit", False)]
+        self.assertEqual(self.run_life(self.server(), *steps), ([0, 0, -32600, -32600, -32600, -32600], 0))
+        self.assertEqual(self.came, [])
+
+    def test_what_exits_without_shutdown(self):
+        self.assertEqual(self.run_life(self.server(), ("initialize", True), ("exit", False)), ([0], 1))
+        self.assertEqual(self.run_life(self.server(), ("exit", False)), ([], 1))
+
+    def test_features_of_its_life(self):
+        server = self.server()
+        told = []
+
+        @server.feature("initialize")
+        async def initialize(params, request):
+            await asyncio.sleep(0.01)
+            told.append((server.initialize_params["capabilities"], server.session is request.session))
+            return {"capabilities": {"experimental": {"a": 1}}}
+
+        server.feature("initialized")(lambda: told.append("initialized"))
+
+        @server.feature("shutdown")
+        async def shutdown():
+            await asyncio.sleep(0.01)
+            told.append("shutdown")
+            return "ignored"
+
+        server.feature("exit")(lambda: told.append("exit"))
+
+        async def main():
+            editor = Editor()
+            ours, theirs = Memory.pair()
+            serving = asyncio.ensure_future(server.serve_over(theirs))
+            editor.attach(ours)
+            first = editor.call("initialize", {"capabilities": {}})
+            early = editor.call("textDocument/hover")
+            self.assertEqual(await code_of(early), -32002)
+            self.assertEqual((await first)["capabilities"]["experimental"], {"a": 1})
+            self.assertEqual((await first)["serverInfo"], {"name": "life", "version": "1"})
+            editor.notify("initialized", {})
+            self.assertIsNone(await editor.call("shutdown"))
+            editor.notify("exit")
+            self.assertEqual(await serving, 0)
+            await editor.close()
+
+        self.wait(main())
+        self.assertEqual(told, [({}, True), "initialized", "shutdown", "exit"])
+
+    def test_initialize_that_fails_may_come_again(self):
+        for function in (self.fails, self.fails_later):
+            server = LanguageServer("life")
+            self.times = 0
+            server.feature("initialize")(function)
+            codes, _ = self.run_life(server, ("initialize", True), ("shutdown", True), ("initialize", True))
+            self.assertEqual(codes, [-32001, -32002, 0])
+
+    def fails(self, params):
+        self.times += 1
+        if self.times == 1:
+            raise Error(-32001, "not yet")
+
+    async def fails_later(self, params):
+        await asyncio.sleep(0)
+        self.fails(params)
+
+
+class Capabilities(Case):
+    ALWAYS = {
+        "textDocumentSync": {"openClose": True, "change": 2},
+        "workspace": {"workspaceFolders": {"supported": True, "changeNotifications": True}},
+    }
+    # Methods with their options, and what the specification has for them in ServerCapabilities.
+    TABLE = [
+        ({"textDocument/hover": None}, {"hoverProvider": True}),
+        ({"textDocument/completion": None}, {"completionProvider": {}}),
+        (
+            {"completionItem/resolve": None, "textDocument/completion": {"triggerCharacters": ["."]}},
+            {"completionProvider": {"triggerCharacters": ["."], "resolveProvider": True}},
+        ),
+        ({"textDocument/signatureHelp": None}, {"signatureHelpProvider": {}}),
+        ({"textDocument/codeAction": None}, {"codeActionProvider": True}),
+        (
+            {"textDocument/codeAction": None, "codeAction/resolve": None},
+            {"codeActionProvider": {"resolveProvider": True}},
+        ),
+        ({"textDocument/codeLens": None}, {"codeLensProvider": {}}),
+        (
+            {"textDocument/documentColor": None, "textDocument/colorPresentation": None},
+            {"colorProvider": True},
+        ),
+        (
+            {"textDocument/rename": None, "textDocument/prepareRename": None},
+            {"renameProvider": {"prepareProvider": True}},
+        ),
+        (
+            {"textDocument/onTypeFormatting": {"firstTriggerCharacter": "}"}},
+            {"documentOnTypeFormattingProvider": {"firstTriggerCharacter": "}"}},
+        ),
+        (
+            {"textDocument/prepareCallHierarchy": None, "callHierarchy/incomingCalls": None},
+            {"callHierarchyProvider": True},
+        ),
+        (
+            {
+                "textDocument/semanticTokens/full": {"legend": {"tokenTypes": ["a"], "tokenModifiers": []}},
+                "textDocument/semanticTokens/full/delta": None,
+                "textDocument/semanticTokens/range": None,
+            },
+            {
+                "semanticTokensProvider": {
+                    "legend": {"tokenTypes": ["a"], "tokenModifiers": []},
+                    "full": {"delta": True},
+                    "range": True,
+                }
+            },
+        ),
+        (
+            {"textDocument/diagnostic": None},
+            {"diagnosticProvider": {"interFileDependencies": False, "workspaceDiagnostics": False}},
+        ),
+        (
+            {"textDocument/diagnostic": {"identifier": "x"}, "workspace/diagnostic": None},
+            {
+                "diagnosticProvider": {
+                    "identifier": "x",
+                    "interFileDependencies": False,
+                    "workspaceDiagnostics": True,
+                }
+            },
+        ),
+        (
+            {"textDocument/didSave": {"includeText": True}, "textDocument/willSave": None},
+            {
+                "textDocumentSync": {
+                    "openClose": True,
+                    "change": 2,
+                    "save": {"includeText": True},
+                    "willSave": True,
+                }
+            },
+        ),
+        (
+            {"workspace/didCreateFiles": {"filters": [{"pattern": {"glob": "*"}}]}},
+            {
+                "workspace": {
+                    "workspaceFolders": {"supported": True, "changeNotifications": True},
+                    "fileOperations": {"didCreate": {"filters": [{"pattern": {"glob": "*"}}]}},
+                }
+            },
+        ),
+        ({"workspace/symbol": None, "my/method": None}, {"workspaceSymbolProvider": True}),
+    ]
+
+    def told(self, server, capabilities=None):
+        async def main():
+            editor = Editor()
+            async with joined(server, editor):
+                return await editor.begin(capabilities)
+
+        return self.wait(main())
+
+    def test_the_table(self):
+        for features, expected in self.TABLE:
+            with self.subTest(list(features)):
+                server = LanguageServer()
+                for name, options in features.items():
+                    server.feature(name, options)(lambda params: None)
+                self.assertEqual(self.told(server), {**self.ALWAYS, **expected})
+
+    def test_commands_and_what_is_given_by_hand(self):
+        server = LanguageServer(sync="full", capabilities={"experimental": {"x": 1}, "hoverProvider": False})
+        server.feature("textDocument/hover")(lambda params: None)
+        server.command("b")(lambda: None)
+        server.command("a")(lambda: None)
+        sync = {"openClose": True, "change": 1}
+        more = {
+            "executeCommandProvider": {"commands": ["a", "b"]},
+            "experimental": {"x": 1},
+            "hoverProvider": False,
+        }
+        self.assertEqual(self.told(server), {**self.ALWAYS, "textDocumentSync": sync, **more})
+
+    def test_the_encoding(self):
+        for given, known, expected in (
+            (None, None, None),
+            (["utf-8", "utf-16"], None, "utf-8"),
+            (["utf-32", "utf-8"], None, "utf-32"),
+            (["utf-8", "utf-16"], ["utf-16"], "utf-16"),
+            (["utf-7"], None, "utf-16"),
+        ):
+            server = LanguageServer() if known is None else LanguageServer(position_encodings=known)
+            about = {} if given is None else {"general": {"positionEncodings": given}}
+            self.assertEqual(self.told(server, about).get("positionEncoding"), expected)
+
+    def test_what_can_not_be_registered(self):
+        server = LanguageServer()
+        server.feature("textDocument/hover")(lambda params: None)
+        for name in (
+            "textDocument/onTypeFormatting",
+            "textDocument/semanticTokens/full",
+            "workspace/willRenameFiles",
+        ):
+            with self.assertRaises(TypeError):
+                server.feature(name)
+        for name in ("textDocument/hover", "workspace/executeCommand"):
+            with self.assertRaises(ValueError):
+                server.feature(name)(lambda params: None)
+        for bad in ({"sync": "some"}, {"position_encodings": ["utf-7"]}):
+            with self.assertRaises(ValueError):
+                LanguageServer(**bad)
+
+
+class Documents(Case):
+    def test_they_are_kept(self):
+        server = LanguageServer()
+        told = []
+
+        @server.feature("textDocument/didChange")
+        def did_change(ls, params):
+            told.append((ls.document(params).text, ls.document(params).version))
+
+        @server.feature("textDocument/didClose")
+        def did_close(ls, params):
+            told.append(params["textDocument"]["uri"] in ls.workspace.documents)
+
+        @server.feature("textDocument/hover")
+        def hover(ls, params):
+            return ls.document(params).word_at(params["position"])
+
+        async def main():
+            async with editing(server) as editor:
+                editor.notify("textDocument/didOpen", opened("one\r\ntwo \U0001f600 three"))
+                self.assertEqual(await editor.call("textDocument/hover", at(1, 8)), "three")
+                first, second = change((0, 0), (0, 3), "1"), change((0, 1), (1, 3), "+")
+                editor.notify("textDocument/didChange", changed(2, first, second))
+                self.assertEqual(await editor.call("textDocument/hover", at(0, 0)), "1")
+                editor.notify("textDocument/didChange", changed(3, {"text": "whole"}))
+                editor.notify("textDocument/didClose", DOCUMENT)
+                self.assertEqual(await code_of(editor.call("textDocument/hover", at(0, 0))), -32602)
+
+        self.wait(main())
+        self.assertEqual(told, [("1+ \U0001f600 three", 2), ("whole", 3), False])
+
+    def test_each_encoding(self):
+        for encoding, column in {"utf-8": 5, "utf-16": 3, "utf-32": 2}.items():
+            server = LanguageServer()
+            server.feature("textDocument/hover")(
+                lambda ls, params: ls.document(params).word_at(params["position"])
+            )
+
+            async def main():
+                async with editing(
+                    server, capabilities={"general": {"positionEncodings": [encoding]}}
+                ) as editor:
+                    editor.notify("textDocument/didOpen", opened("\U0001f600 word"))
+                    self.assertEqual(await editor.call("textDocument/hover", at(0, column)), "word")
+                    self.assertEqual(await editor.call("textDocument/hover", at(0, column - 2)), "")
+                    self.assertEqual(server.position_encoding, encoding)
+
+            self.wait(main())
+
+    def test_what_does_not_fit(self):
+        server = LanguageServer()
+
+        async def main():
+            async with editing(server) as editor:
+                editor.notify("textDocument/didChange", changed(2, {"text": "x"}))
+                editor.notify("textDocument/didClose", DOCUMENT)
+                editor.notify("textDocument/didOpen", {"textDocument": {"uri": URI}})
+                editor.notify("textDocument/didOpen", opened("first"))
+                editor.notify("textDocument/didOpen", opened("second"))
+                editor.notify(
+                    "textDocument/didChange",
+                    changed(2, change((0, 0), (0, 1), "S"), {"range": 7, "text": ""}),
+                )
+                editor.notify("textDocument/didChange", changed(2, change((0, 9), (9, 9), "!")))
+                editor.notify("textDocument/didChange", changed(1, change((0, 0), (0, 1), "S")))
+                with contextlib.suppress(Error):
+                    await editor.call("nothing")
+                document = server.document(URI)
+                self.assertEqual((document.text, document.version), ("Second!", 1))
+
+        with logged() as log:
+            self.wait(main())
+        self.assertEqual(len(log.texts), 6, log.texts)
+        self.assertTrue(log.texts[-1].endswith("version 1 comes after version 2"))
+
+    def test_a_thread_sees_a_snapshot(self):
+        server = LanguageServer()
+        inside, go_on = threading.Event(), threading.Event()
+
+        @server.feature("textDocument/hover", thread=True)
+        def hover(ls, params):
+            document = ls.document(params)
+            inside.set()
+            go_on.wait(10)
+            return [document.text, document.version]
+
+        async def main():
+            async with editing(server) as editor:
+                editor.notify("textDocument/didOpen", opened("old"))
+                call = editor.call("textDocument/hover", at(0, 0))
+                await self.until(inside.is_set)
+                editor.notify("textDocument/didChange", changed(2, {"text": "new"}))
+                await self.until(lambda: server.document(URI).text == "new")
+                go_on.set()
+                self.assertEqual(await call, ["old", 1])
+
+        self.wait(main())
+
+    def test_files_and_folders(self):
+        import os
+        import tempfile
+
+        from bullmyrtle.lsp import uri_of
+
+        server = LanguageServer()
+
+        async def main(room):
+            folder = {"uri": "file:///a", "name": "a"}
+            root = {"rootUri": "file:///a%20b", "workspaceFolders": [folder]}
+            async with editing(server, **root) as editor:
+                file = os.path.join(room, "a b.txt")
+                with open(file, "w", encoding="utf-8") as it:
+                    it.write("in a file")
+                self.assertEqual(server.workspace.get_text_document(uri_of(file)).text, "in a file")
+                editor.notify("textDocument/didOpen", opened("open", uri=uri_of(file)))
+                event = {"added": [{"uri": "file:///c", "name": "c"}], "removed": [folder]}
+                editor.notify("workspace/didChangeWorkspaceFolders", {"event": event})
+                with contextlib.suppress(Error):
+                    await editor.call("nothing")
+                self.assertEqual(server.workspace.get_text_document(uri_of(file)).text, "open")
+                self.assertEqual(list(server.workspace.folders), ["file:///c"])
+                self.assertEqual(server.workspace.root_path, "/a b")
+                with self.assertRaises(InvalidParams):
+                    server.workspace.get_text_document("untitled:1")
+
+        with tempfile.TemporaryDirectory() as room:
+            self.wait(main(room))
+
+    def test_two_editors_at_once(self):
+        server = LanguageServer()
+        server.feature("textDocument/hover")(lambda ls, params: ls.document(params).text)
+
+        @server.feature("textDocument/definition")
+        async def definition(ls, params):
+            await asyncio.sleep(0.01)
+            ls.show_message(ls.document(params).text)
+
+        async def main():
+            async with editing(server) as one, editing(server) as other:
+                for editor, text in ((one, "one"), (other, "other")):
+                    editor.notify("textDocument/didOpen", opened(text))
+                for editor, text in ((one, "one"), (other, "other")):
+                    self.assertEqual(await editor.call("textDocument/hover", at(0, 0)), text)
+                await asyncio.gather(*(it.call("textDocument/definition", at(0, 0)) for it in (one, other)))
+                for editor, text in ((one, "one"), (other, "other")):
+                    self.assertEqual(editor.of("window/showMessage"), [{"type": 3, "message": text}])
+                with self.assertRaises(RuntimeError):
+                    server.show_message("to whom?")
+
+        self.wait(main())
+
+
+class Asking(Case):
+    """What the editor is asked and told, as the specification has it."""
+
+    def asked(self, what, replies=None, capabilities=None, thread=False, **more):
+        """What an editor is asked and told by one command, and the command's result."""
+        server = LanguageServer()
+        if thread:
+            server.command("do", thread=True)(what)
+        else:
+            server.command("do")(what)
+
+        async def main():
+            editor = Editor(**(replies or {}))
+            async with editing(server, editor, capabilities, **more):
+                editor.notify("textDocument/didOpen", opened("text", 7))
+                result = await editor.call("workspace/executeCommand", {"command": "do"})
+                await asyncio.sleep(0.01)
+            return editor.asked, editor.told, result
+
+        return self.wait(main())
+
+    def test_notifications(self):
+        def tell(ls):
+            ls.show_message("a")
+            ls.show_message("b", "error")
+            ls.show_message_log("c", 2)
+            ls.send_telemetry({"d": 1})
+            ls.publish_diagnostics(URI, [])
+            ls.publish_diagnostics("file:///other", [{"message": "x"}])
+            ls.publish_diagnostics(ls.document(URI), [], 3)
+            ls.log_trace("e", "more")
+
+        expected = [
+            ("window/showMessage", {"type": 3, "message": "a"}),
+            ("window/showMessage", {"type": 1, "message": "b"}),
+            ("window/logMessage", {"type": 2, "message": "c"}),
+            ("telemetry/event", {"d": 1}),
+            ("textDocument/publishDiagnostics", {"uri": URI, "diagnostics": [], "version": 7}),
+            ("textDocument/publishDiagnostics", {"uri": "file:///other", "diagnostics": [{"message": "x"}]}),
+            ("textDocument/publishDiagnostics", {"uri": URI, "diagnostics": [], "version": 3}),
+        ]
+        for trace, last in (
+            ("off", []),
+            ("messages", [("$/logTrace", {"message": "e"})]),
+            ("verbose", [("$/logTrace", {"message": "e", "verbose": "more"})]),
+        ):
+            self.assertEqual(self.asked(tell, trace=trace)[1], expected + last)
+
+    def test_requests(self):
+        async def ask(ls):
+            return [
+                await ls.show_message_request("a", ["Yes", "No"], "warning"),
+                await ls.show_document("file:///x", takeFocus=True),
+                await ls.apply_edit({"changes": {}}, "label"),
+                await ls.configuration("words.label"),
+                await ls.configuration(scope_uri="file:///x"),
+                await ls.workspace_folders(),
+                await ls.refresh("codeLens"),
+                await ls.refresh("diagnostics"),
+            ]
+
+        def ask_in_thread(ls):
+            return [ls.configuration("words.label"), ls.apply_edit({"changes": {}})]
+
+        replies = {
+            "window_showMessageRequest": {"title": "Yes"},
+            "window_showDocument": {"success": True},
+            "workspace_applyEdit": {"applied": True},
+            "workspace_configuration": lambda params: [len(params["items"])],
+            "workspace_workspaceFolders": [],
+        }
+        asked, _, result = self.asked(ask, replies)
+        self.assertEqual(
+            result, [{"title": "Yes"}, {"success": True}, {"applied": True}, 1, 1, [], None, None]
+        )
+        actions = [{"title": "Yes"}, {"title": "No"}]
+        self.assertEqual(
+            asked,
+            [
+                ("window/showMessageRequest", {"type": 2, "message": "a", "actions": actions}),
+                ("window/showDocument", {"uri": "file:///x", "takeFocus": True}),
+                ("workspace/applyEdit", {"label": "label", "edit": {"changes": {}}}),
+                ("workspace/configuration", {"items": [{"section": "words.label"}]}),
+                ("workspace/configuration", {"items": [{"scopeUri": "file:///x"}]}),
+                ("workspace/workspaceFolders", None),
+                ("workspace/codeLens/refresh", None),
+                ("workspace/diagnostic/refresh", None),
+            ],
+        )
+        asked, _, result = self.asked(ask_in_thread, replies, thread=True)
+        self.assertEqual(result, [1, {"applied": True}])
+
+    def test_dynamic_registration(self):
+        async def register(ls):
+            id_ = await ls.register_capability("textDocument/hover", {"documentSelector": None})
+            await ls.unregister_capability(id_)
+            try:
+                await ls.unregister_capability(id_)
+            except ValueError:
+                return id_
+
+        asked, _, id_ = self.asked(register)
+        about = {"id": id_, "method": "textDocument/hover"}
+        (one, other) = asked
+        registered = {"registrations": [{**about, "registerOptions": {"documentSelector": None}}]}
+        self.assertEqual(one, ("client/registerCapability", registered))
+        self.assertEqual(other, ("client/unregisterCapability", {"unregisterations": [about]}))
+
+    def test_registered_by_itself(self):
+        watchers = {"watchers": [{"globPattern": "**/*.txt"}]}
+        for able in (False, True):
+            server = LanguageServer()
+            server.feature("workspace/didChangeWatchedFiles", watchers)(lambda params: None)
+            about = {"workspace": {"didChangeWatchedFiles": {"dynamicRegistration": able}}}
+
+            async def main():
+                async with editing(server, capabilities=about) as editor:
+                    with contextlib.suppress(Error):
+                        await editor.call("nothing")
+                    await asyncio.sleep(0.01)
+                    return editor.asked
+
+            asked = self.wait(main())
+            self.assertEqual(len(asked), int(able))
+            for method, params in asked:
+                self.assertEqual(method, "client/registerCapability")
+                self.assertEqual(params["registrations"][0]["registerOptions"], watchers)
+
+    def test_trace(self):
+        server = LanguageServer()
+        server.command("do")(lambda ls: ls.log_trace("m"))
+
+        async def main():
+            async with editing(server) as editor:
+                for value in ("off", "messages", "off", "wrong"):
+                    editor.notify("$/setTrace", {"value": value})
+                    await editor.call("workspace/executeCommand", {"command": "do"})
+                return editor.of("$/logTrace")
+
+        with logged() as log:
+            self.assertEqual(self.wait(main()), [{"message": "m"}])
+        self.assertEqual(len(log.texts), 1)
+
+    def test_commands(self):
+        server = LanguageServer()
+        server.command("one")(lambda ls, seconds=5: seconds)
+        server.command("two")(lambda a, b=2: [a, b])
+        server.command("all")(lambda ls, arguments: arguments)
+
+        @server.command("typed")
+        async def typed(ls: LanguageServer, count: int):
+            return count
+
+        async def main():
+            async with editing(server) as editor:
+                results = []
+                for name, arguments in (
+                    ("one", None),
+                    ("one", [7]),
+                    ("two", [1]),
+                    ("two", []),
+                    ("all", [1, 2]),
+                    ("all", None),
+                    ("typed", [3]),
+                    ("typed", ["3"]),
+                    ("none", []),
+                ):
+                    about = {"command": name, **({} if arguments is None else {"arguments": arguments})}
+                    try:
+                        results.append(await editor.call("workspace/executeCommand", about))
+                    except Error as error:
+                        results.append(error.code)
+                return results
+
+        self.assertEqual(self.wait(main()), [5, 7, [1, 2], -32602, [1, 2], [], 3, -32602, -32602])
+
+
+class Progress(Case):
+    ABLE = {"window": {"workDoneProgress": True}}
+
+    def kinds(self, editor):
+        return [it["value"]["kind"] for it in editor.of("$/progress")]
+
+    def served(self, function, editor, capabilities=None, params=None, thread=False, act=None):
+        """What one request that shows progress is answered with."""
+        server = LanguageServer()
+        server.feature("my/work", thread=thread)(function)
+
+        async def main():
+            async with editing(server, editor, capabilities):
+                call = editor.call("my/work", params or {})
+                if act is not None:
+                    await act(editor, call)
+                try:
+                    result = await call
+                except Error as error:
+                    result = error.code
+                await asyncio.sleep(0.02)
+                return result
+
+        return self.wait(main())
+
+    @staticmethod
+    async def work(ls, params):
+        async with ls.progress("Work", params, message="m", percentage=0, cancellable=True) as progress:
+            progress.report("half", 50)
+            await asyncio.sleep(params.get("seconds", 0))
+        return progress.is_cancelled
+
+    @staticmethod
+    def work_in_thread(ls, params):
+        with ls.progress("Work", params, cancellable=True) as progress:
+            for _ in range(params.get("times", 1)):
+                progress.report("on")
+                threading.Event().wait(0.005)
+        return progress.is_cancelled
+
+    def test_a_token_that_is_made(self):
+        editor = Editor()
+        self.assertIs(self.served(self.work, editor, self.ABLE), False)
+        ((method, params),) = editor.asked
+        self.assertEqual(method, "window/workDoneProgress/create")
+        begin = {"kind": "begin", "title": "Work", "message": "m", "percentage": 0, "cancellable": True}
+        values = [begin, {"kind": "report", "message": "half", "percentage": 50}, {"kind": "end"}]
+        self.assertEqual(editor.of("$/progress"), [{"token": params["token"], "value": it} for it in values])
+
+    def test_the_requests_own_token(self):
+        editor = Editor()
+        self.assertIs(self.served(self.work, editor, self.ABLE, {"workDoneToken": 7}), False)
+        self.assertEqual(editor.asked, [])
+        self.assertEqual({it["token"] for it in editor.of("$/progress")}, {7})
+        self.assertEqual(self.kinds(editor), ["begin", "report", "end"])
+
+    def test_none(self):
+        """An editor without progress, and one that refuses a token."""
+        refused = {"window_workDoneProgress_create": Error(-32603, "no")}
+        for replies, able in (({}, {}), (refused, self.ABLE)):
+            for function, thread in ((self.work, False), (self.work_in_thread, True)):
+                editor = Editor(**replies)
+                self.assertIs(self.served(function, editor, able, thread=thread), False)
+                self.assertEqual(self.kinds(editor), [])
+
+    async def cancel_the_progress(self, editor, call):
+        await self.until(lambda: "report" in self.kinds(editor))
+        token = editor.of("$/progress")[0]["token"]
+        editor.notify("window/workDoneProgress/cancel", {"token": "another"})
+        editor.notify("window/workDoneProgress/cancel", {"token": token})
+
+    async def cancel_the_request(self, editor, call):
+        await self.until(lambda: "report" in self.kinds(editor))
+        editor.notify("$/cancelRequest", {"id": call.key})
+
+    def test_it_is_cancelled(self):
+        editor = Editor()
+        given = {"seconds": 60}
+        self.assertIs(self.served(self.work, editor, self.ABLE, given, act=self.cancel_the_progress), True)
+        self.assertEqual(self.kinds(editor), ["begin", "report", "end"])
+        editor = Editor()
+        given = {"times": 10_000}
+        result = self.served(self.work_in_thread, editor, self.ABLE, given, True, self.cancel_the_progress)
+        self.assertIs(result, True)
+        self.assertEqual((self.kinds(editor)[0], self.kinds(editor)[-1]), ("begin", "end"))
+        self.assertEqual(self.kinds(editor).count("end"), 1)
+
+    def test_its_request_is_cancelled(self):
+        """A token that was made is ended; one that came with the request has no meaning behind its answer."""
+        for params, kinds in (
+            ({}, ["begin", "report", "end"]),
+            ({"workDoneToken": "t"}, ["begin", "report"]),
+        ):
+            editor = Editor()
+            given = {"seconds": 60, **params}
+            self.assertEqual(
+                self.served(self.work, editor, self.ABLE, given, act=self.cancel_the_request), -32800
+            )
+            self.assertEqual(self.kinds(editor), kinds)
+
+    def test_a_plain_function_can_not_wait(self):
+        def work(ls, params):
+            with ls.progress("Work", params):
+                return "done"
+
+        with logged():
+            self.assertEqual(self.served(work, Editor(), self.ABLE), -32603)
+        editor = Editor()
+        self.assertEqual(self.served(work, editor, self.ABLE, {"workDoneToken": 1}), "done")
+        self.assertEqual(self.kinds(editor), ["begin", "end"])
+
+    def test_of_no_request(self):
+        server = LanguageServer()
+        done = []
+
+        async def index(ls):
+            async with ls.progress("Index", cancellable=True) as progress:
+                await asyncio.sleep(60)
+            done.append(progress.is_cancelled)
+
+        server.feature("initialized")(lambda ls: done.append(asyncio.ensure_future(index(ls))) and None)
+
+        async def main():
+            async with editing(server, capabilities=self.ABLE) as editor:
+                await self.until(lambda: self.kinds(editor) == ["begin"])
+                token = editor.of("$/progress")[0]["token"]
+                editor.notify("window/workDoneProgress/cancel", {"token": token})
+                await self.until(lambda: self.kinds(editor) == ["begin", "end"])
+                await self.until(lambda: done[1:] == [True])
+
+        self.wait(main())
+
+    def test_partial_results(self):
+        async def find(ls, params):
+            async with ls.partial(params) as partial:
+                for it in range(3):
+                    partial.send([it])
+                    await asyncio.sleep(0)
+            return partial.result
+
+        editor = Editor()
+        self.assertEqual(self.served(find, editor), [0, 1, 2])
+        self.assertEqual(editor.of("$/progress"), [])
+        editor = Editor()
+        self.assertEqual(self.served(find, editor, params={"partialResultToken": "p"}), [])
+        self.assertEqual(editor.of("$/progress"), [{"token": "p", "value": [it]} for it in range(3)])
+        self.assertEqual(self.served(find, Editor(), params={"partialResultToken": [1]}), -32602)
+
+
+@dataclasses.dataclass
+class Place:
+    line: int
+    character: int
+
+
+@dataclasses.dataclass
+class HoverParams:
+    textDocument: dict
+    position: Place
+
+
+class Outside:
+    """A class of another library's, which only a converter knows."""
+
+    def __init__(self, word):
+        self.word = word
+
+
+class Converter:
+    """As those of cattrs are."""
+
+    def structure(self, value, kind):
+        if kind is not Outside:
+            raise TypeError(kind)
+        return Outside(value["word"])
+
+    def unstructure(self, value):
+        if isinstance(value, Outside):
+            return {"word": value.word}
+        return [self.unstructure(it) for it in value] if isinstance(value, list) else value
+
+
+class Types(Case):
+    def test_dataclasses(self):
+        server = LanguageServer()
+
+        @server.feature("textDocument/hover")
+        def hover(ls, params: HoverParams):
+            return params.position
+
+        async def main():
+            async with editing(server) as editor:
+                self.assertEqual(
+                    await editor.call("textDocument/hover", at(1, 2)), {"line": 1, "character": 2}
+                )
+                self.assertEqual(await code_of(editor.call("textDocument/hover", at("1", 2))), -32602)
+
+        self.wait(main())
+
+    def test_a_converter(self):
+        server = LanguageServer(converter=Converter())
+
+        @server.feature("my/plain")
+        def plain(ls, params: Outside):
+            ls.notify("my/told", Outside("told"))
+            return [Outside(params.word * 2)]
+
+        @server.feature("my/async")
+        async def later(params: Outside, request):
+            return Outside(params.word + request.method)
+
+        @server.feature("my/thread", thread=True)
+        def threaded(params: Outside):
+            return Outside(params.word.upper())
+
+        server.feature("my/json")(lambda params: params)
+
+        async def main():
+            async with editing(server) as editor:
+                self.assertEqual(await editor.call("my/plain", {"word": "a"}), [{"word": "aa"}])
+                self.assertEqual(await editor.call("my/async", {"word": "a"}), {"word": "amy/async"})
+                self.assertEqual(await editor.call("my/thread", {"word": "a"}), {"word": "A"})
+                self.assertEqual(await editor.call("my/json", {"word": "a"}), {"word": "a"})
+                self.assertEqual(await code_of(editor.call("my/plain", {})), -32602)
+                self.assertEqual(editor.of("my/told"), [{"word": "told"}])
+
+        self.wait(main())
+
+    def test_where_the_server_goes(self):
+        server = LanguageServer()
+
+        class Mine(LanguageServer):
+            pass
+
+        server.feature("a")(lambda ls, params: ls is server and params)
+        server.feature("b")(lambda params: params)
+        server.feature("c", thread=True)(lambda ls, a, b: [ls is server, a, b])
+
+        @server.feature("d")
+        def d(me: Mine, params: typing.Optional[dict], request):
+            return [me is server, params, request.method]
+
+        @server.feature("e")
+        @server.thread()
+        def e(ls):
+            return threading.current_thread() is threading.main_thread()
+
+        async def main():
+            async with editing(server) as editor:
+                self.assertEqual(await editor.call("a", [1]), [1])
+                self.assertEqual(await editor.call("b", [1]), [1])
+                self.assertEqual(await editor.call("c", {"a": 1, "b": 2}), [True, 1, 2])
+                self.assertEqual(await editor.call("d", {}), [True, {}, "d"])
+                self.assertIs(await editor.call("e"), False)
+
+        self.wait(main())
+
+
+if __name__ == "__main__":
+    unittest.main()
