@@ -80,8 +80,8 @@ def version_with(data):
 def modules():
     """The package's files, by their names in the wheel."""
     names = []
-    for folder, _, files in os.walk(os.path.join(HERE, NAME)):
-        names += [os.path.join(folder, it) for it in files if it.endswith((".py", ".typed"))]
+    for room, _, files in os.walk(os.path.join(HERE, NAME)):
+        names += [os.path.join(room, it) for it in files if it.endswith((".py", ".typed"))]
     return {os.path.relpath(it, HERE): read(it) for it in sorted(names)}
 
 

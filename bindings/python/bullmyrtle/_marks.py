@@ -14,6 +14,7 @@ class Mark(NamedTuple):
 
     name: str
     thread: bool
+    timeout: Optional[float]
 
 
 def name_of(function: Any) -> str:
@@ -35,11 +36,18 @@ def method(name: F) -> F:
 
 
 @overload
-def method(name: Optional[str] = None, *, thread: bool = False) -> Callable[[F], F]:
+def method(
+    name: Optional[str] = None, *, thread: bool = False, timeout: Optional[float] = None
+) -> Callable[[F], F]:
     ...
 
 
-def method(name: Union[Callable[..., Any], str, None] = None, *, thread: bool = False) -> Any:
+def method(
+    name: Union[Callable[..., Any], str, None] = None,
+    *,
+    thread: bool = False,
+    timeout: Optional[float] = None,
+) -> Any:
     """Mark a function of a class as the method of this name, or of its own, for `server.register(instance)`.
 
     What the function takes, and where it runs, is as with `server.method`.
@@ -54,7 +62,7 @@ def method(name: Union[Callable[..., Any], str, None] = None, *, thread: bool = 
         inner = _inner(function)
         if not callable(inner):
             raise TypeError(f"{function!r} can't be called")
-        marks = [*getattr(inner, _ATTRIBUTE, ()), Mark(given or name_of(inner), thread)]
+        marks = [*getattr(inner, _ATTRIBUTE, ()), Mark(given or name_of(inner), thread, timeout)]
         setattr(inner, _ATTRIBUTE, marks)
         return function
 

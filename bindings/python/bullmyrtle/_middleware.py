@@ -10,7 +10,7 @@ from typing import Any, Callable, Dict, Generator, List, Optional
 
 from ._params import ASYNC, PLAIN, THREAD, Method, Methods
 from ._request import Request, words_of
-from .errors import Error, InvalidParams, NotOpen
+from .errors import Closed, Error, InvalidParams, NotOpen
 
 log = logging.getLogger("bullmyrtle")
 
@@ -63,14 +63,21 @@ def answer_late(request: Request, seconds: float) -> None:
 
 
 def _end(request: Request, seconds: float, late: Late) -> None:
-    if request.number not in request.session._open:
+    session, task = request.session, request.task
+    if request.number not in session._open:
         return
-    task = request.task
+    for key in request.keys:
+        reply = session._replies.get(key)
+        if (
+            reply is not None
+        ):  # (the other side is told that it isn't wanted any more, and a thread that it won't come)
+            session.withdraw(key)
+            session._refuse(reply, Closed(f"{request.method}: it took too long"))
     with contextlib.suppress(NotOpen):
         late(request, seconds)
     request.is_cancelled = True  # (whatever it does now is no more than it would be after a cancel)
     if task is not None and not task.done():
-        request.session._end_task(task)
+        session._end_task(task)
 
 
 def limited(method: Method, seconds: Optional[float], late: Late = answer_late) -> Method:

@@ -168,7 +168,9 @@ class Peer:
 
     def register(self, instance: T) -> T:
         """Register what is marked of an instance by `@bullmyrtle.method("name")`, and give it back."""
-        self._methods.add(*(Method(it.name, function, it.thread) for it, function in marked(instance)))
+        self._methods.add(
+            *(limited(Method(it.name, function, it.thread), it.timeout) for it, function in marked(instance))
+        )
         return instance
 
     @overload

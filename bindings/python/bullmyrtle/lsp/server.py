@@ -257,7 +257,11 @@ class LanguageServer(Editor, Server):
     def _single(self, instead: str) -> Session:
         """The session that this code works for, or the only one."""
         request = CURRENT.get()
-        return request.session if request is not None and request.session in self._sessions else super()._single(instead)
+        return (
+            request.session
+            if request is not None and request.session in self._sessions
+            else super()._single(instead)
+        )
 
     @property
     def life(self) -> Life:  # type: ignore[override]
