@@ -4,6 +4,7 @@ import hashlib
 import importlib
 import io
 import os
+import pathlib
 import re
 import subprocess
 import sys
@@ -106,15 +107,17 @@ class Wheels(Case):
         with zipfile.ZipFile(one) as wheel:
             names = wheel.namelist()
             about = wheel.read(next(it for it in names if it.endswith("METADATA"))).decode()
+        top = pathlib.Path(PACKAGE)
         modules = {
-            f"bullmyrtle/{it}"
-            for it in os.listdir(os.path.join(PACKAGE, "bullmyrtle"))
-            if not it.startswith("__pycache__")
+            str(it.relative_to(top))
+            for it in (top / "bullmyrtle").rglob("*")
+            if it.suffix in (".py", ".typed")
         }
         self.assertEqual(
             {it for it in names if "dist-info" not in it}, modules | {f"bullmyrtle/{_library.FILE}"}
         )
         self.assertIn("bullmyrtle/py.typed", names)
+        self.assertIn("bullmyrtle/lsp/server.py", names)
         self.assertNotIn("License", about)
         self.assertIn("Requires-Python: >=3.8", about)
         self.assertTrue(self.build("build_sdist", "sdist").endswith(".tar.gz"))
