@@ -45,12 +45,12 @@ def handed(method: Method, params: Any, request: Request) -> Any:
     return request.in_thread(call) if method.kind is THREAD else call()
 
 
-def _made(method: Method, function: Callable[..., Any], kind: str) -> Method:
-    """A method with the name of another, whose function takes the params as they came, and the request."""
-    other: Method = object.__new__(Method)
-    other.name, other.kind, other.function = method.name, kind, function
-    other.takes, other.fit, other.is_quick = 2, None, False
-    return other
+def raw(name: str, function: Callable[..., Any], kind: str) -> Method:
+    """A method whose function takes the params as they came, and the request."""
+    method: Method = object.__new__(Method)
+    method.name, method.kind, method.function = name, kind, function
+    method.takes, method.fit, method.is_quick = 2, None, False
+    return method
 
 
 # Time limits
@@ -98,7 +98,7 @@ def limited(method: Method, seconds: Optional[float], late: Late = answer_late) 
         finally:
             timer.cancel()
 
-    return _made(method, run, ASYNC)
+    return raw(method.name, run, ASYNC)
 
 
 # Functions around methods
@@ -171,7 +171,7 @@ def around(method: Method, middlewares: List[Middleware]) -> Method:
             open_.raised(error)
         return open_.returned(result)
 
-    return _made(method, run_async if method.kind is ASYNC else run, method.kind)
+    return raw(method.name, run_async if method.kind is ASYNC else run, method.kind)
 
 
 class Wrapped(Methods):
