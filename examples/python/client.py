@@ -1,13 +1,16 @@
-"""Starts the language server and the tool server of this folder, calls them, and answers what they call back."""
+"""Starts the spelling server and the tool server of this folder, calls them, and answers what they call back."""
 import asyncio
 import os
+import pathlib
 import sys
+import tempfile
 
 from bullmyrtle import Client, Error
+from bullmyrtle.lsp import uri_of
+from bullmyrtle.mcp import ToolClient
 
 HERE = os.path.dirname(os.path.abspath(__file__))
-URI = "file:///notes.txt"
-TEXT = "Roses are red.\nViolets are are blue, and roses are not."
+TEXT = "Roses are red.\nVoilets are are blue, and roses are not."
 
 
 def command(name):
@@ -15,82 +18,109 @@ def command(name):
     return [*(sys.argv[1:] or [sys.executable]), os.path.join(HERE, name)]
 
 
-async def edit():
-    """What an editor does with the language server."""
-    client = Client(command("language_server.py"), protocol="lsp")
-    reached = {"begin": asyncio.Event(), "report": asyncio.Event(), "end": asyncio.Event()}
-    client.method("workspace/configuration")(lambda params: ["times" for _ in params["items"]])
-    client.method("window/workDoneProgress/create")(lambda params: None)
+class Editor(Client):
+    """What an editor does with a language server."""
 
-    @client.method("textDocument/publishDiagnostics")
-    def diagnostics(params):
+    def __init__(self):
+        super().__init__(command("spelling_server.py"), protocol="lsp")
+        self.reached = {kind: asyncio.Event() for kind in ("begin", "report", "end", "diagnostics")}
+        self.method("workspace/configuration")(lambda params: ["times" for _ in params["items"]])
+        self.method("window/workDoneProgress/create")(lambda params: None)
+        self.method("textDocument/publishDiagnostics")(self.diagnostics)
+        self.method("$/progress")(self.progress)
+
+    def diagnostics(self, params):
         for it in params["diagnostics"]:
             start = it["range"]["start"]
             print(f"line {start['line'] + 1}, column {start['character'] + 1}: {it['message']}")
+        print("faults in version", params["version"], "-", len(params["diagnostics"]))
+        self.reached["diagnostics"].set()
 
-    @client.method("$/progress")
-    def progress(params):
+    def progress(self, params):
         print("progress:", params["value"]["kind"])
-        reached[params["value"]["kind"]].set()
+        self.token = params["token"]
+        self.reached[params["value"]["kind"]].set()
 
-    document = {"textDocument": {"uri": URI}}
-    async with client:
-        await client.call("initialize", {"processId": os.getpid(), "rootUri": None, "capabilities": {}})
-        client.notify("initialized", {})
-        about = {"uri": URI, "languageId": "text", "version": 1, "text": TEXT}
-        client.notify("textDocument/didOpen", {"textDocument": about})
-        hover = await client.call("textDocument/hover", {**document, "position": {"line": 0, "character": 7}})
-        print("hover:", hover["contents"])
-        place = {"line": 1, "character": 0}
-        where = {"range": {"start": place, "end": place}, "context": {"diagnostics": []}}
-        for it in await client.call("textDocument/codeAction", {**document, **where}):
-            print("action:", it["title"])
-        print("words:", await client.call("workspace/executeCommand", {"command": "count"}))
-        for it in reached.values():
+    async def wait_for(self, kind):
+        await self.reached[kind].wait()
+        self.reached[kind].clear()
+
+    def count(self, *arguments):
+        for it in self.reached.values():
             it.clear()
-        call = client.call("workspace/executeCommand", {"command": "count", "arguments": [60]})
-        await reached["report"].wait()
-        client.notify("$/cancelRequest", {"id": call.key})
+        return self.call("workspace/executeCommand", {"command": "count", "arguments": arguments})
+
+
+async def edit(folder):
+    file = pathlib.Path(folder, "notes.txt")
+    file.write_text(TEXT, encoding="utf-8")
+    pathlib.Path(folder, "words.txt").write_text("and are blue not red roses violets", encoding="utf-8")
+    document = {"textDocument": {"uri": uri_of(file)}}
+    able = {"window": {"workDoneProgress": True}, "general": {"positionEncodings": ["utf-8", "utf-16"]}}
+    async with Editor() as editor:
+        about = {"processId": os.getpid(), "rootUri": uri_of(folder), "capabilities": able}
+        able = (await editor.call("initialize", about))["capabilities"]
+        print("encoding:", able["positionEncoding"])
+        editor.notify("initialized", {})
+        await editor.wait_for("end")
+        opened = {**document["textDocument"], "languageId": "text", "version": 1, "text": TEXT}
+        editor.notify("textDocument/didOpen", {"textDocument": opened})
+        await editor.wait_for("diagnostics")
+        place = {**document, "position": {"line": 0, "character": 7}}
+        print("hover:", (await editor.call("textDocument/hover", place))["contents"])
+        line = {"start": {"line": 1, "character": 0}, "end": {"line": 1, "character": 0}}
+        asked = {**document, "range": line, "context": {"diagnostics": []}}
+        changes = []
+        for it in await editor.call("textDocument/codeAction", asked):
+            print("action:", it["title"])
+            (change,) = it["edit"]["changes"][uri_of(file)]
+            changes.append({"range": change["range"], "text": change["newText"]})
+        # (in this order the second change comes before what the first one has moved)
+        about = {**document["textDocument"], "version": 2}
+        editor.notify("textDocument/didChange", {"textDocument": about, "contentChanges": changes})
+        await editor.wait_for("diagnostics")
+        place = {**document, "position": {"line": 1, "character": 3}}
+        print("complete:", [it["label"] for it in await editor.call("textDocument/completion", place)])
+        print("words:", await editor.count())
+        call = editor.count(60)
+        await editor.wait_for("report")
+        editor.notify("window/workDoneProgress/cancel", {"token": editor.token})
+        print("words:", await call)
+        call = editor.count(60)
+        await editor.wait_for("report")
+        editor.notify("$/cancelRequest", {"id": call.key})
         try:
             await call
         except Error as error:
-            await reached["end"].wait()
+            await editor.wait_for("end")
             print("cancelled:", error.message)
-        await client.call("shutdown")
-        client.notify("exit")
-    print("status:", await client.close())
+        await editor.call("shutdown")
+        editor.notify("exit")
+    print("status:", await editor.close())
 
 
 async def use():
     """What a tool host does with the tool server."""
-    client = Client(command("tool_server.py"), framing="lines")
 
-    @client.method("sampling/createMessage")
     def sample(params):
         print("asked:", params["messages"][0]["content"]["text"])
-        return {"role": "assistant", "model": "none", "content": {"type": "text", "text": "Flowers"}}
+        return "Flowers"
 
-    @client.method("notifications/progress")
-    def progress(params):
-        print(f"progress: {params['progress']} of {params['total']}")
-
-    async with client:
-        about = {"protocolVersion": "2025-06-18", "capabilities": {"sampling": {}}}
-        about["clientInfo"] = {"name": "client", "version": "1"}
-        print("server:", (await client.call("initialize", about))["serverInfo"]["name"])
-        client.notify("notifications/initialized")
-        print("tools:", ", ".join(it["name"] for it in (await client.call("tools/list"))["tools"]))
-        for name, text in (("count", "word " * 150), ("title", TEXT), ("paint", "")):
+    async with ToolClient(command("tool_server.py"), sampling=sample) as client:
+        print("server:", client.server["serverInfo"]["name"], client.protocol_version)
+        print("tools:", ", ".join(it["name"] for it in await client.list_tools()))
+        for name, arguments in (("count", {"text": TEXT}), ("title", {"text": TEXT}), ("count", {"text": 7})):
             try:
-                params = {"name": name, "arguments": {"text": text}, "_meta": {"progressToken": 1}}
-                print(f"{name}:", (await client.call("tools/call", params))["content"][0]["text"])
+                result = await client.call_tool(name, arguments)
+                print(f"{name}:", result.text, result.structured)
             except Error as error:
                 print(f"{name}: error {error.code}, {error.message}")
     print("status:", await client.close())
 
 
 async def main():
-    await edit()
+    with tempfile.TemporaryDirectory() as folder:
+        await edit(folder)
     await use()
 
 

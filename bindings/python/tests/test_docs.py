@@ -1,6 +1,7 @@
-"""What docs/python.md and the package's README show, run as it stands there."""
+"""What docs/python.md, docs/language_servers.md and the package's README show, run as it stands there."""
 import os
 import re
+import shutil
 import stat
 import subprocess
 import sys
@@ -10,6 +11,7 @@ import unittest
 from helping import HERE, OVER, PACKAGE, TOP, Case, environment, frame, request
 
 PAGE = os.path.join(TOP, "docs", "python.md")
+SERVERS = os.path.join(TOP, "docs", "language_servers.md")
 RUNNER = '#!/bin/sh\nexec "{python}" {runner} "$@"\n'
 
 
@@ -44,9 +46,9 @@ class Page(Case):
         how = {"cwd": self.room, "env": self.env, "stdout": subprocess.PIPE, "timeout": 60, "check": False}
         return subprocess.run(["sh", "-c", text], **how).stdout.decode()
 
-    def test_each_block(self):
+    def run_blocks(self, page, least):
         ran = 0
-        blocks = blocks_of(PAGE)
+        blocks = blocks_of(page)
         for (kind, text), (after, expected) in zip(blocks, [*blocks[1:], ("", "")]):
             if kind == "python":
                 self.write(re.match(r"# (\w+\.py)\n", text)[1], text)
@@ -55,13 +57,65 @@ class Page(Case):
                 with self.subTest(text):
                     self.assertEqual(self.run_block(text), expected)
                 ran += 1
-        self.assertGreater(ran, 7)
+        self.assertGreater(ran, least)
+
+    def test_each_block(self):
+        self.run_blocks(PAGE, 7)
+
+    def test_each_block_of_servers(self):
+        self.run_blocks(SERVERS, 3)
+
+    def test_a_hover_in_neovim(self):
+        """What a stranger does with the first server of the page: at most ten lines, and a hover."""
+        if shutil.which("nvim") is None:
+            self.skipTest("nvim isn't there: no hover as the page has it")
+        blocks = blocks_of(SERVERS)
+        server = next(text for kind, text in blocks if kind == "python")
+        own = [it for it in server.splitlines() if it.strip() and not it.startswith("#")]
+        self.assertLessEqual(len(own), 10)
+        self.write("hover.py", server)
+        self.write("start.lua", next(text for kind, text in blocks if kind == "lua"))
+        self.write("notes.txt", "a rose is\na rose\n")
+        words = [
+            "nvim",
+            "--headless",
+            "--clean",
+            "-S",
+            os.path.join(HERE, "editors", "neovim_page.lua"),
+            "notes.txt",
+        ]
+        how = {
+            "cwd": self.room,
+            "env": {**self.env, "HOME": self.room},
+            "stdin": subprocess.DEVNULL,
+            "timeout": 60,
+        }
+        ended = subprocess.run(words, capture_output=True, check=False, **how)
+        self.assertIn("rose: 2 times", (ended.stdout + ended.stderr).decode())
+        self.assertEqual(ended.returncode, 0)
+
+    def test_the_other_one_by_hand_gives_the_same(self):
+        """The page's hover by hand, driven as the short one is."""
+        texts = {
+            re.match(r"# (\w+\.py)\n", text)[1]: text for kind, text in blocks_of(SERVERS) if kind == "python"
+        }
+        self.write("hover.py", texts["hover_by_hand.py"])
+        script = texts["editing.py"]
+        # (it keeps whole texts)
+        change = re.search(r"\[change\]", script)
+        whole = '[{"text": "a rose is\\na rose, a rose"}]'
+        self.write("editing.py", script[: change.start()] + whole + script[change.end() :])
+        self.assertEqual(
+            self.run_block("python3 editing.py"),
+            "{'name': 'words', 'version': '1.0'} True\n{'contents': 'rose: 3 times'}\nstatus 0\n",
+        )
 
     def test_the_command_that_installs(self):
-        (text,) = [text for kind, text in blocks_of(PAGE) if kind == "text"]
-        *words, folder = text.split()
-        self.assertEqual(words, ["pip", "install", "--no-index"])
-        self.assertEqual(os.path.normpath(os.path.join(TOP, folder)), PACKAGE)
+        for page in (PAGE, SERVERS):
+            text = next(text for kind, text in blocks_of(page) if kind == "text")
+            *words, folder = text.split()
+            self.assertEqual(words, ["pip", "install", "--no-index"])
+            self.assertEqual(os.path.normpath(os.path.join(TOP, folder)), PACKAGE)
 
     def test_the_readme(self):
         ((kind, text),) = blocks_of(os.path.join(PACKAGE, "README.md"))
@@ -73,7 +127,7 @@ class Page(Case):
         )
 
     def test_lines_are_short(self):
-        for file in (PAGE, os.path.join(PACKAGE, "README.md")):
+        for file in (PAGE, SERVERS, os.path.join(PACKAGE, "README.md")):
             with open(file, encoding="utf-8") as it:
                 prose = re.sub(r"^```.*?^```$", "", it.read(), flags=re.M | re.S)
             long = [it for it in prose.splitlines() if len(it) > 120 and not it.startswith("|")]

@@ -7,6 +7,7 @@ import unittest
 from helping import HERE, OVER, TOP, Case, command, environment, logged
 
 from bullmyrtle import Client, Error
+from bullmyrtle.mcp import ToolClient
 
 EXAMPLES = os.path.join(TOP, "examples", "python")
 
@@ -20,10 +21,53 @@ class Examples(Case):
         with open(os.path.join(EXAMPLES, "client.out"), encoding="utf-8") as it:
             self.assertEqual((ended.stdout.decode(), ended.stderr, ended.returncode), (it.read(), b"", 0))
 
+    def test_what_is_shorter_does_the_same(self):
+        """The servers of a few lines, and the longer ones beside them, which make each message themselves."""
+
+        async def hover(name):
+            async with Client(command(os.path.join(EXAMPLES, name)), env=environment()) as editor:
+                editor.method("workspace/configuration")(lambda params: ["words"])
+                await editor.call("initialize", {"processId": None, "rootUri": None, "capabilities": {}})
+                editor.notify("initialized", {})
+                document = {
+                    "uri": "file:///a",
+                    "languageId": "text",
+                    "version": 1,
+                    "text": "a rose is a rose",
+                }
+                editor.notify("textDocument/didOpen", {"textDocument": document})
+                place = {"textDocument": {"uri": "file:///a"}, "position": {"line": 0, "character": 3}}
+                result = await editor.call("textDocument/hover", place)
+                await editor.call("shutdown")
+                editor.notify("exit")
+            return result, await editor.close()
+
+        async def use(name):
+            async with ToolClient(
+                command(os.path.join(EXAMPLES, name)), env=environment(), sampling=lambda params: "Flowers"
+            ) as client:
+                tools = [it["name"] for it in await client.list_tools()]
+                count = (await client.call_tool("count", {"text": "a b"})).text
+                return (tools, count, (await client.call_tool("title", {"text": "roses"})).text)
+
+        async def main():
+            self.assertEqual(await hover("language_server.py"), ({"contents": "rose: 2"}, 0))
+            self.assertEqual(await hover("language_server_by_hand.py"), ({"contents": "words: 2"}, 0))
+            self.assertEqual(await use("tool_server.py"), (["count", "title"], "2", "Flowers"))
+            self.assertEqual(await use("tool_server_by_hand.py"), (["count", "title"], "2 words", "Flowers"))
+
+        self.wait(main())
+
+    def test_they_are_short(self):
+        """At most ten lines of a user's own, but for blank ones, in what a stranger writes first."""
+        with open(os.path.join(EXAMPLES, "language_server.py"), encoding="utf-8") as it:
+            lines = [line for line in it if line.strip() and not line.startswith(('"""', "#"))]
+        self.assertLessEqual(len(lines), 10)
+
     def test_faults(self):
         async def main():
             async with Client(
-                command(os.path.join(EXAMPLES, "language_server.py")), env=environment()
+                command(os.path.join(EXAMPLES, "language_server_by_hand.py")), env=environment()
             ) as client:
                 with self.assertRaises(Error) as caught:
                     await client.call(
@@ -38,7 +82,7 @@ class Examples(Case):
                 client.notify("exit")
             self.assertEqual(await client.close(), 1)
             tools = Client(
-                command(os.path.join(EXAMPLES, "tool_server.py")), env=environment(), framing="lines"
+                command(os.path.join(EXAMPLES, "tool_server_by_hand.py")), env=environment(), framing="lines"
             )
             async with tools:
                 self.assertEqual(await tools.call("ping"), {})

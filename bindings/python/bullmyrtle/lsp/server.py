@@ -66,6 +66,7 @@ class LanguageServer(Editor, Server):
             `unstructure(value)`, as those of cattrs and lsprotocol have
         settings -- those of a `Server`
         """
+        settings.setdefault("protocol", "lsp")
         super().__init__(**settings)
         if sync not in _SYNC:
             raise ValueError(f"documents are kept by 'incremental' or 'full' changes: {sync!r}")
