@@ -683,6 +683,7 @@ class Progress(Case):
     def served(self, function, editor, capabilities=None, params=None, thread=False, act=None):
         """What one request that shows progress is answered with."""
         server = LanguageServer()
+        server.behind = self.behind = []
         server.feature("my/work", thread=thread)(function)
 
         async def main():
@@ -704,6 +705,7 @@ class Progress(Case):
         async with ls.progress("Work", params, message="m", percentage=0, cancellable=True) as progress:
             progress.report("half", 50)
             await asyncio.sleep(params.get("seconds", 0))
+        ls.behind.append("behind the block")
         return progress.is_cancelled
 
     @staticmethod
@@ -754,6 +756,7 @@ class Progress(Case):
         given = {"seconds": 60}
         self.assertIs(self.served(self.work, editor, self.ABLE, given, act=self.cancel_the_progress), True)
         self.assertEqual(self.kinds(editor), ["begin", "report", "end"])
+        self.assertEqual(self.behind, ["behind the block"])
         editor = Editor()
         given = {"times": 10_000}
         result = self.served(self.work_in_thread, editor, self.ABLE, given, True, self.cancel_the_progress)
