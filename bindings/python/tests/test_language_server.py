@@ -776,6 +776,7 @@ class Progress(Case):
                 self.served(self.work, editor, self.ABLE, given, act=self.cancel_the_request), -32800
             )
             self.assertEqual(self.kinds(editor), kinds)
+            self.assertEqual(self.behind, [])
 
     def test_a_plain_function_can_not_wait(self):
         def work(ls, params):
