@@ -8,6 +8,7 @@ import inspect
 import logging
 from typing import Any, Callable, Dict, Generator, List, Optional
 
+from ._asking import words_of_error
 from ._params import ASYNC, PLAIN, THREAD, Method, Methods
 from ._request import Request, words_of
 from .errors import Closed, Error, InvalidParams, NotOpen
@@ -30,7 +31,7 @@ def _fitted(method: Method, params: Any) -> Any:
     except Error:
         raise
     except (ValueError, TypeError, RecursionError) as fault:
-        raise InvalidParams(words_of(f"Invalid params: {fault}")) from fault
+        raise InvalidParams(words_of(f"Invalid params: {words_of_error(fault)}")) from fault
 
 
 def _called(method: Method, given: Any, request: Request) -> Any:

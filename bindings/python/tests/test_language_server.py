@@ -8,6 +8,7 @@ import unittest
 
 from helping import Case, joined, logged
 
+import bullmyrtle
 from bullmyrtle import Client, Error, InvalidParams
 from bullmyrtle._channels import Memory
 from bullmyrtle.lsp import LanguageServer
@@ -932,6 +933,89 @@ class Types(Case):
                 self.assertEqual(await editor.call("c", {"a": 1, "b": 2}), [True, 1, 2])
                 self.assertEqual(await editor.call("d", {}), [True, {}, "d"])
                 self.assertIs(await editor.call("e"), False)
+
+        self.wait(main())
+
+
+class Limits(Case):
+    """Time limits (-32803, RequestFailed), middleware, and features in a class."""
+
+    def test_they_are_kept(self):
+        server = LanguageServer()
+        ended = []
+
+        @server.feature("textDocument/hover", timeout=0.05)
+        async def hover(ls, params):
+            try:
+                await asyncio.sleep(60)
+            finally:
+                ended.append("hover")
+
+        @server.feature("textDocument/definition", thread=True, timeout=0.05)
+        def definition(ls, params):
+            try:
+                ls.configuration("never")
+            except bullmyrtle.Closed:
+                ended.append("definition")
+
+        @server.command("wait", timeout=0.05)
+        async def wait(ls, seconds):
+            await asyncio.sleep(seconds)
+
+        async def main():
+            editor = Editor(workspace_configuration=lambda params: asyncio.sleep(60))
+            async with editing(server, editor):
+                self.assertEqual(await code_of(editor.call("textDocument/hover", {})), -32803)
+                self.assertEqual(await code_of(editor.call("textDocument/definition", {})), -32803)
+                wait = {"command": "wait", "arguments": [60]}
+                self.assertEqual(await code_of(editor.call("workspace/executeCommand", wait)), -32803)
+                await self.until(lambda: ended == ["hover", "definition"])
+
+        with logged():
+            self.wait(main())
+
+    def test_middleware(self):
+        server = LanguageServer()
+        seen = []
+
+        @server.middleware
+        def watch(request, params):
+            if request.method == "textDocument/definition":
+                raise Error(-32001, "forbidden")
+            yield
+            seen.append(request.method)
+
+        server.feature("textDocument/hover")(lambda ls, params: ls.document(params).text)
+        server.feature("textDocument/definition")(lambda params: None)
+
+        async def main():
+            async with editing(server) as editor:
+                editor.notify("textDocument/didOpen", opened("text"))
+                self.assertEqual(await editor.call("textDocument/hover", DOCUMENT), "text")
+                self.assertEqual(await code_of(editor.call("textDocument/definition", DOCUMENT)), -32001)
+
+        self.wait(main())
+        self.assertEqual(seen, ["initialize", "initialized", "textDocument/didOpen", "textDocument/hover"])
+
+    def test_features_in_a_class(self):
+        class Words:
+            @bullmyrtle.method("textDocument/hover")
+            def hover(self, ls, params):
+                return ls.document(params).text
+
+            @bullmyrtle.method("words/sum", timeout=5)
+            async def sum(self, a: int, b: int):
+                return a + b
+
+        server = LanguageServer()
+        server.register(Words())
+
+        async def main():
+            async with joined(server, Editor()) as editor:
+                self.assertIs((await editor.begin())["hoverProvider"], True)
+                editor.notify("textDocument/didOpen", opened("text"))
+                self.assertEqual(await editor.call("textDocument/hover", DOCUMENT), "text")
+                self.assertEqual(await editor.call("words/sum", {"a": 1, "b": 2}), 3)
 
         self.wait(main())
 

@@ -12,6 +12,7 @@ from typing import Any, Callable, Dict, Iterable, NoReturn, Optional, TypeVar
 from .._channels import Channel
 from .._filling import Filling
 from .._fits import annotation_of, fit_for
+from .._marks import marked
 from .._middleware import handed, limited
 from .._params import ASYNC, Method, Methods
 from .._request import LATER, Request
@@ -28,6 +29,7 @@ from .workspace import Workspace
 log = logging.getLogger("bullmyrtle")
 
 F = TypeVar("F", bound=Callable[..., Any])
+T = TypeVar("T")
 Json = Dict[str, Any]
 
 _SYNC = {"full": FULL, "incremental": INCREMENTAL}
@@ -138,6 +140,12 @@ class LanguageServer(Editor, Server):
             return function
 
         return register
+
+    def register(self, instance: T) -> T:
+        """Register what is marked of an instance by `@bullmyrtle.method("name")` as features, and give it back."""
+        for it, function in marked(instance):
+            self.feature(it.name, thread=it.thread, timeout=it.timeout)(function)
+        return instance
 
     def _semantic(self, name: str) -> Json:
         """What another feature of the same capability, or the program by hand, has told already."""

@@ -8,7 +8,7 @@ import inspect
 import logging
 import re
 import urllib.parse
-from typing import Any, Callable, Dict, List, Optional, Pattern, Sequence, Tuple, TypeVar, Union
+from typing import Any, Callable, Dict, List, Optional, Pattern, Sequence, Tuple, TypeVar, Union, overload
 
 from .._channels import Channel
 from .._json import dumps, plain_loads
@@ -120,6 +120,25 @@ class ToolServer(Server):
             self._methods.add(raw(method, function, PLAIN))
 
     # Tools
+
+    @overload
+    def tool(self, name: F) -> F:
+        ...
+
+    @overload
+    def tool(
+        self,
+        name: Optional[str] = None,
+        *,
+        title: Optional[str] = None,
+        description: Optional[str] = None,
+        annotations: Optional[Json] = None,
+        input_schema: Optional[Json] = None,
+        output_schema: Optional[Json] = None,
+        thread: bool = False,
+        timeout: Optional[float] = None,
+    ) -> Callable[[F], F]:
+        ...
 
     def tool(
         self,
@@ -272,6 +291,21 @@ class ToolServer(Server):
         for life in list(self._lives.values()):
             if uri in life.subscribed and life.session is not None:
                 life.session.notify("notifications/resources/updated", {"uri": uri})
+
+    @overload
+    def prompt(self, name: F) -> F:
+        ...
+
+    @overload
+    def prompt(
+        self,
+        name: Optional[str] = None,
+        *,
+        title: Optional[str] = None,
+        description: Optional[str] = None,
+        thread: bool = False,
+    ) -> Callable[[F], F]:
+        ...
 
     def prompt(
         self,
