@@ -38,7 +38,7 @@ class Types(Case):
                             part, (ast.FunctionDef, ast.AsyncFunctionDef)
                         ) and not part.name.startswith("_"):
                             is_property = any(
-                                getattr(on, "id", "") == "property" for on in part.decorator_list
+                                getattr(on, "id", "") in ("property", "overload") for on in part.decorator_list
                             )
                             self.assertTrue(
                                 ast.get_docstring(part) or is_property, f"{file}: {it.name}.{part.name}"
