@@ -5,6 +5,7 @@ import dataclasses
 import threading
 import typing
 import unittest
+import warnings
 
 from helping import Case, joined, logged
 
@@ -189,6 +190,31 @@ class Life(Case):
             server.feature("initialize")(function)
             codes, _ = self.run_life(server, ("initialize", True), ("shutdown", True), ("initialize", True))
             self.assertEqual(codes, [-32001, -32002, 0])
+
+    def test_initialize_that_is_cancelled_may_come_again(self):
+        """Once its task has begun, and before the task's first step."""
+        server = LanguageServer("life")
+
+        @server.feature("initialize")
+        def initialize(params, request):
+            loop = asyncio.get_running_loop()
+            how = params.get("how")
+            if how == "at once":
+                loop.call_soon(request.session._cancel, request)
+            elif how == "later":
+                loop.call_later(0.01, request.session._cancel, request)
+            return loop.create_future() if how else None
+
+        async def main():
+            for how in ("at once", "later"):
+                async with joined(server, Editor()) as editor:
+                    call = editor.call("initialize", {"capabilities": {}, "how": how})
+                    self.assertEqual(await code_of(call), -32800)
+                    self.assertEqual(await code_of(editor.call("initialize", {"capabilities": {}})), 0, how)
+
+        with warnings.catch_warnings():
+            warnings.simplefilter("ignore", RuntimeWarning)  # (a coroutine that never began)
+            self.wait(main())
 
     def fails(self, params):
         self.times += 1

@@ -196,8 +196,8 @@ class Schemas(Case):
                     "sure": {"type": "boolean"},
                     "words": {"type": "array", "items": {"type": "string"}},
                     "table": {"type": "object", "additionalProperties": {"type": "integer"}},
-                    "color": {"enum": ["red", "blue"]},
-                    "kind": {"enum": ["a", "b"]},
+                    "color": {"type": "string", "enum": ["red", "blue"]},
+                    "kind": {"type": "string", "enum": ["a", "b"]},
                     "point": {"$ref": "#/$defs/Point"},
                     "maybe": {"anyOf": [{"type": "integer"}, {"type": "null"}], "default": None},
                     "anything": {"default": 3},
@@ -207,6 +207,22 @@ class Schemas(Case):
                 "$defs": {"Point": point},
             },
         )
+
+    def test_two_classes_of_one_name(self):
+        @dataclasses.dataclass
+        class Point:
+            z: str
+
+        first = globals()["Point"]
+
+        def function(one, other):
+            return f"{one.x} {other.z}"
+
+        function.__annotations__.update(one=first, other=Point)
+        schema = self.tool_of(function)["inputSchema"]
+        self.assertEqual(schema["properties"]["one"], {"$ref": "#/$defs/Point"})
+        self.assertEqual(schema["properties"]["other"], {"$ref": "#/$defs/Point2"})
+        self.assertEqual(sorted(schema["$defs"]["Point2"]["properties"]), ["z"])
 
     def test_of_a_class_in_itself(self):
         def count(tree: Tree) -> int:
@@ -842,6 +858,45 @@ class Asking(Case):
                 ("roots/list", None),
             ],
         )
+
+    def test_what_can_not_be_elicited(self):
+        """Only texts, numbers, booleans and choices of them, side by side."""
+        server = ToolServer("asks")
+
+        @server.tool
+        async def asks(context: Context):
+            await context.elicit("?", Tree)
+
+        @dataclasses.dataclass
+        class Wish:
+            size: int
+            color: Color = Color.RED
+            sure: bool = False
+
+        @server.tool
+        async def wishes(context: Context):
+            await context.elicit("?", Wish)
+
+        host = Host(elicitation_create={"action": "cancel"})
+
+        async def main():
+            async with hosting(server, host, elicitation={}):
+                result = await host.call("tools/call", {"name": "asks"})
+                self.assertTrue(result["isError"])
+                self.assertIn("parts", result["content"][0]["text"])
+                await host.call("tools/call", {"name": "wishes"})
+
+        with logged():
+            self.wait(main())
+        ((_, params),) = host.asked
+        color = {"type": "string", "enum": ["red", "blue"], "default": "red"}
+        properties = {
+            "size": {"type": "integer"},
+            "color": color,
+            "sure": {"type": "boolean", "default": False},
+        }
+        schema = {"type": "object", "properties": properties, "required": ["size"]}
+        self.assertEqual(params["requestedSchema"], schema)
 
     def test_a_host_that_can_not(self):
         server = ToolServer("asks")

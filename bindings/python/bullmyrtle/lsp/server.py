@@ -344,11 +344,13 @@ class LanguageServer(Editor, Server):
 
     def _initialize(self, params: Any, request: Request) -> Any:
         life = self._life_of(request)
+        if life.state is STARTING and life.beginning not in request.session._open:
+            life.state = NEW  # (the one before was cancelled)
         if life.state is not NEW:
             raise Error(INVALID_REQUEST, "Invalid Request: initialize has come already")
         if not isinstance(params, dict):
             raise InvalidParams("Invalid params: initialize has an object")
-        life.params, life.state = params, STARTING
+        life.params, life.state, life.beginning = params, STARTING, request.number
         life.trace = params.get("trace") or "off"
         encoding = encoding_for(life.client_capabilities, self._encodings)
         try:
