@@ -1,7 +1,6 @@
 """What stands around methods: functions of the user's, time limits, and one method that hands its call on to another."""
 from __future__ import annotations
 
-import asyncio
 import contextlib
 import functools
 import inspect

@@ -2,12 +2,18 @@
 import asyncio
 import contextlib
 import dataclasses
+import gc
+import os
+import signal
+import socket
+import subprocess
+import tempfile
 import threading
 import typing
 import unittest
 import warnings
 
-from helping import Case, joined, logged
+from helping import Case, command, environment, joined, logged
 
 import bullmyrtle
 from bullmyrtle import Client, Error, InvalidParams
@@ -215,6 +221,7 @@ class Life(Case):
         with warnings.catch_warnings():
             warnings.simplefilter("ignore", RuntimeWarning)  # (a coroutine that never began)
             self.wait(main())
+            gc.collect()
 
     def fails(self, params):
         self.times += 1
@@ -354,6 +361,24 @@ class Capabilities(Case):
             about = {} if given is None else {"general": {"positionEncodings": given}}
             self.assertEqual(self.told(server, about).get("positionEncoding"), expected)
 
+    def test_what_only_options_tell_may_be_given_by_hand(self):
+        legend = {"legend": {"tokenTypes": [], "tokenModifiers": []}}
+        create = {"filters": [{"pattern": {"glob": "*"}}]}
+        server = LanguageServer(
+            capabilities={
+                "semanticTokensProvider": legend,
+                "documentOnTypeFormattingProvider": {"firstTriggerCharacter": ";"},
+                "workspace": {"fileOperations": {"didCreate": create}},
+            }
+        )
+        for name in ("semanticTokens/full", "semanticTokens/range", "onTypeFormatting"):
+            server.feature(f"textDocument/{name}")(lambda params: None)
+        server.feature("workspace/didCreateFiles")(lambda params: None)
+        told = self.told(server)
+        self.assertEqual(told["semanticTokensProvider"], {"full": True, "range": True, **legend})
+        self.assertEqual(told["documentOnTypeFormattingProvider"], {"firstTriggerCharacter": ";"})
+        self.assertEqual(told["workspace"]["fileOperations"], {"didCreate": create})
+
     def test_what_can_not_be_registered(self):
         server = LanguageServer()
         server.feature("textDocument/hover")(lambda params: None)
@@ -471,9 +496,6 @@ class Documents(Case):
         self.wait(main())
 
     def test_files_and_folders(self):
-        import os
-        import tempfile
-
         from bullmyrtle.lsp import uri_of
 
         server = LanguageServer()
@@ -615,6 +637,15 @@ class Asking(Case):
         )
         asked, _, result = self.asked(ask_in_thread, replies, thread=True)
         self.assertEqual(result, [1, {"applied": True}])
+
+    def test_what_is_no_message(self):
+        def tell(ls):
+            with self.assertRaises(ValueError):
+                ls.show_message("a", "loud")
+            with self.assertRaises(ValueError):
+                ls.refresh("hover")
+
+        self.assertEqual(self.asked(tell)[:2], ([], []))
 
     def test_dynamic_registration(self):
         async def register(ls):
@@ -903,6 +934,49 @@ class Types(Case):
                 self.assertEqual(await code_of(editor.call("textDocument/hover", at("1", 2))), -32602)
 
         self.wait(main())
+
+    def test_over_tcp(self):
+        """`start_tcp`, in a process of its own, with two editors at once; Ctrl-C ends it."""
+        script = (
+            "import sys\nfrom bullmyrtle.lsp import LanguageServer\nserver = LanguageServer()\n"
+            'server.feature("my/text")(lambda ls, params: ls.document(params).text)\n'
+            'server.start_tcp("127.0.0.1", int(sys.argv[1]))\n'
+        )
+        with socket.create_server(("127.0.0.1", 0)) as free:
+            port = free.getsockname()[1]
+
+        async def edit(text):
+            for _ in range(500):
+                try:
+                    streams = await asyncio.open_connection("127.0.0.1", port)
+                    break
+                except ConnectionError:
+                    await asyncio.sleep(0.02)
+            async with Editor() as editor:
+                editor.connect(*streams)
+                await editor.begin()
+                editor.notify("textDocument/didOpen", opened(text))
+                await asyncio.sleep(0.05)
+                result = await editor.call("my/text", DOCUMENT)
+                await editor.call("shutdown")
+                editor.notify("exit")
+            return result
+
+        async def main():
+            self.assertEqual(await asyncio.gather(edit("one"), edit("other")), ["one", "other"])
+
+        with tempfile.TemporaryDirectory() as room:
+            file = os.path.join(room, "tcp.py")
+            with open(file, "w", encoding="utf-8") as it:
+                it.write(script)
+            process = subprocess.Popen(command(file, str(port)), env=environment())
+            try:
+                self.wait(main())
+                process.send_signal(signal.SIGINT)
+                self.assertEqual(process.wait(20), 0)
+            finally:
+                process.kill()
+                process.wait()
 
     def test_a_converter(self):
         server = LanguageServer(converter=Converter())

@@ -66,6 +66,13 @@ NEEDED = {
 }
 _FILE_OPERATIONS = [f"{when}{what}" for what in ("Create", "Rename", "Delete") for when in ("did", "will")]
 NEEDED.update({f"workspace/{it}Files": "filters" for it in _FILE_OPERATIONS})
+# Where that stands among the capabilities that are given by hand.
+_BY_HAND = {
+    "textDocument/onTypeFormatting": "documentOnTypeFormattingProvider",
+    "textDocument/semanticTokens/full": "semanticTokensProvider",
+    "textDocument/semanticTokens/range": "semanticTokensProvider",
+}
+_BY_HAND.update({f"workspace/{it}Files": f"workspace.fileOperations.{it}" for it in _FILE_OPERATIONS})
 #: What only a registration while the server runs tells of, with the client's capability that it may be registered.
 DYNAMIC = {
     "workspace/didChangeWatchedFiles": "workspace.didChangeWatchedFiles.dynamicRegistration",
@@ -127,6 +134,17 @@ def capabilities_of(features: Features, commands: Iterable[str], change: int, by
     if names:
         made["executeCommandProvider"] = {"commands": names}
     return merged(made, by_hand)
+
+
+def lacks(method: str, options: Optional[Json], features: Features, by_hand: Json) -> Optional[str]:
+    """What the options of a method have to tell and don't, where nothing else tells it either."""
+    needed = NEEDED.get(method)
+    if needed is None or needed in (options or {}) or needed in (at(by_hand, _BY_HAND[method]) or {}):
+        return None
+    others = [
+        given for it, given in features.items() if "semanticTokens" in it and "semanticTokens" in method
+    ]
+    return None if any(needed in (it or {}) for it in others) else needed
 
 
 def encoding_for(client: Json, known: Iterable[str]) -> Optional[str]:

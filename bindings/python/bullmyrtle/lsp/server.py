@@ -19,7 +19,7 @@ from .._request import LATER, Request
 from .._session import Session
 from ..errors import Error, InvalidParams, INVALID_REQUEST
 from ..server import Server
-from ._capabilities import DYNAMIC, FULL, INCREMENTAL, NEEDED, capabilities_of, encoding_for, merged
+from ._capabilities import DYNAMIC, FULL, INCREMENTAL, capabilities_of, encoding_for, lacks, merged
 from ._editor import Editor
 from ._life import CURRENT, NEW, RUNNING, SHUT, STARTING, Gate, Life
 from ._text import ENCODINGS
@@ -124,8 +124,9 @@ class LanguageServer(Editor, Server):
         """
         if options is not None:
             options = self._plain(options)
-        if name in NEEDED and NEEDED[name] not in {**(options or {}), **self._semantic(name)}:
-            raise TypeError(f"{name} needs options with {NEEDED[name]!r}, since nothing else can tell it")
+        missing = lacks(name, options, self._features, self._by_hand)
+        if missing is not None:
+            raise TypeError(f"{name} needs options with {missing!r}, since nothing else can tell it")
 
         def register(function: F) -> F:
             if name in self._features or name == "workspace/executeCommand":
@@ -146,16 +147,6 @@ class LanguageServer(Editor, Server):
         for it, function in marked(instance):
             self.feature(it.name, thread=it.thread, timeout=it.timeout)(function)
         return instance
-
-    def _semantic(self, name: str) -> Json:
-        """What another feature of the same capability, or the program by hand, has told already."""
-        if "semanticTokens" not in name:
-            return self._by_hand if name == "textDocument/onTypeFormatting" else {}
-        told: Json = dict(self._by_hand.get("semanticTokensProvider") or {})
-        for other, options in self._features.items():
-            if "semanticTokens" in other:
-                told.update(options or {})
-        return told
 
     def command(
         self, name: str, *, thread: bool = False, timeout: Optional[float] = None
@@ -200,7 +191,7 @@ class LanguageServer(Editor, Server):
             return function
         if first is None or first.kind not in (first.POSITIONAL_ONLY, first.POSITIONAL_OR_KEYWORD):
             return function
-        if first.name in ("ls", "server") or _names_a_server(function, first.name):
+        if first.name == "ls" or _names_a_server(function, first.name):
             return functools.partial(function, self)
         return function
 
