@@ -1,8 +1,9 @@
 """What a server can do, as `initialize` tells it: made from the methods that are registered (LSP 3.17)."""
 from __future__ import annotations
 
-import copy
 from typing import Any, Dict, Iterable, Mapping, Optional, Tuple
+
+from .._merging import merged
 
 Json = Dict[str, Any]
 #: The methods that are registered, with the options that were given for each.
@@ -108,15 +109,6 @@ def _of_workspace(features: Features) -> Json:
     if operations:
         workspace["fileOperations"] = operations
     return workspace
-
-
-def merged(one: Json, other: Json) -> Json:
-    """Two objects, and the objects in them; where both have something else, the other's stands."""
-    both = copy.deepcopy(one)
-    for name, value in other.items():
-        there = both.get(name)
-        both[name] = merged(there, value) if isinstance(there, dict) and isinstance(value, dict) else value
-    return both
 
 
 def capabilities_of(features: Features, commands: Iterable[str], change: int, by_hand: Json) -> Json:

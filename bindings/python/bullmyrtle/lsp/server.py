@@ -13,13 +13,14 @@ from .._channels import Channel
 from .._filling import Filling
 from .._fits import annotation_of, fit_for
 from .._marks import marked
+from .._merging import merged
 from .._middleware import handed, limited
 from .._params import ASYNC, Method, Methods
 from .._request import LATER, Request
 from .._session import Session
 from ..errors import Error, InvalidParams, INVALID_REQUEST
 from ..server import Server
-from ._capabilities import DYNAMIC, FULL, INCREMENTAL, capabilities_of, encoding_for, lacks, merged
+from ._capabilities import DYNAMIC, FULL, INCREMENTAL, capabilities_of, encoding_for, lacks
 from ._editor import Editor
 from ._life import CURRENT, NEW, RUNNING, SHUT, STARTING, Gate, Life
 from ._text import ENCODINGS

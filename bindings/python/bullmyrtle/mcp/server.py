@@ -12,12 +12,12 @@ from typing import Any, Callable, Dict, List, Optional, Pattern, Sequence, Tuple
 
 from .._channels import Channel
 from .._json import dumps, plain_loads
+from .._merging import merged
 from .._middleware import handed, limited, raw
 from .._params import ASYNC, PLAIN, THREAD, Method, Methods
 from .._request import Request
 from .._session import Session
 from ..errors import INVALID_REQUEST, Closed, Error, InvalidParams
-from ..lsp._capabilities import merged
 from ..server import Server
 from ._functions import Function, result_schema
 from ._life import VERSIONS, Gate, Life
