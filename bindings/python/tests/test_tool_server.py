@@ -11,7 +11,7 @@ import unittest
 
 from helping import Case, joined, logged
 
-from bullmyrtle import Client, Error, InvalidParams, mcp
+from bullmyrtle import Client, Error, InvalidParams, Server, mcp
 from bullmyrtle.mcp import Context, Image, ToolClient, ToolError, ToolResult, ToolServer
 
 PIXEL = b"\x89PNG"
@@ -512,6 +512,10 @@ class Tools(Case):
         self.assertEqual(host.told, [])
         host = Host()
         self.called(server, "work_in_thread", host=host, meta={"progressToken": 7})
+        for token in ([1], None, True, 1.5):
+            other = Host()
+            self.called(server, "work_in_thread", host=other, meta={"progressToken": token})
+            self.assertEqual(other.told, [])
         self.assertEqual(host.of("notifications/progress"), [{"progressToken": 7, "progress": 0.5}])
 
     def test_it_is_cancelled(self):
@@ -1016,6 +1020,17 @@ class Hosts(Case):
                 await client.set_logging_level("error")
                 await client.send_ping()
                 client.roots_changed(["file:///other"])
+
+        self.wait(main())
+
+    def test_pages_that_go_round(self):
+        server = Server(framing="lines")
+        server.method("tools/list")(lambda params: {"tools": [], "nextCursor": "again"})
+
+        async def main():
+            async with joined(server, ToolClient()) as client:
+                with self.assertRaises(ValueError):
+                    await client.list_tools()
 
         self.wait(main())
 

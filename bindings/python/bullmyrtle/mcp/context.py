@@ -72,7 +72,11 @@ class Context:
         """Tell how far it is, where the host asked for that. Progress that doesn't rise isn't told. Any thread may."""
         token = self.meta.get("progressToken")
         is_over = self.request.is_cancelled or self.request.number not in self.request.session._open
-        if token is None or is_over or (self._reached is not None and progress <= self._reached):
+        if (
+            type(token) not in (str, int)
+            or is_over
+            or (self._reached is not None and progress <= self._reached)
+        ):
             return
         self._reached = progress
         about: Json = {"progressToken": token, "progress": progress}
