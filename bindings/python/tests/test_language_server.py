@@ -1075,6 +1075,7 @@ class Limits(Case):
             self.wait(main())
 
     def test_middleware(self):
+        """It is around whatever comes, also at a wrong time."""
         server = LanguageServer()
         seen = []
 
@@ -1082,20 +1083,27 @@ class Limits(Case):
         def watch(request, params):
             if request.method == "textDocument/definition":
                 raise Error(-32001, "forbidden")
-            yield
-            seen.append(request.method)
+            try:
+                yield
+                seen.append(request.method)
+            except Error as error:
+                seen.append((request.method, error.code))
+                raise
 
         server.feature("textDocument/hover")(lambda ls, params: ls.document(params).text)
         server.feature("textDocument/definition")(lambda params: None)
 
         async def main():
-            async with editing(server) as editor:
+            async with joined(server, Editor()) as editor:
+                self.assertEqual(await code_of(editor.call("textDocument/hover", DOCUMENT)), -32002)
+                await editor.begin()
                 editor.notify("textDocument/didOpen", opened("text"))
                 self.assertEqual(await editor.call("textDocument/hover", DOCUMENT), "text")
                 self.assertEqual(await code_of(editor.call("textDocument/definition", DOCUMENT)), -32001)
 
         self.wait(main())
-        self.assertEqual(seen, ["initialize", "initialized", "textDocument/didOpen", "textDocument/hover"])
+        names = ["initialize", "initialized", "textDocument/didOpen", "textDocument/hover"]
+        self.assertEqual(seen, [("textDocument/hover", -32002), *names])
 
     def test_features_in_a_class(self):
         class Words:

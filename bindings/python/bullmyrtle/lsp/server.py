@@ -9,7 +9,6 @@ import sys
 import threading
 from typing import Any, Callable, Dict, Iterable, NoReturn, Optional, TypeVar
 
-from .._channels import Channel
 from .._filling import Filling
 from .._fits import annotation_of, fit_for
 from .._marks import marked
@@ -229,15 +228,12 @@ class LanguageServer(Editor, Server):
     # Sessions
 
     def _table(self) -> Methods:
-        return Gate(super()._table(), Life())
+        return Gate(self._methods, Life())
 
-    def _session_over(self, channel: Channel, **other: Any) -> Session:
-        session = super()._session_over(channel, **other)
-        gate = session._methods
-        assert isinstance(gate, Gate)
-        gate.life.session = session
-        self._lives[session] = gate.life
-        return session
+    def _began(self, session: Session, table: Methods) -> None:
+        assert isinstance(table, Gate)
+        table.life.session = session
+        self._lives[session] = table.life
 
     async def _serve(self, session: Session) -> int:
         try:

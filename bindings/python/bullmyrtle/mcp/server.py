@@ -10,7 +10,6 @@ import re
 import urllib.parse
 from typing import Any, Callable, Dict, List, Optional, Pattern, Sequence, Tuple, TypeVar, Union, overload
 
-from .._channels import Channel
 from .._json import dumps, plain_loads
 from .._merging import merged
 from .._middleware import handed, limited, raw
@@ -388,15 +387,12 @@ class ToolServer(Server):
     # Sessions
 
     def _table(self) -> Methods:
-        return Gate(super()._table(), Life())
+        return Gate(self._methods, Life())
 
-    def _session_over(self, channel: Channel, **other: Any) -> Session:
-        session = super()._session_over(channel, **other)
-        gate = session._methods
-        assert isinstance(gate, Gate)
-        gate.life.session = session
-        self._lives[session] = gate.life
-        return session
+    def _began(self, session: Session, table: Methods) -> None:
+        assert isinstance(table, Gate)
+        table.life.session = session
+        self._lives[session] = table.life
 
     async def _serve(self, session: Session) -> int:
         try:
