@@ -938,7 +938,9 @@ class Types(Case):
     def test_over_tcp(self):
         """`start_tcp`, in a process of its own, with two editors at once; Ctrl-C ends it."""
         script = (
-            "import sys\nfrom bullmyrtle.lsp import LanguageServer\nserver = LanguageServer()\n"
+            "import signal\nimport sys\nfrom bullmyrtle.lsp import LanguageServer\nserver = LanguageServer()\n"
+            # (a shell's background processes ignore it)
+            "signal.signal(signal.SIGINT, signal.default_int_handler)\n"
             'server.feature("my/text")(lambda ls, params: ls.document(params).text)\n'
             'server.start_tcp("127.0.0.1", int(sys.argv[1]))\n'
         )
