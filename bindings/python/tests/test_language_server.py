@@ -897,6 +897,14 @@ class HoverParams:
     position: Place
 
 
+@dataclasses.dataclass
+class Hover:
+    contents: str
+    range: typing.Optional[dict] = None
+    version: typing.Optional[int] = 0
+    places: typing.List[Place] = dataclasses.field(default_factory=list)
+
+
 class Outside:
     """A class of another library's, which only a converter knows."""
 
@@ -979,6 +987,26 @@ class Types(Case):
             finally:
                 process.kill()
                 process.wait()
+
+    def test_members_that_are_left_out(self):
+        """What is None, and by default is None, isn't there: LSP has null in few places."""
+        server = LanguageServer()
+
+        @server.feature("textDocument/hover")
+        async def hover(ls, params):
+            ls.notify("my/told", {"all": [Hover("a"), (Hover("b", {"x": 1}, None),)], "none": None})
+            return [Hover("c", places=[Place(1, 2)]), {"deep": {"er": Hover("d")}}, None]
+
+        async def main():
+            async with editing(server) as editor:
+                c = {"contents": "c", "version": 0, "places": [{"line": 1, "character": 2}]}
+                d = {"contents": "d", "version": 0, "places": []}
+                self.assertEqual(await editor.call("textDocument/hover", {}), [c, {"deep": {"er": d}}, None])
+                a = {"contents": "a", "version": 0, "places": []}
+                b = {"contents": "b", "range": {"x": 1}, "version": None, "places": []}
+                self.assertEqual(editor.of("my/told"), [{"all": [a, [b]], "none": None}])
+
+        self.wait(main())
 
     def test_a_converter(self):
         server = LanguageServer(converter=Converter())
