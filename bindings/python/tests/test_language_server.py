@@ -897,6 +897,17 @@ class HoverParams:
     position: Place
 
 
+<<<<<<< HEAD
+=======
+@dataclasses.dataclass
+class Hover:
+    contents: str
+    range: typing.Optional[dict] = None
+    version: typing.Optional[int] = 0
+    places: typing.List[Place] = dataclasses.field(default_factory=list)
+
+
+>>>>>>> 735b89bfda5ed068f2931383ea9a5401fb33f2ff
 class Outside:
     """A class of another library's, which only a converter knows."""
 
@@ -938,7 +949,13 @@ class Types(Case):
     def test_over_tcp(self):
         """`start_tcp`, in a process of its own, with two editors at once; Ctrl-C ends it."""
         script = (
+<<<<<<< HEAD
             "import sys\nfrom bullmyrtle.lsp import LanguageServer\nserver = LanguageServer()\n"
+=======
+            "import signal\nimport sys\nfrom bullmyrtle.lsp import LanguageServer\nserver = LanguageServer()\n"
+            # (a shell's background processes ignore it)
+            "signal.signal(signal.SIGINT, signal.default_int_handler)\n"
+>>>>>>> 735b89bfda5ed068f2931383ea9a5401fb33f2ff
             'server.feature("my/text")(lambda ls, params: ls.document(params).text)\n'
             'server.start_tcp("127.0.0.1", int(sys.argv[1]))\n'
         )
@@ -978,6 +995,29 @@ class Types(Case):
                 process.kill()
                 process.wait()
 
+<<<<<<< HEAD
+=======
+    def test_members_that_are_left_out(self):
+        """What is None, and by default is None, isn't there: LSP has null in few places."""
+        server = LanguageServer()
+
+        @server.feature("textDocument/hover")
+        async def hover(ls, params):
+            ls.notify("my/told", {"all": [Hover("a"), (Hover("b", {"x": 1}, None),)], "none": None})
+            return [Hover("c", places=[Place(1, 2)]), {"deep": {"er": Hover("d")}}, None]
+
+        async def main():
+            async with editing(server) as editor:
+                c = {"contents": "c", "version": 0, "places": [{"line": 1, "character": 2}]}
+                d = {"contents": "d", "version": 0, "places": []}
+                self.assertEqual(await editor.call("textDocument/hover", {}), [c, {"deep": {"er": d}}, None])
+                a = {"contents": "a", "version": 0, "places": []}
+                b = {"contents": "b", "range": {"x": 1}, "version": None, "places": []}
+                self.assertEqual(editor.of("my/told"), [{"all": [a, [b]], "none": None}])
+
+        self.wait(main())
+
+>>>>>>> 735b89bfda5ed068f2931383ea9a5401fb33f2ff
     def test_a_converter(self):
         server = LanguageServer(converter=Converter())
 
