@@ -98,7 +98,7 @@ class Answering(Asking):
         if method.kind is THREAD:
             self._pool.submit(functools.partial(self._run_in_thread, method, given, request))
             return False
-        self._run_as_task(_called(method, given, request), request)
+        self._run_as_task(functools.partial(_called, method, given, request), request)
         return True
 
     def _is_refused(self, event: events.Call) -> bool:
@@ -163,7 +163,7 @@ class Answering(Asking):
             if request is None:
                 request = self._opened(event, PLAIN)
             request.kind = ASYNC
-            self._run_as_task(result, request)
+            self._run_as_task(lambda: result, request)
             return True
         if event.id is None:
             self._close_notification(event.number, request)
@@ -171,8 +171,9 @@ class Answering(Asking):
             self._answer(event.number, event.method, result, request)
         return False
 
-    def _run_as_task(self, awaitable: Any, request: Request) -> None:
-        request.task = task = self.loop.create_task(self._run(awaitable, request))
+    def _run_as_task(self, make: Callable[[], Any], request: Request) -> None:
+        """Runs as a task what is made when it begins: a coroutine that never begins is none."""
+        request.task = task = self.loop.create_task(self._run(make, request))
         if not task.done():  # (it is, where a factory of the loop's began it at once)
             self._tasks.add(task)
 
@@ -189,9 +190,9 @@ class Answering(Asking):
         if self._change is not None and not self._tasks:
             self._changed()
 
-    async def _run(self, awaitable: Any, request: Request) -> None:
+    async def _run(self, make: Callable[[], Any], request: Request) -> None:
         try:
-            result = await awaitable
+            result = await make()
         except (KeyboardInterrupt, SystemExit):
             if request.task is not None:
                 request.task.add_done_callback(self._task_ended)

@@ -136,7 +136,11 @@ class Storms(Case):
                 await asyncio.sleep(chance.random() / 50)
         except ConnectionError:
             pass
-        writer.transport.abort() if how % 2 else writer.close()
+        if not how % 2:
+            writer.close()
+            # (which first writes what it still has; the server may not read it as long as nobody reads its answers)
+            await asyncio.sleep(0.1)
+        writer.transport.abort()
 
     def test_over_tcp(self):
         async def listen(server):
