@@ -215,7 +215,7 @@ class Hearing(Talking):
         except (KeyboardInterrupt, SystemExit):
             raise
         except BaseException:
-            log.exception("what was put off failed")
+            log.exception("what was put off, or is done at the end, failed")
 
     # Events
 
