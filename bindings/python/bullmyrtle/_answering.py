@@ -163,7 +163,7 @@ class Answering(Asking):
             if request is None:
                 request = self._opened(event, PLAIN)
             request.kind = ASYNC
-            self._run_as_task(lambda: result, request)
+            self._run_as_task(_Made(result), request)
             return True
         if event.id is None:
             self._close_notification(event.number, request)
@@ -443,6 +443,24 @@ class Answering(Asking):
         """A tool server's cancel is a notification like others, which names the request by its id."""
         for request in list(self._by_id.get(id_wanted(event), ())):
             self._cancel(request)
+
+
+class _Made:
+    """An awaitable that a plain function has made. One that nobody awaits, since it was cancelled, is closed."""
+
+    __slots__ = ("_it",)
+
+    def __init__(self, it: Any) -> None:
+        self._it = it
+
+    def __call__(self) -> Any:
+        it, self._it = self._it, None
+        return it
+
+    def __del__(self) -> None:
+        close = getattr(self._it, "close", None)
+        if close is not None:
+            close()
 
 
 def log_surely(words: str, *named: str, fault: Optional[BaseException]) -> None:
