@@ -163,7 +163,10 @@ class Answering(Asking):
             if request is None:
                 request = self._opened(event, PLAIN)
             request.kind = ASYNC
-            self._run_as_task(_Made(result), request)
+            made = _Made(result)
+            self._run_as_task(made, request)
+            assert request.task is not None
+            request.task.add_done_callback(made.end)
             return True
         if event.id is None:
             self._close_notification(event.number, request)
@@ -457,7 +460,7 @@ class _Made:
         it, self._it = self._it, None
         return it
 
-    def __del__(self) -> None:
+    def end(self, _: Any) -> None:
         close = getattr(self._it, "close", None)
         if close is not None:
             close()
