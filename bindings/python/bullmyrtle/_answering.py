@@ -98,7 +98,7 @@ class Answering(Asking):
         if method.kind is THREAD:
             self._pool.submit(functools.partial(self._run_in_thread, method, given, request))
             return False
-        self._run_as_task(_called(method, given, request), request)
+        self._run_as_task(functools.partial(_called, method, given, request), request)
         return True
 
     def _is_refused(self, event: events.Call) -> bool:
@@ -163,7 +163,10 @@ class Answering(Asking):
             if request is None:
                 request = self._opened(event, PLAIN)
             request.kind = ASYNC
-            self._run_as_task(result, request)
+            made = _Made(result)
+            self._run_as_task(made, request)
+            assert request.task is not None
+            request.task.add_done_callback(made.end)
             return True
         if event.id is None:
             self._close_notification(event.number, request)
@@ -171,8 +174,9 @@ class Answering(Asking):
             self._answer(event.number, event.method, result, request)
         return False
 
-    def _run_as_task(self, awaitable: Any, request: Request) -> None:
-        request.task = task = self.loop.create_task(self._run(awaitable, request))
+    def _run_as_task(self, make: Callable[[], Any], request: Request) -> None:
+        """Runs as a task what is made when it begins: a coroutine that never begins is none."""
+        request.task = task = self.loop.create_task(self._run(make, request))
         if not task.done():  # (it is, where a factory of the loop's began it at once)
             self._tasks.add(task)
 
@@ -189,9 +193,9 @@ class Answering(Asking):
         if self._change is not None and not self._tasks:
             self._changed()
 
-    async def _run(self, awaitable: Any, request: Request) -> None:
+    async def _run(self, make: Callable[[], Any], request: Request) -> None:
         try:
-            result = await awaitable
+            result = await make()
         except (KeyboardInterrupt, SystemExit):
             if request.task is not None:
                 request.task.add_done_callback(self._task_ended)
@@ -442,6 +446,24 @@ class Answering(Asking):
         """A tool server's cancel is a notification like others, which names the request by its id."""
         for request in list(self._by_id.get(id_wanted(event), ())):
             self._cancel(request)
+
+
+class _Made:
+    """An awaitable that a plain function has made. One that nobody awaits, since it was cancelled, is closed."""
+
+    __slots__ = ("_it",)
+
+    def __init__(self, it: Any) -> None:
+        self._it = it
+
+    def __call__(self) -> Any:
+        it, self._it = self._it, None
+        return it
+
+    def end(self, _: Any) -> None:
+        close = getattr(self._it, "close", None)
+        if close is not None:
+            close()
 
 
 def log_surely(words: str, *named: str, fault: Optional[BaseException]) -> None:

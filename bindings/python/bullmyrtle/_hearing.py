@@ -81,7 +81,12 @@ class Hearing(Talking):
             return
         try:
             told = self._connection.fed(data)
-            self._take_in(data, told)
+            if told:
+                self._unread = 0
+            self.watch.read(data, told)
+            if self._cancels or self._takes_tool_cancels:
+                self._note_cancels(told)
+            self._events += told
         except InputOver:
             return
         except (KeyboardInterrupt, SystemExit):
@@ -210,21 +215,24 @@ class Hearing(Talking):
         except (KeyboardInterrupt, SystemExit):
             raise
         except BaseException:
-            log.exception("what was put off failed")
+            log.exception("what was put off, or is done at the end, failed")
 
     # Events
 
     def _take_in(self, data: bytes, told: List[Event]) -> None:
-        """A piece was read. A request whose cancel is among what was told never begins, if its turn hasn't come."""
-        if told and self._aside is None:
-            self._unread = 0
+        """A piece was read, and this was told."""
         self.watch.read(data, told)
+        if self._cancels or self._takes_tool_cancels:
+            self._note_cancels(told)
+        self._events += told
+
+    def _note_cancels(self, told: List[Event]) -> None:
+        """A request whose cancel is among what was told never begins, if its turn hasn't come."""
         if self._cancels:
             self._gone.update(self._cancels)
             self._cancels.clear()
-        elif self._takes_tool_cancels and (len(told) > 1 or self._events or self._held):
+        elif len(told) > 1 or self._events or self._held:
             self._note_tool_cancels(told)
-        self._events += told
 
     def _note_tool_cancels(self, told: List[Event]) -> None:
         name = self._cancel_by
@@ -253,9 +261,7 @@ class Hearing(Talking):
             if self._held and not self._has_much_to_write():
                 waiting.extendleft(reversed(self._held))
                 self._held.clear()
-            for _ in range(_TURN):
-                if not waiting or has_begun:
-                    break
+            for _ in range(min(len(waiting), _TURN)):
                 if self._said > _MUCH and self._has_much_to_write():
                     self._hold_calls()
                     has_told = True
@@ -272,7 +278,9 @@ class Hearing(Talking):
                         continue
                     method = methods.get(name)
                     if method is None or not method.is_quick or name == cancel_by or self._is_choosy:
-                        has_begun = self._begin(event)
+                        if self._begin(event):
+                            has_begun = True
+                            break
                         continue
                     # What most calls are. `_begin` does the same, by way of more functions.
                     try:
@@ -301,11 +309,16 @@ class Hearing(Talking):
                             raise
                         except BaseException:
                             pass  # (what is below finds it again, and says so)
-                    has_begun = self._returned_plainly(method, result, event, None)
+                    if self._returned_plainly(method, result, event, None):
+                        has_begun = True
+                        break
                 except (KeyboardInterrupt, SystemExit):
                     raise
                 except BaseException as fault:
                     self._went_wrong(event, fault)
+        except IndexError:
+            pass  # (the session gave up, and so nothing waits any more)
+        else:
             has_more = bool(waiting)
         finally:
             # (The task's first step comes before the channel's next turn, where this is the channel's turn. If it was

@@ -3,6 +3,7 @@ from __future__ import annotations
 
 import asyncio
 import contextlib
+import functools
 import logging
 import threading
 from typing import Any, Callable, Optional, Union
@@ -222,10 +223,10 @@ class Session(Hearing):
                 "%d calls didn't begin in time, since what was said wasn't read: %s", len(self._held), names
             )
         while self._held:
-            self._never_begin(self._held.popleft().number)
+            self._do(functools.partial(self._never_begin, self._held.popleft().number))
         for request in list(self._open.values()):
             log.error("%s: it didn't end in time, and is cancelled", request.method)
-            self._cancel(request)
+            self._do(functools.partial(self._cancel, request))
         if self._tasks:
             for task in self._tasks:
                 self._end_task(task)
