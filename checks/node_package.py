@@ -61,7 +61,14 @@ def headers_of(node: str) -> str:
 
 def compiled(node: str, words: list[str], made: str) -> tuple[int, bytes, bytes]:
     """Compiles the addon with Node.js's headers, which the compiler holds against the addon's own declarations."""
-    from_node = ["-DNODE_HEADERS", "-DNAPI_VERSION=8", "-isystem", headers_of(node), f"-I{library.RELEASED}", *addon.together(library.RELEASED)]
+    from_node = [
+        "-DNODE_HEADERS",
+        "-DNAPI_VERSION=8",
+        "-isystem",
+        headers_of(node),
+        f"-I{library.RELEASED}",
+        *addon.together(library.RELEASED),
+    ]
     files = [f"{addon.FOLDER}/addon.c", *([f"{library.RELEASED}/{addon.STATIC}"] if "-shared" in words else [])]
     return said(["cc", "-std=c11", "-fPIC", *words, *from_node, *files, "-o", made])
 

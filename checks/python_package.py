@@ -15,7 +15,6 @@ LIBRARY = "libbullmyrtle.so.1"
 VARIABLE = "BULLMYRTLE_LIBRARY"
 # What starts no process, so that it is quick over the stand-in.
 WITHOUT_PROCESSES = ["test_connection", "test_methods", "test_calls", "test_loop", "test_trace", "test_random"]
-<<<<<<< HEAD
 WITHOUT_PROCESSES += [
     "test_registering",
     "test_ends.Ends",
@@ -30,10 +29,6 @@ WITHOUT_PROCESSES += [
     "test_faults.NoThreads",
     "test_faults.Open",
 ]
-=======
-WITHOUT_PROCESSES += ["test_registering", "test_ends.Ends", "test_ends.Counted", "test_many.Sessions", "test_many.WebSockets"]
-WITHOUT_PROCESSES += ["test_digits.Default", "test_digits.Streams", "test_faults.LastResort", "test_faults.NoThreads", "test_faults.Open"]
->>>>>>> 735b89bfda5ed068f2931383ea9a5401fb33f2ff
 WITHOUT_PROCESSES += ["test_language_server", "test_middleware", "test_tool_server"]
 FEWEST, FEWEST_WITHOUT_PROCESSES = 440, 285
 SECONDS = 900

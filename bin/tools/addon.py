@@ -67,12 +67,16 @@ def run(words: list[str]) -> None:
         )
 
 
-<<<<<<< HEAD
+def together(library: str) -> list[str]:
+    """The word for a library that goes through what is said and told by itself."""
+    return ["-DTOGETHER"] if b" bm_say_all(" in read_bytes(f"{library}/{HEADER}") else []
+
+
 def make(library: str, made: str) -> None:
     """Makes the addon over the library in a folder."""
     tools = f"{kit.folder()}/toolchain"
     with tempfile.TemporaryDirectory(prefix="addon-") as room:
-        run([f"{tools}/bin/clang", *COMPILED, f"-I{library}", "-c", f"{FOLDER}/addon.c", "-o", f"{room}/addon.o"])
+        run([f"{tools}/bin/clang", *COMPILED, *together(library), f"-I{library}", "-c", f"{FOLDER}/addon.c", "-o", f"{room}/addon.o"])
         words = [
             f"{tools}/bin/ld.lld",
             *LINKED,
@@ -81,19 +85,6 @@ def make(library: str, made: str) -> None:
             f"--version-script={FOLDER}/addon.map",
             f"{room}/addon.o",
         ]
-=======
-def together(library):
-    """The word for a library that goes through what is said and told by itself."""
-    return ["-DTOGETHER"] if b" bm_say_all(" in read_bytes(f"{library}/{HEADER}") else []
-
-
-def make(library, made):
-    """Makes the addon over the library in a folder."""
-    tools = f"{kit.folder()}/toolchain"
-    with tempfile.TemporaryDirectory(prefix="addon-") as room:
-        run([f"{tools}/bin/clang", *COMPILED, *together(library), f"-I{library}", "-c", f"{FOLDER}/addon.c", "-o", f"{room}/addon.o"])
-        words = [f"{tools}/bin/ld.lld", *LINKED, "-soname", ADDON, f"--version-script={FOLDER}/addon.map", f"{room}/addon.o"]
->>>>>>> cb59d3ab997204cec5dbea906caac442892522f0
         run([*words, f"{library}/{STATIC}", f"{tools}/lib/libc.so.6", "-o", made])
 
 

@@ -38,16 +38,10 @@ typedef struct {
 
 /* What the connections of a thread share. */
 typedef struct {
-<<<<<<< HEAD
     bytes events;   /* events, as bm_next_all packs them */
     bytes texts;    /* texts on their way from or to a string */
+    bytes sayings;  /* what is said, as bm_say_all takes it */
     double **heads; /* arrays of JavaScript that are never given back, one for each depth of nesting */
-=======
-    bytes events;       /* events, as bm_next_all packs them */
-    bytes texts;        /* texts on their way from or to a string */
-    bytes sayings;      /* what is said, as bm_say_all takes it */
-    double **heads;     /* arrays of JavaScript that are never given back, one for each depth of nesting */
->>>>>>> cb59d3ab997204cec5dbea906caac442892522f0
     size_t heads_count;
     double *says;
 } shared;
@@ -569,9 +563,9 @@ static saying read_saying(const double *said, bytes *rest)
  * line feeds. */
 static void put_saying(bm_saying *to, const saying *it, uint8_t **end)
 {
-    static const uint32_t kinds[] = {[ANSWER] = BM_SAY_ANSWER, [FAIL] = BM_SAY_FAIL,         [CALL] = BM_SAY_CALL,
-                                     [NOTIFY] = BM_SAY_NOTIFY, [WITHDRAW] = BM_SAY_WITHDRAW, [CANCEL] = BM_SAY_CANCEL,
-                                     [CLOSE] = BM_SAY_CLOSE};
+    static const uint32_t kinds[] = {
+        [ANSWER] = BM_SAY_ANSWER,     [FAIL] = BM_SAY_FAIL,     [CALL] = BM_SAY_CALL,  [NOTIFY] = BM_SAY_NOTIFY,
+        [WITHDRAW] = BM_SAY_WITHDRAW, [CANCEL] = BM_SAY_CANCEL, [CLOSE] = BM_SAY_CLOSE};
     bool is_answer = it->kind == ANSWER;
     bool is_withdrawal = it->kind == WITHDRAW;
     *to = (bm_saying){.kind = it->kind <= CLOSE ? kinds[it->kind] : 0, .code = it->code};

@@ -897,8 +897,6 @@ class HoverParams:
     position: Place
 
 
-<<<<<<< HEAD
-=======
 @dataclasses.dataclass
 class Hover:
     contents: str
@@ -907,7 +905,6 @@ class Hover:
     places: typing.List[Place] = dataclasses.field(default_factory=list)
 
 
->>>>>>> 735b89bfda5ed068f2931383ea9a5401fb33f2ff
 class Outside:
     """A class of another library's, which only a converter knows."""
 
@@ -949,13 +946,9 @@ class Types(Case):
     def test_over_tcp(self):
         """`start_tcp`, in a process of its own, with two editors at once; Ctrl-C ends it."""
         script = (
-<<<<<<< HEAD
-            "import sys\nfrom bullmyrtle.lsp import LanguageServer\nserver = LanguageServer()\n"
-=======
             "import signal\nimport sys\nfrom bullmyrtle.lsp import LanguageServer\nserver = LanguageServer()\n"
             # (a shell's background processes ignore it)
             "signal.signal(signal.SIGINT, signal.default_int_handler)\n"
->>>>>>> 735b89bfda5ed068f2931383ea9a5401fb33f2ff
             'server.feature("my/text")(lambda ls, params: ls.document(params).text)\n'
             'server.start_tcp("127.0.0.1", int(sys.argv[1]))\n'
         )
@@ -995,8 +988,6 @@ class Types(Case):
                 process.kill()
                 process.wait()
 
-<<<<<<< HEAD
-=======
     def test_members_that_are_left_out(self):
         """What is None, and by default is None, isn't there: LSP has null in few places."""
         server = LanguageServer()
@@ -1017,7 +1008,6 @@ class Types(Case):
 
         self.wait(main())
 
->>>>>>> 735b89bfda5ed068f2931383ea9a5401fb33f2ff
     def test_a_converter(self):
         server = LanguageServer(converter=Converter())
 

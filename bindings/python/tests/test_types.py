@@ -10,13 +10,7 @@ import unittest
 
 from helping import PACKAGE, TOP, Case
 
-<<<<<<< HEAD
-FILES = glob.glob(f"{PACKAGE}/bullmyrtle/**/*.py", recursive=True) + glob.glob(
-    f"{PACKAGE}/build_backend/*.py"
-)
-=======
 FILES = glob.glob(f"{PACKAGE}/bullmyrtle/**/*.py", recursive=True) + glob.glob(f"{PACKAGE}/build_backend/*.py")
->>>>>>> 735b89bfda5ed068f2931383ea9a5401fb33f2ff
 FILES += glob.glob(f"{TOP}/examples/python/*.py")
 
 
@@ -44,12 +38,7 @@ class Types(Case):
                             part, (ast.FunctionDef, ast.AsyncFunctionDef)
                         ) and not part.name.startswith("_"):
                             is_property = any(
-<<<<<<< HEAD
-                                getattr(on, "id", "") in ("property", "overload")
-                                for on in part.decorator_list
-=======
                                 getattr(on, "id", "") in ("property", "overload") for on in part.decorator_list
->>>>>>> 735b89bfda5ed068f2931383ea9a5401fb33f2ff
                             )
                             self.assertTrue(
                                 ast.get_docstring(part) or is_property, f"{file}: {it.name}.{part.name}"

@@ -59,14 +59,8 @@ class Progress:
         self._end()
         if kind is not asyncio.CancelledError or not self.is_cancelled or self._is_over():
             return False
-<<<<<<< HEAD
-        uncancel = getattr(self._task, "uncancel", None)  # (Python 3.11 on has it)
-        if uncancel is not None:
-            uncancel()
-=======
         if hasattr(asyncio.Task, "uncancel") and self._task is not None:
             self._task.uncancel()
->>>>>>> 735b89bfda5ed068f2931383ea9a5401fb33f2ff
         return True
 
     def __enter__(self) -> Progress:

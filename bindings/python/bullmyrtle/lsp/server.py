@@ -22,10 +22,7 @@ from ..server import Server
 from ._capabilities import DYNAMIC, FULL, INCREMENTAL, capabilities_of, encoding_for, lacks
 from ._editor import Editor
 from ._life import CURRENT, NEW, RUNNING, SHUT, STARTING, Gate, Life
-<<<<<<< HEAD
-=======
 from ._plain import plain
->>>>>>> 735b89bfda5ed068f2931383ea9a5401fb33f2ff
 from ._text import ENCODINGS
 from .documents import Document, member
 from .workspace import Workspace
@@ -227,11 +224,7 @@ class LanguageServer(Editor, Server):
         return call_async if inspect.iscoroutinefunction(function) else call
 
     def _plain(self, value: Any) -> Any:
-<<<<<<< HEAD
-        return value if self._converter is None else self._converter.unstructure(value)
-=======
         return plain(value) if self._converter is None else self._converter.unstructure(value)
->>>>>>> 735b89bfda5ed068f2931383ea9a5401fb33f2ff
 
     # Sessions
 
@@ -488,17 +481,9 @@ def _entered(method: Method, converter: Any) -> Method:
         return inner() if not takes else inner(given) if takes == 1 else inner(given, request)
 
     def made(result: Any) -> Any:
-<<<<<<< HEAD
-        return (
-            result
-            if converter is None or result is LATER or result is None
-            else converter.unstructure(result)
-        )
-=======
         if result is LATER or result is None:
             return result
         return plain(result) if converter is None else converter.unstructure(result)
->>>>>>> 735b89bfda5ed068f2931383ea9a5401fb33f2ff
 
     def entered(given: Any, request: Request) -> Any:
         token = CURRENT.set(request)
