@@ -163,8 +163,8 @@ def check_debian(count: ran.Count, folder: str, room: str) -> None:
     for it in os.listdir(folder):
         if it.endswith(".deb"):
             shutil.copy(f"{folder}/{it}", f"{root}/root/{it}")
-    with open(f"{root}/root/host.c", "w", encoding="utf-8") as it:
-        it.write(HOST)
+    with open(f"{root}/root/host.c", "w", encoding="utf-8") as host:
+        host.write(HOST)
 
     def inside(script: str) -> tuple[int, str, str]:
         return run(["chroot", root, "sh", "-c", f"cd /root && {script}"])

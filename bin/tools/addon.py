@@ -76,7 +76,18 @@ def make(library: str, made: str) -> None:
     """Makes the addon over the library in a folder."""
     tools = f"{kit.folder()}/toolchain"
     with tempfile.TemporaryDirectory(prefix="addon-") as room:
-        run([f"{tools}/bin/clang", *COMPILED, *together(library), f"-I{library}", "-c", f"{FOLDER}/addon.c", "-o", f"{room}/addon.o"])
+        run(
+            [
+                f"{tools}/bin/clang",
+                *COMPILED,
+                *together(library),
+                f"-I{library}",
+                "-c",
+                f"{FOLDER}/addon.c",
+                "-o",
+                f"{room}/addon.o",
+            ]
+        )
         words = [
             f"{tools}/bin/ld.lld",
             *LINKED,
