@@ -79,8 +79,8 @@ def check_examples(count: ran.Count, library: str, room: str, kind: str, watch: 
     host = [*watch, build(count, library, room, f"{EXAMPLES}/host.c", "static", words=words)]
     client = [*watch, build(count, library, room, f"{EXAMPLES}/client.c", "static", words=words)]
     quick_host = [*watch, build(count, library, room, f"{EXAMPLES}/quick_host.c", "static", words=words)]
-    for name, it in (("host", host), ("quick host", quick_host)):
-        got = said(it, hosts.HOST[0])
+    for name, words_of_host in (("host", host), ("quick host", quick_host)):
+        got = said(words_of_host, hosts.HOST[0])
         count.check(f"the {name}, {kind}", got == (0, hosts.HOST[1], b""), f"{got}"[-1500:])
     for given, wanted in hosts.CLIENT:
         got = said([*client, *given, *host])
