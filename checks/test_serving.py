@@ -259,7 +259,9 @@ def test_nothing_to_do_costs_nothing(workers: str) -> None:
             same(it.receive(), result(number, number + 1), f"ping {number}")
             pauses.append((time.monotonic() - start) * 1000)
         each = (it.seconds_used() - before) / PINGS
-        check(workers == "64" or each < BEHIND_A_PAUSE, f"{each * 1e6:.0f} us of a processor for a request behind a pause")
+        check(
+            workers == "64" or each < BEHIND_A_PAUSE, f"{each * 1e6:.0f} us of a processor for a request behind a pause"
+        )
         pauses.sort()
         median, late = pauses[PINGS // 2], pauses[PINGS * 99 // 100]
         print(
