@@ -9,7 +9,7 @@ import sys
 import types
 
 TOP = os.path.normpath(os.path.join(os.path.dirname(os.path.abspath(__file__)), "..", "..", ".."))
-sys.path.insert(0, os.path.join(TOP, "checks"))
+sys.path.append(os.path.join(TOP, "checks"))
 
 from support import connection_model as model  # noqa: E402
 

@@ -10,7 +10,7 @@ from bullmyrtle import Connection, Refused, events
 
 if sys.version_info < (3, 9):
     raise unittest.SkipTest("the plain model needs Python 3.9 or later: no random traffic judged by it")
-sys.path.insert(0, os.path.join(TOP, "checks"))
+sys.path.append(os.path.join(TOP, "checks"))
 from support import connection_model as model  # noqa: E402
 
 SESSIONS, STEPS = (120, 120) if OVER == "library" else (25, 100)
