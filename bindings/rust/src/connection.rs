@@ -1,5 +1,5 @@
-use crate::event::{texts_length, Event, Events};
-use crate::{sys, Json, Outgoing, Refusal, Report, Settings};
+use crate::event::{texts_length, Event, EventRefs, Events};
+use crate::{sys, Json, Outgoing, Refusal, Report, Room, Sayings, Settings, Stop};
 use std::fmt::{self, Debug, Formatter};
 use std::io::{self, ErrorKind, Write};
 use std::mem::{size_of, take};
@@ -63,10 +63,11 @@ impl Connection {
     ///
     /// # Panics
     ///
-    /// Where the library that was linked has another interface than this crate is for.
+    /// Where the library that was linked has another interface than this crate is for, or lacks calls that it needs.
     pub fn new(settings: Settings) -> Result<Self, Refusal> {
         let found = unsafe { sys::bm_interface() };
         assert_eq!(found, sys::BM_INTERFACE, "the library has another interface");
+        assert!(unsafe { sys::bm_has(sys::BM_HAS_TOGETHER) }, "the library is older than this crate");
         let (given, mut at) = (settings.in_c()?, null_mut());
         Refusal::check(unsafe { sys::bm_new(&given, &mut at) })?;
         Ok(Connection {
@@ -186,9 +187,96 @@ impl Connection {
             return Ok(true);
         }
         Refusal::check(code)?;
-        Event::read_packed(&self.bytes_in_room()[..used], count, told);
+        told.extend(EventRefs::new(&self.bytes_in_room()[..used], count).map(|it| it.to_owned()));
         self.give_room_back();
         Ok(count > 0)
+    }
+
+    /// Feeds bytes, and tells at most so many of the next events into the room, in one call of the library. It says why it
+    /// tells no more. The events lie in the room, and are read there without a copy.
+    ///
+    /// ```
+    /// use bullmyrtle::{Connection, EventRef, Framing, Room, Sayings, Settings, Stop};
+    ///
+    /// let mut connection = Connection::new(Settings::new().framing(Framing::Lines))?;
+    /// let (mut room, mut sayings) = (Room::new(), Sayings::new());
+    /// let bytes = b"{\"jsonrpc\":\"2.0\",\"method\":\"echo\",\"params\":[7],\"id\":1}\n";
+    /// assert_eq!(connection.fed(bytes, 100, &mut room)?, Stop::NoEvent);
+    /// for event in room.events() {
+    ///     match event {
+    ///         EventRef::Request { number, params, .. } => sayings.answer(number, params.unwrap_or("null")),
+    ///         EventRef::Notification { number, .. } => sayings.close(number),
+    ///         _ => {}
+    ///     }
+    /// }
+    /// let output = connection.say_all(&mut sayings);
+    /// assert_eq!(output, b"{\"id\":1,\"jsonrpc\":\"2.0\",\"result\":[7]}\n");
+    /// assert_eq!(sayings.refused(), 0);
+    /// # Ok::<(), bullmyrtle::Refusal>(())
+    /// ```
+    ///
+    /// # Errors
+    ///
+    /// [`Refusal::Over`] where the input was ended by [`end`](Self::end), [`Refusal::NoMemory`]: nothing was fed, and
+    /// nothing told.
+    pub fn fed(&mut self, bytes: &[u8], most: u32, room: &mut Room) -> Result<Stop, Refusal> {
+        let mut told = sys::bm_told::default();
+        let (words, length) = room.clear();
+        // SAFETY: the room has so many bytes, and its first one lies at a multiple of 8.
+        let code =
+            unsafe { sys::bm_fed(&mut self.handle, bytes.as_ptr(), bytes.len(), words, length, most, &mut told) };
+        Refusal::check(code)?;
+        Ok(self.told_into(room, most, told))
+    }
+
+    /// Tells at most so many of the next events into the room, as [`fed`](Self::fed) does, without feeding.
+    pub fn tell(&mut self, most: u32, room: &mut Room) -> Stop {
+        let told = self.tell_once(most, room);
+        self.told_into(room, most, told)
+    }
+
+    fn tell_once(&mut self, most: u32, room: &mut Room) -> sys::bm_told {
+        let mut told = sys::bm_told::default();
+        let (words, length) = room.clear();
+        // SAFETY: as in `fed`.
+        unsafe { sys::bm_tell(&mut self.handle, words, length, most, &mut told) };
+        told
+    }
+
+    /// Where not even the first event fits, the room grows.
+    fn told_into(&mut self, room: &mut Room, most: u32, mut told: sys::bm_told) -> Stop {
+        while told.count == 0 && told.stopped == sys::BM_STOP_ROOM {
+            room.grow(told.needed);
+            told = self.tell_once(most, room);
+        }
+        room.fill(&told);
+        Stop::of(told.stopped)
+    }
+
+    /// Says all of these things, one after the other and each by itself, and gives the first bytes that are to be
+    /// written then: all of them, or with [`Framing::Contents`](crate::Framing::Contents) the next text. What came of
+    /// each is told by the sayings, to which nothing more is to be added before they are
+    /// [cleared](crate::Sayings::clear).
+    #[must_use]
+    pub fn say_all(&mut self, sayings: &mut Sayings) -> Vec<u8> {
+        let mut output = take(&mut self.unwritten);
+        let begun = output.len();
+        let has_text = self.has_contents && begun > 0;
+        output.resize(begun + if has_text { 0 } else { sayings.guess() }, 0);
+        let said = sayings.say(&mut self.handle, &mut output[begun..]);
+        output.truncate(begun + said.taken);
+        if self.has_contents && !output.is_empty() {
+            return output;
+        }
+        if said.pending > 0 {
+            let (at, mut count) = (output.len(), 0);
+            output.resize(at + said.pending, 0);
+            let room = output[at..].as_mut_ptr();
+            let code = unsafe { sys::bm_taken(&mut self.handle, room, said.pending, &mut count) };
+            assert_eq!(code, sys::BM_OK, "what is pending fits a room of its size");
+            output.truncate(at + count);
+        }
+        output
     }
 
     fn make_room(&mut self, words: usize) {
@@ -303,7 +391,7 @@ impl Connection {
     ///
     /// [`Refusal::NotOpen`]; [`Refusal::NotJson`] where it is a request, which wants an answer; [`Refusal::NoMemory`].
     pub fn close(&mut self, number: u64) -> Result<(), Refusal> {
-        self.answer(number, None)
+        Refusal::check(unsafe { sys::bm_close_call(&mut self.handle, number) })
     }
 
     /// Answers a request with an error, or closes a notification.

@@ -49,6 +49,147 @@ pub enum Event {
     Over(Close),
 }
 
+/// An [`Event`] whose texts lie in a [`Room`](crate::Room): nothing is copied. [`to_owned`](Self::to_owned) gives one
+/// that stands alone.
+#[derive(Clone, Copy, Debug, PartialEq, Eq, Hash)]
+pub enum EventRef<'a> {
+    /// See [`Event::Request`].
+    Request {
+        /// Counts the calls that came, from 1.
+        number: u64,
+        /// The request's id.
+        id: &'a str,
+        /// The method's name.
+        method: &'a str,
+        /// The params: an array or an object.
+        params: Option<&'a str>,
+    },
+    /// See [`Event::Notification`].
+    Notification {
+        /// Counts the calls that came, from 1.
+        number: u64,
+        /// The method's name.
+        method: &'a str,
+        /// The params: an array or an object.
+        params: Option<&'a str>,
+    },
+    /// See [`Event::Cancelled`].
+    Cancelled {
+        /// That of the request.
+        number: u64,
+    },
+    /// See [`Event::Replied`].
+    Replied {
+        /// That of your call.
+        key: u64,
+        /// The result, or the error.
+        reply: Result<&'a str, ErrorRef<'a>>,
+    },
+    /// See [`Event::Unanswered`].
+    Unanswered {
+        /// That of your call.
+        key: u64,
+    },
+    /// See [`Event::Over`].
+    Over(Close),
+}
+
+/// An [`ErrorObject`] whose texts lie in a [`Room`](crate::Room).
+#[derive(Clone, Copy, Debug, PartialEq, Eq, Hash)]
+pub struct ErrorRef<'a> {
+    /// What kind of error it is.
+    pub code: i64,
+    /// The error in words.
+    pub message: &'a str,
+    /// More on it, as JSON.
+    pub data: Option<&'a str>,
+}
+
+impl ErrorRef<'_> {
+    /// The same with texts of its own.
+    #[must_use]
+    pub fn to_owned(self) -> ErrorObject {
+        ErrorObject { code: self.code, message: self.message.into(), data: self.data.map(String::from) }
+    }
+}
+
+impl<'a> EventRef<'a> {
+    /// The same with texts of its own.
+    #[must_use]
+    pub fn to_owned(self) -> Event {
+        match self {
+            EventRef::Request { number, id, method, params } => {
+                Event::Request { number, id: id.into(), method: method.into(), params: params.map(String::from) }
+            }
+            EventRef::Notification { number, method, params } => {
+                Event::Notification { number, method: method.into(), params: params.map(String::from) }
+            }
+            EventRef::Cancelled { number } => Event::Cancelled { number },
+            EventRef::Replied { key, reply } => {
+                Event::Replied { key, reply: reply.map(String::from).map_err(ErrorRef::to_owned) }
+            }
+            EventRef::Unanswered { key } => Event::Unanswered { key },
+            EventRef::Over(close) => Event::Over(close),
+        }
+    }
+
+    /// The event with this head and these texts, or none.
+    pub(crate) fn read(head: &sys::bm_event, texts: &'a [u8]) -> Option<Self> {
+        let (name, texts) = texts.split_at(head.name_len);
+        let (given, texts) = texts[1..].split_at(head.text_len);
+        let id = &texts[1..][..head.id_len];
+        let (number, key) = (head.number, head.key);
+        Some(match head.kind {
+            sys::BM_NONE => return None,
+            sys::BM_CALL if head.flags == sys::BM_REQUEST => {
+                EventRef::Request { number, id: text(id), method: text(name), params: text_if_any(given) }
+            }
+            sys::BM_CALL => EventRef::Notification { number, method: text(name), params: text_if_any(given) },
+            sys::BM_CANCELLED => EventRef::Cancelled { number },
+            sys::BM_REPLIED if head.flags == sys::BM_ERROR => {
+                let error = ErrorRef { code: head.code, message: text(name), data: text_if_any(given) };
+                EventRef::Replied { key, reply: Err(error) }
+            }
+            sys::BM_REPLIED => EventRef::Replied { key, reply: Ok(text(given)) },
+            sys::BM_UNANSWERED => EventRef::Unanswered { key },
+            sys::BM_INPUT_OVER => EventRef::Over(Close::of(head.flags)),
+            kind => unreachable!("the library told an event of the kind {kind}"),
+        })
+    }
+}
+
+/// The events that a room holds, in their order.
+#[derive(Clone, Debug)]
+pub struct EventRefs<'a> {
+    bytes: &'a [u8],
+    count: u32,
+}
+
+impl<'a> EventRefs<'a> {
+    /// So many events, as the library packs them: each head at a multiple of 8, and its texts right behind it.
+    pub(crate) fn new(bytes: &'a [u8], count: u32) -> Self {
+        EventRefs { bytes, count }
+    }
+}
+
+impl<'a> Iterator for EventRefs<'a> {
+    type Item = EventRef<'a>;
+
+    fn next(&mut self) -> Option<EventRef<'a>> {
+        self.count = self.count.checked_sub(1)?;
+        let (head, behind) = read_head(self.bytes);
+        let length = size_of::<sys::bm_event>() + texts_length(&head);
+        self.bytes = self.bytes.get((length + 7) & !7..).unwrap_or_default();
+        EventRef::read(&head, behind)
+    }
+
+    fn size_hint(&self) -> (usize, Option<usize>) {
+        (self.count as usize, Some(self.count as usize))
+    }
+}
+
+impl ExactSizeIterator for EventRefs<'_> {}
+
 /// An error that the other side replied with.
 #[derive(Clone, Debug, PartialEq, Eq, Hash)]
 pub struct ErrorObject {
@@ -93,6 +234,23 @@ pub enum Close {
     Full,
 }
 
+impl Display for Close {
+    fn fmt(&self, formatter: &mut Formatter<'_>) -> fmt::Result {
+        formatter.write_str(match self {
+            Close::Clean => "the input was closed",
+            Close::BadHead => "a line of a head isn't a field",
+            Close::BadLength => "a Content-Length isn't a number",
+            Close::TwoLengths => "a head has two Content-Lengths",
+            Close::TooLarge => "a content is longer than the setting allows",
+            Close::NoLength => "a head has no Content-Length",
+            Close::HeadTooLong => "a head has more than 4,096 bytes",
+            Close::Truncated => "the input was closed inside a frame",
+            Close::Read => "a read failed",
+            Close::Full => "more calls came than the setting allows",
+        })
+    }
+}
+
 impl Close {
     fn of(flags: u32) -> Self {
         match flags {
@@ -117,47 +275,18 @@ pub(crate) fn texts_length(head: &sys::bm_event) -> usize {
 }
 
 /// (The library tells texts in UTF-8 alone.)
-fn text(bytes: &[u8]) -> String {
-    String::from_utf8(bytes.to_vec()).expect("the library tells UTF-8")
+fn text(bytes: &[u8]) -> &str {
+    std::str::from_utf8(bytes).expect("the library tells UTF-8")
 }
 
-fn text_if_any(bytes: &[u8]) -> Option<String> {
+fn text_if_any(bytes: &[u8]) -> Option<&str> {
     (!bytes.is_empty()).then(|| text(bytes))
 }
 
 impl Event {
     /// The event with this head and these texts, or none.
     pub(crate) fn read(head: &sys::bm_event, texts: &[u8]) -> Option<Event> {
-        let (name, texts) = texts.split_at(head.name_len);
-        let (given, texts) = texts[1..].split_at(head.text_len);
-        let id = &texts[1..][..head.id_len];
-        let (number, key) = (head.number, head.key);
-        Some(match head.kind {
-            sys::BM_NONE => return None,
-            sys::BM_CALL if head.flags == sys::BM_REQUEST => {
-                Event::Request { number, id: text(id), method: text(name), params: text_if_any(given) }
-            }
-            sys::BM_CALL => Event::Notification { number, method: text(name), params: text_if_any(given) },
-            sys::BM_CANCELLED => Event::Cancelled { number },
-            sys::BM_REPLIED if head.flags == sys::BM_ERROR => {
-                let error = ErrorObject { code: head.code, message: text(name), data: text_if_any(given) };
-                Event::Replied { key, reply: Err(error) }
-            }
-            sys::BM_REPLIED => Event::Replied { key, reply: Ok(text(given)) },
-            sys::BM_UNANSWERED => Event::Unanswered { key },
-            sys::BM_INPUT_OVER => Event::Over(Close::of(head.flags)),
-            kind => unreachable!("the library told an event of the kind {kind}"),
-        })
-    }
-
-    /// Reads so many events, as `bm_next_all` packs them: each head at a multiple of 8, and its texts right behind it.
-    pub(crate) fn read_packed(mut bytes: &[u8], count: u32, told: &mut Vec<Event>) {
-        for _ in 0..count {
-            let (head, behind) = read_head(bytes);
-            told.extend(Event::read(&head, behind));
-            let length = size_of::<sys::bm_event>() + texts_length(&head);
-            bytes = bytes.get((length + 7) & !7..).unwrap_or_default();
-        }
+        EventRef::read(head, texts).map(EventRef::to_owned)
     }
 }
 

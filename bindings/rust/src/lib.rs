@@ -50,10 +50,12 @@ mod report;
 mod settings;
 #[allow(non_camel_case_types)]
 mod sys;
+mod together;
 
 pub use connection::{Connection, Ended, NOBODY};
-pub use event::{Close, ErrorObject, Event, Events};
+pub use event::{Close, ErrorObject, ErrorRef, Event, EventRef, EventRefs, Events};
 pub use json::{Json, Outgoing};
 pub use refusal::Refusal;
 pub use report::Report;
 pub use settings::{Framing, Order, Settings};
+pub use together::{Room, Sayings, Stop};

@@ -46,6 +46,22 @@ pub const BM_OVER_TRUNCATED: u32 = 7;
 pub const BM_OVER_READ: u32 = 8;
 pub const BM_OVER_CALLS: u32 = 9;
 
+pub const BM_HAS_TOGETHER: u32 = 1;
+
+pub const BM_STOP_NONE: u32 = 0;
+pub const BM_STOP_ROOM: u32 = 1;
+pub const BM_STOP_MOST: u32 = 2;
+pub const BM_STOP_NO_MEMORY: u32 = 3;
+
+pub const BM_SAY_ANSWER: u32 = 1;
+pub const BM_SAY_FAIL: u32 = 2;
+pub const BM_SAY_CLOSE: u32 = 3;
+pub const BM_SAY_CALL: u32 = 4;
+pub const BM_SAY_BATCH: u32 = 5;
+pub const BM_SAY_NOTIFY: u32 = 6;
+pub const BM_SAY_WITHDRAW: u32 = 7;
+pub const BM_SAY_CANCEL: u32 = 8;
+
 #[repr(C)]
 #[derive(Clone, Copy, Debug, Default)]
 pub struct bm_settings {
@@ -90,8 +106,40 @@ pub struct bm_report {
     pub ignored: u64,
 }
 
+#[repr(C)]
+#[derive(Clone, Copy, Debug, Default)]
+pub struct bm_told {
+    pub count: u32,
+    pub stopped: u32,
+    pub used: usize,
+    pub needed: usize,
+    pub pending: usize,
+}
+
+#[repr(C)]
+#[derive(Clone, Copy, Debug, Default)]
+pub struct bm_saying {
+    pub kind: u32,
+    pub said: i32,
+    pub number: u64,
+    pub key: u64,
+    pub code: i64,
+    pub name_len: usize,
+    pub text_len: usize,
+    pub calls: usize,
+}
+
+#[repr(C)]
+#[derive(Clone, Copy, Debug, Default)]
+pub struct bm_said {
+    pub refused: usize,
+    pub taken: usize,
+    pub pending: usize,
+}
+
 extern "C" {
     pub fn bm_interface() -> u32;
+    pub fn bm_has(addition: u32) -> bool;
     pub fn bm_new(settings: *const bm_settings, at: *mut *mut c_void) -> i32;
     pub fn bm_free(connection: bm_connection);
     pub fn bm_feed(connection: *mut bm_connection, bytes: *const u8, length: usize) -> i32;
@@ -103,6 +151,26 @@ extern "C" {
         length: usize,
         used: *mut usize,
         count: *mut u32,
+    ) -> i32;
+    pub fn bm_tell(connection: *mut bm_connection, room: *mut u8, length: usize, most: u32, told: *mut bm_told);
+    pub fn bm_fed(
+        connection: *mut bm_connection,
+        bytes: *const u8,
+        length: usize,
+        room: *mut u8,
+        room_length: usize,
+        most: u32,
+        told: *mut bm_told,
+    ) -> i32;
+    pub fn bm_say_all(
+        connection: *mut bm_connection,
+        sayings: *mut bm_saying,
+        count: usize,
+        bytes: *const u8,
+        length: usize,
+        room: *mut u8,
+        room_length: usize,
+        said: *mut bm_said,
     ) -> i32;
     pub fn bm_call(
         connection: *mut bm_connection,
@@ -131,6 +199,7 @@ extern "C" {
     ) -> i32;
     pub fn bm_withdraw(connection: *mut bm_connection, key: u64) -> i32;
     pub fn bm_answer(connection: *mut bm_connection, number: u64, result: *const u8, length: usize) -> i32;
+    pub fn bm_close_call(connection: *mut bm_connection, number: u64) -> i32;
     pub fn bm_fail(
         connection: *mut bm_connection,
         number: u64,
@@ -143,6 +212,7 @@ extern "C" {
     pub fn bm_cancel(connection: *mut bm_connection, number: u64) -> i32;
     pub fn bm_pending(connection: *mut bm_connection) -> usize;
     pub fn bm_take(connection: *mut bm_connection, room: *mut u8, length: usize) -> usize;
+    pub fn bm_taken(connection: *mut bm_connection, room: *mut u8, length: usize, count: *mut usize) -> i32;
     pub fn bm_is_done(connection: *mut bm_connection) -> bool;
     pub fn bm_counts(connection: *mut bm_connection, report: *mut bm_report);
 }

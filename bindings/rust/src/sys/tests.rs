@@ -45,7 +45,7 @@ fn laid_out_in_c(name: &str) -> (Vec<Field>, usize) {
     for line in body.split('}').next().expect("its fields").split(';').map(str::trim).filter(|it| !it.is_empty()) {
         let (kind, field) = line.split_once(' ').expect("a type and a name");
         let size = match kind {
-            "uint32_t" => 4,
+            "uint32_t" | "int32_t" => 4,
             "uint64_t" | "int64_t" | "size_t" => 8,
             _ => panic!("{kind}"),
         };
@@ -76,6 +76,9 @@ fn structs_lie_as_in_the_header() {
     assert_laid_out!(bm_settings: framing order takes_cancels content calls);
     assert_laid_out!(bm_event: kind flags number key code name_len text_len id_len);
     assert_laid_out!(bm_report: calls requests open waiting own_calls answers_written unreadable invalid ignored);
+    assert_laid_out!(bm_told: count stopped used needed pending);
+    assert_laid_out!(bm_saying: kind said number key code name_len text_len calls);
+    assert_laid_out!(bm_said: refused taken pending);
     assert_eq!(size_of::<bm_connection>(), size_of::<*mut c_void>());
 }
 
@@ -96,6 +99,9 @@ fn constants_are_those_of_the_header() {
         BM_REQUEST BM_ERROR
         BM_OVER_CLEAN BM_OVER_BAD_HEAD BM_OVER_BAD_LENGTH BM_OVER_TWO_LENGTHS BM_OVER_TOO_LARGE BM_OVER_NO_LENGTH
         BM_OVER_HEAD_TOO_LONG BM_OVER_TRUNCATED BM_OVER_READ BM_OVER_CALLS
+        BM_HAS_TOGETHER
+        BM_STOP_NONE BM_STOP_ROOM BM_STOP_MOST BM_STOP_NO_MEMORY
+        BM_SAY_ANSWER BM_SAY_FAIL BM_SAY_CLOSE BM_SAY_CALL BM_SAY_BATCH BM_SAY_NOTIFY BM_SAY_WITHDRAW BM_SAY_CANCEL
     );
     assert_eq!(ours, constants());
 }
@@ -103,4 +109,5 @@ fn constants_are_those_of_the_header() {
 #[test]
 fn the_library_has_the_interface_of_the_header() {
     assert_eq!(unsafe { bm_interface() }, BM_INTERFACE);
+    assert!(unsafe { bm_has(BM_HAS_TOGETHER) });
 }
