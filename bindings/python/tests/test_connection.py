@@ -471,6 +471,9 @@ class Header(Case):
             "bm_connection": _library.Handle,
             "bm_event": _library.Event,
             "bm_report": _library.Counts,
+            "bm_told": _library.Told,
+            "bm_saying": _library.Saying,
+            "bm_said": _library.Said,
         }
         found = dict(
             (name, body) for body, name in re.findall(r"typedef struct \{(.*?)\} (\w+);", self.text, re.S)
@@ -495,6 +498,11 @@ class Header(Case):
         self.assertEqual(
             kinds[1:], ["BM_CALL", "BM_CANCELLED", "BM_REPLIED", "BM_UNANSWERED", "BM_INPUT_OVER"]
         )
+        stops = next(it for it in lists if it[0] == "BM_STOP_NONE")
+        ours = {"NONE": _library.NO_EVENT, "ROOM": _library.NO_ROOM, "MOST": _library.NO_MORE}
+        ours["NO_MEMORY"] = _library.NO_MEMORY_LEFT
+        self.assertEqual({it[8:]: at for at, it in enumerate(stops)}, ours)
+        self.assertIn(f"BM_HAS_TOGETHER = {_library.TOGETHER}", self.text)
         self.assertIn(f"#define BM_INTERFACE {_library.INTERFACE}", self.text)
 
 
