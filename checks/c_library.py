@@ -57,7 +57,11 @@ def check_interface(count: ran.Count, library: str, room: str) -> None:
     count.check("each call has its version", versions == wanted, f"{versions}")
     status, names, _ = said(["nm", "-g", "--defined-only", "--format=just-symbols", f"{library}/libbullmyrtle.a"])
     seen = {it for it in names.decode().split() if not it.endswith(":")}
-    count.check("the static library defines the calls, and what the page names", status == 0 and seen == {*header, *interface.OF_THE_HEAP}, f"{seen}")
+    count.check(
+        "the static library defines the calls, and what the page names",
+        status == 0 and seen == {*header, *interface.OF_THE_HEAP},
+        f"{seen}",
+    )
     for name in interface.STRUCTS:
         count.check(f"{name}: the same fields", interface.fields_in_header(name) == interface.fields_in_exports(name))
     with open(f"{room}/layouts.c", "w", encoding="ascii") as it:
@@ -73,12 +77,22 @@ def check_interface(count: ran.Count, library: str, room: str) -> None:
 def check_first_hosts(count: ran.Count) -> None:
     """What hosts of the first header rely on."""
     for name, wanted in interface.FIRST_LAYOUTS.items():
-        count.check(f"{name} lies as in the first header", interface.laid_out(name) == wanted, f"{interface.laid_out(name)}")
+        count.check(
+            f"{name} lies as in the first header", interface.laid_out(name) == wanted, f"{interface.laid_out(name)}"
+        )
     values = interface.names_in_header()
     for names in interface.FIRST_NAMES:
-        count.check(f"{names[0]} and its neighbours have their values", [values.get(it) for it in names] == [*range(len(names))], f"{values}")
+        count.check(
+            f"{names[0]} and its neighbours have their values",
+            [values.get(it) for it in names] == [*range(len(names))],
+            f"{values}",
+        )
     added = interface.versions_in_map()
-    count.check("the first version has the first calls", {*added.get(interface.FIRST_VERSION, [])} == interface.FIRST_CALLS, f"{added}")
+    count.check(
+        "the first version has the first calls",
+        {*added.get(interface.FIRST_VERSION, [])} == interface.FIRST_CALLS,
+        f"{added}",
+    )
 
 
 def check_texts(count: ran.Count, library: str, room: str) -> None:
@@ -90,13 +104,18 @@ def check_texts(count: ran.Count, library: str, room: str) -> None:
         count.check(f"{name} has the page's value", values.get(name) == int(value), f"{values.get(name)}")
     codes = [text for name, _, text in rows_of if not name.startswith("BM_OVER_")]
     ends = [text for name, _, text in rows_of if name.startswith("BM_OVER_")]
-    count.check("the page has all codes and ends", (len(codes), len(ends)) == (len(interface.FIRST_NAMES[0]), len(interface.FIRST_NAMES[-1])))
+    count.check(
+        "the page has all codes and ends",
+        (len(codes), len(ends)) == (len(interface.FIRST_NAMES[0]), len(interface.FIRST_NAMES[-1])),
+    )
     with open(f"{room}/texts.c", "w", encoding="ascii") as it:
         it.write(interface.program_of_texts(len(codes), len(ends)))
     built = said([*C99, f"-I{library}", f"{room}/texts.c", "-o", f"{room}/texts"])
     wanted = ["another code", *codes, "another code", *ends, "another end"]
     got = said([f"{room}/texts"]) if built[0] == 0 else built
-    count.check("the header has the page's texts", got[:2] == (0, "".join(f"{it}\n" for it in wanted).encode()), f"{got}")
+    count.check(
+        "the header has the page's texts", got[:2] == (0, "".join(f"{it}\n" for it in wanted).encode()), f"{got}"
+    )
 
 
 def check_header(count: ran.Count, library: str) -> None:
@@ -159,13 +178,17 @@ def check_players(count: ran.Count, library: str, room: str, cases: int) -> None
     for way in ("shared", "static"):
         player = build(count, library, room, PLAYER, way, PLAYER_NEEDS)
         playing_scripts.check(count, [player], way, by_hand + [row.cut_once for row in by_hand])
-        playing_scripts.check(count, [player, "together"], f"{way}, together", by_hand + [row.cut_once for row in by_hand])
+        playing_scripts.check(
+            count, [player, "together"], f"{way}, together", by_hand + [row.cut_once for row in by_hand]
+        )
         for line in (*rows.UNREADABLE, "next"):
             got = said([player], f"{line}\n".encode())
             count.check(f"the player refuses {line!r}", got[:2] == (2, b""), f"{got}")
     again = f"python3 checks/connection_fuzz.py --program {player}"
     fuzzing.Fuzzer(partial(fuzzing.play_by_program, player), count, again).try_all(1, cases)
-    fuzzing.Fuzzer(partial(fuzzing.play_by_program, player, how="together"), count, f"{again} --how together").try_all(1, cases)
+    fuzzing.Fuzzer(partial(fuzzing.play_by_program, player, how="together"), count, f"{again} --how together").try_all(
+        1, cases
+    )
 
 
 def main(words: list[str]) -> None:
@@ -184,7 +207,9 @@ def main(words: list[str]) -> None:
             check_texts(count, library, room)
             check_header(count, library)
             for way in ("shared", "static"):
-                check_host(count, build(count, library, room, f"{EXAMPLES}/quick_host.c", way), f"{way}, with few calls")
+                check_host(
+                    count, build(count, library, room, f"{EXAMPLES}/quick_host.c", way), f"{way}, with few calls"
+                )
                 host = build(count, library, room, f"{EXAMPLES}/host.c", way)
                 check_host(count, host, way)
                 check_client(count, build(count, library, room, f"{EXAMPLES}/client.c", way), host, way)

@@ -123,8 +123,13 @@ def check_by_sanitizer(count: ran.Count, library: str, room: str, cases: int) ->
     player = build(count, library, room, PLAYER, "static", PLAYER_NEEDS, SANITIZED)
     playing_scripts.check(count, [player], "AddressSanitizer", rows.all_rows())
     playing_scripts.check(count, [player], "AddressSanitizer", sessions(cases))
-    playing_scripts.check(count, [player, "together"], "AddressSanitizer, together", [*rows.all_rows(), *sessions(cases)])
-    for file, given, more in ((f"{SUPPORT}/pack_events.c", rows.EVENTS, ["-std=c11"]), (f"{SUPPORT}/bad_use.c", b"", [])):
+    playing_scripts.check(
+        count, [player, "together"], "AddressSanitizer, together", [*rows.all_rows(), *sessions(cases)]
+    )
+    for file, given, more in (
+        (f"{SUPPORT}/pack_events.c", rows.EVENTS, ["-std=c11"]),
+        (f"{SUPPORT}/bad_use.c", b"", []),
+    ):
         got = said([build(count, library, room, file, "static", more, SANITIZED)], given)
         count.check(f"{os.path.basename(file)}, AddressSanitizer", got[0] == 0 and not got[2], f"{got}"[-1500:])
     check_examples(count, library, room, "AddressSanitizer", [], SANITIZED)

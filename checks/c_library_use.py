@@ -22,7 +22,19 @@ from support.c_programs import C99, PLAYER, PLAYER_NEEDS, SUPPORT, build, defaul
 
 # The calls that need memory.
 NEED_MEMORY = {
-    *("bm_new", "bm_feed", "bm_next", "bm_next_all", "bm_call", "bm_call_batch", "bm_notify", "bm_withdraw", "bm_answer", "bm_fail", "bm_cancel"),
+    *(
+        "bm_new",
+        "bm_feed",
+        "bm_next",
+        "bm_next_all",
+        "bm_call",
+        "bm_call_batch",
+        "bm_notify",
+        "bm_withdraw",
+        "bm_answer",
+        "bm_fail",
+        "bm_cancel",
+    ),
     *("bm_fed", "bm_tell", "bm_say_all"),
 }
 # The calls by whose names requests are refused, as refuse_calls.c has them.
@@ -69,7 +81,9 @@ class Refusing:
         wraps = [f"-Wl,--wrap={it}" for it in names]
         self.program = build(count, library, room, file, "static", [*more, *wraps], [*C99, f"{SUPPORT}/refuse_calls.c"])
 
-    def run(self, given: bytes, how: str, number: int, words: Iterable[str] = ()) -> tuple[tuple[int, bytes, bytes], int]:
+    def run(
+        self, given: bytes, how: str, number: int, words: Iterable[str] = ()
+    ) -> tuple[tuple[int, bytes, bytes], int]:
         """A run's status and its two outputs, and how many requests were refused."""
         with tempfile.TemporaryFile() as told:
             env = {**os.environ, how: str(number), "REFUSE_TELL": str(told.fileno())}
@@ -80,7 +94,15 @@ class Refusing:
         self.told += lines
         return got, lines["refused"]
 
-    def each(self, name: str, given: bytes, wanted: bytes, ways: Iterable[str] = WAYS, step: int = 1, words: Iterable[str] = ()) -> None:
+    def each(
+        self,
+        name: str,
+        given: bytes,
+        wanted: bytes,
+        ways: Iterable[str] = WAYS,
+        step: int = 1,
+        words: Iterable[str] = (),
+    ) -> None:
         """Refuses each request in turn, until a run meets no refusal."""
         for how in ways:
             for number in range(1, MOST, step):

@@ -74,7 +74,19 @@ STRUCTS = {
 # its names. They stay.
 FIRST_VERSION, NEXT_VERSION = "BULLMYRTLE_1", "BULLMYRTLE_2"
 FIRST_CALLS = {
-    *("bm_interface", "bm_new", "bm_free", "bm_feed", "bm_end", "bm_next", "bm_next_all", "bm_call", "bm_call_batch", "bm_notify", "bm_withdraw"),
+    *(
+        "bm_interface",
+        "bm_new",
+        "bm_free",
+        "bm_feed",
+        "bm_end",
+        "bm_next",
+        "bm_next_all",
+        "bm_call",
+        "bm_call_batch",
+        "bm_notify",
+        "bm_withdraw",
+    ),
     *("bm_answer", "bm_fail", "bm_cancel", "bm_pending", "bm_take", "bm_is_done", "bm_counts"),
 }
 FIRST_LAYOUTS = {
@@ -83,17 +95,42 @@ FIRST_LAYOUTS = {
     "bm_report": [72, 0, 8, 16, 24, 32, 40, 48, 56, 64],
 }
 FIRST_NAMES = (
-    ["BM_OK", "BM_NO_MEMORY", "BM_NOT_OPEN", "BM_NOT_WAITING", "BM_OVER", "BM_NOT_JSON", "BM_NOT_TEXT", "BM_SMALL", "BM_SETTINGS", "BM_EMPTY", "BM_FULL"],
+    [
+        "BM_OK",
+        "BM_NO_MEMORY",
+        "BM_NOT_OPEN",
+        "BM_NOT_WAITING",
+        "BM_OVER",
+        "BM_NOT_JSON",
+        "BM_NOT_TEXT",
+        "BM_SMALL",
+        "BM_SETTINGS",
+        "BM_EMPTY",
+        "BM_FULL",
+    ],
     ["BM_FRAMES", "BM_LINES", "BM_CONTENTS"],
     ["BM_AS_ANSWERED", "BM_AS_CAME"],
     ["BM_CLOSED", "BM_READ_FAILED"],
     ["BM_NONE", "BM_CALL", "BM_CANCELLED", "BM_REPLIED", "BM_UNANSWERED", "BM_INPUT_OVER"],
-    ["BM_OVER_CLEAN", "BM_OVER_BAD_HEAD", "BM_OVER_BAD_LENGTH", "BM_OVER_TWO_LENGTHS", "BM_OVER_TOO_LARGE", "BM_OVER_NO_LENGTH"]
+    [
+        "BM_OVER_CLEAN",
+        "BM_OVER_BAD_HEAD",
+        "BM_OVER_BAD_LENGTH",
+        "BM_OVER_TWO_LENGTHS",
+        "BM_OVER_TOO_LARGE",
+        "BM_OVER_NO_LENGTH",
+    ]
     + ["BM_OVER_HEAD_TOO_LONG", "BM_OVER_TRUNCATED", "BM_OVER_READ", "BM_OVER_CALLS"],
 )
 # What the static library defines beside the calls, by which it takes memory (docs/embedding.md names them).
 OF_THE_HEAP = {"rattle_alloc", "rattle_dealloc", "rattle_realloc"}
-WIDTHS = {"int32_t": ctypes.c_int32, "uint32_t": ctypes.c_uint32, "uint64_t": ctypes.c_uint64, "int64_t": ctypes.c_int64, "size_t": ctypes.c_size_t}
+WIDTHS = {
+    "int32_t": ctypes.c_int32,
+    "uint32_t": ctypes.c_uint32,
+    "uint64_t": ctypes.c_uint64,
+    "int64_t": ctypes.c_int64,
+    "size_t": ctypes.c_size_t,
+}
 
 
 def text_of(file: str) -> str:
@@ -193,11 +230,15 @@ def program_of_layouts() -> str:
     for name in STRUCTS:
         numbers = [f"sizeof({name})", *(f"offsetof({name}, {field})" for _, field in fields_in_header(name))]
         lines += [f'    printf("{name}");', *(f'    printf(" %zu", {it});' for it in numbers), '    printf("\\n");']
-    return '#include "bullmyrtle.h"\n#include <stdio.h>\n\nint main(void)\n{\n' + "\n".join(lines) + "\n    return 0;\n}\n"
+    return (
+        '#include "bullmyrtle.h"\n#include <stdio.h>\n\nint main(void)\n{\n' + "\n".join(lines) + "\n    return 0;\n}\n"
+    )
 
 
 def program_of_texts(codes: int, ends: int) -> str:
     """A program in C that writes the texts of so many codes and ends, a line each."""
-    lines = [f'    for (int i = -1; i <= {codes}; i++)', '        puts(bm_code_text(i));']
-    lines += [f'    for (unsigned i = 0; i <= {ends}; i++)', '        puts(bm_over_text(i));']
-    return '#include "bullmyrtle.h"\n#include <stdio.h>\n\nint main(void)\n{\n' + "\n".join(lines) + "\n    return 0;\n}\n"
+    lines = [f"    for (int i = -1; i <= {codes}; i++)", "        puts(bm_code_text(i));"]
+    lines += [f"    for (unsigned i = 0; i <= {ends}; i++)", "        puts(bm_over_text(i));"]
+    return (
+        '#include "bullmyrtle.h"\n#include <stdio.h>\n\nint main(void)\n{\n' + "\n".join(lines) + "\n    return 0;\n}\n"
+    )
