@@ -208,7 +208,7 @@ def main(words: list[str]) -> None:
             check_header(count, library)
             for way in ("shared", "static"):
                 check_host(
-                    count, build(count, library, room, f"{EXAMPLES}/quick_host.c", way), f"{way}, with few calls"
+                    count, build(count, library, room, f"{EXAMPLES}/few_calls.c", way), f"{way}, with few calls"
                 )
                 host = build(count, library, room, f"{EXAMPLES}/host.c", way)
                 check_host(count, host, way)

@@ -78,8 +78,8 @@ def check_examples(count: ran.Count, library: str, room: str, kind: str, watch: 
     """The host, the client and the language server, built and watched in some way."""
     host = [*watch, build(count, library, room, f"{EXAMPLES}/host.c", "static", words=words)]
     client = [*watch, build(count, library, room, f"{EXAMPLES}/client.c", "static", words=words)]
-    quick_host = [*watch, build(count, library, room, f"{EXAMPLES}/quick_host.c", "static", words=words)]
-    for name, it in (("host", host), ("quick host", quick_host)):
+    few_calls = [*watch, build(count, library, room, f"{EXAMPLES}/few_calls.c", "static", words=words)]
+    for name, it in (("host", host), ("host with few calls", few_calls)):
         got = said(it, hosts.HOST[0])
         count.check(f"the {name}, {kind}", got == (0, hosts.HOST[1], b""), f"{got}"[-1500:])
     for given, wanted in hosts.CLIENT:
