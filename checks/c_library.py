@@ -53,14 +53,14 @@ def check_interface(count: ran.Count, library: str, room: str) -> None:
     versions = dict(it.split("@@") for it in names.decode().split() if "@@" in it)
     seen = sorted(it.partition("@")[0] for it in names.decode().split() if not it.startswith("BULLMYRTLE_"))
     count.check("of the shared library just the calls can be seen", status == 0 and seen == sorted(header), f"{seen}")
-    wanted = {it: interface.FIRST_VERSION if it in interface.FIRST_CALLS else interface.NEXT_VERSION for it in header}
-    count.check("each call has its version", versions == wanted, f"{versions}")
+    due = {it: interface.FIRST_VERSION if it in interface.FIRST_CALLS else interface.NEXT_VERSION for it in header}
+    count.check("each call has its version", versions == due, f"{versions}")
     status, names, _ = said(["nm", "-g", "--defined-only", "--format=just-symbols", f"{library}/libbullmyrtle.a"])
-    seen = {it for it in names.decode().split() if not it.endswith(":")}
+    defined = {it for it in names.decode().split() if not it.endswith(":")}
     count.check(
         "the static library defines the calls, and what the page names",
-        status == 0 and seen == {*header, *interface.OF_THE_HEAP},
-        f"{seen}",
+        status == 0 and defined == {*header, *interface.OF_THE_HEAP},
+        f"{defined}",
     )
     for name in interface.STRUCTS:
         count.check(f"{name}: the same fields", interface.fields_in_header(name) == interface.fields_in_exports(name))
@@ -208,7 +208,7 @@ def main(words: list[str]) -> None:
             check_header(count, library)
             for way in ("shared", "static"):
                 check_host(
-                    count, build(count, library, room, f"{EXAMPLES}/few_calls.c", way), f"{way}, with few calls"
+                    count, build(count, library, room, f"{EXAMPLES}/quick_host.c", way), f"{way}, with few calls"
                 )
                 host = build(count, library, room, f"{EXAMPLES}/host.c", way)
                 check_host(count, host, way)

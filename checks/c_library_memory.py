@@ -78,9 +78,9 @@ def check_examples(count: ran.Count, library: str, room: str, kind: str, watch: 
     """The host, the client and the language server, built and watched in some way."""
     host = [*watch, build(count, library, room, f"{EXAMPLES}/host.c", "static", words=words)]
     client = [*watch, build(count, library, room, f"{EXAMPLES}/client.c", "static", words=words)]
-    few_calls = [*watch, build(count, library, room, f"{EXAMPLES}/few_calls.c", "static", words=words)]
-    for name, it in (("host", host), ("host with few calls", few_calls)):
-        got = said(it, hosts.HOST[0])
+    quick_host = [*watch, build(count, library, room, f"{EXAMPLES}/quick_host.c", "static", words=words)]
+    for name, words_of_host in (("host", host), ("quick host", quick_host)):
+        got = said(words_of_host, hosts.HOST[0])
         count.check(f"the {name}, {kind}", got == (0, hosts.HOST[1], b""), f"{got}"[-1500:])
     for given, wanted in hosts.CLIENT:
         got = said([*client, *given, *host])
@@ -123,13 +123,13 @@ def check_by_sanitizer(count: ran.Count, library: str, room: str, cases: int) ->
     player = build(count, library, room, PLAYER, "static", PLAYER_NEEDS, SANITIZED)
     playing_scripts.check(count, [player], "AddressSanitizer", rows.all_rows())
     playing_scripts.check(count, [player], "AddressSanitizer", sessions(cases))
-    playing_scripts.check(
-        count, [player, "together"], "AddressSanitizer, together", [*rows.all_rows(), *sessions(cases)]
-    )
-    for file, given, more in (
+    together = [*rows.all_rows(), *sessions(cases)]
+    playing_scripts.check(count, [player, "together"], "AddressSanitizer, together", together)
+    programs: list[tuple[str, bytes, list[str]]] = [
         (f"{SUPPORT}/pack_events.c", rows.EVENTS, ["-std=c11"]),
         (f"{SUPPORT}/bad_use.c", b"", []),
-    ):
+    ]
+    for file, given, more in programs:
         got = said([build(count, library, room, file, "static", more, SANITIZED)], given)
         count.check(f"{os.path.basename(file)}, AddressSanitizer", got[0] == 0 and not got[2], f"{got}"[-1500:])
     check_examples(count, library, room, "AddressSanitizer", [], SANITIZED)

@@ -1,9 +1,10 @@
-"""How the tests of this folder run: the program is there before the first, and the last line is 'N passed, M failed'.
+"""How the tests of this folder run: what one does without the program, and the last line, which is 'N passed, M
+failed'.
 
 Where a tool is missing a test is skipped, and told in a line 'SKIPPED: ..', as the scripts of this folder do. Tests
 that measure time or memory have the mark `alone`: bin/test runs them while nothing else runs."""
 from collections import Counter
-from typing import Any
+from typing import Any, NoReturn
 
 import pytest
 
@@ -24,12 +25,6 @@ def is_worker(config: pytest.Config) -> bool:
     return hasattr(config, "workerinput")
 
 
-def shared(config: pytest.Config, way: str) -> dict[str, Any]:
-    """What a worker is told, or tells, by the process that has it run."""
-    found: dict[str, Any] = getattr(config, way)
-    return found
-
-
 def pytest_addoption(parser: pytest.Parser) -> None:
     parser.addoption(
         "--player",
@@ -41,20 +36,14 @@ def pytest_addoption(parser: pytest.Parser) -> None:
     )
 
 
-def pytest_configure(config: pytest.Config) -> None:
-    """Builds the program where it isn't built yet; the workers are told where it is."""
-    if is_worker(config):
-        ran.BUILT = shared(config, "workerinput")["program"]
-    elif not config.option.collectonly and not config.option.help:
-        try:
-            ran.build()
-        except ran.Unbuilt as fault:
-            pytest.exit(f"there is no program: {fault}", 1)
+def without_program(why: str) -> NoReturn:
+    """A test that needs the program fails where there is none, or is skipped in a run without the gate."""
+    if ran.is_without_gate():
+        pytest.skip(why)
+    pytest.fail(why, pytrace=False)
 
 
-@pytest.hookimpl(optionalhook=True)  # type: ignore[misc]
-def pytest_configure_node(node: Any) -> None:
-    node.workerinput["program"] = ran.BUILT
+ran.unbuilt = without_program
 
 
 @pytest.hookimpl(optionalhook=True)  # type: ignore[misc]
@@ -65,7 +54,8 @@ def pytest_testnodedown(node: Any, error: object) -> None:
 def pytest_sessionfinish(session: pytest.Session, exitstatus: int) -> None:
     TALLY.status = exitstatus
     if is_worker(session.config):
-        shared(session.config, "workeroutput")["comparisons"] = expecting.Made.number
+        output: dict[str, int] = getattr(session.config, "workeroutput")
+        output["comparisons"] = expecting.Made.number
 
 
 def pytest_unconfigure(config: pytest.Config) -> None:

@@ -1,8 +1,8 @@
 """The package for Node.js in bindings/node, over the released addon. The addon is the one that its sources and the released library give, byte
 for byte; its declarations are those of Node.js's own headers; it calls nothing else. The package's own tests pass, with the examples, what
 docs/node.md shows, the types by TypeScript's compiler, and editors' sessions. A player of scripts over the lower floor gives what the model of
-docs/connection.md does, for its rows and for random sessions. Tests and rows pass once more with the addon under AddressSanitizer. Each
-Node.js that is named in the variable NODES, separated by colons, is tried, or else the one on the PATH. What needs a tool that is missing is
+docs/connection.md does, for its rows and for random sessions. Tests pass once more with the addon under AddressSanitizer, and others with each
+request for memory refused in turn. Each Node.js that is named in the variable NODES, separated by colons, is tried, or else the one on the PATH. What needs a tool that is missing is
 skipped, and told."""
 import glob
 import os
@@ -27,7 +27,7 @@ SECONDS = 600
 # What of the C library the addon and the library in it call.
 LIBC = {"calloc", "free", "malloc", "memchr", "memcpy", "memmove", "memset", "realloc"}
 # The tests that go through all of the addon, and start no process.
-SANITIZED = ("connection", "requests", "calls", "bad_use", "streams", "ends")
+SANITIZED = [f"{it}.test" for it in ("connection", "requests", "calls", "bad_use", "streams", "ends")]
 HEADERS = "console.log(require('path').join(process.execPath, '..', '..', 'include', 'node'))"
 
 
@@ -39,7 +39,11 @@ def check_addon(count: ran.Count) -> None:
         called = {it.partition("@")[0] for it in names.decode().split()}
         count.same("what the addon calls", {it for it in called if not it.startswith("napi_")}, LIBC)
         _, names, _ = said(["nm", "-D", "--defined-only", "--format=just-symbols", released])
-        count.same("what is seen of the addon", set(names.decode().split()), {"napi_register_module_v1", "node_api_module_get_api_version_v1"})
+        count.same(
+            "what is seen of the addon",
+            set(names.decode().split()),
+            {"napi_register_module_v1", "node_api_module_get_api_version_v1"},
+        )
     if ran.lacks("rt", "the addon isn't made again"):
         return
     is_same, text = addon.compared(library.RELEASED, library.RELEASED)
@@ -57,7 +61,14 @@ def headers_of(node: str) -> str:
 
 def compiled(node: str, words: list[str], made: str) -> tuple[int, bytes, bytes]:
     """Compiles the addon with Node.js's headers, which the compiler holds against the addon's own declarations."""
-    from_node = ["-DNODE_HEADERS", "-DNAPI_VERSION=8", "-isystem", headers_of(node), f"-I{library.RELEASED}"]
+    from_node = [
+        "-DNODE_HEADERS",
+        "-DNAPI_VERSION=8",
+        "-isystem",
+        headers_of(node),
+        f"-I{library.RELEASED}",
+        *addon.together(library.RELEASED),
+    ]
     files = [f"{addon.FOLDER}/addon.c", *([f"{library.RELEASED}/{addon.STATIC}"] if "-shared" in words else [])]
     return said(["cc", "-std=c11", "-fPIC", *words, *from_node, *files, "-o", made])
 
@@ -74,10 +85,12 @@ def check_declarations(count: ran.Count, node: str) -> None:
 
 
 def ran_tests(node: str, names: list[str], env: dict[str, str]) -> tuple[int, str]:
-    files = [f"{PACKAGE}/tests/{it}.test.js" for it in names] or sorted(glob.glob(f"{PACKAGE}/tests/*.test.js"))
+    files = [f"{PACKAGE}/tests/{it}.js" for it in names] or sorted(glob.glob(f"{PACKAGE}/tests/*.test.js"))
     words = [node, "--test", "--test-reporter=tap", *files]
     try:
-        ended = subprocess.run(words, cwd=PACKAGE, env={**os.environ, **env}, capture_output=True, text=True, timeout=SECONDS, check=False)
+        ended = subprocess.run(
+            words, cwd=PACKAGE, env={**os.environ, **env}, capture_output=True, text=True, timeout=SECONDS, check=False
+        )
     except subprocess.TimeoutExpired as late:
         return 1, f"no end after {SECONDS} seconds: {late.stdout!r}"
     return ended.returncode, ended.stdout + ended.stderr
@@ -90,9 +103,17 @@ def check_tests(count: ran.Count, node: str, way: str, names: list[str], env: di
         if why:
             print(f"SKIPPED: {name}: {why}", flush=True)
         else:
-            found = re.search(rf"^ *not ok \d+ - {re.escape(name)}$(.*?)^ *\.\.\.$", text, re.M | re.S) if is_wrong else None
+            found = (
+                re.search(rf"^ *not ok \d+ - {re.escape(name)}$(.*?)^ *\.\.\.$", text, re.M | re.S)
+                if is_wrong
+                else None
+            )
             count.check(f"{node}{way}: {name}", not is_wrong, found[1].strip()[-1200:] if found else "")
-    count.check(f"{node}{way}: its status", status == 0, text[-1500:] if status and not any(it[0] for it in tests) else f"{status}")
+    count.check(
+        f"{node}{way}: its status",
+        status == 0,
+        text[-1500:] if status and not any(it[0] for it in tests) else f"{status}",
+    )
     done = sum(not why for _, _, why in tests)
     count.check(f"{node}{way}: {fewest} tests at least", done >= fewest, f"{done}")
     print(f"{node}{way}: {done} tests", flush=True)
@@ -124,11 +145,34 @@ def check_sanitized(count: ran.Count, node: str) -> None:
         print("SKIPPED: the addon under AddressSanitizer, which this compiler lacks", flush=True)
         return
     with tempfile.TemporaryDirectory() as room:
-        words = ["-shared", "-fvisibility=hidden", "-g", "-O1", "-fsanitize=address,undefined", "-fno-sanitize-recover=all"]
+        words = [
+            "-shared",
+            "-fvisibility=hidden",
+            "-g",
+            "-O1",
+            "-fsanitize=address,undefined",
+            "-fno-sanitize-recover=all",
+        ]
         got = compiled(node, words, f"{room}/addon.node")
         count.check("the addon is built for AddressSanitizer", got[0] == 0, f"{got}")
-        env = {"LD_PRELOAD": ":".join(runtimes), "ASAN_OPTIONS": "detect_leaks=0", "BULLMYRTLE_ADDON": f"{room}/addon.node"}
-        check_tests(count, node, ", under AddressSanitizer", [*SANITIZED], env, 60)
+        env = {
+            "LD_PRELOAD": ":".join(runtimes),
+            "ASAN_OPTIONS": "detect_leaks=0",
+            "BULLMYRTLE_ADDON": f"{room}/addon.node",
+        }
+        check_tests(count, node, ", under AddressSanitizer", SANITIZED, env, 60)
+
+
+def check_refused_memory(count: ran.Count, node: str) -> None:
+    """Each request for memory of the addon and of the library is refused in turn."""
+    if not headers_of(node) or shutil.which("cc") is None:
+        print("SKIPPED: memory that is refused to the addon, which needs cc and Node.js's headers", flush=True)
+        return
+    with tempfile.TemporaryDirectory() as room:
+        words = ["-shared", "-fvisibility=hidden", "-D_GNU_SOURCE", "-Wl,--wrap=malloc,--wrap=calloc,--wrap=realloc"]
+        got = compiled(node, [*words, f"{PACKAGE}/tests/refused_memory.c"], f"{room}/addon.node")
+        count.check("the addon is built with what refuses memory", got[0] == 0, f"{got}")
+        check_tests(count, node, ", without memory", ["refused_memory"], {"BULLMYRTLE_ADDON": f"{room}/addon.node"}, 3)
 
 
 def main() -> None:
@@ -144,6 +188,7 @@ def main() -> None:
     if nodes:
         check_sessions(count)
         check_sanitized(count, nodes[0])
+        check_refused_memory(count, nodes[0])
     count.end()
 
 

@@ -87,16 +87,23 @@ def read(file: str) -> str:
         return it.read()
 
 
+def with_bug(bug: Bug, name: str, text: str) -> str:
+    """The text of a file of the model, with what the bug changes there."""
+    for edit in bug.edits:
+        if edit["file"] == name:
+            if text.count(edit["old"]) != 1:
+                raise ValueError(f"{bug.name}: {text.count(edit['old'])} places in {name} have {edit['old']}")
+            text = text.replace(edit["old"], edit["new"])
+    return text
+
+
 def copied_to(room: str, bug: Optional[Bug]) -> str:
     """A copy of the model, with the bug: the model's first file there."""
     for file in glob.glob(os.path.join(MODEL, "*.pml")):
         text = read(file)
         name = os.path.basename(file)
-        for edit in bug.edits if bug else []:
-            if edit["file"] == name:
-                if text.count(edit["old"]) != 1:
-                    raise ValueError(f"{bug.name}: {text.count(edit['old'])} places in {name} have {edit['old']}")
-                text = text.replace(edit["old"], edit["new"])
+        if bug:
+            text = with_bug(bug, name, text)
         with open(os.path.join(room, name), "w", encoding="utf-8") as it:
             it.write(text)
     return "server.pml"
@@ -177,7 +184,8 @@ def steps_of_model() -> dict[str, str]:
 CALLED = {"push": r"ring\s*\.push", "pop": r"ring\s*\.pop", "serve": r"clerk\s*\.(?:run|serve)"}
 
 
-# What makes something, or decides how often a thread looks before it sleeps: in the model it may look as often as it likes.
+# What makes something, or decides how often a thread looks before it sleeps: in the model it may look as often as it
+# likes.
 NO_STEPS = {"new", "has_jobs_out", "learn_from_a_look", "learn_from_a_sleep"}
 
 

@@ -1,9 +1,7 @@
-"""Runs the tests of the Python package: over the C library, where it is there, and over a stand-in of it that is made
-of the plain model.
+"""Runs the tests of the Python package: over the C library, where it is there, and over a stand-in of it that is made of the plain model.
 
-Over the library it runs all of them, with the examples and with what docs/python.md shows; over the stand-in, all that
-needs no other process, or everything where there is no library. Each Python that is named in the variable PYTHONS,
-separated by colons, runs them too."""
+Over the library it runs all of them, with the examples and with what docs/python.md and docs/language_servers.md show; over the stand-in, all that needs no other
+process, or everything where there is no library. Each Python that is named in the variable PYTHONS, separated by colons, runs them too."""
 import os
 import re
 import subprocess
@@ -17,8 +15,22 @@ LIBRARY = "libbullmyrtle.so.1"
 VARIABLE = "BULLMYRTLE_LIBRARY"
 # What starts no process, so that it is quick over the stand-in.
 WITHOUT_PROCESSES = ["test_connection", "test_methods", "test_calls", "test_loop", "test_trace", "test_random"]
-WITHOUT_PROCESSES += ["test_registering", "test_ends.Ends", "test_ends.Counted", "test_many.Sessions", "test_many.WebSockets"]
-FEWEST, FEWEST_WITHOUT_PROCESSES = 285, 170
+WITHOUT_PROCESSES += [
+    "test_registering",
+    "test_ends.Ends",
+    "test_ends.Counted",
+    "test_many.Sessions",
+    "test_many.WebSockets",
+]
+WITHOUT_PROCESSES += [
+    "test_digits.Default",
+    "test_digits.Streams",
+    "test_faults.LastResort",
+    "test_faults.NoThreads",
+    "test_faults.Open",
+]
+WITHOUT_PROCESSES += ["test_language_server", "test_middleware", "test_tool_server"]
+FEWEST, FEWEST_WITHOUT_PROCESSES = 440, 285
 SECONDS = 900
 
 

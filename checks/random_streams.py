@@ -4,6 +4,7 @@ the rules. What is proved of the program is that it writes one of the outputs th
 import json
 import random
 import tomllib
+from typing import Iterator
 
 from support import fuzzing
 from support import model
@@ -12,10 +13,10 @@ from support import rows
 from support.grammar import Grammar
 
 STREAMS = 3_000
-WAYS = ([], [], ["--lazy"], ["--last"], ["--lazy", "--last"])
+WAYS: tuple[list[str], ...] = ([], [], ["--lazy"], ["--last"], ["--lazy", "--last"])
 
 
-def methods_of(table):
+def methods_of(table: str) -> dict[str, int]:
     """The methods of a table with how many calls each makes, and one that it hasn't."""
     return {
         "nope": 0,
@@ -23,7 +24,7 @@ def methods_of(table):
     }
 
 
-def stream(chance, table):
+def stream(chance: random.Random, table: str) -> Iterator[str]:
     """Lines, mostly of calls, replies that calls wait for, and cancels; now and then a batch, or what can't be read."""
     grammar = Grammar(chance, methods_of(table))
     for _ in range(chance.randint(2, 16)):
@@ -31,7 +32,7 @@ def stream(chance, table):
         yield "{" if chance.random() < 0.03 else json.dumps(value)
 
 
-def check_model(count):
+def check_model(count: ran.Count) -> None:
     """The model gives the rows."""
     for name, table, ways, given, output in rows.PLAYS:
         for way in ways:
@@ -39,7 +40,7 @@ def check_model(count):
             count.same(f"the model: {name}, {way}", got, output)
 
 
-def check_streams(count):
+def check_streams(count: ran.Count) -> None:
     tables = [rows.METHODS, rows.OPENING, rows.EACH, ran.text_of("examples", "toolbox.toml")]
     for seed in range(STREAMS):
         chance = random.Random(seed)
@@ -47,7 +48,7 @@ def check_streams(count):
         lines, way, piece = [*stream(chance, table)], chance.choice(WAYS), chance.choice(("1", "7", "65536"))
         output = rows.lines(*model.play(table, lines, "--lazy" in way, "--last" in way))
         got = ran.run(["play", "--lines", "--table", rows.file_of(table), "--piece", piece, *way], rows.lines(*lines))
-        count.check(f"stream {seed}, {way}", got == (0, output, b""), f"{lines} give {got}, and not {output}")
+        count.check(f"stream {seed}, {way}", got == (0, output, b""), f"{lines} give {got}, and not {output!r}")
 
 
 ran.script(check_model, check_streams)

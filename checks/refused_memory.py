@@ -94,8 +94,8 @@ class Refused:
 
 def played(refused: Refused) -> None:
     """Rows, and the methods of a table, by `play`."""
-    for name, given, output, end in rows.ROWS:
-        refused.peer(name, ["play"], given, [output], end)
+    for name, stream, written, end in rows.ROWS:
+        refused.peer(name, ["play"], stream, [written], end)
     lines = (rows.REQUEST + "\n[1,2,3]\n").encode()
     answers = f"{rows.NOT_FOUND}\n[{rows.INVALID},{rows.INVALID},{rows.INVALID}]\n".encode()
     refused.peer("two lines", ["play", "--lines"], lines, [answers])
@@ -146,7 +146,7 @@ def served(refused: Refused) -> None:
         rows.CANCELLED,
     ]
     two = [rows.TWO_CALLS, rows.answered('["A","B"]', 1)]
-    streams = [
+    streams: list[tuple[str, str | None, list[str], list[list[str]]]] = [
         ("a call and its reply", rows.METHODS, [rows.ask(), rows.replied("1.1")], [asked]),
         (
             "a cancel",

@@ -6,6 +6,7 @@ import re
 import subprocess
 import sys
 import tempfile
+from typing import Callable
 
 from support import ran
 from support import refusals
@@ -23,7 +24,7 @@ REACHED = {"single": (inputs.adds, 8_182, 4.1), "in batches of 100": (inputs.bat
 SPARE = 1.05
 
 
-def instructions(given):
+def instructions(given: bytes) -> int | None:
     """How many instructions a run takes, by callgrind; None where it fails."""
     with tempfile.TemporaryDirectory() as room:
         tool = ["valgrind", "--tool=callgrind", f"--callgrind-out-file={os.path.join(room, 'out')}", ran.BUILT, *PLAY]
@@ -34,13 +35,20 @@ def instructions(given):
     return int(found[1]) if found and ended.returncode == 0 else None
 
 
-def requests(given):
+def requests(given: bytes) -> int | None:
     """How often a run asks for memory; None where it fails."""
     status, *_, number = refusals.counted([ran.BUILT, *PLAY], given)
     return number if status == 0 else None
 
 
-def check_each(count, name, what, counted, make, reached):
+def check_each(
+    count: ran.Count,
+    name: str,
+    what: str,
+    counted: Callable[[bytes], int | None],
+    make: Callable[[int], bytes],
+    reached: float,
+) -> None:
     few, many = counted(make(FEW)), counted(make(MANY))
     if few is None or many is None:
         count.check(f"sums {name}: {what} are counted", False)
@@ -50,7 +58,7 @@ def check_each(count, name, what, counted, make, reached):
     count.check(f"sums {name}: {what}", 0 < each <= reached * SPARE, f"{each:,.1f}, at most {reached * SPARE:,.1f}")
 
 
-def check_all(count):
+def check_all(count: ran.Count) -> None:
     for name, (make, most_instructions, most_requests) in REACHED.items():
         if not ran.lacks("valgrind", "it counts the instructions"):
             check_each(count, name, "instructions", instructions, make, most_instructions)

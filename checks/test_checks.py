@@ -27,7 +27,7 @@ def test_no_line_of_a_file_that_is_gone() -> None:
 
 def test_each_file_has_one_part() -> None:
     found = [it for part in parts.PARTS for files in parts.files_of([part]) for it in files]
-    same(sorted(map(os.path.basename, found)), FILES)
+    same(sorted(os.path.basename(it) for it in found), FILES)
 
 
 # A file, and the part that it is of.
@@ -57,13 +57,13 @@ def test_what_measures_is_known_to() -> None:
 
 
 def test_files_without_types() -> None:
-    """Each that pyproject.toml lists is there."""
+    """Each that pyproject.toml lists is there; a name that ends with .* is a folder of modules."""
     settings = tomllib.loads(ran.text_of("pyproject.toml"))
     (listed,) = [it["module"] for it in settings["tool"]["mypy"]["overrides"]]
-    places = {name: [f"{folder}/{name.replace('.', '/')}" for folder in ("checks", "bench", "bin")] for name in listed}
-    gone = [
-        name
-        for name, at in places.items()
-        if not any(os.path.isfile(f"{ran.TOP}/{it}{end}") for it in at for end in ("", ".py"))
-    ]
+    gone = [it for it in listed if not any(is_there(folder, it) for folder in ("checks", "bench", "bin"))]
     check(not gone, f"{gone}")
+
+
+def is_there(folder: str, name: str) -> bool:
+    at = os.path.join(ran.TOP, folder, name.removesuffix(".*").replace(".", "/"))
+    return os.path.isdir(at) if name.endswith(".*") else os.path.isfile(at) or os.path.isfile(f"{at}.py")

@@ -90,6 +90,7 @@ def test_blocks_of_page(place: tuple[str, ...]) -> None:
 
 @pytest.mark.parametrize("command", named(COMMANDS, lambda it: f"{it.page} {it.text[:60]}"))
 def test_command(command: Command) -> None:
+    ran.built()  # (which bin/rpc_tool would do too)
     files = {name: ran.file_of(name, text) for name, text in command.files.items()}
     text = re.sub("|".join(FILES.values()), lambda it: files[it[0]], command.text)
     ended = subprocess.run(["sh", "-c", text], cwd=ran.TOP, capture_output=True, timeout=120, check=False)
@@ -138,7 +139,7 @@ def test_links(page: str) -> None:
 
 
 def test_latest_changes_are_those_of_this_version() -> None:
-    """Behind those that no version has yet."""
+    """They may be of a version that isn't released yet."""
     _, printed, _ = ran.run(["--version"])
-    latest = re.search(r"^## (?!Unreleased$)(\S+?),?(?: |$)", ran.text_of("CHANGELOG.md"), re.M)
+    latest = re.search(r"^## (?:Unreleased: )?(\S+?),?(?: |$)", ran.text_of("CHANGELOG.md"), re.M)
     check(latest and printed.decode() == f"rpc_tool {latest[1]}\n", f"{printed!r}")

@@ -36,6 +36,7 @@ def expect_end(words: list[str], given: bytes, output: bytes, end: str) -> None:
 
 def test_first_line() -> None:
     """The first use of the README, through the very command."""
+    ran.built()  # (which that command would do too)
     same(ran.run(["play", "--lines"], LINE, ran.PROGRAM), (0, ANSWER, b""))
 
 

@@ -11,17 +11,17 @@ JOBS, ROUNDS = 10_000, 20_000
 count = ran.Count()
 
 
-def check_tests():
+def check_tests() -> None:
     for threaded in THREADED:
         test = count.built(threaded, ran.test_named(threaded))
         for turn in range(1, TURNS + 1 if test else 1):
-            status, _ = ran.told_by(test, 60)
+            status, _ = ran.told_by(test or (), 60)
             count.check(f"{threaded}, run {turn}", status == 0, f"{status}")
             if status:
                 break
 
 
-def check_jobs(bench):
+def check_jobs(bench: str) -> None:
     for room in ("8", "128"):
         for turn in range(1, TURNS + 1):
             status, output = ran.told_by([bench, "slots", "--workers", "4", "--room", room, "--jobs", str(JOBS)], 60)
@@ -31,7 +31,7 @@ def check_jobs(bench):
                 break
 
 
-def check_wake_ups(bench):
+def check_wake_ups(bench: str) -> None:
     for workers in ("1", "4"):
         for yields in ("0", "5"):
             words = ["lockstep", "--rounds", str(ROUNDS), "--workers", workers, "--yields", yields]

@@ -4,6 +4,7 @@ table peer and the connection, neither names a crate of the other. So an edit in
 import os
 import re
 import sys
+from typing import Optional
 
 from support import ran
 
@@ -15,9 +16,11 @@ WINGS = ["the table peer", "the connection"]
 TOPS = ["programs", "tests"]
 
 
-def groups_of(text):
+def groups_of(text: str) -> tuple[dict[str, Optional[str]], list[str]]:
     """Of each crate the group that it stands in; and the groups, in their order."""
-    groups, order, group = {}, [], None
+    groups: dict[str, Optional[str]] = {}
+    order: list[str] = []
+    group: Optional[str] = None
     for line in text.split("\n"):
         if heading := re.fullmatch(r"# == ([^:]*)(:.*)?", line):
             group = heading[1]
@@ -27,21 +30,26 @@ def groups_of(text):
     return groups, order
 
 
-def may_name(group, other):
+def may_name(group: Optional[str], other: Optional[str]) -> bool:
     """Whether a crate of a group may name one of another."""
     if group in FLOOR:
         return other in FLOOR and FLOOR.index(other) <= FLOOR.index(group)
     return other in FLOOR or other == group or (group in TOPS and other != "tests")
 
 
-def broken(text):
+def broken(text: str) -> list[str]:
     """The crates that name one that they may not."""
     groups, _ = groups_of(text)
     libraries = Listing(text).libraries
-    return [f"{name} names {it}" for name in libraries for it in libraries[name] if it in groups and not may_name(groups[name], groups[it])]
+    return [
+        f"{name} names {it}"
+        for name in libraries
+        for it in libraries[name]
+        if it in groups and not may_name(groups[name], groups[it])
+    ]
 
 
-def main():
+def main() -> None:
     count = ran.Count()
     text = read_text(f"{ran.TOP}/crates.txt")
     groups, order = groups_of(text)
@@ -52,9 +60,13 @@ def main():
     # (a look that can't fail shows nothing)
     beam = text.replace("connection_messages:", "connection_messages: rpc_messages")
     count.same("a beam between the wings", broken(beam), ["connection_messages names rpc_messages"])
-    count.same("a floor on a wing", broken(text.replace("message_ids:", "message_ids: rpc_messages")), ["message_ids names rpc_messages"])
-    return count.end()
+    count.same(
+        "a floor on a wing",
+        broken(text.replace("message_ids:", "message_ids: rpc_messages")),
+        ["message_ids names rpc_messages"],
+    )
+    count.end()
 
 
 if __name__ == "__main__":
-    sys.exit(main())
+    main()

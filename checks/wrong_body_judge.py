@@ -6,7 +6,7 @@ unfit. The last line is 'N passed, M failed'; the status is 0 only where M is.""
 import os
 import tempfile
 from types import SimpleNamespace
-from typing import Optional
+from typing import Any, Optional
 
 from support import ran
 from support.bodies import Body, Sources, read_bodies
@@ -112,6 +112,9 @@ CASES = [
     ("a part of a proof that can't be made", UNMADE, None, "unfit"),
     ("a verdict that couldn't be had", UNTOLD, None, "unfit"),
 ]
+
+# (what judges looks at none)
+NO_TREES: Any = SimpleNamespace(needed=[])
 
 
 def toy(room: str) -> Crate:
@@ -238,7 +241,7 @@ def judged_in_round(room: str, outer: str) -> tuple[Trial, Crate]:
     with tempfile.TemporaryDirectory(dir=room) as folder:
         crate = toy(folder)
     crate.names = {fn: [f"toy::{fn.name}"] for fn in crate.functions}
-    trial = Trial([crate], SimpleNamespace(needed=[]), 1, "")
+    trial = Trial([crate], NO_TREES, 1, "")
     trial.judge_round(Turn(crate, crate.bodies, "round-1"), said(CLAUSE, outer), None, False)
     return trial, crate
 
@@ -284,7 +287,7 @@ def check_control(count: ran.Count, room: str) -> None:
     ):
         with tempfile.TemporaryDirectory(dir=room) as folder:
             crate = toy(folder)
-        trial = Trial([crate], SimpleNamespace(needed=[]), 1, "")
+        trial = Trial([crate], NO_TREES, 1, "")
         trial.judge_proof(crate, Ran(status, text, 0.0, 0.0, False))
         wanted = ("proved", ["round-1"], False) if is_well else ("NOT proved", [], True)
         count.same(f"{name}: the control", (crate.comments, labels(trial), bool(crate.failures)), wanted)

@@ -8,12 +8,14 @@
  *
  * Memory. All bytes are copied within the call: the library keeps no pointer of yours, and lends you none of its own.
  *   It takes memory by malloc, realloc and free of the C library.
- * Pointers. None is NULL, not even to bytes whose length is 0. A pointer to a struct or a number is aligned as C aligns
- *   it. What a call writes to (an event, a room, a key, a count) overlaps with nothing else that is passed to it.
+ * Pointers. None is NULL, with one exception: in the calls of BM_HAS_TOGETHER (below) a pointer to bytes or sayings may
+ *   be NULL where their length or count is 0. A pointer to a struct or a number is aligned as C aligns it. What a call
+ *   writes to (an event, a room, a key, a count) overlaps with nothing else that is passed to it.
  * Lengths. They count bytes, unless it is said otherwise. A text that you pass needs no zero byte at its end.
  * Threads. Make one call at a time on one connection. Which thread makes it doesn't matter, as long as something orders
- *   the calls, such as a lock. Calls on different connections may be made at the same time. Make no call in a signal
- *   handler, nor in the child of fork() where the process has other threads.
+ *   the calls, such as a lock. Hold it until you have noted the key of a call of yours, so that no other thread is told
+ *   of its reply before. Calls on different connections may be made at the same time. Make no call in a signal handler,
+ *   nor in the child of fork() where the process has other threads.
  * Answers. A call that gives an int32_t gives one of the codes below. If it isn't BM_OK, the call has told you nothing,
  *   has said nothing for you, and has written nothing to what you passed, unless it is said otherwise. A call may give
  *   BM_NO_MEMORY whatever else is wrong with it, and may then be made again. If several other codes apply, the first of
@@ -21,7 +23,12 @@
  *   In a batch a method that isn't text comes before params that aren't JSON, whichever call has them.
  *
  * JSON is one JSON value in UTF-8, at most 120 levels deep. It is told and written compactly: without blanks, with the
- * members in their order, and with numbers digit for digit.
+ * members in their order, and with numbers digit for digit. Half of a surrogate pair, as in "\ud800", isn't JSON, be it
+ * in what comes or in what you pass.
+ *
+ * Additions. bm_interface() stays 1 while calls are only added. What was added is told by bm_has(), and in the shared
+ * library the new symbols have the version BULLMYRTLE_2, so that a program that needs them isn't started with a library
+ * that lacks them.
  */
 #ifndef BULLMYRTLE_H
 #define BULLMYRTLE_H
@@ -47,7 +54,7 @@ enum {
     BM_NOT_JSON,    /* bytes that aren't JSON, or params that are neither an array nor an object */
     BM_NOT_TEXT,    /* a method's name or an error's message that isn't UTF-8 */
     BM_SMALL,       /* the room is too small for the next event, which waits */
-    BM_SETTINGS,    /* a setting, a way to end or a list of lengths that there can't be */
+    BM_SETTINGS,    /* a setting, a way to end, a kind of saying or a list of lengths that there can't be */
     BM_EMPTY,       /* a batch of no calls */
     BM_FULL         /* the keys would go over 2^53 - 1 */
 };
@@ -72,7 +79,7 @@ enum { BM_CLOSED, BM_READ_FAILED };
 enum {
     BM_NONE,       /* there is no event now */
     BM_CALL,       /* the other side calls: a request or a notification */
-    BM_CANCELLED,  /* the other side cancels one of its requests, which is still to be answered */
+    BM_CANCELLED,  /* the other side cancels one of its requests, which was open when the cancel came */
     BM_REPLIED,    /* the reply to a call of yours */
     BM_UNANSWERED, /* the input is over, and a call of yours has no reply */
     BM_INPUT_OVER  /* the input is over; the last event */
@@ -94,6 +101,31 @@ enum {
     BM_OVER_TRUNCATED,     /* the input was closed inside a frame (BM_FRAMES) */
     BM_OVER_READ,          /* bm_end said BM_READ_FAILED */
     BM_OVER_CALLS          /* more calls came than the setting allows */
+};
+
+/* What bm_has() tells of. */
+enum {
+    BM_HAS_TOGETHER = 1 /* bm_tell, bm_fed, bm_say_all, bm_taken and bm_close_call */
+};
+
+/* Why bm_tell or bm_fed tells no more events. */
+enum {
+    BM_STOP_NONE,     /* there is no event now */
+    BM_STOP_ROOM,     /* the next event doesn't fit what is left of the room */
+    BM_STOP_MOST,     /* so many were asked for */
+    BM_STOP_NO_MEMORY /* memory was refused; nothing is lost, and the call may be made again */
+};
+
+/* The kinds of sayings: what bm_say_all says, and for each what the field `number`, the name and the text are. */
+enum {
+    BM_SAY_ANSWER = 1, /* bm_answer: number; text: the result */
+    BM_SAY_FAIL,       /* bm_fail: number, code; name: the message; text: the data, or none */
+    BM_SAY_CLOSE,      /* bm_close_call: number */
+    BM_SAY_CALL,       /* bm_call: number; name: the method; text: the params, or none. key is written */
+    BM_SAY_BATCH,      /* bm_call_batch: number; calls. key is written */
+    BM_SAY_NOTIFY,     /* bm_notify: name: the method; text: the params, or none */
+    BM_SAY_WITHDRAW,   /* bm_withdraw: key */
+    BM_SAY_CANCEL      /* bm_cancel: number */
 };
 
 /* What a connection is made with. All zero is a good start: frames, answers as soon as they can go out, no cancels, and
@@ -148,8 +180,41 @@ typedef struct {
     uint64_t ignored;         /* replies that nobody waited for, and cancels that reached no request */
 } bm_report;
 
+/* What bm_tell and bm_fed told. */
+typedef struct {
+    uint32_t count;   /* how many events lie in the room */
+    uint32_t stopped; /* why no more: BM_STOP_NONE and its neighbours */
+    size_t used;      /* how many bytes of the room they take, up to the last zero byte of the last one */
+    size_t needed;    /* at BM_STOP_ROOM, how much room the next event needs by itself; else 0 */
+    size_t pending;   /* what bm_pending gives then */
+} bm_told;
+
+/* One thing to say. Its name and its text lie in the bytes that are passed with it, behind those of the sayings before
+ * it: first the name, then the text, with nothing between. A length of 0 for a text is none, as in the calls. */
+typedef struct {
+    uint32_t kind;   /* BM_SAY_ANSWER or one of its neighbours */
+    int32_t said;    /* written: its code, BM_OK where it is said */
+    uint64_t number; /* a call that came; for BM_SAY_CALL and BM_SAY_BATCH, the one on whose behalf, or 0 */
+    uint64_t key;    /* for BM_SAY_WITHDRAW a call of yours. Written at BM_OK: for BM_SAY_CALL its key, for BM_SAY_BATCH
+                      * the first key */
+    int64_t code;    /* of the error, for BM_SAY_FAIL */
+    size_t name_len; /* how many bytes its name has */
+    size_t text_len; /* how many bytes its text has */
+    size_t calls;    /* for BM_SAY_BATCH, how many of the sayings right behind it are its calls */
+} bm_saying;
+
+/* What came of all that was to be said. */
+typedef struct {
+    size_t refused; /* how many got another code than BM_OK */
+    size_t taken;   /* how many bytes were moved to the room */
+    size_t pending; /* what bm_pending gives then */
+} bm_said;
+
 /* The version of the library's calls: compare it with BM_INTERFACE before any other call. */
 uint32_t bm_interface(void);
+
+/* Whether the library has an addition: BM_HAS_TOGETHER. Of a number that it doesn't know it has none. */
+bool bm_has(uint32_t addition);
 
 /* Makes a connection and writes it to *at, as in
  *     bm_connection connection;
@@ -172,19 +237,44 @@ int32_t bm_feed(bm_connection *connection, const uint8_t *bytes, size_t length);
 int32_t bm_end(bm_connection *connection, uint32_t how);
 
 /* Tells the next event: it is moved to *event and the room. Call it until the kind is BM_NONE: an answer to broken
- * input goes out only as it is gone past.
+ * input goes out only as it is gone past. BM_NONE needs no room.
  * BM_SMALL: the event doesn't fit the room. *event is written, so its lengths say how much room it needs. The event
  * isn't told, and comes again. BM_NO_MEMORY. */
 int32_t bm_next(bm_connection *connection, bm_event *event, uint8_t *room, size_t length);
 
 /* Tells as many of the next events as fit the room: each a bm_event and, right behind it, its texts; each at the next
  * multiple of 8 from the room's start, which has to lie at a multiple of 8 itself. Writes to *count how many there are
- * (0 where there is no event), and to *used how many bytes of the room they take. It asks for one event more than it
- * tells, so contents may have come of which nothing is told yet. What doesn't fit comes first the next time, be it by
- * this call or by bm_next.
+ * (0 where there is no event), and to *used how many bytes of the room they take, up to the last zero byte of the last
+ * one: it isn't rounded up to a multiple of 8. It asks for one event more than it tells, so contents may have come of
+ * which nothing is told yet. What doesn't fit comes first the next time, be it by this call or by bm_next. Where memory
+ * is refused behind the first event it stops early, and doesn't tell that: make it until the count is 0. (bm_tell says
+ * why it stopped.)
  * BM_SMALL: not even the first event fits. *count is 0, and *used is how much room it needs. BM_NO_MEMORY: not even the
  * first event could be had. */
 int32_t bm_next_all(bm_connection *connection, uint8_t *room, size_t length, size_t *used, uint32_t *count);
+
+/* Tells as many of the next events as fit the room, at most `most`, where 0 is no bound. They lie in the room as those
+ * of bm_next_all. Writes to *told how many there are, and why no more. At BM_STOP_NONE it has gone past all input that
+ * came. At BM_STOP_ROOM with a count of 0 the room has to grow to *told's `needed`. */
+void bm_tell(bm_connection *connection, uint8_t *room, size_t length, uint32_t most, bm_told *told);
+
+/* bm_feed and then bm_tell. If the code isn't BM_OK, nothing was fed and nothing was told, and *told isn't written.
+ * BM_OVER, BM_NO_MEMORY. */
+int32_t bm_fed(bm_connection *connection, const uint8_t *bytes, size_t length, uint8_t *room, size_t room_length,
+               uint32_t most, bm_told *told);
+
+/* Says all these things, one after the other, each as the call of its kind does by itself: one that is refused changes
+ * nothing, and those behind it are said all the same. Its code is written to `said`. Then takes bytes as bm_take does,
+ * also with a room of length 0, and writes to *said how it went.
+ *
+ * BM_SAY_BATCH is followed by its calls, as many sayings as `calls` says. Of these only the two lengths are read, and
+ * nothing is written to them. If there aren't so many behind it, its code is BM_SETTINGS, and none of them is said.
+ * The code of a saying of no such kind is BM_SETTINGS too. Bytes of a saying whose kind has no use for them are passed
+ * over.
+ *
+ * BM_SETTINGS: the lengths of all names and texts don't add up to `length`. Then nothing is said, taken or written. */
+int32_t bm_say_all(bm_connection *connection, bm_saying *sayings, size_t count, const uint8_t *bytes, size_t length,
+                   uint8_t *room, size_t room_length, bm_said *said);
 
 /* Calls the other side, on behalf of the open call `number`, or of nobody where it is 0. Writes to *key the key under
  * which the reply is told. A length of 0 for params is none. Replies to calls of an answered number are ignored.
@@ -209,10 +299,15 @@ int32_t bm_notify(bm_connection *connection, const uint8_t *method, size_t metho
  * BM_NOT_WAITING, BM_NO_MEMORY. */
 int32_t bm_withdraw(bm_connection *connection, uint64_t key);
 
-/* Answers a request with a result, or closes a notification: pass a length of 0 for one, since nothing is written. Each
- * call that came is held until it is answered, notifications too.
+/* Answers a request with a result, or closes a notification: pass a length of 0 for one, since nothing is written; a
+ * result is checked all the same. For a request a length of 0 is no result. Each call that came is held until it is
+ * answered, notifications too, also one of $/cancelRequest that isn't a cancel.
  * BM_NOT_OPEN, BM_NOT_JSON, BM_NO_MEMORY. */
 int32_t bm_answer(bm_connection *connection, uint64_t number, const uint8_t *result, size_t length);
+
+/* Closes a notification: bm_answer with a length of 0. A request isn't closed so: it is BM_NOT_JSON, and stays open.
+ * BM_NOT_OPEN, BM_NOT_JSON, BM_NO_MEMORY. */
+int32_t bm_close_call(bm_connection *connection, uint64_t number);
 
 /* Answers a request with an error, or closes a notification. A length of 0 for data is none.
  * BM_NOT_OPEN, BM_NOT_TEXT, BM_NOT_JSON, BM_NO_MEMORY. */
@@ -224,18 +319,61 @@ int32_t bm_fail(bm_connection *connection, uint64_t number, int64_t code, const 
 int32_t bm_cancel(bm_connection *connection, uint64_t number);
 
 /* How many bytes are to be written; with BM_CONTENTS, the length of the next text. It isn't limited: stop feeding while
- * it is large. */
+ * it is large, such as more than a mebibyte, or more than the longest answer that you give. */
 size_t bm_pending(bm_connection *connection);
 
 /* Moves the first bytes that are to be written to the room, as many as it has room for, and gives how many they are.
- * With BM_CONTENTS it moves one whole text, or gives 0 where the room is too small for it. */
+ * With BM_CONTENTS it moves one whole text, or gives 0 where the room is too small for it; bm_pending tells that from
+ * there being none. It may give memory back, by realloc. */
 size_t bm_take(bm_connection *connection, uint8_t *room, size_t length);
+
+/* Takes as bm_take does, and tells where nothing fits. Writes to *count how many bytes were moved: 0 where there are
+ * none to be written.
+ * BM_SMALL: there are some, and none was moved, since the room is too small. *count is what bm_pending gives. */
+int32_t bm_taken(bm_connection *connection, uint8_t *room, size_t length, size_t *count);
 
 /* Whether all is done: the input is over, every event is told, every call that came is answered, every byte taken. */
 bool bm_is_done(bm_connection *connection);
 
 /* Writes what has happened so far. */
 void bm_counts(bm_connection *connection, bm_report *report);
+
+/* What a code says, in English. */
+static inline const char *bm_code_text(int32_t code)
+{
+    static const char *const texts[] = {
+        "done",
+        "out of memory",
+        "the call isn't open",
+        "no call with this key waits",
+        "the input is over",
+        "not a JSON text, or params that are neither an array nor an object",
+        "a method's name or a message that isn't UTF-8",
+        "the room is too small",
+        "there are no such settings",
+        "a batch of no calls",
+        "no key is left",
+    };
+    return code >= 0 && (size_t)code < sizeof texts / sizeof *texts ? texts[code] : "another code";
+}
+
+/* Why the input is over, in English, by the flags of BM_INPUT_OVER. */
+static inline const char *bm_over_text(uint32_t flags)
+{
+    static const char *const texts[] = {
+        "the input was closed",
+        "a line of a head isn't a field",
+        "a Content-Length isn't a number",
+        "a head has two Content-Lengths",
+        "a content is longer than the setting allows",
+        "a head has no Content-Length",
+        "a head has more than 4,096 bytes",
+        "the input was closed inside a frame",
+        "a read failed",
+        "more calls came than the setting allows",
+    };
+    return flags < sizeof texts / sizeof *texts ? texts[flags] : "another end";
+}
 
 #ifdef __cplusplus
 }

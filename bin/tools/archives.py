@@ -3,12 +3,10 @@ one owner and the modes that are given."""
 import gzip
 import io
 import tarfile
-import zipfile
-from typing import NamedTuple
+from typing import Iterable, NamedTuple, Sequence
 
-# The date of each file: 1 January 1980, the first that a zip archive can hold.
+# The date of each file: 1 January 1980, as the wheel has it.
 DATE = 315_532_800
-ZIP_DATE = (1980, 1, 1, 0, 0, 0)
 
 
 class File(NamedTuple):
@@ -20,9 +18,9 @@ class File(NamedTuple):
     link: str = ""
 
 
-def folders_of(files):
+def folders_of(files: Iterable[File]) -> list[str]:
     """The folders that the files stand in, each before what it holds."""
-    found = {}
+    found: dict[str, None] = {}
     for it in files:
         parts = it.name.split("/")[:-1]
         for end in range(1, len(parts) + 1):
@@ -30,7 +28,7 @@ def folders_of(files):
     return [it for it in found if it not in ("", ".")]
 
 
-def tar(files, has_folders=False):
+def tar(files: Sequence[File], has_folders: bool = False) -> bytes:
     """A tar archive; with its folders where what unpacks it needs them."""
     room = io.BytesIO()
     with tarfile.open(fileobj=room, mode="w", format=tarfile.GNU_FORMAT) as archive:
@@ -43,32 +41,22 @@ def tar(files, has_folders=False):
     return room.getvalue()
 
 
-def about_tar(kind, name, mode):
+def about_tar(kind: bytes, name: str, mode: int) -> tarfile.TarInfo:
     about = tarfile.TarInfo(name)
     about.type, about.mode, about.mtime, about.uname, about.gname = kind, mode, DATE, "root", "root"
     return about
 
 
-def packed(data):
+def packed(data: bytes) -> bytes:
     """The data as gzip has it, without a name and a date."""
     return gzip.compress(data, 9, mtime=0)
 
 
-def tar_gz(files):
+def tar_gz(files: Sequence[File]) -> bytes:
     return packed(tar(files))
 
 
-def zipped(files):
-    room = io.BytesIO()
-    with zipfile.ZipFile(room, "w", zipfile.ZIP_DEFLATED) as archive:
-        for it in files:
-            about = zipfile.ZipInfo(it.name, ZIP_DATE)
-            about.compress_type, about.external_attr = zipfile.ZIP_DEFLATED, it.mode << 16
-            archive.writestr(about, it.data)
-    return room.getvalue()
-
-
-def ar(files):
+def ar(files: Iterable[File]) -> bytes:
     """An archive of files in the common form of `ar`, as a Debian package is one."""
     told = [b"!<arch>\n"]
     for it in files:

@@ -367,7 +367,8 @@ static void refused_saying(int32_t wanted, bm_saying it, const char *bytes, int 
     bm_saying before = it;
     bm_said said;
     size_t pending = bm_pending(&tried);
-    check(bm_say_all(&tried, &it, 1, (const uint8_t *)bytes, strlen(bytes), NULL, 0, &said) == BM_OK, line, "bm_say_all");
+    check(bm_say_all(&tried, &it, 1, (const uint8_t *)bytes, strlen(bytes), NULL, 0, &said) == BM_OK, line,
+          "bm_say_all");
     check(said.refused == 1 && said.taken == 0 && said.pending == pending, line, "what came of it");
     before.said = it.said;
     check(!memcmp(&it, &before, sizeof it), line, "a refused saying has written more than its code");
@@ -378,15 +379,16 @@ static void wrong_lengths(void)
 {
     static const struct {
         size_t name_len, text_len, other_len;
-    } wrong[] = {{1, 0, 0}, {0, 3, 0}, {1, 1, 1}, {SIZE_MAX, 0, 0}, {SIZE_MAX, 3, 0}, {1, SIZE_MAX, 0}, {1, 1, SIZE_MAX},
-                 {0, 0, 0}};
+    } wrong[] = {{1, 0, 0},        {0, 3, 0},        {1, 1, 1},        {SIZE_MAX, 0, 0},
+                 {SIZE_MAX, 3, 0}, {1, SIZE_MAX, 0}, {1, 1, SIZE_MAX}, {0, 0, 0}};
     for (size_t i = 0; i < sizeof wrong / sizeof *wrong; i++) {
         bm_saying all[] = {{.kind = BM_SAY_NOTIFY, .name_len = wrong[i].name_len, .text_len = wrong[i].text_len},
                            {.kind = 9, .name_len = wrong[i].other_len}};
         bm_saying before[] = {all[0], all[1]};
         bm_said said = {7, 7, 7}, said_before = said;
         REFUSED(BM_SETTINGS, bm_say_all, all, 2, TEXT("m9"), NULL, 0, &said);
-        check(!memcmp(all, before, sizeof all) && !memcmp(&said, &said_before, sizeof said), __LINE__, "it has written");
+        check(!memcmp(all, before, sizeof all) && !memcmp(&said, &said_before, sizeof said), __LINE__,
+              "it has written");
     }
 }
 
@@ -422,9 +424,13 @@ static void sayings(void)
     BOTH(bm_close_call, 2);
     REFUSED(BM_NOT_OPEN, bm_close_call, 2);
     /* one that is refused holds up none behind it */
-    bm_saying all[] = {{.kind = BM_SAY_NOTIFY, .name_len = 1}, {.kind = BM_SAY_CLOSE, .number = 2},
-                       {.kind = BM_SAY_CALL, .name_len = 1, .text_len = 2}, {.kind = BM_SAY_BATCH, .calls = 2},
-                       {.name_len = 1}, {.name_len = 1}, {.kind = BM_SAY_ANSWER, .number = 1, .text_len = 1}};
+    bm_saying all[] = {{.kind = BM_SAY_NOTIFY, .name_len = 1},
+                       {.kind = BM_SAY_CLOSE, .number = 2},
+                       {.kind = BM_SAY_CALL, .name_len = 1, .text_len = 2},
+                       {.kind = BM_SAY_BATCH, .calls = 2},
+                       {.name_len = 1},
+                       {.name_len = 1},
+                       {.kind = BM_SAY_ANSWER, .number = 1, .text_len = 1}};
     said = say_both(all, 7, TEXT("ab[]cd7"));
     check(said.refused == 1 && all[1].said == BM_NOT_OPEN && all[0].said == BM_OK, __LINE__, "codes");
     check(all[2].key == 1 && all[3].key == 2 && all[6].said == BM_OK, __LINE__, "keys");

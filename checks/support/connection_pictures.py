@@ -1,6 +1,6 @@
 """The pictures of docs/connection.md, read as rows: scripts with what each action gives."""
 import re
-from typing import Any
+from typing import Any, Callable
 
 from support import connection_rows as rows
 from support import pages
@@ -9,7 +9,7 @@ FEWEST = 3
 
 # The arrows of a picture, each with the action that it stands for, and what that gives: of the wire on the left, and of
 # the host on the right.
-ARROWS = (
+ARROWS: tuple[tuple["re.Pattern[str]", Callable[[str], tuple[str, str]]], ...] = (
     (re.compile(r"  \|-- (\S.*\S) -+>\| +\|"), lambda came: (f"feed '{came}'", "ok")),
     (re.compile(r"  \|<- (\S.*\S) -+\| +\|"), lambda goes: ("take 1000", f"bytes '{goes}'")),
     (re.compile(r"  \| +\|-- (\S.*\S) -+>\|"), lambda event: ("next", event_of(event))),

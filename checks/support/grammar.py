@@ -7,7 +7,7 @@ from typing import Any, Callable
 from support.reading import entry_of
 
 # What params, results and errors may be, beside those that can be traced.
-PARAMS = (
+PARAMS: tuple[Any, ...] = (
     [],
     ["x"],
     [2, 3],
@@ -30,7 +30,7 @@ ERRORS = (
     {"code": 5, "message": "m", "data": 0.5},
     None,
 )
-ODD = (
+ODD: tuple[Any, ...] = (
     1,
     [],
     {},
@@ -121,7 +121,7 @@ class Grammar:
                 self.due.remove((number, turn))
         else:
             number, turn = self.chance.randint(0, self.calls + 3), self.chance.randint(1, 4)
-        return self.pick(
+        return self.pick(  # type: ignore[no-any-return]
             (60, lambda: f"{number}.{turn}"),
             (1, lambda: f"0{number}.{turn}"),
             (1, lambda: f"{number}.0"),

@@ -370,7 +370,7 @@ def due_items(coming: Coming, told: Told) -> Iterator[tuple[int, Item]]:
             continue
         number = sender_of(coming, item)
         if item.kind == "withdrawal":
-            yield coming.content_of(coming.named[number]), item
+            yield coming.content_of(coming.named[number]), item  # type: ignore[index]
         elif number is not None:
             yield coming.ready(number, turns[number]), item
             turns[number] += len(item.keys)

@@ -31,7 +31,7 @@ def text_of(value: object) -> str:
     return json.dumps(value, sort_keys=True, separators=(",", ":"), ensure_ascii=False)
 
 
-def answer(request, result=None, error=None):
+def answer(request: object, result: object = None, error: object = None) -> dict[str, object]:
     return {"id": request, "jsonrpc": "2.0", **({"error": error} if error else {"result": result})}
 
 
@@ -276,7 +276,7 @@ class Peer:
             self.write()
 
 
-def play(table, lines, is_lazy=False, is_last=False):
+def play(table: str, lines: list[str], is_lazy: bool = False, is_last: bool = False) -> list[str]:
     """The lines that go out."""
     peer = Peer(table, is_last)
     peer.play([reading.Frame(it.encode(), False, 0, 0) for it in lines], is_lazy)

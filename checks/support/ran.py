@@ -9,6 +9,7 @@ import subprocess
 import sys
 import tempfile
 from concurrent.futures import ThreadPoolExecutor
+from functools import cache
 from typing import IO, Any, Callable, Iterable, NoReturn, Sequence, TypeVar
 
 TOP = os.path.dirname(os.path.dirname(os.path.dirname(os.path.abspath(__file__))))
@@ -24,9 +25,9 @@ Ended = tuple[int, bytes, bytes]  # (a status, and what was written to the two o
 
 # Where a script's files lie, as long as it runs.
 ROOM: "tempfile.TemporaryDirectory[str]" = tempfile.TemporaryDirectory(prefix="check-")
-# The program of the sources that lie here, once built() has been called: the released one, or the one that was built
-# here.
-BUILT: str = programs.BUILT
+# The program of the sources that lie here: `ran.BUILT`. It is looked for, and built where that has to be, as it is
+# first asked for, so that what needs none waits for none.
+BUILT: str
 
 
 class Count:
@@ -104,7 +105,7 @@ def run(
     **more: Any,
 ) -> Ended:
     """Runs the program, and gives its status and what it wrote to its two outputs."""
-    ended = subprocess.run([program or BUILT, *words], input=given, capture_output=True, timeout=120, env=env, **more)
+    ended = subprocess.run([program or built(), *words], input=given, capture_output=True, timeout=120, env=env, **more)
     return ended.returncode, ended.stdout, ended.stderr
 
 
@@ -142,7 +143,7 @@ def run_into(room: int, words: Sequence[str], given: bytes = b"", program: str |
             "timeout": 120,
             "preexec_fn": narrow,
         }
-        ended = subprocess.run([program or BUILT, *words], check=False, **how)
+        ended = subprocess.run([program or built(), *words], check=False, **how)
         output.seek(0)
         return ended.returncode, output.read(), ended.stderr
 
@@ -157,32 +158,40 @@ def run_on_broken(words: Sequence[str], given: bytes, program: str | None = None
         ours.sendall(given)
         ours.close()
         ended = subprocess.run(
-            [program or BUILT, *words], stdin=its.fileno(), capture_output=True, timeout=120, check=False
+            [program or built(), *words], stdin=its.fileno(), capture_output=True, timeout=120, check=False
         )
     return ended.returncode, ended.stdout, ended.stderr
 
 
-class Unbuilt(Exception):
-    """Why there is no program of the sources that lie here."""
+def unbuilt(why: str) -> NoReturn:
+    """What comes of it where there is no program: a script ends, and tells in a run without the gate that it was
+    skipped. (A test fails, or is skipped: conftest.py sees to that.)"""
+    is_skipped = is_without_gate()
+    print(f"SKIPPED: {why}\n0 passed, 0 failed" if is_skipped else f"{why}\n0 passed, 1 failed", flush=True)
+    sys.exit(0 if is_skipped else 1)
 
 
-def build() -> None:
-    """Builds the program where it isn't built yet."""
-    global BUILT
-    status, said = told_by([PROGRAM, "--version"], None)
-    found = None if status else programs.current(sources.stamp())
-    if found is None:
-        raise Unbuilt(said.decode(errors="replace")[-2000:])
-    BUILT = found
+@cache
+def sought() -> tuple[str | None, str]:
+    """The program of the sources that lie here, or why there is none. It is proved and built where that has to be, but
+    not in a run without the gate."""
+    found = programs.current(sources.stamp())
+    if found is None and is_without_gate():
+        return None, "release/ and out/ have no program of these sources: bin/rpc_tool --version proves and builds it"
+    said = b"" if found else told_by([PROGRAM, "--version"], None)[1]
+    return found or programs.current(sources.stamp()), said.decode(errors="replace")[-2000:]
 
 
-def built() -> None:
-    """The same in a script, which ends where there is none."""
-    try:
-        build()
-    except Unbuilt as fault:
-        print(f"{fault}\n0 passed, 1 failed")
-        sys.exit(1)
+def built() -> str:
+    """The program of the sources that lie here."""
+    found, why = sought()
+    return found or unbuilt(why)
+
+
+def __getattr__(name: str) -> str:
+    if name == "BUILT":
+        return built()
+    raise AttributeError(name)
 
 
 def lacks(tool: str, why: str) -> bool:

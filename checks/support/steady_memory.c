@@ -40,7 +40,8 @@ static size_t saying_count, text_length;
 
 static void say(bm_saying it, const char *name, const uint8_t *text)
 {
-    check(saying_count < MOST_SAYINGS && text_length + it.name_len + it.text_len <= ROOM, "more is said than was thought");
+    check(saying_count < MOST_SAYINGS && text_length + it.name_len + it.text_len <= ROOM,
+          "more is said than was thought");
     sayings[saying_count++] = it;
     memcpy(texts + text_length, name, it.name_len);
     memcpy(texts + text_length + it.name_len, text, it.text_len);

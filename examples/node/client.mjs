@@ -1,5 +1,5 @@
-// Starts a language server and a tool server, calls them, and answers what they call back: those of this folder, or with
-// the word `python` those of examples/python.
+// Starts a language server and a tool server, calls them, and answers what they call back: those of this folder, or
+// with the word `python` those of examples/python.
 import { spawn } from 'node:child_process'
 import { once } from 'node:events'
 import path from 'node:path'
@@ -27,7 +27,9 @@ async function edit() {
   connection.onRequest('workspace/configuration', ({ items }) => items.map(() => 'times'))
   connection.onRequest('window/workDoneProgress/create', () => null)
   connection.onNotification('textDocument/publishDiagnostics', ({ diagnostics }) => {
-    for (const { range: { start: at }, message } of diagnostics) console.log(`line ${at.line + 1}, column ${at.character + 1}: ${message}`)
+    for (const { range: { start: at }, message } of diagnostics) {
+      console.log(`line ${at.line + 1}, column ${at.character + 1}: ${message}`)
+    }
   })
   connection.onUnhandledProgress(({ value: { kind } }) => {
     console.log('progress:', kind)
@@ -38,8 +40,10 @@ async function edit() {
   const textDocument = { uri: URI }
   await connection.sendRequest('initialize', { processId: process.pid, rootUri: null, capabilities: {} })
   connection.sendNotification('initialized', {})
-  connection.sendNotification('textDocument/didOpen', { textDocument: { uri: URI, languageId: 'text', version: 1, text: TEXT } })
-  const hover = await connection.sendRequest('textDocument/hover', { textDocument, position: { line: 0, character: 7 } })
+  const opened = { uri: URI, languageId: 'text', version: 1, text: TEXT }
+  connection.sendNotification('textDocument/didOpen', { textDocument: opened })
+  const position = { line: 0, character: 7 }
+  const hover = await connection.sendRequest('textDocument/hover', { textDocument, position })
   console.log('hover:', hover.contents)
   const place = { line: 1, character: 0 }
   const where = { textDocument, range: { start: place, end: place }, context: { diagnostics: [] } }
@@ -68,7 +72,9 @@ async function use() {
     console.log('asked:', text)
     return { role: 'assistant', model: 'none', content: { type: 'text', text: 'Flowers' } }
   })
-  connection.onNotification('notifications/progress', ({ progress, total }) => console.log(`progress: ${progress} of ${total}`))
+  connection.onNotification('notifications/progress', ({ progress, total }) => {
+    console.log(`progress: ${progress} of ${total}`)
+  })
   connection.listen()
 
   const clientInfo = { name: 'client', version: '1' }

@@ -24,7 +24,9 @@ function find(pattern, { uri }) {
 
 function changed({ textDocument, contentChanges = [textDocument] }) {
   texts.set(textDocument.uri, contentChanges.at(-1).text)
-  const diagnostics = find(REPEATED, textDocument).map(({ word, range }) => ({ range, severity: 2, message: `'${word}' stands twice` }))
+  const diagnostics = find(REPEATED, textDocument).map(({ word, range }) => ({
+    range, severity: 2, message: `'${word}' stands twice`
+  }))
   connection.sendNotification('textDocument/publishDiagnostics', { uri: textDocument.uri, diagnostics })
 }
 
@@ -49,8 +51,9 @@ connection.onNotification('textDocument/didChange', changed)
 
 connection.onRequest('textDocument/hover', async ({ textDocument, position: { line, character } }, token) => {
   const words = find(WORD, textDocument)
-  const isHere = ({ range: { start, end } }) => start.line === line && start.character <= character && character <= end.character
-  const here = words.find(isHere)
+  const here = words.find(({ range: { start, end } }) => (
+    start.line === line && start.character <= character && character <= end.character
+  ))
   if (here === undefined) return null
   const items = [{ section: 'words.label' }]
   const [label] = await connection.sendRequest('workspace/configuration', { items }, token)

@@ -36,7 +36,9 @@ async function title(text, cancellation) {
 connection.onRequest('tools/call', async ({ name, arguments: { text } = {}, _meta }, cancellation) => {
   if (!Object.hasOwn(TOOLS, name)) throw new ResponseError(ErrorCodes.InvalidParams, `no such tool: ${name}`)
   if (typeof text !== 'string') throw new ResponseError(ErrorCodes.InvalidParams, 'the text is missing')
-  const found = name === 'count' ? await count(text, _meta?.progressToken, cancellation) : await title(text, cancellation)
+  const found = name === 'count'
+    ? await count(text, _meta?.progressToken, cancellation)
+    : await title(text, cancellation)
   return { content: [{ type: 'text', text: found }] }
 })
 

@@ -60,29 +60,28 @@ async def index(ls):
             else:
                 counts.setdefault(uri_of(file), words)
             await asyncio.sleep(0)  # (a cancel arrives here, and so do other requests)
+    for document in ls.workspace.documents.values():
+        look_at(ls, document)
+
+
+def look_at(ls, document):
+    """Looks at a document, as soon as nobody has typed for a moment."""
+    if document.uri in checks:
+        checks[document.uri].cancel()
+    checks[document.uri] = asyncio.ensure_future(check(ls, document))
 
 
 @server.feature("textDocument/didOpen")
 @server.feature("textDocument/didChange")
 def changed(ls, params):
-    """Looks at the document, as soon as nobody has typed for a moment."""
-    document = ls.document(params)
-    if document.uri in checks:
-        checks[document.uri].cancel()
-    checks[document.uri] = asyncio.ensure_future(check(ls, document))
+    look_at(ls, ls.document(params))
 
 
 async def check(ls, document):
     await asyncio.sleep(0.05)
     counts[document.uri] = words_in(document.text)
     found = [
-        {
-            "range": document.range(*span),
-            "severity": 2,
-            "source": "spelling",
-            "message": message,
-            "data": right,
-        }
+        {"range": document.range(*span), "severity": 2, "message": message, "data": right}
         for span, message, right in faults_in(document)
     ]
     ls.publish_diagnostics(document, found)

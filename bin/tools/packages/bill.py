@@ -1,6 +1,7 @@
 """The bill of materials: what a release holds and what that is linked with, as SPDX 2.3 has it in JSON."""
 import hashlib
 import json
+from typing import Any, Iterator, Optional
 
 from tools import components, sources
 from tools.packages.parts import HEADER, PROGRAM, RELEASED, SHARED, STATIC, version
@@ -8,16 +9,17 @@ from tools.repository import read_bytes, read_text
 
 OURS = {PROGRAM: sources.PROGRAM, SHARED: sources.LIBRARY, STATIC: sources.LIBRARY}
 NONE = "NOASSERTION"
+Package = dict[str, Any]
 # (no clock is read, so that the same files give the same bill)
 CREATED = "1980-01-01T00:00:00Z"
 
 
-def name_of(*words):
+def name_of(*words: str) -> str:
     return "SPDXRef-" + "-".join("".join(c if c.isalnum() or c in ".-" else "-" for c in it) for it in words)
 
 
-def package(reference, name, number, summed, comment):
-    made = {
+def package(reference: str, name: str, number: Optional[str], summed: str, comment: str) -> Package:
+    made: Package = {
         "SPDXID": reference,
         "name": name,
         "downloadLocation": NONE,
@@ -31,26 +33,36 @@ def package(reference, name, number, summed, comment):
     return {**made, "versionInfo": number} if number else made
 
 
-def own(file):
+def own(file: str) -> Package:
     stamp = read_text(f"{RELEASED}/{'stamp' if file == PROGRAM else 'library.stamp'}").split("\n")
     comment = f"Proved and built by {stamp[1]}, of the sources with the sum {stamp[0]}."
-    return package(name_of("own", file), file, version(), hashlib.sha256(read_bytes(f"{RELEASED}/{file}")).hexdigest(), comment)
+    return package(
+        name_of("own", file), file, version(), hashlib.sha256(read_bytes(f"{RELEASED}/{file}")).hexdigest(), comment
+    )
 
 
-def linked(name, about):
+def linked(name: str, about: dict[str, Any]) -> Package:
     follows = about["follows"]
     comment = f"A proved crate of the Rattle kit, {'after the Rust crate ' + follows if follows else 'of its own'}. The sum is that of its source."
     return package(name_of("kit", name), name, follows.split()[1] if follows else None, about["sha256"], comment)
 
 
-def relations(listed):
+def relations(listed: dict[str, Any]) -> Iterator[dict[str, str]]:
     for file, of in OURS.items():
-        yield {"spdxElementId": "SPDXRef-DOCUMENT", "relationshipType": "DESCRIBES", "relatedSpdxElement": name_of("own", file)}
+        yield {
+            "spdxElementId": "SPDXRef-DOCUMENT",
+            "relationshipType": "DESCRIBES",
+            "relatedSpdxElement": name_of("own", file),
+        }
         for name in listed["linked"][of]:
-            yield {"spdxElementId": name_of("own", file), "relationshipType": "STATIC_LINK", "relatedSpdxElement": name_of("kit", name)}
+            yield {
+                "spdxElementId": name_of("own", file),
+                "relationshipType": "STATIC_LINK",
+                "relatedSpdxElement": name_of("kit", name),
+            }
 
 
-def bill():
+def bill() -> dict[str, bytes]:
     """The bill's file."""
     listed = components.listed()
     summed = hashlib.sha256(b"".join(read_bytes(f"{RELEASED}/{it}") for it in (*OURS, HEADER))).hexdigest()
@@ -60,7 +72,11 @@ def bill():
         "SPDXID": "SPDXRef-DOCUMENT",
         "name": f"bullmyrtle-{version()}",
         "documentNamespace": f"https://bullmyrtle.example/spdx/{version()}-{summed}",
-        "creationInfo": {"created": CREATED, "creators": ["Tool: bin/package"], "comment": f"The kit: {listed['kit']}."},
+        "creationInfo": {
+            "created": CREATED,
+            "creators": ["Tool: bin/package"],
+            "comment": f"The kit: {listed['kit']}.",
+        },
         "packages": [*map(own, OURS), *(linked(name, about) for name, about in listed["crates"].items())],
         "relationships": list(relations(listed)),
     }

@@ -3,10 +3,18 @@ from tools.archives import File, tar_gz
 from tools.packages.parts import HEADER, PROGRAM, SHARED, STATIC, file_of, filled, released, version
 
 # Pages for those who have no checkout.
-PAGES = ["README.md", "CHANGELOG.md", "docs/commands.md", "docs/methods.md", "docs/embedding.md", "docs/connection.md", "docs/protocol.md"]
+PAGES = [
+    "README.md",
+    "CHANGELOG.md",
+    "docs/commands.md",
+    "docs/methods.md",
+    "docs/embedding.md",
+    "docs/connection.md",
+    "docs/protocol.md",
+]
 
 
-def archive():
+def archive() -> dict[str, bytes]:
     top = f"bullmyrtle-{version()}-linux-x86_64"
     files = [
         File(f"{top}/bin/{PROGRAM}", released(PROGRAM), 0o755),

@@ -13,11 +13,11 @@ MAINTAINER = "The Bullmyrtle maintainers <maintainers@users.noreply.bullmyrtle.e
 REVISION = 1
 
 
-def full_version():
+def full_version() -> str:
     return f"{version()}-{REVISION}"
 
 
-def contents():
+def contents() -> dict[str, list[File]]:
     """The files of each package."""
     return {
         "rpc-tool": [
@@ -34,7 +34,7 @@ def contents():
     }
 
 
-def documents(package):
+def documents(package: str) -> list[File]:
     at = f"usr/share/doc/{package}"
     return [
         File(f"{at}/copyright", read_bytes(f"{TOP}/packaging/debian/copyright")),
@@ -43,13 +43,13 @@ def documents(package):
     ]
 
 
-def changes():
+def changes() -> bytes:
     """The package's own change log, which points to that of what is packed."""
     head, tail = f"bullmyrtle ({full_version()}) unstable; urgency=medium", f" -- {MAINTAINER}  {formatdate(DATE)}"
     return f"{head}\n\n  * What changed is in NEWS.md.gz.\n\n{tail}\n".encode()
 
 
-def control(package, about, files):
+def control(package: str, about: dict[str, str], files: list[File]) -> bytes:
     size = sum((len(it.data) + 1023) // 1024 for it in files)
     lines = [
         f"Package: {package}",
@@ -68,11 +68,13 @@ def control(package, about, files):
     return "".join(f"{it}\n" for it in lines).encode()
 
 
-def sums(files):
-    return "".join(f"{hashlib.md5(it.data, usedforsecurity=False).hexdigest()}  {it.name}\n" for it in files if not it.link).encode()
+def sums(files: list[File]) -> bytes:
+    return "".join(
+        f"{hashlib.md5(it.data, usedforsecurity=False).hexdigest()}  {it.name}\n" for it in files if not it.link
+    ).encode()
 
 
-def described(package, about, files):
+def described(package: str, about: dict[str, str], files: list[File]) -> list[File]:
     """The part of a package that says what it is."""
     found = [File("./control", control(package, about, files)), File("./md5sums", sums(files))]
     if package == "libbullmyrtle1":
@@ -81,13 +83,16 @@ def described(package, about, files):
     return found
 
 
-def packages():
+def packages() -> dict[str, bytes]:
     """The packages, by their files' names."""
     abouts = tomllib.loads(read_bytes(f"{TOP}/packaging/debian/descriptions.toml").decode())
     made = {}
     for package, own in contents().items():
         files = [*own, *documents(package)]
         data = packed(tar([it._replace(name=f"./{it.name}") for it in files], has_folders=True))
-        parts = [File("debian-binary", b"2.0\n"), File("control.tar.gz", tar_gz(described(package, abouts[package], files)))]
+        parts = [
+            File("debian-binary", b"2.0\n"),
+            File("control.tar.gz", tar_gz(described(package, abouts[package], files))),
+        ]
         made[f"{package}_{full_version()}_amd64.deb"] = ar([*parts, File("data.tar.gz", data)])
     return made

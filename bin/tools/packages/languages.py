@@ -12,7 +12,7 @@ from tools.repository import TOP, Fault, read_bytes
 NODE = f"{TOP}/bindings/node"
 
 
-def wheel():
+def wheel() -> dict[str, bytes]:
     """Python's wheel, as its own build makes it, with the released library and no other."""
     code = "import sys, wheels; print(wheels.build_wheel(sys.argv[1]))"
     kept = {key: it for key, it in os.environ.items() if key != "BULLMYRTLE_LIBRARY"}
@@ -25,7 +25,7 @@ def wheel():
         return {name: read_bytes(f"{room}/{name}")}
 
 
-def crate():
+def crate() -> dict[str, bytes]:
     """Rust's crate, with the static library and its header in it, so that it builds outside of the repository."""
     top = f"bullmyrtle-{version()}"
     files = [file_of(f"bindings/rust/{it}", f"{top}/{it}") for it in tracked("bindings/rust")]
@@ -33,12 +33,15 @@ def crate():
     return {f"{top}.crate": tar_gz(files)}
 
 
-def node():
+def node() -> dict[str, bytes]:
     """Node's package, with the addon in it, where there is one."""
     if not os.path.isfile(f"{NODE}/package.json"):
         return {}
     manifest = json.loads(read_bytes(f"{NODE}/package.json"))
     wanted = ["package.json", "README.md", *manifest["files"]]
-    is_wanted = lambda name: any(name == it or name.startswith(f"{it.rstrip('/')}/") for it in wanted)
+
+    def is_wanted(name: str) -> bool:
+        return any(name == it or name.startswith(f"{it.rstrip('/')}/") for it in wanted)
+
     files = [file_of(f"bindings/node/{it}", f"package/{it}") for it in tracked("bindings/node") if is_wanted(it)]
     return {f"bullmyrtle-{manifest['version']}.tgz": tar_gz(files)}

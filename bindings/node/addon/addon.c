@@ -5,6 +5,9 @@
  *   say    answers, calls, notifications and withdrawals in, as numbers in an array and ONE string; bytes out
  * since a crossing costs little, and a string much. The other calls are those of the header, one by one.
  *
+ * With TOGETHER, which bin/tools/addon.py says where the header has bm_say_all, the library goes through what is said
+ * and told by itself; without, it is asked for each.
+ *
  * Nothing here is global: what connections share belongs to the thread of JavaScript that loaded the addon. No call of
  * JavaScript is made from here, so rooms are free again when a crossing is over. */
 #include "outside.h"
@@ -18,8 +21,8 @@ enum { BEFORE_HEADS = 4, HEAD = 6, MOST_EVENTS = 64 };
 enum { BEFORE_SAYINGS = 1, SAYING = 3, MOST_SAYINGS = 1024 };
 /* An event takes 64 bytes at least, so no more of them fit such a room than there are heads for. */
 enum { EVENTS_ROOM = 64 * MOST_EVENTS, TEXTS_ROOM = 1 << 16 };
-/* A room that had to grow over this is given back once it was used. One below it is kept: a block of some megabytes that
- * is given back at each message costs more in faults of its pages than it holds. */
+/* A room that had to grow over this is given back once it was used. One below it is kept: a block of some megabytes
+ * that is given back at each message costs more in faults of its pages than it holds. */
 enum { KEPT = 1 << 23 };
 /* What V8 is told that a connection holds outside of its heap. */
 enum { OUTSIDE = 4096 };
@@ -35,9 +38,10 @@ typedef struct {
 
 /* What the connections of a thread share. */
 typedef struct {
-    bytes events;       /* events, as bm_next_all packs them */
-    bytes texts;        /* texts on their way from or to a string */
-    double **heads;     /* arrays of JavaScript that are never given back, one for each depth of nesting */
+    bytes events;   /* events, as bm_next_all packs them */
+    bytes texts;    /* texts on their way from or to a string */
+    bytes sayings;  /* what is said, as bm_say_all takes it */
+    double **heads; /* arrays of JavaScript that are never given back, one for each depth of nesting */
     size_t heads_count;
     double *says;
 } shared;
@@ -53,7 +57,6 @@ typedef struct {
     shared *shared;
     connection *it;
 } crossing;
-
 
 /* Values */
 
@@ -81,9 +84,10 @@ static uint64_t whole(napi_env env, napi_value value)
     uint64_t got = 0;
     double other = 0;
     bool is_whole;
-    if (napi_get_value_bigint_uint64(env, value, &got, &is_whole) != napi_ok && napi_get_value_double(env, value, &other) == napi_ok)
-        got = (uint64_t)other;
-    return got;
+    if (napi_get_value_bigint_uint64(env, value, &got, &is_whole) == napi_ok)
+        return got;
+    napi_get_value_double(env, value, &other);
+    return (uint64_t)other;
 }
 
 static int64_t error_code(napi_env env, napi_value value)
@@ -91,9 +95,10 @@ static int64_t error_code(napi_env env, napi_value value)
     int64_t got = 0;
     double other = 0;
     bool is_whole;
-    if (napi_get_value_bigint_int64(env, value, &got, &is_whole) != napi_ok && napi_get_value_double(env, value, &other) == napi_ok)
-        got = (int64_t)other;
-    return got;
+    if (napi_get_value_bigint_int64(env, value, &got, &is_whole) == napi_ok)
+        return got;
+    napi_get_value_double(env, value, &other);
+    return (int64_t)other;
 }
 
 static bool flag(napi_env env, napi_value value)
@@ -103,8 +108,8 @@ static bool flag(napi_env env, napi_value value)
     return got;
 }
 
-/* The bytes of a Uint8Array. They are never at NULL. (napi_get_buffer_info ends the process where it gets anything else,
- * up to Node.js 18.) */
+/* The bytes of a Uint8Array. They are never at NULL. (napi_get_buffer_info ends the process where it gets anything
+ * else, up to Node.js 18.) */
 static bool bytes_of(napi_env env, napi_value value, bytes *got)
 {
     static uint8_t nothing[1];
@@ -149,7 +154,6 @@ static bool begin(crossing *to, napi_env env, napi_callback_info info)
     thrown(env, "ERR_BULLMYRTLE_CLOSED", "the connection is closed");
     return false;
 }
-
 
 /* A connection's life */
 
@@ -202,36 +206,81 @@ static napi_value close_one(napi_env env, napi_callback_info info)
     return NULL;
 }
 
-
 /* Events */
 
-/* Asks for as many events as fit the room, which grows for one that is too large. Gives a code, and writes how many bytes
- * and events there are, and whether there may be more. */
-static int32_t ask(bm_connection *at, bytes *room, size_t *used, uint32_t *count, bool *has_more)
+#ifdef TOGETHER
+
+/* Asks for as many events as fit the room, behind a piece of input where there is one. */
+static int32_t tell(bm_connection *at, const bytes *piece, bytes *room, size_t length, bm_told *told)
 {
-    if (!grow(room, EVENTS_ROOM))
+    if (piece)
+        return bm_fed(at, piece->at, piece->length, room->at, length, MOST_EVENTS, told);
+    bm_tell(at, room->at, length, MOST_EVENTS, told);
+    return BM_OK;
+}
+
+static int32_t ask(bm_connection *at, const bytes *piece, shared *rooms, uint32_t *count, bool *has_more, bool *is_fed)
+{
+    bytes *room = &rooms->events;
+    bm_told told = {0};
+    *count = 0;
+    if (!grow(room, EVENTS_ROOM) || !grow(&rooms->texts, EVENTS_ROOM)) /* (the second for what string_of_all puts) */
         return BM_NO_MEMORY;
-    int32_t code = bm_next_all(at, room->at, EVENTS_ROOM, used, count);
+    int32_t code = tell(at, piece, room, EVENTS_ROOM, &told);
+    *is_fed = code == BM_OK;
+    if (code == BM_OK && told.count == 0 && told.stopped == BM_STOP_ROOM) {
+        size_t need = told.needed; /* just as much as is needed, so that one event alone is told */
+        if (!grow(room, need))
+            return BM_NO_MEMORY;
+        tell(at, NULL, room, need, &told);
+    }
+    if (code != BM_OK)
+        return code;
+    *count = told.count;
+    *has_more = told.stopped != BM_STOP_NONE;
+    return told.count == 0 && told.stopped == BM_STOP_NO_MEMORY ? BM_NO_MEMORY : BM_OK;
+}
+
+#else
+
+/* Asks for as many events as fit the room, which grows for one that is too large. Gives a code, and writes how many
+ * bytes and events there are, and whether there may be more. */
+static int32_t tell(bm_connection *at, shared *rooms, uint32_t *count, bool *has_more)
+{
+    bytes *room = &rooms->events;
+    size_t used = 0;
+    if (!grow(room, EVENTS_ROOM) || !grow(&rooms->texts, EVENTS_ROOM)) /* (the second for what string_of_all puts) */
+        return BM_NO_MEMORY;
+    int32_t code = bm_next_all(at, room->at, EVENTS_ROOM, &used, count);
     *has_more = true;
     if (code == BM_SMALL) { /* just as much as is needed, so that one event alone is told */
-        size_t need = *used;
-        return grow(room, need) ? bm_next_all(at, room->at, need, used, count) : BM_NO_MEMORY;
+        size_t need = used;
+        return grow(room, need) ? bm_next_all(at, room->at, need, &used, count) : BM_NO_MEMORY;
     }
     if (code != BM_OK || *count == 0) {
         *has_more = false;
         return code;
     }
     /* what doesn't fit came behind the last that did, so it is enough to ask once whether something is there */
-    size_t from = (*used + 7) / 8 * 8, rest = 0;
+    size_t from = (used + 7) / 8 * 8, rest = 0;
     uint32_t further = 0;
     *has_more = from >= EVENTS_ROOM || bm_next_all(at, room->at + from, EVENTS_ROOM - from, &rest, &further) != BM_OK;
     if (further) {
-        *used = from + rest;
         *count += further;
         *has_more = true;
     }
     return code;
 }
+
+/* The same behind a piece of input, where there is one. */
+static int32_t ask(bm_connection *at, const bytes *piece, shared *rooms, uint32_t *count, bool *has_more, bool *is_fed)
+{
+    int32_t code = piece ? bm_feed(at, piece->at, piece->length) : BM_OK;
+    *is_fed = code == BM_OK;
+    return *is_fed ? tell(at, rooms, count, has_more) : code;
+}
+
+#endif
 
 /* Writes an event's head. Its lengths are those of bytes. */
 static void put_head(const bm_event *event, double *head)
@@ -308,13 +357,11 @@ static bool put_texts(const uint8_t *texts, const bm_event *event, bool wants_id
 }
 
 /* The string of many events: their texts, one behind the other. */
-static napi_value string_of_all(crossing *to, uint32_t count, size_t used, bool wants_ids, double *head)
+static napi_value string_of_all(crossing *to, uint32_t count, bool wants_ids, double *head)
 {
     const uint8_t *begin = to->shared->events.at, *at = begin;
     bool is_plain = true;
     napi_value made = NULL;
-    if (!grow(&to->shared->texts, used))
-        return no_memory(to->env);
     uint8_t *end = to->shared->texts.at;
     for (uint32_t i = 0; i < count; i++, head += HEAD) {
         bm_event event;
@@ -335,18 +382,17 @@ static napi_value string_of_all(crossing *to, uint32_t count, size_t used, bool 
 
 /* Writes a code to heads[0], how many events there are to [1], whether there may be more to [2], how many units stand
  * between two texts to [3], and then the heads. Gives the texts, or nothing where there is no event. */
-static napi_value told(crossing *to, uint32_t place, bool wants_ids)
+static napi_value told(crossing *to, const bytes *piece, uint32_t place, bool wants_ids)
 {
-    size_t used = 0;
     uint32_t count = 0;
-    bool has_more = false;
+    bool has_more = false, is_fed = false;
     napi_value made = NULL;
     bytes *room = &to->shared->events;
     double *heads = to->shared->heads[place];
-    int32_t code = ask(&to->it->at, room, &used, &count, &has_more);
-    heads[0] = code;
+    int32_t code = ask(&to->it->at, piece, to->shared, &count, &has_more, &is_fed);
+    heads[0] = piece && is_fed ? BM_OK : code;
     heads[1] = code == BM_OK ? count : 0;
-    heads[2] = has_more;
+    heads[2] = has_more || (piece && is_fed && code != BM_OK);
     heads[3] = count == 1;
     if (code != BM_OK || count == 0)
         return NULL;
@@ -356,7 +402,7 @@ static napi_value told(crossing *to, uint32_t place, bool wants_ids)
         put_head(&event, heads + BEFORE_HEADS);
         made = string_of_one(to->env, room->at + sizeof event, &event, heads + BEFORE_HEADS);
     } else
-        made = string_of_all(to, count, used, wants_ids, heads + BEFORE_HEADS);
+        made = string_of_all(to, count, wants_ids, heads + BEFORE_HEADS);
     give_back(room);
     give_back(&to->shared->texts);
     return made;
@@ -401,7 +447,7 @@ static napi_value events(napi_env env, napi_callback_info info)
     uint32_t place;
     if (!begin(&to, env, info) || !place_of(&to, to.given[1], &place))
         return NULL;
-    return told(&to, place, flag(env, to.given[2]));
+    return told(&to, NULL, place, flag(env, to.given[2]));
 }
 
 /* next(handle, heads) */
@@ -414,7 +460,8 @@ static napi_value next(napi_env env, napi_callback_info info)
     return told_one(&to, place);
 }
 
-/* fed(handle, bytes, heads, wantsIds) */
+/* fed(handle, bytes, heads, wantsIds). A code is that of the bytes, none of which were taken then; where they were, and
+ * there is no memory for an event, none is told, and there may be more. */
 static napi_value fed(napi_env env, napi_callback_info info)
 {
     crossing to;
@@ -424,12 +471,7 @@ static napi_value fed(napi_env env, napi_callback_info info)
         return NULL;
     if (!bytes_of(env, to.given[1], &piece))
         return thrown(env, "ERR_INVALID_ARG_TYPE", "bytes are needed");
-    int32_t code = bm_feed(&to.it->at, piece.at, piece.length);
-    if (code == BM_OK)
-        return told(&to, place, flag(env, to.given[3]));
-    to.shared->heads[place][0] = code;
-    to.shared->heads[place][1] = 0;
-    return NULL;
+    return told(&to, &piece, place, flag(env, to.given[3]));
 }
 
 /* feed(handle, bytes): a code */
@@ -453,8 +495,13 @@ static napi_value end(napi_env env, napi_callback_info info)
     return number(env, bm_end(&to.it->at, flag(env, to.given[1]) ? BM_READ_FAILED : BM_CLOSED));
 }
 
-
 /* Saying */
+
+#ifdef TOGETHER
+enum { SAYING_SIZE = sizeof(bm_saying) };
+#else
+enum { SAYING_SIZE = 0 };
+#endif
 
 typedef struct {
     uint32_t kind;
@@ -510,10 +557,62 @@ static saying read_saying(const double *said, bytes *rest)
     return it;
 }
 
-/* Says all, in their order, each by itself. In the place of each kind comes its code, and in that of a call's number its
- * key; in the first place how many were refused. */
-static void say_all(bm_connection *at, double *says, uint32_t count, bytes texts)
+#ifdef TOGETHER
+
+/* Writes a thing to say as bm_say_all takes it, and moves its texts to where those before end: there they lie without
+ * line feeds. */
+static void put_saying(bm_saying *to, const saying *it, uint8_t **end)
 {
+    static const uint32_t kinds[] = {
+        [ANSWER] = BM_SAY_ANSWER,     [FAIL] = BM_SAY_FAIL,     [CALL] = BM_SAY_CALL,  [NOTIFY] = BM_SAY_NOTIFY,
+        [WITHDRAW] = BM_SAY_WITHDRAW, [CANCEL] = BM_SAY_CANCEL, [CLOSE] = BM_SAY_CLOSE};
+    bool is_answer = it->kind == ANSWER;
+    bool is_withdrawal = it->kind == WITHDRAW;
+    *to = (bm_saying){.kind = it->kind <= CLOSE ? kinds[it->kind] : 0, .code = it->code};
+    to->number = is_withdrawal ? 0 : it->number;
+    to->key = is_withdrawal ? it->number : 0;
+    to->name_len = is_answer ? 0 : it->first.length;
+    to->text_len = is_answer ? it->first.length : it->second.length;
+    memmove(*end, it->first.at, it->first.length);
+    memmove(*end + it->first.length, it->second.at, it->second.length);
+    *end += it->first.length + it->second.length;
+}
+
+/* Writes what came of a thing that was said. */
+static void put_said(double *said, const bm_saying *it)
+{
+    said[0] = it->said;
+    if (it->kind == BM_SAY_CALL)
+        said[1] = (double)it->key;
+}
+
+/* Says all, in their order, each by itself, and takes bytes. In the place of each kind comes its code, and in that of a
+ * call's number its key; in the first place how many were refused. */
+static size_t say_all(crossing *to, uint32_t count, bytes texts, bytes out)
+{
+    double *says = to->shared->says;
+    uint8_t *begin = texts.at, *end = texts.at;
+    bm_saying *sayings = (bm_saying *)to->shared->sayings.at;
+    bm_said all = {0};
+    for (uint32_t i = 0; i < count; i++) {
+        saying it = read_saying(says + BEFORE_SAYINGS + i * SAYING, &texts);
+        put_saying(&sayings[i], &it, &end);
+    }
+    bm_say_all(&to->it->at, sayings, count, begin, (size_t)(end - begin), out.at, out.length, &all);
+    for (uint32_t i = 0; i < count; i++)
+        put_said(says + BEFORE_SAYINGS + i * SAYING, &sayings[i]);
+    says[0] = (double)all.refused;
+    return all.taken;
+}
+
+#else
+
+/* Says all, in their order, each by itself. In the place of each kind comes its code, and in that of a call's number
+ * its key; in the first place how many were refused. */
+static size_t say_all(crossing *to, uint32_t count, bytes texts, bytes out)
+{
+    bm_connection *at = &to->it->at;
+    double *says = to->shared->says;
     uint32_t refused = 0;
     for (uint32_t i = 0; i < count; i++) {
         double *said = says + BEFORE_SAYINGS + i * SAYING;
@@ -526,9 +625,20 @@ static void say_all(bm_connection *at, double *says, uint32_t count, bytes texts
         refused += code != BM_OK;
     }
     says[0] = refused;
+    return bm_take(at, out.at, out.length);
 }
 
-/* The UTF-8 of a string, in the shared room. Where it is short there is room for it in any case, and it isn't measured. */
+#endif
+
+/* The same where there is no memory for the texts. */
+static void refuse_all(double *says, uint32_t count)
+{
+    for (uint32_t i = 0; i < count; i++)
+        says[BEFORE_SAYINGS + i * SAYING] = BM_NO_MEMORY;
+    says[0] = count;
+}
+
+/* The UTF-8 of a string, in the shared room. A short one has room in any case, and isn't measured. */
 static bool texts_of(crossing *to, napi_value value, bytes *texts)
 {
     bytes *room = &to->shared->texts;
@@ -558,16 +668,18 @@ static napi_value say(napi_env env, napi_callback_info info)
     napi_get_value_uint32(env, to.given[1], &count);
     if (!bytes_of(env, to.given[4], &out) || count > MOST_SAYINGS)
         return thrown(env, "ERR_INVALID_ARG_TYPE", "a room is needed");
-    if (count) {
-        if (!texts_of(&to, to.given[2], &texts))
-            return no_memory(env);
-        say_all(&to.it->at, to.shared->says, count, texts);
-        give_back(&to.shared->texts);
+    if (count == 0)
+        return number(env, (double)bm_take(&to.it->at, out.at, out.length));
+    if (!grow(&to.shared->sayings, count * SAYING_SIZE) || !texts_of(&to, to.given[2], &texts)) {
+        refuse_all(to.shared->says, count);
+        return number(env, (double)bm_take(&to.it->at, out.at, out.length));
     }
-    return number(env, (double)bm_take(&to.it->at, out.at, out.length));
+    size_t taken = say_all(&to, count, texts, out);
+    give_back(&to.shared->texts);
+    return number(env, (double)taken);
 }
 
-/* sayOne(handle, kind, number, code, first, second): a code; says[2] is the key of a call. The texts are Uint8Arrays. */
+/* sayOne(handle, kind, number, code, first, second): a code; says[2] is a call's key. The texts are Uint8Arrays. */
 static napi_value say_alone(napi_env env, napi_callback_info info)
 {
     crossing to;
@@ -596,9 +708,9 @@ static napi_value call_batch(napi_env env, napi_callback_info info)
     napi_typedarray_type type;
     if (!begin(&to, env, info))
         return NULL;
-    if (!bytes_of(env, to.given[2], &texts)
-        || napi_get_typedarray_info(env, to.given[3], &type, &count, (void **)&lengths, NULL, NULL) != napi_ok
-        || type != napi_uint32_array)
+    if (!bytes_of(env, to.given[2], &texts) ||
+        napi_get_typedarray_info(env, to.given[3], &type, &count, (void **)&lengths, NULL, NULL) != napi_ok ||
+        type != napi_uint32_array)
         return thrown(env, "ERR_INVALID_ARG_TYPE", "bytes and their lengths are needed");
     size_t *wide = malloc((count + 1) * sizeof *wide);
     if (wide == NULL)
@@ -610,7 +722,6 @@ static napi_value call_batch(napi_env env, napi_callback_info info)
     to.shared->says[2] = (double)first;
     return number(env, code);
 }
-
 
 /* Taking, and what has happened */
 
@@ -661,7 +772,6 @@ static napi_value counts(napi_env env, napi_callback_info info)
     return made;
 }
 
-
 /* Loading */
 
 /* An array of numbers that JavaScript and this addon both see, and which is never given back. */
@@ -669,8 +779,8 @@ static napi_value numbers(napi_env env, size_t count, double **at)
 {
     napi_value buffer, made = NULL;
     napi_ref kept;
-    if (napi_create_arraybuffer(env, count * sizeof **at, (void **)at, &buffer) == napi_ok
-        && napi_create_typedarray(env, napi_float64_array, count, buffer, 0, &made) == napi_ok)
+    if (napi_create_arraybuffer(env, count * sizeof **at, (void **)at, &buffer) == napi_ok &&
+        napi_create_typedarray(env, napi_float64_array, count, buffer, 0, &made) == napi_ok)
         napi_create_reference(env, made, 1, &kept);
     return made;
 }
@@ -700,6 +810,7 @@ static void forget_shared(napi_env env, void *data, void *hint)
     (void)env, (void)hint;
     free(it->events.at);
     free(it->texts.at);
+    free(it->sayings.at);
     free(it->heads);
     free(it);
 }
@@ -714,9 +825,9 @@ __attribute__((visibility("default"))) napi_value napi_register_module_v1(napi_e
     static const struct {
         const char *name;
         napi_callback call;
-    } calls[] = {{"open", open_one}, {"close", close_one}, {"heads", heads},       {"feed", feed},
-                 {"fed", fed},       {"events", events},   {"next", next},         {"end", end},
-                 {"say", say},       {"take", take},       {"sayOne", say_alone},  {"callBatch", call_batch},
+    } calls[] = {{"open", open_one}, {"close", close_one}, {"heads", heads},      {"feed", feed},
+                 {"fed", fed},       {"events", events},   {"next", next},        {"end", end},
+                 {"say", say},       {"take", take},       {"sayOne", say_alone}, {"callBatch", call_batch},
                  {"counts", counts}, {"pending", pending}, {"isDone", is_done}};
     if (bm_interface() != BM_INTERFACE)
         return thrown(env, "ERR_BULLMYRTLE_INTERFACE", "the library has another interface");

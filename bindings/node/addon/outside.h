@@ -60,6 +60,7 @@ void *malloc(size_t size);
 void *calloc(size_t count, size_t size);
 void free(void *at);
 void *memcpy(void *to, const void *from, size_t length);
+void *memmove(void *to, const void *from, size_t length);
 void *memchr(const void *at, int byte, size_t length);
 
 #endif

@@ -21,7 +21,10 @@ def pinned(processor: "int | None") -> list[str]:
     if processor is None:
         return []
     first = ["chrt", "-r", "1"]
-    may = shutil.which("chrt") and subprocess.run([*first, "true"], stderr=subprocess.DEVNULL, check=False).returncode == 0
+    may = (
+        shutil.which("chrt")
+        and subprocess.run([*first, "true"], stderr=subprocess.DEVNULL, check=False).returncode == 0
+    )
     return ["taskset", "-c", str(processor), *(first if may else [])]
 
 
@@ -29,7 +32,9 @@ def measured(drive: str, server: str, options: argparse.Namespace) -> dict[str, 
     # (the layered one knows no batches)
     rows = [it for it in ROWS if (server, it) != ("layered", "batches")]
     words = [*pinned(options.processor), drive, str(options.rounds), str(options.count), *rows, "--"]
-    ended = subprocess.run([*words, options.node, f"{HERE}/server.js", server], capture_output=True, text=True, timeout=600, check=True)
+    ended = subprocess.run(
+        [*words, options.node, f"{HERE}/server.js", server], capture_output=True, text=True, timeout=600, check=True
+    )
     return {name: (float(wall), float(used)) for name, wall, used in (it.split() for it in ended.stdout.splitlines())}
 
 
@@ -55,7 +60,10 @@ def main() -> None:
         ours = best["bullmyrtle"][row][0]
         cells = [f"{best[it][row][0]:.2f} ({best[it][row][1]:.2f})" if row in best[it] else "-" for it in SERVERS]
         ratios = [f"{best[it][row][0] / ours:.2f}" if row in best[it] else "-" for it in SERVERS[1:]]
-        print(f"{NAMES.get(row, row):18}" + "".join(f"{it:>22}" for it in cells) + f"{ratios[0]:>12}{ratios[1]:>9}", flush=True)
+        print(
+            f"{NAMES.get(row, row):18}" + "".join(f"{it:>22}" for it in cells) + f"{ratios[0]:>12}{ratios[1]:>9}",
+            flush=True,
+        )
     print("peak, KiB: " + ", ".join(f"{it} {best[it]['peak'][0]:,.0f}" for it in SERVERS))
 
 

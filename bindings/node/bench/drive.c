@@ -14,7 +14,7 @@
 #include <unistd.h>
 
 #define PLACE                                                                                                          \
-    "{\"textDocument\":{\"uri\":\"file:///home/someone/project/src/main.py\"},\"position\":{\"line\":12,"             \
+    "{\"textDocument\":{\"uri\":\"file:///home/someone/project/src/main.py\"},\"position\":{\"line\":12,"              \
     "\"character\":4}}"
 enum { LARGE = 4000000, PIECE = 1 << 16, IN_BATCH = 100, LARGE_COUNT = 5, FEWER = 10 };
 

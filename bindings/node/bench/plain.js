@@ -1,7 +1,7 @@
 'use strict'
-// Two message connections in plain JavaScript, to measure beside: a lean loop, and one put together in the layers in which
-// vscode-jsonrpc 8 is (from memory: the package isn't to be had here, and wasn't run). Both lack what a real one has
-// besides: they answer no broken input, and no batch by an array.
+// Two message connections in plain JavaScript, to measure beside: a lean loop, and one put together in the layers in
+// which vscode-jsonrpc 8 is (from memory: the package isn't to be had here, and wasn't run). Both lack what a real one
+// has besides: they answer no broken input, and no batch by an array.
 
 const { CancellationToken, CancellationTokenSource, ErrorCodes, ResponseError } = require('..')
 
@@ -166,13 +166,15 @@ class Connection {
 
   #request({ id, method, params }) {
     const handler = this.#requests.get(method)
-    if (handler === undefined) return this.#fail(id, new ResponseError(ErrorCodes.MethodNotFound, `Unhandled method ${method}`))
+    if (handler === undefined) {
+      return this.#fail(id, new ResponseError(ErrorCodes.MethodNotFound, `Unhandled method ${method}`))
+    }
     const source = new CancellationTokenSource()
     this.#tokens.set(id, source)
     try {
       const result = params === undefined ? handler(source.token) : handler(params, source.token)
-      if (typeof result?.then === 'function') return void result.then(it => this.#answer(id, it), error => this.#fail(id, error))
-      this.#answer(id, result)
+      if (typeof result?.then !== 'function') return this.#answer(id, result)
+      result.then(it => this.#answer(id, it), error => this.#fail(id, error))
     } catch (error) {
       this.#fail(id, error)
     }
@@ -185,8 +187,8 @@ class Connection {
 
   #fail(id, error) {
     this.#tokens.delete(id)
-    const literal = error instanceof ResponseError ? error.toJson() : { code: ErrorCodes.InternalError, message: error.message }
-    this.#write({ jsonrpc: '2.0', id, error: literal })
+    const it = error instanceof ResponseError ? error : new ResponseError(ErrorCodes.InternalError, error.message)
+    this.#write({ jsonrpc: '2.0', id, error: it.toJson() })
   }
 }
 
@@ -230,7 +232,8 @@ function createLayered(input, output) {
   }
   connection.listen = () => listen(input, body => reading.lock(async () => {
     const message = await Promise.resolve(JSON.parse(body.toString('utf8')))
-    queue.set(`${message.method === undefined ? 'res' : message.id === undefined ? 'not' : 'req'}-${message.id ?? ++count}`, message)
+    const kind = message.method === undefined ? 'res' : message.id === undefined ? 'not' : 'req'
+    queue.set(`${kind}-${message.id ?? ++count}`, message)
     trigger()
   }))
   return connection

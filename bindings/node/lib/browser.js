@@ -1,2 +1,3 @@
 'use strict'
-throw new Error("bullmyrtle has no part for browsers: its connection is an addon for Node.js. A browser can talk to it by WebSocket, by vscode-jsonrpc's or any other client.")
+throw new Error('bullmyrtle has no part for browsers: its connection is an addon for Node.js. A browser can talk to it '
+  + "by WebSocket, with vscode-jsonrpc's or any other client.")

@@ -66,7 +66,9 @@ const CancellationSenderStrategy = {
   is: value => typeof value?.sendCancellation === 'function' && typeof value.cleanup === 'function'
 }
 const CancellationStrategy = {
-  Message: Object.freeze({ receiver: CancellationReceiverStrategy.Message, sender: CancellationSenderStrategy.Message }),
+  Message: Object.freeze({
+    receiver: CancellationReceiverStrategy.Message, sender: CancellationSenderStrategy.Message
+  }),
   is: value => CancellationReceiverStrategy.is(value?.receiver) && CancellationSenderStrategy.is(value?.sender)
 }
 const IdCancellationReceiverStrategy = {

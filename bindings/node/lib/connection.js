@@ -43,7 +43,8 @@ function json(value, name) {
 
 function oneOf(names, value, name) {
   const at = names.indexOf(value)
-  if (at < 0) throw new TypeError(`${name} has to be ${names.map(it => `'${it}'`).join(' or ')}, and is ${inspect(value)}`)
+  const wanted = names.map(it => `'${it}'`).join(' or ')
+  if (at < 0) throw new TypeError(`${name} has to be ${wanted}, and is ${inspect(value)}`)
   return at
 }
 

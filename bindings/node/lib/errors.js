@@ -25,7 +25,7 @@ const REQUEST_CANCELLED = -32800
 class ResponseError extends Error {
   constructor(code, message, data) {
     super(message)
-    this.code = Number.isSafeInteger(code) ? code : ErrorCodes.UnknownErrorCode
+    this.code = Number.isInteger(code) ? code : ErrorCodes.UnknownErrorCode
     this.data = data
   }
 

@@ -12,24 +12,24 @@ const signatures = require('./signatures')
 const { NullLogger, ConnectionStrategy } = require('./messages')
 const { Handlers, handleRequest, handleNotification } = require('./handlers')
 const { Calls, refusal, rejected } = require('./calls')
+const { TEXTS } = require('./refused')
 const { Tracing, inspectorsTracer, Trace, TraceFormat, SetTraceNotification, LogTraceNotification } = require('./trace')
 const { ReadableStreamMessageReader, StreamMessageReader } = require('./readers')
 const { WriteableStreamMessageWriter, StreamMessageWriter } = require('./writers')
 const { StreamOutput, MessageOutput } = require('./outputs')
 const { Wire } = require('./wire')
+const { Turns } = require('./turns')
+const { settingsOf } = require('./settings')
+const { MCP_CANCEL, requestIdIn, OpenIds } = require('./mcp')
+
+const NO_JSON = 'the result, or the data of the error, is no JSON of at most 120 levels, or has half a surrogate pair'
 
 const New = 1
 const Listening = 2
 const Closed = 3
 const Disposed = 4
 
-/** So many messages may wait for an immediate of their own at once. */
-const IMMEDIATES = 64
 const PROGRESS = '$/progress'
-const MCP_CANCEL = 'notifications/cancelled'
-const PAUSE_OVER = 1 << 24
-const STALLED = 30_000
-const PROTOCOLS = { lsp: { framing: 'frames', cancels: true }, mcp: { framing: 'lines', cancels: false } }
 /** What works without its connection before it, as in `const { sendRequest } = connection`. */
 const BOUND = [
   'sendRequest', 'sendNotification', 'sendBatch', 'sendProgress', 'onRequest', 'onNotification', 'onProgress', 'trace',
@@ -50,29 +50,15 @@ const TEXTS_OF_ENDS = {
 }
 
 const describe = error => (typeof error?.message === 'string' ? error.message : undefined)
-const isThenable = it => it !== null && (typeof it === 'object' || typeof it === 'function') && typeof it.then === 'function'
-
-function settingsOf(options, isBytes) {
-  const protocol = options.protocol ?? 'lsp'
-  if (!Object.hasOwn(PROTOCOLS, protocol)) throw new TypeError("protocol has to be 'lsp' or 'mcp'")
-  const { framing, cancels } = PROTOCOLS[protocol]
-  const asked = isBytes ? options.framing ?? framing : 'contents'
-  if (isBytes && asked !== 'frames' && asked !== 'lines') throw new TypeError("framing has to be 'frames' or 'lines'")
-  const order = options.order ?? 'as-answered'
-  if (order !== 'as-answered' && order !== 'as-came') throw new TypeError("order has to be 'as-answered' or 'as-came'")
-  return {
-    framing: asked, order, cancels, content: options.content ?? 0, calls: options.calls ?? 0,
-    pauseOver: options.pauseOver ?? PAUSE_OVER, stalled: options.stalled ?? STALLED, wantsIds: false
-  }
-}
+const isObject = it => it !== null && (typeof it === 'object' || typeof it === 'function')
+const isThenable = it => isObject(it) && typeof it.then === 'function'
 
 class MessageConnection {
   #wire
   #from
   #to
   #logger
-  #isMcp
-  #isSocket // its pieces come one by one, with all microtasks between them
+  #openIds // where cancels are MCP's
   #strategy
   #messages // how each message is handled, if not at once
   #cancels
@@ -84,10 +70,7 @@ class MessageConnection {
   #tracing
   #running = new Map() // requests whose handlers go on, by their numbers
   #early = new Set() // requests that were cancelled before they began
-  #queue = []
-  #first = 0
-  #immediates = 0
-  #mustWait = false // what comes now has to wait until microtasks have run
+  #turns
   #errors
   #closes
   #disposes
@@ -105,33 +88,34 @@ class MessageConnection {
     if (isBytes !== to instanceof WriteableStreamMessageWriter) {
       throw new TypeError('a reader of a stream needs a writer of a stream, and one of messages one of messages')
     }
+    const settings = settingsOf(options, isBytes)
     this.#from = from
     this.#to = to
     this.#logger = logger ?? NullLogger
-    this.#isMcp = options.protocol === 'mcp'
-    this.#isSocket = isBytes && from.stream.constructor === net.Socket
+    if (options.protocol === 'mcp') this.#openIds = new OpenIds()
     this.#strategy = options.connectionStrategy
     this.#messages = options.messageStrategy
     this.#cancels = options.cancellationStrategy ?? cancellation.CancellationStrategy.Message
     this.#calls = new Calls(it => this.#sent(it), it => this.#withdraw(it))
     const output = isBytes ? new StreamOutput(to.stream) : new MessageOutput(to, error => this.#report(error))
-    const settings = settingsOf(options, isBytes)
-    settings.wantsIds = this.#isMcp || !!this.#strategy || !!this.#messages
-      || this.#cancels.receiver !== cancellation.CancellationReceiverStrategy.Message
+    settings.wantsIds = !!(this.#openIds || this.#strategy || this.#messages) || !this.#hasOwnTokens
     this.#wire = new Wire(settings, output, this)
+    const isSocket = isBytes && from.stream.constructor === net.Socket
+    this.#turns = new Turns(this, isSocket)
     for (const it of BOUND) this[it] = this[it].bind(this)
-    if (options.trace !== undefined) this.trace(Trace.Verbose, inspectorsTracer(options.trace), { traceFormat: TraceFormat.JSON })
+    if (options.trace === undefined) return
+    this.trace(Trace.Verbose, inspectorsTracer(options.trace), { traceFormat: TraceFormat.JSON })
   }
 
   // What comes: called by the wire
 
   told(kind, flags, number, code, name, body, id) {
     if (kind === TOLD.cancelled) return this.#tryTo(() => this.#cancelled(number))
-    if (this.#isMcp && kind === TOLD.call && flags === 0 && name === MCP_CANCEL) this.#cancelledById(body)
-    if (this.#queue.length > this.#first || (this.#mustWait && kind === TOLD.call)) {
-      this.#queue.push([kind, flags, number, code, name, body, id])
-      this.#runLater()
-    } else this.#act(kind, flags, number, code, name, body, id)
+    if (this.#openIds !== undefined && kind === TOLD.call) {
+      if (flags === 1) this.#openIds.add(number, id)
+      else if (name === MCP_CANCEL) this.#tryTo(() => this.#cancelledById(body))
+    }
+    this.#turns.take(kind, flags, number, code, name, body, id)
   }
 
   #tryTo(act) {
@@ -148,60 +132,33 @@ class MessageConnection {
   }
 
   refused(kind, number, why) {
-    if (kind === SAY.notify) return this.#report(refusal(why))
-    if (kind === SAY.answer && why === 'NotJson') {
-      return this.#wire.fail(number, ErrorCodes.InternalError, 'the result is no JSON of at most 120 levels, or has half a surrogate pair')
-    }
-    if (kind === SAY.fail && why === 'NotJson') return this.#wire.fail(number, ErrorCodes.InternalError, "the error's data are no JSON")
-    if (kind === SAY.answer && why === 'NoMemory') this.#wire.fail(number, ErrorCodes.InternalError, 'memory was refused')
-    if (kind !== SAY.withdraw) this.#logError(`what was said of call ${number} was refused: ${why}`)
+    const fail = text => this.#wire.fail(number, ErrorCodes.InternalError, text)
+    if (kind === SAY.withdraw) return // (it was too late)
+    if (why === 'NotJson') fail(NO_JSON)
+    else if (kind === SAY.answer && why === 'NoMemory') fail(TEXTS.NoMemory)
+    else this.#logError(`what was said of call ${number} was refused: ${why}`)
   }
 
   stalled(milliseconds) {
-    this.#report(new Error(`nothing of the output was taken for ${milliseconds / 1000} seconds: ${this.#wire.pending} bytes wait`))
+    const seconds = milliseconds / 1000
+    this.#report(new Error(`nothing of the output was taken for ${seconds} seconds: ${this.#wire.pending} bytes wait`))
+  }
+
+  outputFailed(error) {
+    this.#report(error)
+    this.#outputClosed(error)
   }
 
   pause() { this.#from.stream?.pause() }
   resume() { this.#from.stream?.resume() }
 
-  // After a handler that returned a promise, and after a reply, microtasks run before the next call begins, as in
-  // vscode-jsonrpc. An immediate each would turn the loop for each message, so many are set at once.
+  // When it is acted on: called by the turns
 
-  #runLater() {
-    const wanted = Math.min(this.#queue.length - this.#first, IMMEDIATES)
-    while (this.#immediates < wanted) {
-      this.#immediates++
-      setImmediate(runOne, this)
-    }
+  hold(act) {
+    this.#wire.hold(act)
   }
 
-  #waits() {
-    this.#mustWait = true
-    if (this.#isSocket || this.#immediates) return
-    this.#immediates++
-    setImmediate(runOne, this)
-  }
-
-  runOne() {
-    this.#immediates--
-    this.#mustWait = false
-    if (this.#first < this.#queue.length) this.#wire.hold(() => this.#goOn())
-  }
-
-  #goOn() {
-    while (this.#first < this.#queue.length && this.#state !== Disposed) {
-      const next = this.#queue[this.#first]
-      if (this.#mustWait && next[0] === TOLD.call) break
-      this.#queue[this.#first++] = undefined
-      this.#act(...next)
-    }
-    if (this.#first < this.#queue.length) return this.#runLater()
-    this.#queue = []
-    this.#first = 0
-    this.#lookWhetherIdle()
-  }
-
-  #act(kind, flags, number, code, name, body, id) {
+  act(kind, flags, number, code, name, body, id) {
     try {
       if (kind === TOLD.call) this.#called(number, flags === 1, name, body, id)
       else if (kind === TOLD.replied) this.#replied(number, flags === 1, code, name, body)
@@ -252,18 +209,23 @@ class MessageConnection {
         : handleRequest(one, method, params, source.token)
       if (!isThenable(result)) return this.#settle(number, request, result)
       this.#running.set(number, request)
-      this.#waits()
-      result.then(it => this.#finish(number, request, it), error => this.#finish(number, request, undefined, error, true))
+      this.#turns.wait()
+      result.then(
+        it => this.#finish(number, request, it), error => this.#finish(number, request, undefined, error, true)
+      )
     } catch (error) {
       this.#running.delete(number)
       this.#threw(number, request, error)
     }
   }
 
+  get #hasOwnTokens() {
+    return this.#cancels.receiver === cancellation.CancellationReceiverStrategy.Message
+  }
+
   #sourceOf(number, method, params, id) {
     const { receiver } = this.#cancels
-    const isOwn = receiver === cancellation.CancellationReceiverStrategy.Message
-    const source = isOwn ? new cancellation.CancellationTokenSource()
+    const source = this.#hasOwnTokens ? new cancellation.CancellationTokenSource()
       : receiver.createCancellationTokenSource(receiver.kind === 'request'
         ? { jsonrpc: '2.0', id: JSON.parse(id), method, params } : JSON.parse(id))
     if (this.#early.size && this.#early.delete(number)) source.cancel()
@@ -277,13 +239,14 @@ class MessageConnection {
     this.#running.delete(number)
     if (hasThrown) this.#threw(number, request, error)
     else this.#settle(number, request, result)
-    this.#lookWhetherIdle()
+    this.lookWhetherIdle()
   }
 
   #settle(number, request, result) {
     if (this.#state === Disposed) return
+    this.#openIds?.remove(number)
     if (result instanceof ResponseError) return this.#fail(number, request, result.code, result.message, result.data)
-    if (this.#isMcp && request.source?.token.isCancellationRequested) return this.#wire.cancel(number)
+    if (this.#isCancelledByMcp(request)) return this.#wire.cancel(number)
     const value = result === undefined ? null : result
     let json
     try {
@@ -291,9 +254,16 @@ class MessageConnection {
     } catch (error) {
       return this.#threw(number, request, error)
     }
-    if (json === undefined) return this.#threw(number, request, new Error(`the result is no JSON, but a ${typeof result}`))
+    if (json === undefined) {
+      return this.#threw(number, request, new Error(`the result is no JSON, but a ${typeof result}`))
+    }
     this.#wire.answer(number, json)
     this.#tracing?.sentResponse(JSON.parse(request.id), request.method, request.started, undefined, value)
+  }
+
+  /** Nobody waits for an answer that MCP's cancel has made unwanted. */
+  #isCancelledByMcp(request) {
+    return this.#openIds !== undefined && request.source?.token.isCancellationRequested
   }
 
   #threw(number, request, error) {
@@ -305,7 +275,8 @@ class MessageConnection {
   }
 
   #fail(number, request, code, message, data) {
-    if (this.#isMcp && request.source?.token.isCancellationRequested) return this.#wire.cancel(number)
+    this.#openIds?.remove(number)
+    if (this.#isCancelledByMcp(request)) return this.#wire.cancel(number)
     const error = new ResponseError(code, String(message), data)
     let json
     try {
@@ -313,7 +284,8 @@ class MessageConnection {
     } catch (reason) {
       return this.#fail(number, request, ErrorCodes.InternalError, `the error's data are no JSON: ${describe(reason)}`)
     }
-    this.#wire.fail(number, error.code, error.message, json)
+    const whole = Number.isSafeInteger(error.code) ? error.code : ErrorCodes.UnknownErrorCode
+    this.#wire.fail(number, whole, error.message, json)
     this.#tracing?.sentResponse(JSON.parse(request.id), request.method, request.started, error.toJson())
   }
 
@@ -321,16 +293,22 @@ class MessageConnection {
     this.#tracing?.notification(false, method, params)
     const one = this.#notifications.get(method)
     try {
-      const result = one !== undefined ? handleNotification(one, method, params, it => this.#logError(it))
-        : this.#isOwn(method, params) ? undefined
-          : this.#notifications.star !== undefined ? this.#notifications.star(method, params)
-            : this.#unhandled?.fire(params === undefined ? { jsonrpc: '2.0', method } : { jsonrpc: '2.0', method, params })
+      const result = one === undefined
+        ? this.#withoutHandler(method, params)
+        : handleNotification(one, method, params, it => this.#logError(it))
       if (!isThenable(result)) return
-      this.#waits()
+      this.#turns.wait()
       result.then(undefined, error => this.#notificationFailed(method, error))
     } catch (error) {
       this.#notificationFailed(method, error)
     }
+  }
+
+  #withoutHandler(method, params) {
+    if (this.#isOwn(method, params)) return undefined
+    if (this.#notifications.star !== undefined) return this.#notifications.star(method, params)
+    this.#unhandled?.fire(params === undefined ? { jsonrpc: '2.0', method } : { jsonrpc: '2.0', method, params })
+    return undefined
   }
 
   #notificationFailed(method, error) {
@@ -342,14 +320,15 @@ class MessageConnection {
   /** Notifications that the connection itself handles: progress, and what is to be traced. */
   #isOwn(method, given) {
     const params = Array.isArray(given) ? { token: given[0], value: given[1] } : given
-    if (method === PROGRESS && !this.#isMcp && params !== undefined) {
+    if (method === PROGRESS && this.#openIds === undefined && params !== undefined) {
       const handler = this.#progress?.get(params.token)
       if (handler) handler(params.value)
       else this.#unhandledProgress?.fire(params)
       return true
     }
-    if (method === LogTraceNotification.type.method && params !== undefined) this.#tracing?.log(params.message, params.verbose)
-    return method === LogTraceNotification.type.method || (this.#isMcp && method === MCP_CANCEL)
+    const isLog = method === LogTraceNotification.type.method
+    if (isLog && params !== undefined) this.#tracing?.log(params.message, params.verbose)
+    return isLog || (this.#openIds !== undefined && method === MCP_CANCEL)
   }
 
   // Cancels
@@ -357,36 +336,33 @@ class MessageConnection {
   #cancelled(number) {
     const running = this.#running.get(number)
     if (running !== undefined) return running.source.cancel()
-    const at = this.#queue.findIndex(it => it !== undefined && it[0] === TOLD.call && it[2] === number)
-    if (at >= 0 && !this.#isUndispatched(at)) this.#early.add(number)
+    const call = this.#turns.call(number)
+    if (call !== undefined && !this.#isUndispatched(number, call)) this.#early.add(number)
   }
 
   /** Whether a strategy answers a request that hasn't begun. */
-  #isUndispatched(at) {
+  #isUndispatched(number, { method, json, id }) {
     if (!ConnectionStrategy.is(this.#strategy)) return false
-    const [, , number, , method, json, id] = this.#queue[at]
     const message = { jsonrpc: '2.0', id: JSON.parse(id), method, params: json && JSON.parse(json) }
     const response = this.#strategy.cancelUndispatched(message, () => undefined)
     if (!response || (response.error === undefined && response.result === undefined)) return false
-    this.#queue.splice(at, 1)
+    this.#turns.drop(number)
     const request = { method, id, started: Date.now() }
-    if (response.error) this.#fail(number, request, response.error.code, response.error.message, response.error.data)
+    const { error } = response
+    if (error) this.#fail(number, request, error.code, error.message, error.data)
     else this.#settle(number, request, response.result)
     return true
   }
 
-  /** MCP's cancel, which names a request by its id. */
   #cancelledById(json) {
     const id = requestIdIn(json)
-    if (id === undefined) return
-    for (const [number, request] of this.#running) if (request.id === id) return request.source.cancel()
-    const waiting = this.#queue.find(it => it !== undefined && it[0] === TOLD.call && it[6] === id)
-    if (waiting !== undefined) this.#early.add(waiting[2])
+    if (id !== undefined) for (const number of this.#openIds.of(id)) this.#cancelled(number)
   }
 
   #withdraw(call) {
-    if (this.#isMcp) {
-      this.#wire.notify(MCP_CANCEL, `{"requestId":${call.key}}`)
+    if (this.#openIds !== undefined) {
+      const note = { told() {}, refused: why => this.#report(refusal(why)) }
+      this.#wire.notify(MCP_CANCEL, `{"requestId":${call.key}}`, note)
       return this.#calls.giveUp(call)
     }
     const { sender } = this.#cancels
@@ -409,7 +385,7 @@ class MessageConnection {
     if (call === undefined) return
     const value = json === undefined ? undefined : JSON.parse(json)
     const error = isError ? new ResponseError(code, message, value) : undefined
-    this.#waits()
+    this.#turns.wait()
     if (this.#cancels.sender !== cancellation.CancellationSenderStrategy.Message) this.#cancels.sender.cleanup(key)
     this.#tracing?.receivedResponse(key, call.method, call.started, error?.toJson(), value)
     if (isError) call.reject(error)
@@ -502,14 +478,17 @@ class MessageConnection {
     tracing.set(value, tracer, traceFormat)
     this.#tracing = tracing.isOn ? tracing : undefined
     if (tracing.isOn) this.#wire.wantIds()
-    if (sendNotification && this.#state < Closed) await this.sendNotification(SetTraceNotification.type, { value: Trace.toString(value) })
+    if (!sendNotification || this.#state >= Closed) return
+    await this.sendNotification(SetTraceNotification.type, { value: Trace.toString(value) })
   }
 
   // The life of a connection
 
   listen() {
     this.#checkUsable()
-    if (this.#state === Listening) throw new ConnectionError(ConnectionErrors.AlreadyListening, 'Connection is already listening')
+    if (this.#state === Listening) {
+      throw new ConnectionError(ConnectionErrors.AlreadyListening, 'Connection is already listening')
+    }
     this.#state = Listening
     const from = this.#from
     const to = this.#to
@@ -534,7 +513,7 @@ class MessageConnection {
 
   #listenTo(stream) {
     this.#on(stream, 'data', piece => {
-      if (this.#isSocket) this.#mustWait = this.#queue.length > this.#first
+      this.#turns.piece()
       if (isUint8Array(piece)) this.#wire.feed(piece)
       else if (typeof piece === 'string') this.#wire.feed(Buffer.from(piece))
       else this.#readFailed(new TypeError(`a stream of bytes is needed, and it gave a ${typeof piece}`))
@@ -600,12 +579,12 @@ class MessageConnection {
 
   /** Whether messages wait for their immediates. */
   get isBusy() {
-    return this.#immediates > 0 && this.#queue.length > this.#first
+    return this.#turns.isBusy
   }
 
   /** How many requests' handlers go on, and calls wait for theirs to begin. */
   get open() {
-    return this.#running.size + this.#queue.length - this.#first
+    return this.#running.size + this.#turns.count
   }
 
   /** Settled once none are open. */
@@ -613,7 +592,7 @@ class MessageConnection {
     return this.open === 0 ? Promise.resolve() : new Promise(resolve => this.#idle.push(resolve))
   }
 
-  #lookWhetherIdle() {
+  lookWhetherIdle() {
     if (this.#idle.length && this.open === 0) for (const it of this.#idle.splice(0)) it()
   }
 
@@ -632,9 +611,10 @@ class MessageConnection {
     for (const [number, { source }] of [...this.#running]) {
       this.#running.delete(number)
       source.cancel()
+      this.#openIds?.remove(number)
       this.#wire.cancel(number)
     }
-    this.#lookWhetherIdle()
+    this.lookWhetherIdle()
   }
 
   end() {
@@ -654,9 +634,8 @@ class MessageConnection {
     this.#calls.rejectAll('connection got disposed')
     for (const it of this.#detach.splice(0)) it?.dispose?.()
     this.#running.clear()
-    this.#queue = []
-    this.#first = 0
-    this.#lookWhetherIdle()
+    this.#turns.clear()
+    this.lookWhetherIdle()
     this.#disposes?.fire(undefined)
     this.#to.dispose?.()
     this.#from.dispose?.()
@@ -680,32 +659,21 @@ class MessageConnection {
   }
 }
 
-function runOne(connection) {
-  connection.runOne()
-}
-
 /** Params as JSON, or the error with which what is sent is rejected. */
 function written(method, params) {
   try {
     if (typeof method !== 'string' || !isWellFormed(method)) throw new TypeError('the method is no text')
     return { json: params === undefined ? undefined : JSON.stringify(params), error: undefined }
   } catch (error) {
-    return { json: undefined, error: new ResponseError(ErrorCodes.MessageWriteError, describe(error) ?? 'Unknown reason') }
+    const text = describe(error) ?? 'Unknown reason'
+    return { json: undefined, error: new ResponseError(ErrorCodes.MessageWriteError, text) }
   }
 }
 
-/** The id in the params of MCP's cancel, digit for digit. */
-function requestIdIn(json) {
-  const id = json === undefined ? undefined : JSON.parse(json).requestId
-  if (typeof id === 'string' || Number.isSafeInteger(id)) return JSON.stringify(id)
-  if (typeof id !== 'number') return undefined
-  // (a number is read with a loss: it is read again as a string)
-  const exact = json.replace(/("(?:[^"\\]|\\.)*")|(?<![\w.+-])-?[0-9]{16,}(?![\w.])/g, (it, text) => text ?? `"${it}"`)
-  return JSON.parse(exact).requestId
-}
-
 function createMessageConnection(input, output, logger, options = {}) {
-  if (typeof input?.listen !== 'function' && typeof input?.on !== 'function') throw new TypeError('an input has to be a stream or a reader')
+  if (typeof input?.listen !== 'function' && typeof input?.on !== 'function') {
+    throw new TypeError('an input has to be a stream or a reader')
+  }
   if (typeof output?.write !== 'function') throw new TypeError('an output has to be a stream or a writer')
   const from = typeof input?.listen === 'function' ? input : new StreamMessageReader(input)
   const isWriter = typeof output?.dispose === 'function' || typeof output?.on !== 'function'

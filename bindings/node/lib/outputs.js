@@ -57,8 +57,12 @@ class MessageOutput {
 
   write(from, length) {
     const text = from.utf8Slice(0, length)
-    const writing = this.#writer.writeText ? this.#writer.writeText(text) : this.#writer.write(JSON.parse(text))
-    writing?.then?.(undefined, this.#onError)
+    try {
+      const writing = this.#writer.writeText ? this.#writer.writeText(text) : this.#writer.write(JSON.parse(text))
+      writing?.then?.(undefined, this.#onError)
+    } catch (error) {
+      this.#onError(error)
+    }
     return true
   }
 

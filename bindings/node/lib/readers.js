@@ -1,6 +1,6 @@
 'use strict'
-// Readers of messages, as vscode-jsonrpc has them. From a StreamMessageReader a connection takes the stream, and reads it
-// by itself; of all others it takes whole messages.
+// Readers of messages, as vscode-jsonrpc has them. From a StreamMessageReader a connection takes the stream, and reads
+// it by itself; of all others it takes whole messages.
 
 const { Emitter, Disposable } = require('./events')
 
@@ -13,7 +13,8 @@ class AbstractMessageReader {
   get onPartialMessage() { return () => Disposable.create(() => {}) }
 
   fireError(error) {
-    this.#onError.fire(error instanceof Error ? error : new Error(`Reader received error. Reason: ${error?.message ?? 'unknown'}`))
+    const text = `Reader received error. Reason: ${error?.message ?? 'unknown'}`
+    this.#onError.fire(error instanceof Error ? error : new Error(text))
   }
 
   fireClose() {
@@ -145,7 +146,7 @@ class WebSocketMessageReader extends AbstractMessageReader {
       else if (Array.isArray(data)) callback(Buffer.concat(data))
       else if (data instanceof ArrayBuffer) callback(Buffer.from(data))
       else if (ArrayBuffer.isView(data)) callback(Buffer.from(data.buffer, data.byteOffset, data.byteLength))
-      else this.fireError(new TypeError('a message of a WebSocket has to be a text or bytes: set binaryType to arraybuffer'))
+      else this.fireError(new TypeError('a message has to be a text or bytes: set binaryType to arraybuffer'))
     })
     return Disposable.create(() => {})
   }

@@ -18,8 +18,8 @@ function joined({ server = {}, client = {}, logger, highWaterMark } = {}) {
 }
 
 /**
- * Carries bytes between two connections of the lower floor until neither has any, and gives how many they were. Ask both
- * for their events afterwards: these may make new bytes.
+ * Carries bytes between two connections of the lower floor until neither has any, and gives how many they were. Ask
+ * both for their events afterwards: these may make new bytes.
  */
 function carry(one, other) {
   let carried = 0

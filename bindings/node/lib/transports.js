@@ -13,11 +13,11 @@ const LONGEST = 107 // of the name of a socket in Linux
 function generateRandomPipeName() {
   const name = `bullmyrtle-${crypto.randomBytes(12).toString('hex')}.sock`
   const found = path.join(process.env.XDG_RUNTIME_DIR ?? os.tmpdir(), name)
-  if (Buffer.byteLength(found) > LONGEST) throw new Error(`Unable to generate a random pipe name with ${LONGEST} characters.`)
-  return found
+  if (Buffer.byteLength(found) <= LONGEST) return found
+  throw new Error(`Unable to generate a random pipe name with ${LONGEST} characters.`)
 }
 
-const both = (socket, encoding) => [new SocketMessageReader(socket, encoding), new SocketMessageWriter(socket, encoding)]
+const both = (...given) => [new SocketMessageReader(...given), new SocketMessageWriter(...given)]
 
 /** Waits for one connection. */
 function waitAt(address, encoding) {

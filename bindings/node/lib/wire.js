@@ -10,6 +10,7 @@ const { sharedRoom, MOST } = require('./outputs')
 
 const NOTHING = Buffer.alloc(0)
 const KEY = 2 // where the key of a call stands that is said alone
+const RETRY = 10 // so many milliseconds after memory was refused, events are asked for again
 const FEW = 64 // an array of more sayings isn't kept
 const flushOf = wire => wire.flush()
 
@@ -81,7 +82,11 @@ class Wire {
   }
 
   fail(number, code, message, json) {
-    if (UNUSUAL.test(message)) return void this.#sayAlone(SAY.fail, number, code, message, json)
+    if (UNUSUAL.test(message)) {
+      const refused = this.#sayAlone(SAY.fail, number, code, message, json)
+      if (refused !== OK) this.#hearer.refused(SAY.fail, number, CODES[refused])
+      return
+    }
     this.#push(json === undefined ? SAY.fail | ALONE : SAY.fail, number, code)
     this.#text(message)
     if (json !== undefined) this.#text(json)
@@ -111,7 +116,7 @@ class Wire {
   /** Calls several times in one message: the first key, or a refusal's name. */
   callBatch(calls) {
     this.#cross(NOTHING)
-    const parts = calls.flatMap(([method, json]) => [Buffer.from(method), json === undefined ? NOTHING : Buffer.from(json)])
+    const parts = calls.flat().map(it => (it === undefined ? NOTHING : Buffer.from(it)))
     const code = native.callBatch(this.#handle, 0, Buffer.concat(parts), Uint32Array.from(parts, it => it.length))
     this.#schedule()
     return code === OK ? native.says[KEY] : CODES[code]
@@ -173,13 +178,14 @@ class Wire {
     return taken
   }
 
-  /** What was refused of that which came before a call or a notification of ours: kind, number, why. */
+  /** What was refused that isn't a call or a notification, which have who waits for them: kind, number, why. */
   #refusals(count) {
     const found = []
     for (let i = 0; i < count; i++) {
       const code = native.says[BEFORE_SAYINGS + i * SAYING]
       const kind = this.#said[i * SAYING] & (ALONE - 1)
-      if (code !== OK && kind !== SAY.call) found.push([kind, this.#said[i * SAYING + 1], CODES[code]])
+      if (code === OK || kind === SAY.call || kind === SAY.notify) continue
+      found.push([kind, this.#said[i * SAYING + 1], CODES[code]])
     }
     return found
   }
@@ -211,7 +217,7 @@ class Wire {
         if ((this.#isBlocked && !isForced) || (taken < room.length && !this.#isContents)) break
         const rest = native.pending(this.#handle)
         if (rest === 0) break
-        room = rest <= sharedRoom().length ? sharedRoom() : Buffer.allocUnsafeSlow(this.#isContents ? rest : Math.min(rest, MOST))
+        room = this.#roomFor(rest)
         taken = native.take(this.#handle, room)
       }
       // (a stream in memory may have brought bytes, and they answers, before write returned)
@@ -225,13 +231,28 @@ class Wire {
     return has
   }
 
+  #roomFor(length) {
+    if (length <= sharedRoom().length) return sharedRoom()
+    return Buffer.allocUnsafeSlow(this.#isContents ? length : Math.min(length, MOST))
+  }
+
   #write(room, taken) {
-    if (this.#isGone || this.#output.write(room, taken) || this.#isBlocked) return
+    if (this.#isGone || this.#put(room, taken) || this.#isBlocked) return
     this.#isBlocked = true
     this.#output.onDrain(() => this.#drained())
     if (this.stalled) {
       this.#stall = setTimeout(() => this.#hearer.stalled(this.stalled), this.stalled)
       this.#stall.unref()
+    }
+  }
+
+  /** Whether the output takes more. */
+  #put(room, taken) {
+    try {
+      return this.#output.write(room, taken)
+    } catch (error) {
+      this.#hearer.outputFailed(error)
+      return true
     }
   }
 
@@ -247,7 +268,7 @@ class Wire {
     for (const it of this.#unblocked.splice(0)) it()
   }
 
-  /** Stops the input where very much waits: two sides that stop as soon as a write does wait for each other for ever. */
+  /** Stops the input where very much waits. Two sides that stop as soon as a write does wait for each other. */
   #pause() {
     if (this.#isPaused || native.pending(this.#handle) <= this.pauseOver) return
     this.#isPaused = true
@@ -281,7 +302,7 @@ class Wire {
   feed(bytes) {
     if (this.#hasEnded || this.#isFreed) return
     if (this.#isHeld) return void this.#later.push(bytes)
-    this.#hearBy(place => native.fed(this.#handle, bytes, place, this.#wantsIds))
+    this.#hearBy(place => native.fed(this.#handle, bytes, place, this.#wantsIds), true)
     this.flush() // (also without events: broken input has answers)
     this.#feedLater()
   }
@@ -306,24 +327,25 @@ class Wire {
     this.flush()
   }
 
-  #hearBy(ask) {
+  #hearBy(ask, isFed = false) {
     const room = borrowHeads()
     this.#isHeld = true
     try {
-      this.#hear(room, ask(room.place))
+      this.#hear(room, ask(room.place), isFed)
     } finally {
       this.#isHeld = false
       returnHeads(room)
     }
   }
 
-  #hear(room, told) {
+  #hear(room, told, hasFed) {
     const { heads, place } = room
     const hearer = this.#hearer
     let texts = told
+    let isFed = hasFed
     for (;;) {
-      if (heads[0] !== OK) return void hearer.fault(CODES[heads[0]])
-      if (texts === undefined) return
+      if (heads[0] !== OK) return isFed ? hearer.fault(CODES[heads[0]]) : this.#hearLater()
+      if (texts === undefined) return heads[2] ? this.#hearLater() : undefined
       const gap = heads[3]
       for (let left = heads[1], head = BEFORE_HEADS, at = 0; left > 0; left--, head += HEAD) {
         const word = heads[head]
@@ -341,7 +363,17 @@ class Wire {
       if (!heads[2]) return
       if (this.#count && !this.#isFlushing) this.#cross(NOTHING) // (few open calls cost the connection less than many)
       texts = native.events(this.#handle, place, this.#wantsIds)
+      isFed = false
     }
+  }
+
+  /** There was no memory for an event, which comes again. */
+  #hearLater() {
+    setTimeout(() => {
+      if (this.#isFreed || this.#isHeld) return
+      this.#hearBy(place => native.events(this.#handle, place, this.#wantsIds))
+      this.flush()
+    }, RETRY)
   }
 
   /** Does something during which nothing crosses; what is said in it is written later, with what follows. */

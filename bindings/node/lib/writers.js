@@ -1,6 +1,6 @@
 'use strict'
-// Writers of messages, as vscode-jsonrpc has them. Of a StreamMessageWriter a connection takes the stream, and writes to it
-// by itself; to all others it gives whole messages.
+// Writers of messages, as vscode-jsonrpc has them. Of a StreamMessageWriter a connection takes the stream, and writes
+// to it by itself; to all others it gives whole messages.
 
 const { Emitter } = require('./events')
 const { refuseDecoders } = require('./readers')
@@ -13,8 +13,8 @@ class AbstractMessageWriter {
   get onClose() { return this.#onClose.event }
 
   fireError(error, message, count) {
-    const made = error instanceof Error ? error : new Error(`Writer received error. Reason: ${error?.message ?? 'unknown'}`)
-    this.#onError.fire([made, message, count])
+    const text = `Writer received error. Reason: ${error?.message ?? 'unknown'}`
+    this.#onError.fire([error instanceof Error ? error : new Error(text), message, count])
   }
 
   fireClose() {

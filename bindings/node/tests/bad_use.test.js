@@ -4,7 +4,7 @@
 const assert = require('node:assert/strict')
 const { test } = require('node:test')
 const { PassThrough, Readable } = require('node:stream')
-const { bullmyrtle, Raw, request, until, sleep, withBoth, rejectsWith } = require('./helping')
+const { bullmyrtle, Raw, frame, request, until, withBoth, rejectsWith, turns } = require('./helping')
 
 const { ResponseError, ErrorCodes } = bullmyrtle
 const ring = {}
@@ -29,6 +29,7 @@ const BAD_RESULTS = {
   thenThrows: () => ({ then() { throw new Error('from then()') } }),
   data: () => { throw new ResponseError(1, 'm', 1n) },
   deepData: () => { throw new ResponseError(1, 'm', deep) },
+  deepDataInLines: () => { throw new ResponseError(1, 'm\nn', deep) },
   thrownProxy: () => { throw Object.create(null, { message: { get() { return 'got' } } }) }
 }
 
@@ -84,7 +85,7 @@ test('a handler that answers twice, or never', async () => {
   raw.connection.onRequest('never', () => new Promise(() => {}))
   raw.connection.onRequest('m', () => 'm')
   const found = await raw.say(2, request(1, 'never'), request(2, 'twice'), request(3, 'm'))
-  await sleep(2)
+  await turns()
   assert.deepEqual(found.map(it => it.result), [1, 'm'])
   assert.deepEqual(raw.log.errors, ['Request twice was answered twice.', 'Request twice was answered twice.'])
   assert.equal(raw.connection.open, 1)
@@ -143,6 +144,40 @@ test('streams that give no bytes', async () => {
   connection.listen()
   await until(() => connection.reason)
   assert.deepEqual([connection.reason.how, errors], ['Read', ['a stream of bytes is needed, and it gave a object']])
+})
+
+test('a stream, and a writer, whose write throws', async () => {
+  const input = new PassThrough()
+  const broken = { on() {}, off() {}, once() {}, end() {}, write() { throw new Error('no stream') } }
+  const errors = []
+  const connection = bullmyrtle.createMessageConnection(input, broken)
+  connection.onError(([it]) => errors.push(it.message))
+  connection.listen()
+  await rejectsWith(connection.sendRequest('m'), ErrorCodes.PendingResponseRejected)
+  assert.deepEqual([connection.reason.how, errors], ['OutputClosed', ['no stream']])
+
+  const none = () => ({ dispose() {} })
+  const reader = { listen(callback) { this.callback = callback; return none() }, onError: none, onClose: none, dispose() {} }
+  const writer = { write() { throw new Error('no writer') }, onError: none, onClose: none, end() {}, dispose() {} }
+  const whole = bullmyrtle.createMessageConnection(reader, writer)
+  whole.onError(([it]) => errors.push(it.message))
+  whole.listen()
+  reader.callback(request(1, 'm'))
+  await until(() => errors.length === 2)
+  assert.deepEqual([whole.reason, errors[1]], [undefined, 'no writer'])
+  whole.dispose()
+})
+
+test('codes of errors that no number of JavaScript holds', async () => {
+  const raw = new Raw().listen()
+  raw.connection.onRequest('m', () => { throw new ResponseError(2 ** 60, 'large') })
+  const [answer] = await raw.say(1, request(1, 'm'))
+  assert.deepEqual(answer.error, { code: ErrorCodes.UnknownErrorCode, message: 'large' })
+  const call = raw.connection.sendRequest('x')
+  await until(() => raw.written.length === 2)
+  raw.write(frame('{"jsonrpc":"2.0","id":1,"error":{"code":9223372036854775807,"message":"max"}}'))
+  await rejectsWith(call, 2 ** 63, 'max')
+  raw.connection.dispose()
 })
 
 test('settings that there cannot be', () => {

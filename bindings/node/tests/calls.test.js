@@ -3,7 +3,7 @@
 
 const assert = require('node:assert/strict')
 const { test } = require('node:test')
-const { bullmyrtle, Raw, request, notice, withBoth, rejectsWith, until, sleep } = require('./helping')
+const { bullmyrtle, Raw, request, notice, withBoth, rejectsWith, until, sleep, turns } = require('./helping')
 
 const { CancellationTokenSource, CancellationToken, ResponseError } = bullmyrtle
 const both = (register, act) => withBoth((server, client) => {
@@ -85,7 +85,7 @@ test('a token cancels in each state', async () => {
   raw.write({ jsonrpc: '2.0', id: 1, error: { code: -32800, message: 'gone' } }, { jsonrpc: '2.0', id: 2, result: 'after all' })
   await rejectsWith(first, -32800, 'gone')
   assert.equal(await second, 'after all')
-  await sleep(5)
+  await turns()
   assert.equal(raw.written.length, 5)
   assert.equal(raw.connection.counts().waiting, 0)
   raw.connection.dispose()
@@ -108,6 +108,7 @@ test('a cancel reaches a handler in each state', async () => {
   await until(() => seen.length === 1)
   assert.deepEqual(await raw.say(1, cancel(1)), [{ error: { code: -32800, message: 'stopped' }, id: 1, jsonrpc: '2.0' }])
   // before it began, behind another one
+  await turns()
   const found = await raw.say(2, request(2, 'slow', { n: 2 }), request(3, 'slow', { n: 3 }), cancel(3), cancel(2))
   assert.deepEqual(found.map(it => it.id).sort(), [2, 3])
   assert.deepEqual(seen.slice(1), [['begun', 2, false], ['begun', 3, true]])
@@ -133,11 +134,11 @@ test('a cancel of an id with 20 digits', async () => {
   const text = '{"jsonrpc":"2.0","method":"$/cancelRequest","params":{"id":18446744073709551615}}'
   raw.write(Buffer.from([one, other, text].map(it => `Content-Length: ${it.length}\r\n\r\n${it}`).join('')))
   await until(() => ended.length === 1 && raw.written.length === 1)
-  await sleep(5)
+  await turns()
   assert.equal(raw.connection.open, 1)
   tools.input.write(`${one}\n${other}\n{"jsonrpc":"2.0","method":"notifications/cancelled","params":{"reason":"18446744073709551614","requestId":18446744073709551615}}\n`)
   await until(() => ended.length === 2 && tools.written.length === 1)
-  await sleep(5)
+  await turns()
   assert.equal(tools.connection.open, 1)
   raw.connection.dispose()
   tools.connection.dispose()
@@ -161,7 +162,7 @@ test("MCP's cancels", async () => {
   await until(() => raw.written.length === 3)
   assert.deepEqual(raw.written[2], { jsonrpc: '2.0', method: 'notifications/cancelled', params: { requestId: 1 } })
   raw.write({ jsonrpc: '2.0', id: 1, result: 'too late' })
-  await sleep(5)
+  await turns()
   assert.equal(raw.connection.hasPendingResponse(), false)
   raw.connection.dispose()
 })

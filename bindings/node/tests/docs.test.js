@@ -11,6 +11,7 @@ const { spawnSync } = require('node:child_process')
 const PACKAGE = path.dirname(__dirname)
 const TOP = path.join(PACKAGE, '..', '..')
 const PAGE = path.join(TOP, 'docs', 'node.md')
+const { version } = require('../package.json')
 const README = path.join(PACKAGE, 'README.md')
 
 const blocksOf = file => [...fs.readFileSync(file, 'utf8').matchAll(/^```(\w*)\n(.*?)^```$/gms)].map(([, kind, text]) => ({ kind, text }))
@@ -72,7 +73,7 @@ test('the package that npm packs is whole, and installs without a network', { sk
   const user = path.join(folder, 'user')
   fs.mkdirSync(user)
   fs.writeFileSync(path.join(user, 'package.json'), '{"name":"user","private":true}')
-  const installed = npm(user, 'install', '--offline', '--no-audit', '--no-fund', path.join(folder, 'bullmyrtle-0.1.0.tgz'))
+  const installed = npm(user, 'install', '--offline', '--no-audit', '--no-fund', path.join(folder, `bullmyrtle-${version}.tgz`))
   assert.equal(installed.status, 0, installed.stderr)
   fs.rmSync(copy, { recursive: true })
   const program = 'const { Connection } = require("bullmyrtle"); console.log(new Connection().pending, Object.keys(require("bullmyrtle/testing")).join())'

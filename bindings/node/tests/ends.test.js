@@ -7,7 +7,7 @@ const path = require('node:path')
 const { spawn } = require('node:child_process')
 const { once } = require('node:events')
 const { PassThrough, Writable } = require('node:stream')
-const { bullmyrtle, Raw, request, notice, until, sleep, rejectsWith, withBoth, frame } = require('./helping')
+const { bullmyrtle, Raw, request, notice, until, sleep, rejectsWith, withBoth, frame, turns } = require('./helping')
 
 const { ConnectionErrors, ErrorCodes } = bullmyrtle
 
@@ -23,7 +23,7 @@ async function endOf(bytes, options = {}, error) {
   if (error) raw.input.destroy(error)
   else raw.input.end()
   await until(() => closes.length)
-  await sleep(2)
+  await turns()
   assert.equal(closes.length, 1)
   assert.equal(raw.connection.reason, closes[0])
   return { how: closes[0].how, error: closes[0].error?.message, errors, written: raw.written, connection: raw.connection }
@@ -67,11 +67,13 @@ test('calls that wait are rejected at the end, and no more can be made', async (
 
 test('requests that go on at the end are answered all the same', async () => {
   const raw = new Raw().listen()
-  raw.connection.onRequest('slow', async () => { await sleep(20); return 'late' })
+  let release
+  raw.connection.onRequest('slow', () => new Promise(resolve => { release = resolve }))
   raw.write(request(1, 'slow'))
   raw.input.end()
   await until(() => raw.connection.reason)
   assert.equal(raw.connection.open, 1)
+  release('late')
   await raw.connection.settled()
   await raw.connection.drained()
   assert.deepEqual(raw.written, [{ id: 1, jsonrpc: '2.0', result: 'late' }])
@@ -115,16 +117,24 @@ test('dispose inside a handler, and inside a write that brings bytes', async () 
     raw.connection.onRequest('plain', () => { raw.connection.dispose(); return 1 })
     raw.connection.onRequest('async', async () => { await null; raw.connection.dispose(); return 1 })
     raw.write(request(1, when), request(2, when))
-    await sleep(5)
+    await turns()
     assert.deepEqual(raw.written, [])
   }
   const input = new PassThrough()
   let connection
-  const output = new Writable({ write(chunk, encoding, done) { connection.dispose(); done() } })
+  let late
+  const output = new Writable({
+    write(chunk, encoding, done) {
+      late ??= assert.rejects(connection.sendRequest('late'), { code: ErrorCodes.PendingResponseRejected })
+      connection.dispose()
+      done()
+    }
+  })
   connection = bullmyrtle.createMessageConnection(input, output)
   connection.listen()
   const call = connection.sendRequest('m')
   await rejectsWith(call, ErrorCodes.PendingResponseRejected)
+  await late
 })
 
 test('listening twice, and calling before it', () => {
@@ -157,7 +167,7 @@ test('an output that fails', async () => {
   assert.deepEqual([connection.reason.how, connection.reason.error.message, errors], ['OutputClosed', 'no reader', ['no reader']])
   await connection.drained()
   input.write(frame(request(1, 'm')))
-  await sleep(5)
+  await turns()
   connection.dispose()
 })
 
@@ -191,7 +201,7 @@ async function ran(protocol, ...steps) {
 }
 
 test('run: all is answered, and the status is 0', async () => {
-  const found = await ran('mcp', request(1, 'late', { ms: 50 }), request(2, 'print'))
+  const found = await ran('mcp', request(1, 'late', { ms: 20 }), request(2, 'print'))
   assert.equal(found.status, 0)
   assert.deepEqual(found.out.split('\n').filter(Boolean).map(it => JSON.parse(it).id).sort(), [1, 2])
   assert.match(found.errors, /by console/)

@@ -3,7 +3,7 @@
 
 const assert = require('node:assert/strict')
 const { PassThrough } = require('node:stream')
-const { setTimeout: sleep } = require('node:timers/promises')
+const { setTimeout: sleep, setImmediate: turn } = require('node:timers/promises')
 const bullmyrtle = require('..')
 const { joined } = require('../lib/testing.js')
 
@@ -14,19 +14,20 @@ const frame = it => {
 const request = (id, method, params) => ({ jsonrpc: '2.0', id, method, params })
 const notice = (method, params) => ({ jsonrpc: '2.0', method, params })
 
-/** The messages of a stream of frames. */
+/** The messages of a stream of frames, whose last one may still be on its way. */
 function messages(bytes) {
   const found = []
   let rest = bytes
-  while (rest.length) {
+  for (;;) {
     const end = rest.indexOf('\r\n\r\n')
+    if (end < 0) return found
     const length = /^Content-Length: ([0-9]+)$/.exec(rest.subarray(0, end).toString())
     assert.ok(length, `a head: ${rest.subarray(0, 60)}`)
     const over = end + 4 + Number(length[1])
+    if (rest.length < over) return found
     found.push(JSON.parse(rest.subarray(end + 4, over).toString()))
     rest = rest.subarray(over)
   }
-  return found
 }
 
 /** Keeps what is logged. */
@@ -58,7 +59,7 @@ class Raw {
 
   get written() {
     const bytes = Buffer.concat(this.#bytes)
-    return this.isLines ? bytes.toString().split('\n').filter(Boolean).map(it => JSON.parse(it)) : messages(bytes)
+    return this.isLines ? bytes.toString().split('\n').slice(0, -1).map(it => JSON.parse(it)) : messages(bytes)
   }
 
   write(...all) {
@@ -80,6 +81,11 @@ async function until(isReached, milliseconds = 20_000) {
     assert.ok(Date.now() < end, `it isn't reached in time: ${isReached}`)
     await sleep(1)
   }
+}
+
+/** Waits for so many turns of the loop that all has happened that needs no time. */
+async function turns() {
+  for (let i = 0; i < 50; i++) await turn()
 }
 
 /** Runs something with a server and a client that are joined in memory. */
@@ -104,4 +110,4 @@ const rejectsWith = (promise, code, message) => assert.rejects(promise, error =>
   return true
 })
 
-module.exports = { bullmyrtle, frame, messages, request, notice, Log, Raw, until, sleep, withBoth, rejectsWith, joined }
+module.exports = { bullmyrtle, frame, messages, request, notice, Log, Raw, until, sleep, turns, withBoth, rejectsWith, joined }

@@ -28,12 +28,19 @@ const WAYS = {
     client.sendRequest('never', { text: 'x'.repeat(1000) })
     await client.sendRequest('m', { text: 'x'.repeat(1000) })
   },
-  waiting() {
+  async waiting() {
     const input = new PassThrough()
     const connection = createMessageConnection(input, new PassThrough({ highWaterMark: 10 }), undefined, { stalled: 0 })
-    connection.onRequest('m', () => 'x'.repeat(100_000))
+    connection.onRequest('m', () => 'x'.repeat(3_000))
     connection.listen()
-    input.write('Content-Length: 37\r\n\r\n{"jsonrpc":"2.0","method":"m","id":1}\n')
+    // (the first answer fills the output, and the second waits)
+    const content = '{"jsonrpc":"2.0","method":"m","id":1}'
+    const piece = `Content-Length: ${content.length}\r\n\r\n${content}`
+    input.write(piece)
+    await turn()
+    input.write(piece)
+    await turn()
+    if (connection.pending === 0) throw new Error('nothing waits')
   }
 }
 

@@ -5,7 +5,7 @@ const assert = require('node:assert/strict')
 const { test } = require('node:test')
 const net = require('node:net')
 const { once } = require('node:events')
-const { bullmyrtle, Raw, request, notice, until, sleep, withBoth, frame } = require('./helping')
+const { bullmyrtle, Raw, request, notice, until, sleep, withBoth, frame, turns } = require('./helping')
 
 test('handlers begin in the order of the stream, plain and async ones', async () => {
   const raw = new Raw().listen()
@@ -75,7 +75,7 @@ test('as they came: answers wait for those before them', async () => {
   raw.connection.onRequest('quick', () => 'quick')
   raw.write(request(1, 'slow'), request(2, 'quick'))
   await until(() => raw.connection.open === 1)
-  await sleep(5)
+  await turns()
   assert.deepEqual(raw.written, [])
   release('slow')
   await until(() => raw.written.length === 2)

@@ -3,7 +3,7 @@
 
 const assert = require('node:assert/strict')
 const { test } = require('node:test')
-const { bullmyrtle, Raw, request, notice, withBoth, rejectsWith, sleep } = require('./helping')
+const { bullmyrtle, Raw, request, notice, withBoth, rejectsWith, sleep, turns } = require('./helping')
 
 const { RequestType, RequestType0, RequestType2, NotificationType, NotificationType0, NotificationType2, ParameterStructures,
   ResponseError, ErrorCodes } = bullmyrtle
@@ -33,7 +33,7 @@ test('params by types: how they are sent, and what a handler is given', async ()
   const sent = async act => {
     const before = raw.written.length
     act()
-    await sleep(0)
+    await turns()
     return raw.written[before].params
   }
   const by = structures => new RequestType('m', structures)
@@ -76,7 +76,7 @@ test('params that do not fit a type', async () => {
   raw.connection.onNotification(new NotificationType('n', ParameterStructures.byName), it => seen.push(it))
   raw.connection.onNotification(new NotificationType2('m'), (...them) => seen.push(them))
   raw.write(notice('n', [1]), notice('m', [1]), notice('m'), notice('m', { a: 1 }))
-  await sleep(5)
+  await turns()
   assert.deepEqual(seen, [1, [1], [], [{ a: 1 }]])
   assert.deepEqual(raw.log.errors, [
     'Notification n defines parameters by name but received parameters by position',
@@ -116,7 +116,7 @@ test('notifications', () => withBoth(() => {}, async (client, server, log) => {
   for (const it of ['throws', 'rejects', 'zero']) await client.sendNotification(it)
   await client.sendNotification('many', 1, 2)
   await client.sendNotification('nobody', { a: 1 })
-  await sleep(5)
+  await turns()
   assert.deepEqual(seen, ['zero', [1, 2], { jsonrpc: '2.0', method: 'nobody', params: { a: 1 } }])
   assert.deepEqual(log.errors, [
     "Notification handler 'throws' failed with message: thrown", "Notification handler 'rejects' failed unexpectedly."
@@ -157,10 +157,10 @@ test('progress', () => withBoth(() => {}, async (client, server) => {
   await server.sendProgress(type, 'token', { kind: 'begin' })
   await server.sendProgress(type, 5, 'other')
   await server.sendNotification('$/progress', 'token', 'by position')
-  await sleep(5)
+  await turns()
   registered.dispose()
   await server.sendProgress(type, 'token', 'late')
-  await sleep(5)
+  await turns()
   assert.deepEqual(seen, [{ kind: 'begin' }, { token: 5, value: 'other' }, 'by position', { token: 'token', value: 'late' }])
 }))
 
@@ -189,7 +189,7 @@ test('names that objects have too are names like others', () => withBoth(() => {
     assert.equal(({}).polluted, undefined)
     await client.sendNotification(name, { name })
   }
-  await sleep(5)
+  await turns()
   assert.equal(seen.length, 7)
 }))
 

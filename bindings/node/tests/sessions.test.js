@@ -7,7 +7,7 @@ const { test } = require('node:test')
 const { bullmyrtle, Log, joined, sleep, until } = require('./helping')
 
 const { CancellationTokenSource, ResponseError } = bullmyrtle
-const SESSIONS = 30
+const SESSIONS = 15
 const CALLS = 150
 const KINDS = ['plain', 'async', 'thread', 'later', 'raises', 'nope', 'back', 'deep', 'batch', 'stubborn']
 

@@ -8,7 +8,7 @@ const { fork } = require('node:child_process')
 const { EventEmitter, once } = require('node:events')
 const { Duplex, PassThrough, Writable } = require('node:stream')
 const { MessageChannel, Worker } = require('node:worker_threads')
-const { bullmyrtle, Raw, request, notice, frame, messages, until, sleep, withBoth } = require('./helping')
+const { bullmyrtle, Raw, request, notice, frame, messages, until, sleep, withBoth, turns } = require('./helping')
 
 const { createMessageConnection } = bullmyrtle
 
@@ -64,7 +64,7 @@ test('what is said waits while the output is full, and goes on at its drain', as
   connection.onError(([it]) => errors.push(it.message))
   for (let n = 0; n < 4; n++) {
     input.write(frame(request(n, 'large')))
-    await sleep(2)
+    await turns()
   }
   // the stream has one room's worth, the connection the rest, and the input isn't read any more
   assert.ok(Buffer.concat(taken).length <= 65_536 && connection.pending > 200_000, `${connection.pending}`)
@@ -73,11 +73,11 @@ test('what is said waits while the output is full, and goes on at its drain', as
   connection.drained().then(() => { isOut = true })
   input.write(frame(request('last', 'nobody')))
   for (;;) {
-    const found = messages(whole(Buffer.concat(taken))).map(it => it.id)
+    const found = messages(Buffer.concat(taken)).map(it => it.id)
     if (found.includes('last')) break
     if (!found.includes(2)) assert.equal(isOut, false)
     release()
-    await sleep(0)
+    await turns()
   }
   release()
   await until(() => isOut)
@@ -85,17 +85,6 @@ test('what is said waits while the output is full, and goes on at its drain', as
   assert.deepEqual([input.isPaused(), connection.pending, errors], [false, 0, []])
   connection.dispose()
 })
-
-/** The whole frames of some bytes. */
-function whole(bytes) {
-  let at = 0
-  for (;;) {
-    const end = bytes.indexOf('\r\n\r\n', at)
-    const over = end < 0 ? Infinity : end + 4 + Number(bytes.subarray(at + 16, end))
-    if (over > bytes.length) return bytes.subarray(0, at)
-    at = over
-  }
-}
 
 test('who does not read is told of after a while, and once', async () => {
   const output = new Writable({ highWaterMark: 10, write() {} })
@@ -118,7 +107,7 @@ test("a notification's promise waits for the output", async () => {
   connection.listen()
   const done = []
   connection.sendNotification('m').then(() => done.push(1))
-  await sleep(2)
+  await turns()
   assert.deepEqual(done, [])
   release()
   await until(() => done.length)
@@ -152,10 +141,26 @@ test('streams that re-enter', async () => {
   assert.equal(await client.sendRequest('deep', { n: 200 }), 'ground')
   const all = await Promise.all(Array.from({ length: 3000 }, (_, n) => client.sendRequest('plain', { n })))
   assert.deepEqual(all.map(it => it.n), Array.from({ length: 3000 }, (_, n) => n))
+  client.onRequest('lines', () => { throw new Error('a\nb') })
+  server.onRequest('lines', () => server.sendRequest('lines').catch(error => error.message))
+  await turns()
+  assert.equal(await client.sendRequest('lines'), 'Request lines failed with message: a\nb')
   const batch = await client.sendBatch([['plain', { n: 1 }], ['deep', { n: 5 }]])
   assert.deepEqual(batch, [{ n: 1 }, 'ground'])
   client.end()
   await until(() => server.reason?.how === 'Clean')
+})
+
+test('bytes that come inside a handler are heard after those that are being heard', async () => {
+  const [up] = reentrant()
+  const connection = createMessageConnection(up, up)
+  const begun = []
+  connection.onNotification('first', () => { begun.push('first'); up.emit('data', frame(notice('third'))); up.emit('end') })
+  for (const it of ['second', 'third']) connection.onNotification(it, () => begun.push(it))
+  connection.onClose(({ how }) => begun.push(how))
+  connection.listen()
+  up.emit('data', Buffer.concat([frame(notice('first')), frame(notice('second'))]))
+  assert.deepEqual(begun, ['first', 'second', 'third', 'Clean'])
 })
 
 test('a chain of connections that re-enter', async () => {
@@ -247,6 +252,34 @@ test('sockets and pipes, by both ways to begin', async () => {
     server.dispose()
   }
   await assert.rejects(bullmyrtle.createClientPipeTransport('/nowhere/at/all'), { syscall: 'listen' })
+})
+
+test('sockets whose readers are slow get just what was written to them', async () => {
+  const pairs = await Promise.all(['a', 'b', 'c'].map(async letter => {
+    const name = bullmyrtle.generateRandomPipeName()
+    const waiting = await bullmyrtle.createClientPipeTransport(name)
+    const [reader, writer] = bullmyrtle.createServerPipeTransport(name)
+    const writing = createMessageConnection(reader, writer)
+    writing.listen()
+    const [theirs] = await waiting.onConnected()
+    return { letter, writing, socket: theirs.stream }
+  }))
+  for (let n = 0; n < 30; n++) {
+    for (const { letter, writing } of pairs) writing.sendNotification(letter, { n, text: letter.repeat(50_000) })
+    await sleep(0)
+  }
+  for (const { letter, writing, socket } of pairs) {
+    const bytes = []
+    socket.on('data', it => bytes.push(it))
+    await writing.drained()
+    writing.end()
+    await once(socket, 'end')
+    const found = messages(Buffer.concat(bytes))
+    assert.deepEqual(found.map(it => [it.method, it.params.n]), Array.from({ length: 30 }, (_, n) => [letter, n]))
+    assert.ok(found.every(it => it.params.text === letter.repeat(50_000)))
+    socket.destroy()
+    writing.dispose()
+  }
 })
 
 test('ports, and workers that end with calls open', async () => {
@@ -359,7 +392,7 @@ test('a reader and a writer of streams, without a connection', async () => {
   await until(() => errors.length === 1)
   listening.dispose()
   stream.write(frame(notice('late')))
-  await sleep(2)
+  await turns()
   assert.equal(seen.length, 3)
   assert.throws(() => new bullmyrtle.StreamMessageReader(stream, { contentDecoder: {} }), /has no contentDecoder/)
 })

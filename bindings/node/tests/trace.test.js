@@ -6,7 +6,7 @@ const { test } = require('node:test')
 const fs = require('node:fs')
 const os = require('node:os')
 const path = require('node:path')
-const { bullmyrtle, Raw, request, notice, until, withBoth, sleep } = require('./helping')
+const { bullmyrtle, Raw, request, notice, until, withBoth, turns } = require('./helping')
 
 const { Trace, TraceFormat } = bullmyrtle
 
@@ -86,7 +86,7 @@ test('the other side is told what is traced, and what it traces is logged', () =
   const told = []
   await client.trace(Trace.Verbose, { log: (text, verbose) => told.push([text, verbose]) }, true)
   await server.sendNotification(bullmyrtle.LogTraceNotification.type, { message: 'a', verbose: 'b' })
-  await sleep(5)
+  await turns()
   assert.deepEqual(seen, [{ value: 'verbose' }])
   assert.deepEqual(told.at(-1), ['a', 'b'])
   assert.deepEqual([Trace.fromString('COMPACT'), Trace.fromString('x'), Trace.toString(1), TraceFormat.fromString('JSON')], [2, 0, 'messages', 'json'])

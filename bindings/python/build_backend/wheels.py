@@ -1,9 +1,9 @@
 """Builds the package's wheel: its modules and the shared library, and nothing that isn't in the standard library.
 
 The library is the one that the variable BULLMYRTLE_LIBRARY names, that of the package's folder, or that in release/
-of the repository. One that the variable names and that isn't the released one is told on standard error, and the version
-has a label with the first digits of its sum, as in 0.1.0+library.1a2b3c4d. The same files give the same wheel, byte for
-byte.
+of the repository. One that the variable names and that isn't the released one is told on standard error, and the
+version has a label with the first digits of its sum, as in 0.1.0+library.1a2b3c4d. The same files give the same wheel,
+byte for byte.
 """
 import base64
 import hashlib

@@ -37,6 +37,17 @@ VALUES = frozenset((dict, list, str, int, float, bool, type(None)))
 class Answering(Asking):
     """The side of a session that answers."""
 
+    __slots__ = (
+        "_methods",
+        "_most_open",
+        "_open_requests",
+        "_is_choosy",
+        "_pool",
+        "_open",
+        "_by_id",
+        "_tasks",
+    )
+
     _is_stopped: bool
     _change: Optional["asyncio.Future[None]"]
     _changed: Callable[[], None]
@@ -87,7 +98,7 @@ class Answering(Asking):
         if method.kind is THREAD:
             self._pool.submit(functools.partial(self._run_in_thread, method, given, request))
             return False
-        self._run_as_task(_called(method, given, request), request)
+        self._run_as_task(functools.partial(_called, method, given, request), request)
         return True
 
     def _is_refused(self, event: events.Call) -> bool:
@@ -152,7 +163,10 @@ class Answering(Asking):
             if request is None:
                 request = self._opened(event, PLAIN)
             request.kind = ASYNC
-            self._run_as_task(result, request)
+            made = _Made(result)
+            self._run_as_task(made, request)
+            assert request.task is not None
+            request.task.add_done_callback(made.end)
             return True
         if event.id is None:
             self._close_notification(event.number, request)
@@ -160,8 +174,9 @@ class Answering(Asking):
             self._answer(event.number, event.method, result, request)
         return False
 
-    def _run_as_task(self, awaitable: Any, request: Request) -> None:
-        request.task = task = self.loop.create_task(self._run(awaitable, request))
+    def _run_as_task(self, make: Callable[[], Any], request: Request) -> None:
+        """Runs as a task what is made when it begins: a coroutine that never begins is none."""
+        request.task = task = self.loop.create_task(self._run(make, request))
         if not task.done():  # (it is, where a factory of the loop's began it at once)
             self._tasks.add(task)
 
@@ -178,19 +193,22 @@ class Answering(Asking):
         if self._change is not None and not self._tasks:
             self._changed()
 
-    async def _run(self, awaitable: Any, request: Request) -> None:
+    async def _run(self, make: Callable[[], Any], request: Request) -> None:
         try:
-            result = await awaitable
+            result = await make()
         except (KeyboardInterrupt, SystemExit):
             if request.task is not None:
                 request.task.add_done_callback(self._task_ended)
             raise
         except BaseException as error:
             self._when_read(self._ended, request, None, error)
-            if isinstance(error, asyncio.CancelledError):
+            if issubclass(type(error), asyncio.CancelledError):  # (which doesn't ask the exception itself)
                 raise
         else:
-            self._when_read(self._ended, request, result, None)
+            if self._aside is None:
+                self._ended(request, result, None)
+            else:
+                self._when_read(self._ended, request, result, None)
         finally:
             self._task_ended(request.task)
 
@@ -243,13 +261,16 @@ class Answering(Asking):
                 log.error("%s: it had answered its request already, and then returned a result too", name)
             return
         try:
-            text = self.text_of(result)
+            try:
+                text = self._json.dumps(result)
+            except (KeyboardInterrupt, SystemExit):
+                raise
+            except BaseException as error:
+                raise NotJson(words_of_error(error)) from error
             self._said += AROUND + len(text)
             self._connection.answer(number, text)
         except NotOpen:
             pass
-        except (KeyboardInterrupt, SystemExit):
-            raise
         except NotJson as error:
             self._isnt_json(number, name, "its result", error)
         if request is not None:
@@ -425,6 +446,24 @@ class Answering(Asking):
         """A tool server's cancel is a notification like others, which names the request by its id."""
         for request in list(self._by_id.get(id_wanted(event), ())):
             self._cancel(request)
+
+
+class _Made:
+    """An awaitable that a plain function has made. One that nobody awaits, since it was cancelled, is closed."""
+
+    __slots__ = ("_it",)
+
+    def __init__(self, it: Any) -> None:
+        self._it = it
+
+    def __call__(self) -> Any:
+        it, self._it = self._it, None
+        return it
+
+    def end(self, _: Any) -> None:
+        close = getattr(self._it, "close", None)
+        if close is not None:
+            close()
 
 
 def log_surely(words: str, *named: str, fault: Optional[BaseException]) -> None:

@@ -30,6 +30,20 @@ log = logging.getLogger("bullmyrtle")
 class Asking:
     """The side of a session that calls."""
 
+    # (slots, since an instance with more than 30 attributes is slow without; others may still be set)
+    __slots__ = (
+        "_json",
+        "_thread",
+        "_aside",
+        "_put_off",
+        "_said",
+        "_replies",
+        "_lock",
+        "_blocked",
+        "__dict__",
+        "__weakref__",
+    )
+
     loop: asyncio.AbstractEventLoop
     _connection: Union[Connection, Traced]
     _cancel_by: Optional[str]
@@ -82,7 +96,7 @@ class Asking:
             raise Closed("the request is over") from None
         except InputOver:
             raise Unanswered(self.watch.why()) from None
-        self._said += AROUND if text is None else AROUND + len(text)
+        self._said += AROUND + len(method) + (0 if text is None else len(text))
         self._flush_soon()
         return self._reply_to(key, request)
 
@@ -130,7 +144,7 @@ class Asking:
             raise Closed("the request is over") from None
         except InputOver:
             raise Unanswered(self.watch.why()) from None
-        self._said += sum(AROUND + len(params or b"") for _, params in texts)
+        self._said += sum(AROUND + len(method) + len(params or b"") for method, params in texts)
         self._flush_soon()
         return first
 
@@ -196,10 +210,11 @@ class Asking:
         text = self.optional_text(params)
         if threading.get_ident() != self._thread:
             self._connection.notify(method, text)
+            self._said += AROUND + len(method) + len(text or b"")
             self._on_loop(self._flush_soon)
         elif self._aside is None:
             self._connection.notify(method, text)
-            self._said += AROUND + len(text or b"")
+            self._said += AROUND + len(method) + len(text or b"")
             self._flush_soon()
         else:
             self._check_that_it_can_be_put_off()

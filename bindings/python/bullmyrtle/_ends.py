@@ -4,10 +4,12 @@ from __future__ import annotations
 import signal
 from typing import Any, List, Mapping, NamedTuple, Optional, Sequence
 
+from ._log import shown
+
 #: How much of a frame or line at fault is told.
 SHOWN = 64
-# How many methods are named that didn't end.
-_NAMED = 3
+# How many methods are named that didn't end, and how much of a name is shown.
+_NAMED, _NAME = 3, 80
 
 _CLEAN = ("Clean", "Stopped", "Exited")
 
@@ -15,10 +17,10 @@ _CLEAN = ("Clean", "Stopped", "Exited")
 class End(NamedTuple):
     """How a session ended."""
 
-    #: "Clean"; "Stopped", by `stop`; "Exited", by `sys.exit` in a method; the name of a fault of the input, as "BadHead";
-    #: or "Read", "Full", "Broken" (the output can't be written), "NoStreams" (they were closed from the start), "Late" (calls
-    #: had no answer in time), "Unwritten", "Memory", "Failed", "Interrupted", "Cancelled", or "Lost" (a client's server ended by
-    #: itself)
+    #: "Clean"; "Stopped", by `stop`; "Exited", by `sys.exit` in a method; the name of a fault of the input, as
+    #: "BadHead"; or "Read", "Full", "Broken" (the output can't be written), "NoStreams" (they were closed from the
+    #: start), "Late" (calls had no answer in time), "Unwritten", "Memory", "Failed", "Interrupted", "Cancelled", or
+    #: "Lost" (a client's server ended by itself)
     how: str
     text: str  #: what was wrong, and what to do
     status: Optional[int] = None  #: what serving gave, or None where it was cancelled
@@ -50,7 +52,8 @@ class Place(NamedTuple):
 
     @property
     def start(self) -> bytes:
-        return (self.piece if self.first is None else self.first).lstrip()
+        """What the frame or line begins with, where that is known."""
+        return b"" if self.first is None else self.first.lstrip()
 
 
 # What each fault is, by its name.
@@ -121,7 +124,7 @@ def late_text(calls: Sequence[Late], grace: float) -> str:
         how = f"didn't end within the grace of {grace:g} seconds"
         if it.is_later:
             how = "returned LATER, and request.answer or request.fail was never called"
-        said = f"{it.method} {how}"
+        said = f"{shown(it.method, _NAME)} {how}"
         if said not in parts:
             parts.append(said)
     more = f", and {len(parts) - _NAMED} others" if len(parts) > _NAMED else ""

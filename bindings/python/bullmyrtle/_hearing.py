@@ -34,6 +34,18 @@ log = logging.getLogger("bullmyrtle")
 class Hearing(Talking):
     """The side of a session that takes in what the other side says."""
 
+    __slots__ = (
+        "_events",
+        "_held",
+        "_is_going",
+        "_cancels",
+        "_gone",
+        "_unread",
+        "_to_read",
+        "_is_in_thread",
+        "_pauses",
+    )
+
     _channel: Channel
     _answer_quickly: Callable[[int, bytes], None]
     take: Callable[[int], bytes]
@@ -62,15 +74,19 @@ class Hearing(Talking):
 
     def received(self, data: bytes) -> None:
         """Bytes of the input."""
-        if self._is_closed:
-            return
         self._unread += len(data)
-        if self._unread > _LARGE or self._aside is not None:
-            self._read_aside(data)
+        if self._unread > _LARGE:
+            if not self._is_closed:
+                self._read_aside(data)
             return
         try:
             told = self._connection.fed(data)
-            self._take_in(data, told)
+            if told:
+                self._unread = 0
+            self.watch.read(data, told)
+            if self._cancels or self._takes_tool_cancels:
+                self._note_cancels(told)
+            self._events += told
         except InputOver:
             return
         except (KeyboardInterrupt, SystemExit):
@@ -133,11 +149,13 @@ class Hearing(Talking):
     def _read_aside(self, data: bytes) -> None:
         """Reads in a thread of its own. Until it has, the loop's thread doesn't call the connection."""
         self._to_read.append(data)
-        if self._aside is not None:
-            return
-        self._aside = self.loop.create_future()
-        self._pause("aside")
-        self.take = lambda most: b""
+        if self._aside is None:
+            self._aside = self.loop.create_future()
+            self._pause("aside")
+            self.take = lambda most: b""
+            self._start_thread()
+
+    def _start_thread(self) -> None:
         self._is_in_thread = True
         try:
             threading.Thread(target=self._read_in_thread, name="bullmyrtle-reading", daemon=True).start()
@@ -170,19 +188,21 @@ class Hearing(Talking):
         """A large content, or a part of it, is read: what was put off is done, and all goes on."""
         if self._is_closed or self._aside is None:
             return
-        aside, self._aside = self._aside, None
-        self.take = self._connection.take
         for data, told in pieces:
             self._do(functools.partial(self._take_in, data, told))
+        if self._to_read and fault is None:
+            self._start_thread()
+            return
+        aside, self._aside = self._aside, None
+        self.take = self._connection.take
+        if pieces and pieces[-1][1]:
+            self._unread = 0
         if fault is not None and not isinstance(fault, InputOver):
             self._fail_to_read(fault)
         put_off, self._put_off = self._put_off, []
         for it in put_off:
             self._do(it)
         aside.set_result(None)
-        if self._to_read:
-            self._read_aside(self._to_read.popleft())
-            return
         self._resume("aside")
         if not self._is_going:
             self._go_on()
@@ -195,21 +215,24 @@ class Hearing(Talking):
         except (KeyboardInterrupt, SystemExit):
             raise
         except BaseException:
-            log.exception("what was put off failed")
+            log.exception("what was put off, or is done at the end, failed")
 
     # Events
 
     def _take_in(self, data: bytes, told: List[Event]) -> None:
-        """A piece was read. A request whose cancel is among what was told never begins, if its turn hasn't come."""
-        if told:
-            self._unread = 0
+        """A piece was read, and this was told."""
         self.watch.read(data, told)
+        if self._cancels or self._takes_tool_cancels:
+            self._note_cancels(told)
+        self._events += told
+
+    def _note_cancels(self, told: List[Event]) -> None:
+        """A request whose cancel is among what was told never begins, if its turn hasn't come."""
         if self._cancels:
             self._gone.update(self._cancels)
             self._cancels.clear()
-        elif self._takes_tool_cancels and (len(told) > 1 or self._events or self._held):
+        elif len(told) > 1 or self._events or self._held:
             self._note_tool_cancels(told)
-        self._events.extend(told)
 
     def _note_tool_cancels(self, told: List[Event]) -> None:
         name = self._cancel_by
@@ -238,9 +261,7 @@ class Hearing(Talking):
             if self._held and not self._has_much_to_write():
                 waiting.extendleft(reversed(self._held))
                 self._held.clear()
-            for _ in range(_TURN):
-                if not waiting or has_begun:
-                    break
+            for _ in range(min(len(waiting), _TURN)):
                 if self._said > _MUCH and self._has_much_to_write():
                     self._hold_calls()
                     has_told = True
@@ -257,7 +278,9 @@ class Hearing(Talking):
                         continue
                     method = methods.get(name)
                     if method is None or not method.is_quick or name == cancel_by or self._is_choosy:
-                        has_begun = self._begin(event)
+                        if self._begin(event):
+                            has_begun = True
+                            break
                         continue
                     # What most calls are. `_begin` does the same, by way of more functions.
                     try:
@@ -286,11 +309,16 @@ class Hearing(Talking):
                             raise
                         except BaseException:
                             pass  # (what is below finds it again, and says so)
-                    has_begun = self._returned_plainly(method, result, event, None)
+                    if self._returned_plainly(method, result, event, None):
+                        has_begun = True
+                        break
                 except (KeyboardInterrupt, SystemExit):
                     raise
                 except BaseException as fault:
                     self._went_wrong(event, fault)
+        except IndexError:
+            pass  # (the session gave up, and so nothing waits any more)
+        else:
             has_more = bool(waiting)
         finally:
             # (The task's first step comes before the channel's next turn, where this is the channel's turn. If it was
@@ -298,7 +326,7 @@ class Hearing(Talking):
             self._is_going = has_more or has_begun and (is_later or not self._channel.takes_turns)
             if self._is_going:
                 self.loop.call_soon(self._go_on, True)
-        if self._pauses or len(waiting) > _MANY:
+        if has_more or self._pauses:
             self._pause_while_many_wait()
         if has_begun or has_told:
             self._flush_soon()  # (whatever goes on now may have more to say)
@@ -393,6 +421,6 @@ class Hearing(Talking):
                 self._held.append(event)
 
     def _go_on_where_held(self) -> None:
-        """What there was to write is written."""
-        if self._held and not self._is_going and not self._is_closed:
+        """What there was to write is written, and so calls that were held go on."""
+        if self._held and not self._is_going and not self._is_closed and self._channel.is_idle:
             self._go_on()

@@ -4,7 +4,6 @@ from __future__ import annotations
 import ctypes
 import os
 import struct
-import sys
 from ctypes import POINTER, c_bool, c_char_p, c_int32, c_int64, c_size_t, c_uint32, c_uint64, c_void_p
 from typing import Any, Dict, List, Optional, Tuple
 

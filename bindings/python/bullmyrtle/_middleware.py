@@ -1,16 +1,16 @@
 """What stands around methods: functions of the user's, time limits, and one method that hands its call on to another."""
 from __future__ import annotations
 
-import asyncio
 import contextlib
 import functools
 import inspect
 import logging
 from typing import Any, Callable, Dict, Generator, List, Optional
 
+from ._asking import words_of_error
 from ._params import ASYNC, PLAIN, THREAD, Method, Methods
 from ._request import Request, words_of
-from .errors import Closed, Error, InvalidParams, NotOpen
+from .errors import METHOD_NOT_FOUND, Closed, Error, InvalidParams, NotOpen
 
 log = logging.getLogger("bullmyrtle")
 
@@ -30,7 +30,7 @@ def _fitted(method: Method, params: Any) -> Any:
     except Error:
         raise
     except (ValueError, TypeError, RecursionError) as fault:
-        raise InvalidParams(words_of(f"Invalid params: {fault}")) from fault
+        raise InvalidParams(words_of(f"Invalid params: {words_of_error(fault)}")) from fault
 
 
 def _called(method: Method, given: Any, request: Request) -> Any:
@@ -174,27 +174,35 @@ def around(method: Method, middlewares: List[Middleware]) -> Method:
     return raw(method.name, run_async if method.kind is ASYNC else run, method.kind)
 
 
+def _unknown(params: Any, request: Request) -> None:
+    if not request.is_notification:
+        raise Error(METHOD_NOT_FOUND, f"Method not found: {request.method}")
+
+
+# What middlewares stand around where there is no method.
+_UNKNOWN = raw("unknown", _unknown, PLAIN)
+
+
 class Wrapped(Methods):
-    """A table of methods with middlewares around each."""
+    """A table of methods with middlewares around each, and around what there is none for."""
 
     def __init__(self, methods: Methods, middlewares: List[Middleware]) -> None:
         super().__init__()
         self._all, self._middlewares = methods, middlewares
         self._made: Dict[int, Method] = {}
 
-    def _wrapped(self, method: Optional[Method]) -> Optional[Method]:
-        if method is None:
-            return None
+    def _wrapped(self, method: Method) -> Method:
         made = self._made.get(id(method))
         if made is None:
             made = self._made[id(method)] = around(method, self._middlewares)
         return made
 
     def get(self, name: str, default: Any = None) -> Any:
-        return self._wrapped(self._all.get(name))
+        method = self._all.get(name)
+        return None if method is None else self._wrapped(method)
 
     def otherwise(self, name: str) -> Optional[Method]:
-        return self._wrapped(self._all.otherwise(name))
+        return self._wrapped(self._all.otherwise(name) or _UNKNOWN)
 
 
 def checked_middleware(function: Any) -> Middleware:

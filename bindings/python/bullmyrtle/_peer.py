@@ -214,8 +214,11 @@ class Peer:
     # Sessions
 
     def _table(self) -> Methods:
-        """What a session finds its methods in."""
-        return Wrapped(self._methods, self._middlewares) if self._middlewares else self._methods
+        """What a new session finds its methods in."""
+        return self._methods
+
+    def _began(self, session: Session, table: Methods) -> None:
+        """A session has begun, and finds its methods in this table."""
 
     def _session_over(self, channel: Channel, **other: Any) -> Session:
         """A new session; `other` settings take the place of the peer's."""
@@ -225,8 +228,9 @@ class Peer:
         if self._trace is not None:
             connection = Traced(plain, self._trace, cancels)
         watch = Watch({**self._settings, **other}, cancels, self._is_client)
+        table = self._table()
         session = Session(
-            self._table(),
+            Wrapped(table, self._middlewares) if self._middlewares else table,
             channel,
             connection,
             self._cancel_by,
@@ -240,6 +244,7 @@ class Peer:
         self._sessions[session] = None
         self._served += 1
         self._last = session
+        self._began(session, table)
         return session
 
     async def _serve(self, session: Session) -> int:

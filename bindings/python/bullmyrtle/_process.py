@@ -13,12 +13,14 @@ from ._channels import Descriptors
 
 log = logging.getLogger("bullmyrtle")
 
-#: Where a server's standard error goes: "pass on" to that of this process, which keeps the last of it; "inherit", so that
-#: nobody reads it; a file; or a function that takes bytes as they come.
+#: Where a server's standard error goes: "pass on" to that of this process, which keeps the last of it; "inherit", so
+#: that nobody reads it; a file; or a function that takes bytes as they come.
 StandardError = Union[Literal["pass on", "inherit"], IO[Any], Callable[[bytes], Any]]
 
-# How much is read at once, how much of it is kept, and how long the end of a process is waited for once its output ends.
+# How much is read at once, how much of it is kept, and how long a process's end is waited for once its output ends.
 _READ, _KEPT, _SECONDS = 1 << 16, 4096, 0.25
+# How often it is read for what a process left in the pipe, which holds 64 KiB unless somebody makes it larger.
+_READS = 32
 
 
 def check_standard_error(given: Any) -> None:
@@ -70,6 +72,12 @@ class _ErrorOutput:
         self._say(data)
         return True
 
+    def read_what_is_there(self) -> None:
+        """Reads what a process wrote before it ended. (A child of it may go on writing, and isn't waited for.)"""
+        for _ in range(_READS):
+            if not self.read():
+                break
+
     def _say(self, data: bytes) -> None:
         if not self._is_told:
             return
@@ -80,7 +88,7 @@ class _ErrorOutput:
             log.exception("what the server writes to its standard error isn't told any more")
 
     def close(self) -> None:
-        """Reads what is still there, and no more. (A child of the server may have the other end, and stay.)"""
+        """Reads no more. (A child of the server may have the other end, and stay.)"""
         descriptor, self._descriptor = self._descriptor, None
         if descriptor is not None:
             self._loop.remove_reader(descriptor)
@@ -137,8 +145,8 @@ class ServerProcess:
                 return False
             await asyncio.sleep(nap)
             nap = min(2 * nap, 0.05)
-        while self._error is not None and self._error.read():
-            pass
+        if self._error is not None:
+            self._error.read_what_is_there()
         return True
 
     def abandon(self) -> None:
@@ -159,14 +167,13 @@ class ServerProcess:
                 break
         status = self.popen.wait()
         if self._error is not None:
-            while self._error.read():
-                pass
+            self._error.read_what_is_there()
             self._error.close()
         return status
 
 
 class _Output(Descriptors):
-    """The channel to a process. At its end it waits a moment for that of the process, so that its status can be told."""
+    """The channel to a process. At its end it waits a moment for the process's, so that the status can be told."""
 
     def __init__(self, source: int, sink: int, has_ended: Callable[[], Any]) -> None:
         super().__init__(source, sink, pauses=False)

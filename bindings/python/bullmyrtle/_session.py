@@ -3,6 +3,7 @@ from __future__ import annotations
 
 import asyncio
 import contextlib
+import functools
 import logging
 import threading
 from typing import Any, Callable, Optional, Union
@@ -28,6 +29,30 @@ _DROPPED = 1 << 20
 
 class Session(Hearing):
     """One connection in an event loop, with the methods that answer its calls."""
+
+    __slots__ = (
+        "loop",
+        "_soon",
+        "_channel",
+        "_connection",
+        "take",
+        "_answer_quickly",
+        "_cancel_by",
+        "_takes_tool_cancels",
+        "_grace",
+        "_has_begun",
+        "_has_flush",
+        "_is_closed",
+        "_is_stopped",
+        "_is_broken",
+        "_is_unheard",
+        "_over",
+        "_change",
+        "_status",
+        "state",
+        "ended",
+        "watch",
+    )
 
     def __init__(
         self,
@@ -89,13 +114,11 @@ class Session(Hearing):
             self._channel.write()
             if self._is_unheard:
                 self._drop()
-            elif self._said:
-                self._said = 0 if self._channel.is_idle else self.pending + self._channel.waiting
         except (KeyboardInterrupt, SystemExit):
             raise
         except BaseException as fault:
             self._give_up("what is said can't be written", fault)
-        if self._held and not self._said:
+        if self._held and self._channel.is_idle:
             self.loop.call_soon(self._go_on_where_held)
         if self._change is not None:
             self._changed()
@@ -194,13 +217,16 @@ class Session(Hearing):
 
     async def _cancel_all(self) -> None:
         """Ends what didn't end in time; a task that doesn't let itself be cancelled is left."""
+        if self._held:
+            names = ", ".join(sorted({it.method for it in self._held}))[:100]
+            log.error(
+                "%d calls didn't begin in time, since what was said wasn't read: %s", len(self._held), names
+            )
         while self._held:
-            event = self._held.popleft()
-            log.error("%s: it couldn't begin in time, since nobody read what was said", event.method)
-            self._never_begin(event.number)
+            self._do(functools.partial(self._never_begin, self._held.popleft().number))
         for request in list(self._open.values()):
             log.error("%s: it didn't end in time, and is cancelled", request.method)
-            self._cancel(request)
+            self._do(functools.partial(self._cancel, request))
         if self._tasks:
             for task in self._tasks:
                 self._end_task(task)
@@ -221,6 +247,7 @@ class Session(Hearing):
             self._is_closed = True
             is_read_aside = self._is_in_thread  # (and then that thread closes the connection)
         self.take = lambda most: b""
+        self._unread = 1 << 62  # (so that nothing more is read)
         self._events.clear()
         self._held.clear()
         if self.ended is None:

@@ -108,6 +108,10 @@ def _check_whole(filled: List[inspect.Parameter], request: Optional[inspect.Para
 
 
 def _check_filled(filled: List[inspect.Parameter]) -> None:
+    if any(it.name == "params" and it.kind not in _VARIABLE for it in filled):
+        raise TypeError(
+            "the params come first. Write `def m(params, request)`, or name none of them `params`"
+        )
     kinds = {it.kind for it in filled if it.default is _Parameter.empty}
     if _Parameter.POSITIONAL_ONLY in kinds and _Parameter.KEYWORD_ONLY in kinds:
         names = ", ".join(it.name for it in filled)

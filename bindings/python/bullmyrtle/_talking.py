@@ -12,6 +12,8 @@ from ._request import Reply, Request, Said
 class Talking(Answering):
     """The side of a session that methods use; `request.session` and `server.sessions` lead to it."""
 
+    __slots__ = ()
+
     #: Yours: what a server with several sessions keeps of each.
     state: Dict[str, Any]
 

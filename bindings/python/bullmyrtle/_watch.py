@@ -3,18 +3,16 @@ from __future__ import annotations
 
 import asyncio
 import contextlib
-import logging
 import time
 from typing import Any, Callable, List, Mapping, Optional, Protocol, Sequence, Tuple
 
 from . import _ends
 from ._ends import SHOWN, End, Late, Place
+from ._log import log
 from ._settings import MOST_CONTENT
 from .connection import Connection, Counts
 from .errors import Closed, Refused
 from .events import Event, Over
-
-log = logging.getLogger("bullmyrtle")
 
 # How much of the stream's beginning is kept, to find the frame at fault in; and how often a line of counts may come.
 _KEPT, _SECONDS = 8192, 1.0
@@ -177,7 +175,8 @@ class Watch:
 
     def _look_again(self) -> None:
         self._timer = None
-        self._look()
+        with contextlib.suppress(Closed):
+            self._look()
 
     def _counted(self, counts: Counts) -> str:
         parts: List[str] = []
@@ -199,7 +198,7 @@ class Watch:
             hint = f': are these frames? {side}framing="frames")'
         return (
             f"{' and '.join(parts)} came so far, besides {counts.calls} call{'s' * (counts.calls != 1)}; "
-            f"the first bytes of all were {first!r}{hint}"
+            f"the input began with {first!r}{hint}"
         )
 
     # The end
@@ -235,7 +234,10 @@ class Watch:
         if end is None or (end.is_clean and not self._is_client):
             return "the session is over"
         if end.is_clean:
-            return "the session with the server is over"
+            text = "the session with the server is over"
+            if self._is_meant:
+                return text
+            return self._with_process(f"{text}: {_ends.TEXTS['Lost']}", is_whole=True)
         return self._with_process(f"the session is over: {end.text}", is_whole=True)
 
     def end(self, status: Optional[int], late: Sequence[Late], is_out: bool, grace: float) -> End:

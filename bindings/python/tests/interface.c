@@ -14,7 +14,8 @@ typedef struct {
     uint32_t done;
 } made;
 
-static void say(bm_connection *connection, const char *form, ...) {
+static void say(bm_connection *connection, const char *form, ...)
+{
     made *it = connection->at;
     va_list words;
     va_start(words, form);
@@ -23,13 +24,20 @@ static void say(bm_connection *connection, const char *form, ...) {
 }
 
 /* The last byte of some bytes, as far as there are any, where the pointer is one. */
-static int last(const uint8_t *bytes, size_t length) { return bytes == NULL ? -2 : length ? bytes[length - 1] : -1; }
+static int last(const uint8_t *bytes, size_t length)
+{
+    return bytes == NULL ? -2 : length ? bytes[length - 1] : -1;
+}
 
 #define U(it) ((unsigned long long)(it))
 
-uint32_t bm_interface(void) { return BM_INTERFACE; }
+uint32_t bm_interface(void)
+{
+    return BM_INTERFACE;
+}
 
-int32_t bm_new(const bm_settings *settings, void **at) {
+int32_t bm_new(const bm_settings *settings, void **at)
+{
     made *it = calloc(1, sizeof *it);
     bm_connection connection = {it};
     if (it == NULL) {
@@ -47,22 +55,28 @@ int32_t bm_new(const bm_settings *settings, void **at) {
     return BM_OK;
 }
 
-void bm_free(bm_connection connection) { free(connection.at); }
+void bm_free(bm_connection connection)
+{
+    free(connection.at);
+}
 
-int32_t bm_feed(bm_connection *connection, const uint8_t *bytes, size_t length) {
+int32_t bm_feed(bm_connection *connection, const uint8_t *bytes, size_t length)
+{
     say(connection, "feed %zu %d\n", length, last(bytes, length));
     ((made *)connection->at)->events++;
     return BM_OK;
 }
 
-int32_t bm_end(bm_connection *connection, uint32_t how) {
+int32_t bm_end(bm_connection *connection, uint32_t how)
+{
     say(connection, "end %u\n", how);
     return BM_OK;
 }
 
 static const char TEXTS[] = "a\0b\0[10]\0\"i\"";
 
-static int tell(bm_connection *connection, bm_event *event, uint8_t *room, size_t length) {
+static int tell(bm_connection *connection, bm_event *event, uint8_t *room, size_t length)
+{
     memset(event, 0, sizeof *event);
     event->kind = BM_CALL, event->flags = BM_REQUEST, event->number = UINT64_MAX;
     event->name_len = 3, event->text_len = 4, event->id_len = 3;
@@ -74,7 +88,8 @@ static int tell(bm_connection *connection, bm_event *event, uint8_t *room, size_
     return 1;
 }
 
-int32_t bm_next(bm_connection *connection, bm_event *event, uint8_t *room, size_t length) {
+int32_t bm_next(bm_connection *connection, bm_event *event, uint8_t *room, size_t length)
+{
     if (((made *)connection->at)->events == 0) {
         memset(event, 0, sizeof *event);
         return BM_OK;
@@ -82,7 +97,8 @@ int32_t bm_next(bm_connection *connection, bm_event *event, uint8_t *room, size_
     return tell(connection, event, room, length) ? BM_OK : BM_SMALL;
 }
 
-void bm_tell(bm_connection *connection, uint8_t *room, size_t length, uint32_t most, bm_told *told) {
+void bm_tell(bm_connection *connection, uint8_t *room, size_t length, uint32_t most, bm_told *told)
+{
     memset(told, 0, sizeof *told);
     if (most) {
         abort(); /* (the package asks for as many as there are) */
@@ -102,38 +118,47 @@ void bm_tell(bm_connection *connection, uint8_t *room, size_t length, uint32_t m
 }
 
 int32_t bm_fed(bm_connection *connection, const uint8_t *bytes, size_t length, uint8_t *room, size_t room_length,
-               uint32_t most, bm_told *told) {
+               uint32_t most, bm_told *told)
+{
     bm_feed(connection, bytes, length);
     bm_tell(connection, room, room_length, most, told);
     return BM_OK;
 }
 
-bool bm_has(uint32_t addition) { return addition == BM_HAS_TOGETHER; }
+bool bm_has(uint32_t addition)
+{
+    return addition == BM_HAS_TOGETHER;
+}
 
 /* What the package doesn't call. */
-int32_t bm_next_all(bm_connection *connection, uint8_t *room, size_t length, size_t *used, uint32_t *count) {
+int32_t bm_next_all(bm_connection *connection, uint8_t *room, size_t length, size_t *used, uint32_t *count)
+{
     (void)connection, (void)room, (void)length, (void)used, (void)count;
     abort();
 }
 
 int32_t bm_say_all(bm_connection *connection, bm_saying *sayings, size_t count, const uint8_t *bytes, size_t length,
-                   uint8_t *room, size_t room_length, bm_said *said) {
+                   uint8_t *room, size_t room_length, bm_said *said)
+{
     (void)connection, (void)sayings, (void)count, (void)bytes, (void)length, (void)room, (void)room_length, (void)said;
     abort();
 }
 
-int32_t bm_close_call(bm_connection *connection, uint64_t number) {
+int32_t bm_close_call(bm_connection *connection, uint64_t number)
+{
     (void)connection, (void)number;
     abort();
 }
 
-int32_t bm_taken(bm_connection *connection, uint8_t *room, size_t length, size_t *count) {
+int32_t bm_taken(bm_connection *connection, uint8_t *room, size_t length, size_t *count)
+{
     (void)connection, (void)room, (void)length, (void)count;
     abort();
 }
 
 int32_t bm_call(bm_connection *connection, uint64_t number, const uint8_t *method, size_t method_length,
-                const uint8_t *params, size_t params_length, uint64_t *key) {
+                const uint8_t *params, size_t params_length, uint64_t *key)
+{
     say(connection, "call %llu %zu %d %zu %d\n", U(number), method_length, last(method, method_length), params_length,
         last(params, params_length));
     *key = U(1) << 52;
@@ -141,7 +166,8 @@ int32_t bm_call(bm_connection *connection, uint64_t number, const uint8_t *metho
 }
 
 int32_t bm_call_batch(bm_connection *connection, uint64_t number, const uint8_t *bytes, size_t length,
-                      const size_t *lengths, size_t lengths_count, uint64_t *first) {
+                      const size_t *lengths, size_t lengths_count, uint64_t *first)
+{
     say(connection, "batch %llu %zu %d %zu", U(number), length, last(bytes, length), lengths_count);
     for (size_t at = 0; at < lengths_count; at++) {
         say(connection, " %zu", lengths[at]);
@@ -152,37 +178,46 @@ int32_t bm_call_batch(bm_connection *connection, uint64_t number, const uint8_t 
 }
 
 int32_t bm_notify(bm_connection *connection, const uint8_t *method, size_t method_length, const uint8_t *params,
-                  size_t params_length) {
+                  size_t params_length)
+{
     say(connection, "notify %zu %d %zu %d\n", method_length, last(method, method_length), params_length,
         last(params, params_length));
     return BM_OK;
 }
 
-int32_t bm_withdraw(bm_connection *connection, uint64_t key) {
+int32_t bm_withdraw(bm_connection *connection, uint64_t key)
+{
     say(connection, "withdraw %llu\n", U(key));
     return BM_NOT_WAITING;
 }
 
-int32_t bm_answer(bm_connection *connection, uint64_t number, const uint8_t *result, size_t length) {
+int32_t bm_answer(bm_connection *connection, uint64_t number, const uint8_t *result, size_t length)
+{
     say(connection, "answer %llu %zu %d\n", U(number), length, last(result, length));
     return number == 7 ? BM_NO_MEMORY : BM_OK;
 }
 
 int32_t bm_fail(bm_connection *connection, uint64_t number, int64_t code, const uint8_t *message, size_t message_length,
-                const uint8_t *data, size_t data_length) {
+                const uint8_t *data, size_t data_length)
+{
     say(connection, "fail %llu %lld %zu %d %zu %d\n", U(number), (long long)code, message_length,
         last(message, message_length), data_length, last(data, data_length));
     return BM_OK;
 }
 
-int32_t bm_cancel(bm_connection *connection, uint64_t number) {
+int32_t bm_cancel(bm_connection *connection, uint64_t number)
+{
     say(connection, "cancel %llu\n", U(number));
     return BM_NOT_OPEN;
 }
 
-size_t bm_pending(bm_connection *connection) { return ((made *)connection->at)->length; }
+size_t bm_pending(bm_connection *connection)
+{
+    return ((made *)connection->at)->length;
+}
 
-size_t bm_take(bm_connection *connection, uint8_t *room, size_t length) {
+size_t bm_take(bm_connection *connection, uint8_t *room, size_t length)
+{
     made *it = connection->at;
     size_t taken = length < it->length ? length : it->length;
     memcpy(room, it->said, taken);
@@ -191,9 +226,13 @@ size_t bm_take(bm_connection *connection, uint8_t *room, size_t length) {
     return taken;
 }
 
-bool bm_is_done(bm_connection *connection) { return ((made *)connection->at)->done; }
+bool bm_is_done(bm_connection *connection)
+{
+    return ((made *)connection->at)->done;
+}
 
-void bm_counts(bm_connection *connection, bm_report *report) {
+void bm_counts(bm_connection *connection, bm_report *report)
+{
     (void)connection;
     report->calls = U(1) << 40, report->requests = 1, report->open = 2, report->waiting = 3, report->own_calls = 4;
     report->answers_written = 5, report->unreadable = 6, report->invalid = 7, report->ignored = U(1) << 41;

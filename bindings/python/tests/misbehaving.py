@@ -8,9 +8,11 @@ import enum
 import logging
 import sys
 
-import helping  # noqa: F401 (which makes the package be found)
+import helping
 
 from bullmyrtle import LATER, Error, InvalidParams, Server
+
+assert helping.PACKAGE  # (to import it makes the package be found)
 
 INTERNAL = -32603
 

@@ -1,10 +1,12 @@
 """Calls back to the other side, and cancels in every state."""
 import asyncio
+import gc
 import json
 import threading
 import unittest
+import warnings
 
-from helping import Case, joined, logged, notice, request
+from helping import Case, frame, joined, logged, notice, request
 
 from bullmyrtle import LATER, Client, Closed, Empty, Error, Server, Unanswered
 from bullmyrtle._channels import Channel
@@ -709,6 +711,34 @@ class BeforeItsTurn(Case):
             said = [[request(it, "async", [it]) for it in range(9)], [notice(name, {member: 8})]]
             began, answers = self.told(said, name)
             self.assertEqual((began, answers[8]), (list(range(8)), -32800))
+
+    def test_a_coroutine_that_never_begins_warns_nobody(self):
+        async def main(kind):
+            server, channel, began = Server(), Kept(), []
+
+            async def later():
+                began.append(1)
+
+            if kind == "async":
+                server.method("x")(later)
+            else:
+                server.method("x")(lambda params: later())
+            serving = asyncio.ensure_future(server.serve_over(channel))
+            await asyncio.sleep(0)
+            # (its task is made, and is cancelled before its first step)
+            channel.session.received(frame(request(1, "x")))
+            channel.session.received(frame(notice("$/cancelRequest", {"id": 1})))
+            channel.session.input_ended(False)
+            self.assertEqual(await serving, 0)
+            self.assertEqual(began, [])
+            self.assertIn(b"-32800", channel.written)
+
+        for kind in ("async", "plain"):
+            with self.subTest(kind), warnings.catch_warnings(record=True) as caught:
+                warnings.simplefilter("always")
+                self.wait(main(kind))
+                gc.collect()
+                self.assertEqual([str(it.message) for it in caught if "never awaited" in str(it.message)], [])
 
     def test_many_cost_little(self):
         async def main():

@@ -22,23 +22,23 @@ def number(digits):
 class Default(Case):
     def run_both(self, use, server=None, client=None):
         async def main():
-            both = server or Server(), client or Client()
-            for it in both:
+            first, second = server or Server(), client or Client()
+            for it in (first, second):
                 it.method("echo")(lambda params: params)
                 it.method("type")(lambda params: type(params[0]).__name__)
-            both[0].method("number")(lambda params: number(params[0]))
+            first.method("number")(lambda params: number(params[0]))
 
-            @both[0].method("data")
+            @first.method("data")
             def data(params):
                 raise Error(1, "x", [number(params[0])])
 
-            @both[0].method("ask")
+            @first.method("ask")
             async def ask(params, request):
                 return await request.call("number", params)
 
-            both[1].method("number")(lambda params: number(params[0]))
-            async with joined(*both) as joint:
-                await use(*both, joint)
+            second.method("number")(lambda params: number(params[0]))
+            async with joined(first, second) as joint:
+                await use(first, second, joint)
 
         self.wait(main())
 

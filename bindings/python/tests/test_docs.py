@@ -110,6 +110,24 @@ class Page(Case):
             "{'name': 'words', 'version': '1.0'} True\n{'contents': 'rose: 3 times'}\nstatus 0\n",
         )
 
+    def test_how_long_the_examples_are(self):
+        with open(SERVERS, encoding="utf-8") as it:
+            rows = re.findall(r"^\| \[(\w+\.py)\]\(\.\./examples/python/\1\) \| (\d+) \|", it.read(), re.M)
+        self.assertEqual(len(rows), 5)
+        for name, lines in rows:
+            with open(os.path.join(TOP, "examples", "python", name), encoding="utf-8") as it:
+                self.assertEqual(len(it.readlines()), int(lines), name)
+
+    def test_the_methods_of_lsp(self):
+        """Each method that the layer tells of in the capabilities stands in the page's table."""
+        from bullmyrtle.lsp._capabilities import _PROVIDERS, DYNAMIC, NEEDED
+
+        with open(SERVERS, encoding="utf-8") as it:
+            table = it.read().partition("## What is done for each method")[2].partition("## Types")[0]
+        for name in (*_PROVIDERS, *DYNAMIC, *(it for it in NEEDED if "Files" not in it)):
+            last = name.rpartition("/")[2]
+            self.assertRegex(table, rf"`(?:\w+/)*{re.escape(last)}`", name)
+
     def test_the_command_that_installs(self):
         for page in (PAGE, SERVERS):
             text = next(text for kind, text in blocks_of(page) if kind == "text")

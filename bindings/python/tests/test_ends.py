@@ -11,7 +11,7 @@ import unittest
 
 from helping import Case, command, environment, frame, joined, logged, notice, request
 
-from bullmyrtle import LATER, BadSettings, Client, Closed, NoMemory, Server, Unanswered
+from bullmyrtle import LATER, BadSettings, Client, Closed, NoMemory, Server, Unanswered, _process
 from bullmyrtle.testing import Memory
 
 LINE = b'{"jsonrpc":"2.0","method":"add","params":[1,2],"id":7}\n'
@@ -61,6 +61,8 @@ class Ends(Case):
                 status = None
             self.assertEqual(session.ended, server.ended)
             self.assertEqual(session.ended.status, status)
+            if session.ended.how != "Stopped":
+                self.assertEqual(session.ended.is_clean, status == 0)
             return session.ended
 
         with logged() as log:
@@ -129,6 +131,12 @@ class Ends(Case):
         many = 500 * ADD
         end = self.check([many, b"hello\nand more"], "BadHead", None, None)
         self.assertIn(f"in what was read from byte {len(many)} on, b'hello\\nand more'", end.text)
+        # (what that begins with says nothing of the frame at fault)
+        for piece in (ADD + b"hello\n", b'{"a":1}\n', b"GET / HTTP/1.1\r\n"):
+            end = self.check([many, piece], "BadHead", None, None)
+            self.assertTrue(
+                end.text.endswith(": each message begins with `Content-Length: N`, CR LF, CR LF"), end.text
+            )
 
     def test_what_comes_behind_a_fault_doesnt_count(self):
         self.check([LINE, LINE, ADD], "BadHead", 0, LINE)
@@ -411,6 +419,23 @@ class Processes(Scripts):
             self.wait(main())
         self.assertEqual(log.texts, [])
 
+    def test_it_ends_by_itself_and_well(self):
+        async def main():
+            async with client:
+                await self.until(lambda: client.ended)
+                with self.assertRaises(Closed) as caught:
+                    client.call("x")
+                return str(caught.exception)
+
+        client = self.client("print(end='')\n")
+        with logged() as log:
+            said = self.wait(main())
+        self.assertEqual(
+            said,
+            "the session with the server is over: the server closed its output; the server ended with status 0",
+        )
+        self.assertEqual((log.texts, client.ended.how), ([], "Clean"))
+
     def test_one_that_has_to_be_killed(self):
         text = "import signal, sys, time\nsignal.signal(signal.SIGTERM, signal.SIG_IGN)\n"
         client = self.client(text + "print(end='', flush=True)\ntime.sleep(60)\n")
@@ -452,7 +477,7 @@ class StandardErrors(Scripts):
             from bullmyrtle import Client
             async def main():
                 async with Client([sys.executable, sys.argv[1]]) as client:
-                    sys.stdin.read()
+                    await asyncio.get_running_loop().run_in_executor(None, sys.stdin.read)
             asyncio.run(main())
         """
         loud = self.script(
@@ -460,9 +485,7 @@ class StandardErrors(Scripts):
         )
         host = os.path.join(self.room, "host.py")
         with open(host, "w", encoding="utf-8") as it:
-            it.write(
-                textwrap.dedent(code).replace("sys.stdin.read()", "await asyncio.get_running_loop().run_in_executor(None, sys.stdin.read)")
-            )
+            it.write(textwrap.dedent(code))
         pipes = {"stdin": subprocess.PIPE, "stderr": subprocess.PIPE, "env": environment()}
         with subprocess.Popen(command(host, loud), bufsize=0, **pipes) as process:
             self.assertEqual(process.stderr.readline(), b"at once\n")
@@ -520,12 +543,26 @@ class StandardErrors(Scripts):
 
     def test_nothing_is_left_behind(self):
         """Also where a child of the server has its standard error, and stays."""
-        text = "import subprocess, sys\nsubprocess.Popen(['sleep', '3'], stdin=subprocess.DEVNULL, stdout=subprocess.DEVNULL)\n"
+        text = "import subprocess, sys\nnull = subprocess.DEVNULL\n"
+        text += "subprocess.Popen(['sleep', '3'], stdin=null, stdout=null)\n"
         before = len(os.listdir("/proc/self/fd"))
         began = time.monotonic()
         self.run_loud(text + "sys.stdin.read()\n")
         self.assertEqual(len(os.listdir("/proc/self/fd")), before)
         self.assertLess(time.monotonic() - began, 2.5)
+
+    def test_a_child_that_goes_on_writing(self):
+        text = "import subprocess, sys\nnull = subprocess.DEVNULL\n"
+        text += "subprocess.Popen(['sh', '-c', 'yes >&2'], stdin=null, stdout=null)\nsys.stdin.read()\n"
+        began = time.monotonic()
+        end = self.run_loud(text)
+        self.assertEqual((end.how, len(end.stderr)), ("Clean", 4096))
+        self.assertLess(time.monotonic() - began, 10)
+        # (the child may be slower than who reads; so here is one that isn't)
+        endless, reads = _process._ErrorOutput.__new__(_process._ErrorOutput), []
+        endless.read = lambda: len(reads) < 100_000 and not reads.append(1)
+        endless.read_what_is_there()
+        self.assertLess(len(reads), 100)
 
 
 class Counted(Case):
@@ -576,7 +613,7 @@ class Counted(Case):
             lines,
             [
                 "2 messages that couldn't be read (-32700) and 1 that was neither a call nor a reply (-32600) "
-                "came so far, besides 0 calls; the first bytes of all were b'hello\\n5\\nhello\\n'"
+                "came so far, besides 0 calls; the input began with b'hello\\n5\\nhello\\n'"
             ],
         )
 

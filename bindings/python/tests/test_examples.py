@@ -2,6 +2,7 @@
 import os
 import subprocess
 import sys
+import tempfile
 import unittest
 
 from helping import HERE, OVER, TOP, Case, command, environment, logged
@@ -57,6 +58,33 @@ class Examples(Case):
             self.assertEqual(await use("tool_server_by_hand.py"), (["count", "title"], "2 words", "Flowers"))
 
         self.wait(main())
+
+    def test_what_is_read_later_is_looked_at_again(self):
+        """A document that was opened before the folder's words were read is looked at again behind that."""
+
+        async def main(room):
+            for name, text in {"notes.txt": "Voilets are are blue.", "words.txt": "violets are blue"}.items():
+                with open(os.path.join(room, name), "w", encoding="utf-8") as it:
+                    it.write(text)
+            found = []
+            editor = Client(command(os.path.join(EXAMPLES, "spelling_server.py")), env=environment())
+            editor.method("textDocument/publishDiagnostics")(
+                lambda params: found.append(len(params["diagnostics"]))
+            )
+            async with editor:
+                uri = f"file://{room}/notes.txt"
+                about = {"processId": None, "rootUri": f"file://{room}", "capabilities": {}}
+                await editor.call("initialize", about)
+                document = {"uri": uri, "languageId": "text", "version": 1, "text": "Voilets are are blue."}
+                editor.notify("textDocument/didOpen", {"textDocument": document})
+                await self.until(lambda: found == [1])
+                editor.notify("initialized", {})
+                await self.until(lambda: found == [1, 2])
+                await editor.call("shutdown")
+                editor.notify("exit")
+
+        with tempfile.TemporaryDirectory() as room:
+            self.wait(main(room))
 
     def test_they_are_short(self):
         """At most ten lines of a user's own, but for blank ones, in what a stranger writes first."""

@@ -15,7 +15,7 @@ import misbehaving
 from helping import HERE, Case, command, environment, joined, logged, request
 from test_calls import Kept
 
-from bullmyrtle import Client, Error, Server
+from bullmyrtle import Client, Error, NoMemory, Server
 from bullmyrtle._channels import Descriptors
 
 SCRIPT = os.path.join(HERE, "misbehaving.py")
@@ -236,6 +236,25 @@ class LastResort(Case):
                 status, _, log = self.served(talk)
                 self.assertEqual(status, 1)
                 self.assertEqual(len([it for it in log.texts if "the session ends" in it]), 1, log.texts)
+
+    def test_what_fails_at_the_end_is_no_traceback(self):
+        async def talk(session):
+            session.received(line(request(1, "never")))
+            await asyncio.sleep(0.01)
+
+            def fail(*_):
+                raise NoMemory()
+
+            session._connection.cancel = fail
+
+        server = Server(framing="lines", grace=0.05)
+
+        @server.method("never")
+        async def never(params):
+            await asyncio.sleep(20)
+
+        status, answers, _ = self.served(talk, server)
+        self.assertEqual((status, answers[1]["error"]["code"]), (1, -32603))
 
     def test_a_log_that_fails_keeps_no_answer_back(self):
         async def talk(session):

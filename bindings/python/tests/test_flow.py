@@ -25,6 +25,7 @@ def large(id_, size=100_000):
     return line(request(id_, "size", ["x" * size]))
 
 
+@unittest.skipIf(OVER != "library", "large contents: the model isn't made for so much")
 class Aside(Case):
     """While a large content is read in another thread, the session waits and the others go on."""
 
@@ -197,18 +198,18 @@ class Aside(Case):
                 await asyncio.sleep(20)
 
             client, session = await joint()
-            slow = client.call("slow")
+            waiting = client.call("slow")
             await self.until(lambda: began)
             blocked = self.Blocked(session)
             large = client.call("size", ["x" * 100_000])
             await blocked.reached()
-            client.notify("notifications/cancelled", {"requestId": slow.key})
+            client.notify("notifications/cancelled", {"requestId": waiting.key})
             client.session.finish()
             await asyncio.sleep(0.05)
-            self.assertFalse(slow.done())
+            self.assertFalse(waiting.done())
             blocked.let_go()
             with self.assertRaises(Error) as caught:
-                await slow
+                await waiting
             self.assertEqual((caught.exception.code, await large), (-32800, 100_000))
 
         self.assertEqual(self.served(use).texts, [])
@@ -296,7 +297,6 @@ class Aside(Case):
 
         self.wait(main())
 
-    @unittest.skipIf(OVER != "library", "the model isn't made for so much")
     def test_other_sessions_answer_in_time(self):
         """The longest that a session waits for an answer, while another one gets a content of 16 MB."""
 
@@ -314,12 +314,13 @@ class Aside(Case):
                 loop.call_soon_threadsafe(is_read.set_result, None)
 
             sending = loop.run_in_executor(None, send)
-            took = []
+            took, began = [], time.perf_counter()
             while not is_read.done():
-                began = time.perf_counter()
                 await client.call("echo", [1])
-                took.append(time.perf_counter() - began)
                 await asyncio.sleep(0.001)
+                now = time.perf_counter()
+                took.append(now - began)
+                began = now
             await sending
             stream.close()
             await client.close()
@@ -340,16 +341,17 @@ class Aside(Case):
             self.assertLess(min(self.wait(main(), 60)), 0.05)
 
 
+@unittest.skipIf(OVER != "library", "large contents: the model isn't made for so much")
 class SlowReader(Case):
     """Calls begin as long as what is said is read; all else is told on."""
 
-    def piped(self, use, count=188, size=1_000_000):
-        """Serves what 17 KB ask for, of which nothing is read at first."""
+    def piped(self, use, count=60, size=1_000_000):
+        """Serves what 6 KB ask for, of which nothing is read at first."""
 
         async def main():
             given, theirs = os.pipe()
             ours, taken = os.pipe()
-            server, began = Server(framing="lines", grace=30), []
+            server, began = Server(framing="lines", grace=60), []
 
             @server.method("much")
             def much(params):
@@ -359,7 +361,7 @@ class SlowReader(Case):
             serving = asyncio.ensure_future(server.serve_over(Descriptors(given, taken)))
             await asyncio.sleep(0)
             asked = b"".join(line(request(it, "much", [it])) for it in range(count))
-            self.assertLess(len(asked), 17_000)
+            self.assertLess(len(asked), 6_000)
             read = self.reader(ours)
             await use(server, began, lambda data: os.write(theirs, data), asked, read)
             os.close(theirs)
@@ -399,8 +401,8 @@ class SlowReader(Case):
             self.assertEqual(set(await read(2)), {0, 1})
 
         status, answers, began = self.piped(use)
-        self.assertEqual((status, began), (0, list(range(188))))
-        self.assertEqual(len(answers), 186)
+        self.assertEqual((status, began), (0, list(range(60))))
+        self.assertEqual(len(answers), 58)
 
     def test_replies_cancels_and_notifications_of_tasks_are_told_on(self):
         async def use(server, began, write, asked, read):
@@ -426,17 +428,15 @@ class SlowReader(Case):
                 asked
                 + line({"jsonrpc": "2.0", "id": key[0], "result": "Ys"})
                 + line(notice("notifications/cancelled", {"requestId": "slow"}))
-                + b"".join(
-                    line(notice("notifications/cancelled", {"requestId": it})) for it in range(100, 188)
-                )
+                + b"".join(line(notice("notifications/cancelled", {"requestId": it})) for it in range(40, 60))
             )
             await self.until(lambda: len(told) == 2)
             self.assertEqual((sorted(told), began), (["Ys", "cancelled"], [0, 1]))
 
         status, answers, began = self.piped(use)
         # (those that were cancelled meanwhile never begin)
-        self.assertEqual((status, began), (0, list(range(100))))
-        self.assertEqual({answers[it]["error"]["code"] for it in range(100, 188)}, {-32800})
+        self.assertEqual((status, began), (0, list(range(40))))
+        self.assertEqual({answers[it]["error"]["code"] for it in range(40, 60)}, {-32800})
 
     def test_the_end_is_told_on(self):
         async def use(server, began, write, asked, read):
@@ -527,14 +527,14 @@ class SlowReader(Case):
             stream = socket.socket()
             stream.setsockopt(socket.SOL_SOCKET, socket.SO_RCVBUF, 1 << 16)
             stream.connect(listening.sockets[0].getsockname())
-            stream.sendall(b"".join(line(request(it, "much", [it])) for it in range(188)))
+            stream.sendall(b"".join(line(request(it, "much", [it])) for it in range(60)))
             await self.until(lambda: len(began) >= 2)
             await asyncio.sleep(0.2)
             self.assertLess(len(began), 6)
             stream.shutdown(socket.SHUT_WR)
             read = self.reader(stream.fileno())
-            self.assertEqual(set(await read(None)), set(range(188)))
-            self.assertEqual(began, list(range(188)))
+            self.assertEqual(set(await read(None)), set(range(60)))
+            self.assertEqual(began, list(range(60)))
             stream.close()
             listening.close()
 
@@ -576,6 +576,7 @@ class SlowReader(Case):
         self.wait(main())
 
 
+@unittest.skipIf(OVER != "library", "large contents: the model isn't made for so much")
 class Many(Case):
     def test_reading_stops_while_many_calls_wait_for_their_turn(self):
         async def main():

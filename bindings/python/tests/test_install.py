@@ -99,9 +99,10 @@ class Wheels(Case):
         with open(one, "rb") as first, open(other, "rb") as second:
             self.assertEqual(first.read(), second.read())
         # (a library that isn't the released one has a label in the version)
+        label = r"(\+library\.[0-9a-f]{8})?"
         self.assertRegex(
             os.path.basename(one),
-            rf"^bullmyrtle-{re.escape(bullmyrtle.__version__)}(\+library\.[0-9a-f]{{8}})?-py3-none-manylinux2014_x86_64\.whl$",
+            rf"^bullmyrtle-{re.escape(bullmyrtle.__version__)}{label}-py3-none-manylinux2014_x86_64\.whl$",
         )
         with zipfile.ZipFile(one) as wheel:
             names = wheel.namelist()
@@ -123,7 +124,7 @@ class Wheels(Case):
         self.assertTrue(self.build("build_editable", "editable").endswith(".whl"))
 
     def test_another_library_is_seen(self):
-        """A library that the variable names goes into no wheel under the plain version, unless it is the released one."""
+        """A library that the variable names goes into no wheel of the plain version, unless it is the released one."""
         released = os.path.join(TOP, "release", _library.FILE)
         if not os.path.isfile(released):
             self.skipTest(f"{released} isn't there: no wheel with another one than that")

@@ -2,12 +2,20 @@
 import asyncio
 import contextlib
 import dataclasses
+import gc
+import os
+import signal
+import socket
+import subprocess
+import tempfile
 import threading
 import typing
 import unittest
+import warnings
 
-from helping import Case, joined, logged
+from helping import Case, command, environment, joined, logged
 
+import bullmyrtle
 from bullmyrtle import Client, Error, InvalidParams
 from bullmyrtle._channels import Memory
 from bullmyrtle.lsp import LanguageServer
@@ -189,6 +197,32 @@ class Life(Case):
             codes, _ = self.run_life(server, ("initialize", True), ("shutdown", True), ("initialize", True))
             self.assertEqual(codes, [-32001, -32002, 0])
 
+    def test_initialize_that_is_cancelled_may_come_again(self):
+        """Once its task has begun, and before the task's first step."""
+        server = LanguageServer("life")
+
+        @server.feature("initialize")
+        def initialize(params, request):
+            loop = asyncio.get_running_loop()
+            how = params.get("how")
+            if how == "at once":
+                loop.call_soon(request.session._cancel, request)
+            elif how == "later":
+                loop.call_later(0.01, request.session._cancel, request)
+            return loop.create_future() if how else None
+
+        async def main():
+            for how in ("at once", "later"):
+                async with joined(server, Editor()) as editor:
+                    call = editor.call("initialize", {"capabilities": {}, "how": how})
+                    self.assertEqual(await code_of(call), -32800)
+                    self.assertEqual(await code_of(editor.call("initialize", {"capabilities": {}})), 0, how)
+
+        with warnings.catch_warnings():
+            warnings.simplefilter("ignore", RuntimeWarning)  # (a coroutine that never began)
+            self.wait(main())
+            gc.collect()
+
     def fails(self, params):
         self.times += 1
         if self.times == 1:
@@ -327,6 +361,24 @@ class Capabilities(Case):
             about = {} if given is None else {"general": {"positionEncodings": given}}
             self.assertEqual(self.told(server, about).get("positionEncoding"), expected)
 
+    def test_what_only_options_tell_may_be_given_by_hand(self):
+        legend = {"legend": {"tokenTypes": [], "tokenModifiers": []}}
+        create = {"filters": [{"pattern": {"glob": "*"}}]}
+        server = LanguageServer(
+            capabilities={
+                "semanticTokensProvider": legend,
+                "documentOnTypeFormattingProvider": {"firstTriggerCharacter": ";"},
+                "workspace": {"fileOperations": {"didCreate": create}},
+            }
+        )
+        for name in ("semanticTokens/full", "semanticTokens/range", "onTypeFormatting"):
+            server.feature(f"textDocument/{name}")(lambda params: None)
+        server.feature("workspace/didCreateFiles")(lambda params: None)
+        told = self.told(server)
+        self.assertEqual(told["semanticTokensProvider"], {"full": True, "range": True, **legend})
+        self.assertEqual(told["documentOnTypeFormattingProvider"], {"firstTriggerCharacter": ";"})
+        self.assertEqual(told["workspace"]["fileOperations"], {"didCreate": create})
+
     def test_what_can_not_be_registered(self):
         server = LanguageServer()
         server.feature("textDocument/hover")(lambda params: None)
@@ -444,9 +496,6 @@ class Documents(Case):
         self.wait(main())
 
     def test_files_and_folders(self):
-        import os
-        import tempfile
-
         from bullmyrtle.lsp import uri_of
 
         server = LanguageServer()
@@ -589,6 +638,15 @@ class Asking(Case):
         asked, _, result = self.asked(ask_in_thread, replies, thread=True)
         self.assertEqual(result, [1, {"applied": True}])
 
+    def test_what_is_no_message(self):
+        def tell(ls):
+            with self.assertRaises(ValueError):
+                ls.show_message("a", "loud")
+            with self.assertRaises(ValueError):
+                ls.refresh("hover")
+
+        self.assertEqual(self.asked(tell)[:2], ([], []))
+
     def test_dynamic_registration(self):
         async def register(ls):
             id_ = await ls.register_capability("textDocument/hover", {"documentSelector": None})
@@ -683,6 +741,7 @@ class Progress(Case):
     def served(self, function, editor, capabilities=None, params=None, thread=False, act=None):
         """What one request that shows progress is answered with."""
         server = LanguageServer()
+        server.behind = self.behind = []
         server.feature("my/work", thread=thread)(function)
 
         async def main():
@@ -704,6 +763,7 @@ class Progress(Case):
         async with ls.progress("Work", params, message="m", percentage=0, cancellable=True) as progress:
             progress.report("half", 50)
             await asyncio.sleep(params.get("seconds", 0))
+        ls.behind.append("behind the block")
         return progress.is_cancelled
 
     @staticmethod
@@ -754,6 +814,7 @@ class Progress(Case):
         given = {"seconds": 60}
         self.assertIs(self.served(self.work, editor, self.ABLE, given, act=self.cancel_the_progress), True)
         self.assertEqual(self.kinds(editor), ["begin", "report", "end"])
+        self.assertEqual(self.behind, ["behind the block"])
         editor = Editor()
         given = {"times": 10_000}
         result = self.served(self.work_in_thread, editor, self.ABLE, given, True, self.cancel_the_progress)
@@ -773,6 +834,7 @@ class Progress(Case):
                 self.served(self.work, editor, self.ABLE, given, act=self.cancel_the_request), -32800
             )
             self.assertEqual(self.kinds(editor), kinds)
+            self.assertEqual(self.behind, [])
 
     def test_a_plain_function_can_not_wait(self):
         def work(ls, params):
@@ -835,6 +897,14 @@ class HoverParams:
     position: Place
 
 
+@dataclasses.dataclass
+class Hover:
+    contents: str
+    range: typing.Optional[dict] = None
+    version: typing.Optional[int] = 0
+    places: typing.List[Place] = dataclasses.field(default_factory=list)
+
+
 class Outside:
     """A class of another library's, which only a converter knows."""
 
@@ -870,6 +940,71 @@ class Types(Case):
                     await editor.call("textDocument/hover", at(1, 2)), {"line": 1, "character": 2}
                 )
                 self.assertEqual(await code_of(editor.call("textDocument/hover", at("1", 2))), -32602)
+
+        self.wait(main())
+
+    def test_over_tcp(self):
+        """`start_tcp`, in a process of its own, with two editors at once; Ctrl-C ends it."""
+        script = (
+            "import signal\nimport sys\nfrom bullmyrtle.lsp import LanguageServer\nserver = LanguageServer()\n"
+            # (a shell's background processes ignore it)
+            "signal.signal(signal.SIGINT, signal.default_int_handler)\n"
+            'server.feature("my/text")(lambda ls, params: ls.document(params).text)\n'
+            'server.start_tcp("127.0.0.1", int(sys.argv[1]))\n'
+        )
+        with socket.create_server(("127.0.0.1", 0)) as free:
+            port = free.getsockname()[1]
+
+        async def edit(text):
+            for _ in range(500):
+                try:
+                    streams = await asyncio.open_connection("127.0.0.1", port)
+                    break
+                except ConnectionError:
+                    await asyncio.sleep(0.02)
+            async with Editor() as editor:
+                editor.connect(*streams)
+                await editor.begin()
+                editor.notify("textDocument/didOpen", opened(text))
+                await asyncio.sleep(0.05)
+                result = await editor.call("my/text", DOCUMENT)
+                await editor.call("shutdown")
+                editor.notify("exit")
+            return result
+
+        async def main():
+            self.assertEqual(await asyncio.gather(edit("one"), edit("other")), ["one", "other"])
+
+        with tempfile.TemporaryDirectory() as room:
+            file = os.path.join(room, "tcp.py")
+            with open(file, "w", encoding="utf-8") as it:
+                it.write(script)
+            process = subprocess.Popen(command(file, str(port)), env=environment())
+            try:
+                self.wait(main())
+                process.send_signal(signal.SIGINT)
+                self.assertEqual(process.wait(20), 0)
+            finally:
+                process.kill()
+                process.wait()
+
+    def test_members_that_are_left_out(self):
+        """What is None, and by default is None, isn't there: LSP has null in few places."""
+        server = LanguageServer()
+
+        @server.feature("textDocument/hover")
+        async def hover(ls, params):
+            ls.notify("my/told", {"all": [Hover("a"), (Hover("b", {"x": 1}, None),)], "none": None})
+            return [Hover("c", places=[Place(1, 2)]), {"deep": {"er": Hover("d")}}, None]
+
+        async def main():
+            async with editing(server) as editor:
+                c = {"contents": "c", "version": 0, "places": [{"line": 1, "character": 2}]}
+                d = {"contents": "d", "version": 0, "places": []}
+                self.assertEqual(await editor.call("textDocument/hover", {}), [c, {"deep": {"er": d}}, None])
+                a = {"contents": "a", "version": 0, "places": []}
+                b = {"contents": "b", "range": {"x": 1}, "version": None, "places": []}
+                self.assertEqual(editor.of("my/told"), [{"all": [a, [b]], "none": None}])
 
         self.wait(main())
 
@@ -928,6 +1063,97 @@ class Types(Case):
                 self.assertEqual(await editor.call("c", {"a": 1, "b": 2}), [True, 1, 2])
                 self.assertEqual(await editor.call("d", {}), [True, {}, "d"])
                 self.assertIs(await editor.call("e"), False)
+
+        self.wait(main())
+
+
+class Limits(Case):
+    """Time limits (-32803, RequestFailed), middleware, and features in a class."""
+
+    def test_they_are_kept(self):
+        server = LanguageServer()
+        ended = []
+
+        @server.feature("textDocument/hover", timeout=0.05)
+        async def hover(ls, params):
+            try:
+                await asyncio.sleep(60)
+            finally:
+                ended.append("hover")
+
+        @server.feature("textDocument/definition", thread=True, timeout=0.05)
+        def definition(ls, params):
+            try:
+                ls.configuration("never")
+            except bullmyrtle.Closed:
+                ended.append("definition")
+
+        @server.command("wait", timeout=0.05)
+        async def wait(ls, seconds):
+            await asyncio.sleep(seconds)
+
+        async def main():
+            editor = Editor(workspace_configuration=lambda params: asyncio.sleep(60))
+            async with editing(server, editor):
+                self.assertEqual(await code_of(editor.call("textDocument/hover", {})), -32803)
+                self.assertEqual(await code_of(editor.call("textDocument/definition", {})), -32803)
+                wait = {"command": "wait", "arguments": [60]}
+                self.assertEqual(await code_of(editor.call("workspace/executeCommand", wait)), -32803)
+                await self.until(lambda: ended == ["hover", "definition"])
+
+        with logged():
+            self.wait(main())
+
+    def test_middleware(self):
+        """It is around whatever comes, also at a wrong time."""
+        server = LanguageServer()
+        seen = []
+
+        @server.middleware
+        def watch(request, params):
+            if request.method == "textDocument/definition":
+                raise Error(-32001, "forbidden")
+            try:
+                yield
+                seen.append(request.method)
+            except Error as error:
+                seen.append((request.method, error.code))
+                raise
+
+        server.feature("textDocument/hover")(lambda ls, params: ls.document(params).text)
+        server.feature("textDocument/definition")(lambda params: None)
+
+        async def main():
+            async with joined(server, Editor()) as editor:
+                self.assertEqual(await code_of(editor.call("textDocument/hover", DOCUMENT)), -32002)
+                await editor.begin()
+                editor.notify("textDocument/didOpen", opened("text"))
+                self.assertEqual(await editor.call("textDocument/hover", DOCUMENT), "text")
+                self.assertEqual(await code_of(editor.call("textDocument/definition", DOCUMENT)), -32001)
+
+        self.wait(main())
+        names = ["initialize", "initialized", "textDocument/didOpen", "textDocument/hover"]
+        self.assertEqual(seen, [("textDocument/hover", -32002), *names])
+
+    def test_features_in_a_class(self):
+        class Words:
+            @bullmyrtle.method("textDocument/hover")
+            def hover(self, ls, params):
+                return ls.document(params).text
+
+            @bullmyrtle.method("words/sum", timeout=5)
+            async def sum(self, a: int, b: int):
+                return a + b
+
+        server = LanguageServer()
+        server.register(Words())
+
+        async def main():
+            async with joined(server, Editor()) as editor:
+                self.assertIs((await editor.begin())["hoverProvider"], True)
+                editor.notify("textDocument/didOpen", opened("text"))
+                self.assertEqual(await editor.call("textDocument/hover", DOCUMENT), "text")
+                self.assertEqual(await editor.call("words/sum", {"a": 1, "b": 2}), 3)
 
         self.wait(main())
 

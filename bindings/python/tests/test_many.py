@@ -144,7 +144,7 @@ class Stdio(Case):
             "    beside.cancel()", "    beside.cancel()\n    status += await server.serve_stdio()"
         ).replace(
             "    return len(asyncio.all_tasks())",
-            "    try:\n        await server.serve_stdio()\n    except RuntimeError as error:\n        return str(error)",
+            "    try:\n        await server.serve_stdio()\n    except RuntimeError as it:\n        return str(it)",
         )
         got = self.run_server(text, frame(request(1, "tasks")))
         self.assertEqual(

@@ -74,6 +74,8 @@ class Middleware(Case):
         ):
             expected += [("before", name, params, False), last]
         expected += [("before", "plain", ["n"], True), ("after", "plain", ["n"])]
+        # (what nobody knows is seen too)
+        expected += [("before", "unknown", None, False), ("Error", "unknown")]
         self.assertEqual(self.seen, expected)
 
     def test_params_that_do_not_fit_are_seen(self):
@@ -109,7 +111,8 @@ class Middleware(Case):
         server.method("plain")(lambda params: order.append("method"))
         self.run_with(server)
         names = ["a before", "b before", "c before", "method", "c after", "b after", "a after"]
-        self.assertEqual(order, names)
+        # (and once more around what nobody knows, which raises)
+        self.assertEqual(order, [*names, "a before", "b before", "c before"])
 
     def test_another_error_in_its_place(self):
         server = self.server()
@@ -141,6 +144,24 @@ class Middleware(Case):
 
         self.wait(main())
         self.assertEqual(self.seen[1], ("CancelledError", "sleeps"))
+
+    def test_notifications_that_nobody_knows(self):
+        server = self.server()
+
+        async def main():
+            async with joined(server) as client:
+                for name in ("unknown", "$/unknown"):
+                    client.notify(name, [])
+                    self.assertEqual(await code_of(client.call(name)), -32601)
+
+        with logged() as log:
+            self.wait(main())
+        expected = []
+        for name in ("unknown", "$/unknown"):
+            expected += [("before", name, [], True), ("after", name, None)]
+            expected += [("before", name, None, False), ("Error", name)]
+        self.assertEqual(self.seen, expected)
+        self.assertEqual(log.texts, [])
 
     def test_around_a_fallback(self):
         server = self.server()

@@ -426,7 +426,8 @@ class Libraries(Refused):
 
     def test_the_repositorys_only_from_a_checkout(self):
         """What lies three folders above an installed package is nobody's that it knows."""
-        code = "import bullmyrtle._library as it\ntry:\n    print(it.find())\nexcept ImportError as error:\n    print(error)"
+        code = "import bullmyrtle._library as it\n"
+        code += "try:\n    print(it.find())\nexcept ImportError as error:\n    print(error)"
         with tempfile.TemporaryDirectory() as room:
             for folders, is_found in (
                 (["bindings", "python"], False),
@@ -452,7 +453,8 @@ class Libraries(Refused):
         bullmyrtle._library.is_there(), "there is no library to name: the trace isn't tried with one"
     )
     def test_a_named_one_is_told_in_the_trace(self):
-        code = "import asyncio\nfrom bullmyrtle import Server\nfrom bullmyrtle.testing import joined\nasync def main():\n"
+        code = "import asyncio\nfrom bullmyrtle import Server\nfrom bullmyrtle.testing import joined\n"
+        code += "async def main():\n"
         code += "    async with joined(Server(trace=print)):\n        pass\nasyncio.run(main())\n"
         file = bullmyrtle._library.find()
         said = self.run_quietly(PACKAGE, code, BULLMYRTLE_LIBRARY=file)

@@ -9,7 +9,7 @@ import unittest
 from helping import Case, joined, logged
 
 import bullmyrtle
-from bullmyrtle import Closed, Error, Request, Server
+from bullmyrtle import LATER, Closed, Error, Request, Server
 
 
 class Asking(Case):
@@ -293,6 +293,8 @@ class Parameters(Asking):
         self.refused(alone, "def m(params, request)")
         self.refused(lambda a, b, request: 1, "def m(params, request)", "def m(a, b, *, request)")
         self.refused(lambda a, b, /, *, c: 1, "def m(a, b, c)")
+        self.refused(lambda ls, params: 1, "the params come first", "def m(params, request)")
+        self.refused(lambda a, *, params: 1, "the params come first")
 
         def odd(a, b: set):
             return 1
@@ -499,6 +501,34 @@ class Fallback(Case):
                 self.assertEqual(seen, ["last"])
 
             self.wait(main())
+
+    def test_names_from_outside_stay_in_one_line_of_the_log(self):
+        name = "a\nERROR: b\r\x1b[1m\u2028" + "x" * 5000
+
+        async def main():
+            server = Server(grace=0.01)
+
+            @server.fallback
+            def other(params, request):
+                if params:
+                    raise KeyError("no")
+                return LATER
+
+            async with joined(server) as client:
+                with self.assertRaises(Error):
+                    await client.call(name, [1])
+                client.notify(name, [1])
+                client.call(name)
+                await asyncio.sleep(0.01)
+            return server.ended
+
+        with logged() as log:
+            end = self.wait(main())
+        self.assertEqual((end.how, len(log.texts)), ("Late", 4))
+        for it in (*log.texts, end.text):
+            self.assertEqual(len(it.splitlines()), 1, it)
+            self.assertNotIn("\x1b", it)
+            self.assertLess(len(it), 2000)
 
     def test_twice(self):
         server = Server()

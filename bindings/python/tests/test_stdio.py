@@ -461,7 +461,9 @@ class Ends(Scripts):
                     env=environment(),
                     check=False,
                 )
-                said = b"" if "2>&-" in how else b"the session ended: the standard input or output is closed\n"
+                said = (
+                    b"" if "2>&-" in how else b"the session ended: the standard input or output is closed\n"
+                )
                 self.assertEqual((ended.returncode, ended.stdout, ended.stderr), (1, b"", said))
 
     def test_an_interrupt(self):

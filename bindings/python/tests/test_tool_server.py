@@ -11,7 +11,7 @@ import unittest
 
 from helping import Case, joined, logged
 
-from bullmyrtle import Client, Error, InvalidParams, mcp
+from bullmyrtle import Client, Error, InvalidParams, Server, mcp
 from bullmyrtle.mcp import Context, Image, ToolClient, ToolError, ToolResult, ToolServer
 
 PIXEL = b"\x89PNG"
@@ -196,8 +196,8 @@ class Schemas(Case):
                     "sure": {"type": "boolean"},
                     "words": {"type": "array", "items": {"type": "string"}},
                     "table": {"type": "object", "additionalProperties": {"type": "integer"}},
-                    "color": {"enum": ["red", "blue"]},
-                    "kind": {"enum": ["a", "b"]},
+                    "color": {"type": "string", "enum": ["red", "blue"]},
+                    "kind": {"type": "string", "enum": ["a", "b"]},
                     "point": {"$ref": "#/$defs/Point"},
                     "maybe": {"anyOf": [{"type": "integer"}, {"type": "null"}], "default": None},
                     "anything": {"default": 3},
@@ -207,6 +207,22 @@ class Schemas(Case):
                 "$defs": {"Point": point},
             },
         )
+
+    def test_two_classes_of_one_name(self):
+        @dataclasses.dataclass
+        class Point:
+            z: str
+
+        first = globals()["Point"]
+
+        def function(one, other):
+            return f"{one.x} {other.z}"
+
+        function.__annotations__.update(one=first, other=Point)
+        schema = self.tool_of(function)["inputSchema"]
+        self.assertEqual(schema["properties"]["one"], {"$ref": "#/$defs/Point"})
+        self.assertEqual(schema["properties"]["other"], {"$ref": "#/$defs/Point2"})
+        self.assertEqual(sorted(schema["$defs"]["Point2"]["properties"]), ["z"])
 
     def test_of_a_class_in_itself(self):
         def count(tree: Tree) -> int:
@@ -496,6 +512,10 @@ class Tools(Case):
         self.assertEqual(host.told, [])
         host = Host()
         self.called(server, "work_in_thread", host=host, meta={"progressToken": 7})
+        for token in ([1], None, True, 1.5):
+            other = Host()
+            self.called(server, "work_in_thread", host=other, meta={"progressToken": token})
+            self.assertEqual(other.told, [])
         self.assertEqual(host.of("notifications/progress"), [{"progressToken": 7, "progress": 0.5}])
 
     def test_it_is_cancelled(self):
@@ -843,6 +863,45 @@ class Asking(Case):
             ],
         )
 
+    def test_what_can_not_be_elicited(self):
+        """Only texts, numbers, booleans and choices of them, side by side."""
+        server = ToolServer("asks")
+
+        @server.tool
+        async def asks(context: Context):
+            await context.elicit("?", Tree)
+
+        @dataclasses.dataclass
+        class Wish:
+            size: int
+            color: Color = Color.RED
+            sure: bool = False
+
+        @server.tool
+        async def wishes(context: Context):
+            await context.elicit("?", Wish)
+
+        host = Host(elicitation_create={"action": "cancel"})
+
+        async def main():
+            async with hosting(server, host, elicitation={}):
+                result = await host.call("tools/call", {"name": "asks"})
+                self.assertTrue(result["isError"])
+                self.assertIn("parts", result["content"][0]["text"])
+                await host.call("tools/call", {"name": "wishes"})
+
+        with logged():
+            self.wait(main())
+        ((_, params),) = host.asked
+        color = {"type": "string", "enum": ["red", "blue"], "default": "red"}
+        properties = {
+            "size": {"type": "integer"},
+            "color": color,
+            "sure": {"type": "boolean", "default": False},
+        }
+        schema = {"type": "object", "properties": properties, "required": ["size"]}
+        self.assertEqual(params["requestedSchema"], schema)
+
     def test_a_host_that_can_not(self):
         server = ToolServer("asks")
 
@@ -961,6 +1020,17 @@ class Hosts(Case):
                 await client.set_logging_level("error")
                 await client.send_ping()
                 client.roots_changed(["file:///other"])
+
+        self.wait(main())
+
+    def test_pages_that_go_round(self):
+        server = Server(framing="lines")
+        server.method("tools/list")(lambda params: {"tools": [], "nextCursor": "again"})
+
+        async def main():
+            async with joined(server, ToolClient()) as client:
+                with self.assertRaises(ValueError):
+                    await client.list_tools()
 
         self.wait(main())
 

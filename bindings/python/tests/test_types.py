@@ -10,7 +10,9 @@ import unittest
 
 from helping import PACKAGE, TOP, Case
 
-FILES = glob.glob(f"{PACKAGE}/bullmyrtle/**/*.py", recursive=True) + glob.glob(f"{PACKAGE}/build_backend/*.py")
+FILES = glob.glob(f"{PACKAGE}/bullmyrtle/**/*.py", recursive=True) + glob.glob(
+    f"{PACKAGE}/build_backend/*.py"
+)
 FILES += glob.glob(f"{TOP}/examples/python/*.py")
 
 
@@ -38,7 +40,8 @@ class Types(Case):
                             part, (ast.FunctionDef, ast.AsyncFunctionDef)
                         ) and not part.name.startswith("_"):
                             is_property = any(
-                                getattr(on, "id", "") == "property" for on in part.decorator_list
+                                getattr(on, "id", "") in ("property", "overload")
+                                for on in part.decorator_list
                             )
                             self.assertTrue(
                                 ast.get_docstring(part) or is_property, f"{file}: {it.name}.{part.name}"

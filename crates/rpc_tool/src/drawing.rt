@@ -125,7 +125,7 @@ fn skip_note(alloc: Global, step: &Table, number: usize, len: usize) -> Result<S
 /// The number of the step to which a skip of this number leads.
 fn after_skip(step: &Table, number: usize) -> usize {
     let count = match step.get("count") {
-        Some(Value::Integer(count)) => *count as usize,
+        Some(Value::Integer(count)) => usize::try_from(*count).unwrap_or(0),
         _ => 0,
     };
     number.saturating_add(count).saturating_add(1)

@@ -1,8 +1,9 @@
 """What a server can do, as `initialize` tells it: made from the methods that are registered (LSP 3.17)."""
 from __future__ import annotations
 
-import copy
 from typing import Any, Dict, Iterable, Mapping, Optional, Tuple
+
+from .._merging import merged
 
 Json = Dict[str, Any]
 #: The methods that are registered, with the options that were given for each.
@@ -66,6 +67,13 @@ NEEDED = {
 }
 _FILE_OPERATIONS = [f"{when}{what}" for what in ("Create", "Rename", "Delete") for when in ("did", "will")]
 NEEDED.update({f"workspace/{it}Files": "filters" for it in _FILE_OPERATIONS})
+# Where that stands among the capabilities that are given by hand.
+_BY_HAND = {
+    "textDocument/onTypeFormatting": "documentOnTypeFormattingProvider",
+    "textDocument/semanticTokens/full": "semanticTokensProvider",
+    "textDocument/semanticTokens/range": "semanticTokensProvider",
+}
+_BY_HAND.update({f"workspace/{it}Files": f"workspace.fileOperations.{it}" for it in _FILE_OPERATIONS})
 #: What only a registration while the server runs tells of, with the client's capability that it may be registered.
 DYNAMIC = {
     "workspace/didChangeWatchedFiles": "workspace.didChangeWatchedFiles.dynamicRegistration",
@@ -103,15 +111,6 @@ def _of_workspace(features: Features) -> Json:
     return workspace
 
 
-def merged(one: Json, other: Json) -> Json:
-    """Two objects, and the objects in them; where both have something else, the other's stands."""
-    both = copy.deepcopy(one)
-    for name, value in other.items():
-        there = both.get(name)
-        both[name] = merged(there, value) if isinstance(there, dict) and isinstance(value, dict) else value
-    return both
-
-
 def capabilities_of(features: Features, commands: Iterable[str], change: int, by_hand: Json) -> Json:
     """The capabilities of a server with these methods and commands; what is given by hand stands over them."""
     made: Json = {"textDocumentSync": _sync(features, change), "workspace": _of_workspace(features)}
@@ -127,6 +126,17 @@ def capabilities_of(features: Features, commands: Iterable[str], change: int, by
     if names:
         made["executeCommandProvider"] = {"commands": names}
     return merged(made, by_hand)
+
+
+def lacks(method: str, options: Optional[Json], features: Features, by_hand: Json) -> Optional[str]:
+    """What the options of a method have to tell and don't, where nothing else tells it either."""
+    needed = NEEDED.get(method)
+    if needed is None or needed in (options or {}) or needed in (at(by_hand, _BY_HAND[method]) or {}):
+        return None
+    others = [
+        given for it, given in features.items() if "semanticTokens" in it and "semanticTokens" in method
+    ]
+    return None if any(needed in (it or {}) for it in others) else needed
 
 
 def encoding_for(client: Json, known: Iterable[str]) -> Optional[str]:

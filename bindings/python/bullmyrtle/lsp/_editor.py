@@ -19,7 +19,11 @@ if TYPE_CHECKING:
 
 
 def _type(kind: Union[int, str]) -> int:
-    return MESSAGE_TYPES[kind] if isinstance(kind, str) else int(kind)
+    if isinstance(kind, str):
+        if kind not in MESSAGE_TYPES:
+            raise ValueError(f"a message is one of {', '.join(MESSAGE_TYPES)}: {kind!r}")
+        return MESSAGE_TYPES[kind]
+    return int(kind)
 
 
 class Editor:

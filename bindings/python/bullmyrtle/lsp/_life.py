@@ -33,6 +33,7 @@ class Life:
     def __init__(self) -> None:
         self.session: Optional[Session] = None
         self.state = NEW
+        self.beginning = 0  # the number of the `initialize` that came last
         self.params: Json = {}  # of `initialize`
         self.trace = "off"
         self.workspace = Workspace()

@@ -244,9 +244,11 @@ class Text:
     def _put(self, first: Tuple[int, int], last: Tuple[int, int], text: str) -> None:
         """Puts a text in the place of pieces, and of neighbours with which it has to be one piece."""
         while True:
+            # (a piece that is changed keeps its first character, if it has one before it: a place between two pieces
+            # is the end of the former. So no LF comes behind the CR of another piece here.)
             before, after = self._neighbour(first, -1), self._neighbour(last, 1)
             is_short = len(text) < self.least
-            if before and (is_short or text[:1] == "\n" and self._piece(before)[-1:] == "\r"):
+            if before and is_short:
                 first = before
                 text = self._piece(before) + text
             elif after and (is_short or text[-1:] == "\r" and self._piece(after)[:1] == "\n"):

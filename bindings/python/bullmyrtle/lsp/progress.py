@@ -59,8 +59,9 @@ class Progress:
         self._end()
         if kind is not asyncio.CancelledError or not self.is_cancelled or self._is_over():
             return False
-        if hasattr(asyncio.Task, "uncancel") and self._task is not None:
-            self._task.uncancel()
+        uncancel = getattr(self._task, "uncancel", None)  # (Python 3.11 on has it)
+        if uncancel is not None:
+            uncancel()
         return True
 
     def __enter__(self) -> Progress:

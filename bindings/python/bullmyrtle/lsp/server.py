@@ -9,18 +9,20 @@ import sys
 import threading
 from typing import Any, Callable, Dict, Iterable, NoReturn, Optional, TypeVar
 
-from .._channels import Channel
 from .._filling import Filling
 from .._fits import annotation_of, fit_for
+from .._marks import marked
+from .._merging import merged
 from .._middleware import handed, limited
 from .._params import ASYNC, Method, Methods
 from .._request import LATER, Request
 from .._session import Session
 from ..errors import Error, InvalidParams, INVALID_REQUEST
 from ..server import Server
-from ._capabilities import DYNAMIC, FULL, INCREMENTAL, NEEDED, capabilities_of, encoding_for, merged
+from ._capabilities import DYNAMIC, FULL, INCREMENTAL, capabilities_of, encoding_for, lacks
 from ._editor import Editor
 from ._life import CURRENT, NEW, RUNNING, SHUT, STARTING, Gate, Life
+from ._plain import plain
 from ._text import ENCODINGS
 from .documents import Document, member
 from .workspace import Workspace
@@ -28,6 +30,7 @@ from .workspace import Workspace
 log = logging.getLogger("bullmyrtle")
 
 F = TypeVar("F", bound=Callable[..., Any])
+T = TypeVar("T")
 Json = Dict[str, Any]
 
 _SYNC = {"full": FULL, "incremental": INCREMENTAL}
@@ -122,8 +125,9 @@ class LanguageServer(Editor, Server):
         """
         if options is not None:
             options = self._plain(options)
-        if name in NEEDED and NEEDED[name] not in {**(options or {}), **self._semantic(name)}:
-            raise TypeError(f"{name} needs options with {NEEDED[name]!r}, since nothing else can tell it")
+        missing = lacks(name, options, self._features, self._by_hand)
+        if missing is not None:
+            raise TypeError(f"{name} needs options with {missing!r}, since nothing else can tell it")
 
         def register(function: F) -> F:
             if name in self._features or name == "workspace/executeCommand":
@@ -139,15 +143,11 @@ class LanguageServer(Editor, Server):
 
         return register
 
-    def _semantic(self, name: str) -> Json:
-        """What another feature of the same capability, or the program by hand, has told already."""
-        if "semanticTokens" not in name:
-            return self._by_hand if name == "textDocument/onTypeFormatting" else {}
-        told: Json = dict(self._by_hand.get("semanticTokensProvider") or {})
-        for other, options in self._features.items():
-            if "semanticTokens" in other:
-                told.update(options or {})
-        return told
+    def register(self, instance: T) -> T:
+        """Register what is marked of an instance by `@bullmyrtle.method("name")` as features, and give it back."""
+        for it, function in marked(instance):
+            self.feature(it.name, thread=it.thread, timeout=it.timeout)(function)
+        return instance
 
     def command(
         self, name: str, *, thread: bool = False, timeout: Optional[float] = None
@@ -192,7 +192,7 @@ class LanguageServer(Editor, Server):
             return function
         if first is None or first.kind not in (first.POSITIONAL_ONLY, first.POSITIONAL_OR_KEYWORD):
             return function
-        if first.name in ("ls", "server") or _names_a_server(function, first.name):
+        if first.name == "ls" or _names_a_server(function, first.name):
             return functools.partial(function, self)
         return function
 
@@ -224,20 +224,17 @@ class LanguageServer(Editor, Server):
         return call_async if inspect.iscoroutinefunction(function) else call
 
     def _plain(self, value: Any) -> Any:
-        return value if self._converter is None else self._converter.unstructure(value)
+        return plain(value) if self._converter is None else self._converter.unstructure(value)
 
     # Sessions
 
     def _table(self) -> Methods:
-        return Gate(super()._table(), Life())
+        return Gate(self._methods, Life())
 
-    def _session_over(self, channel: Channel, **other: Any) -> Session:
-        session = super()._session_over(channel, **other)
-        gate = session._methods
-        assert isinstance(gate, Gate)
-        gate.life.session = session
-        self._lives[session] = gate.life
-        return session
+    def _began(self, session: Session, table: Methods) -> None:
+        assert isinstance(table, Gate)
+        table.life.session = session
+        self._lives[session] = table.life
 
     async def _serve(self, session: Session) -> int:
         try:
@@ -336,11 +333,13 @@ class LanguageServer(Editor, Server):
 
     def _initialize(self, params: Any, request: Request) -> Any:
         life = self._life_of(request)
+        if life.state is STARTING and life.beginning not in request.session._open:
+            life.state = NEW  # (the one before was cancelled)
         if life.state is not NEW:
             raise Error(INVALID_REQUEST, "Invalid Request: initialize has come already")
         if not isinstance(params, dict):
             raise InvalidParams("Invalid params: initialize has an object")
-        life.params, life.state = params, STARTING
+        life.params, life.state, life.beginning = params, STARTING, request.number
         life.trace = params.get("trace") or "off"
         encoding = encoding_for(life.client_capabilities, self._encodings)
         try:
@@ -482,11 +481,9 @@ def _entered(method: Method, converter: Any) -> Method:
         return inner() if not takes else inner(given) if takes == 1 else inner(given, request)
 
     def made(result: Any) -> Any:
-        return (
-            result
-            if converter is None or result is LATER or result is None
-            else converter.unstructure(result)
-        )
+        if result is LATER or result is None:
+            return result
+        return plain(result) if converter is None else converter.unstructure(result)
 
     def entered(given: Any, request: Request) -> Any:
         token = CURRENT.set(request)

@@ -6,6 +6,7 @@ import dataclasses
 import decimal
 import enum
 import inspect
+import itertools
 import json
 import re
 import sys
@@ -53,6 +54,7 @@ class Schemas:
 
     def __init__(self) -> None:
         self.defs: Dict[str, Json] = {}
+        self._kinds: Dict[str, Any] = {}  # the classes that these are of
 
     def of(self, kind: Any) -> Json:
         """The schema of an annotation. Raises TypeError where JSON has nothing that could fit it."""
@@ -66,7 +68,7 @@ class Schemas:
             about = next((it for it in kind.__metadata__ if isinstance(it, str)), None)
             return {**self.of(kind.__origin__), **({} if about is None else {"description": about})}
         if isinstance(kind, type) and issubclass(kind, enum.Enum):
-            return {"enum": [it.value for it in kind]}
+            return _choice([it.value for it in kind])
         if dataclasses.is_dataclass(kind) or _is_typed_dict(kind):
             return self._of_class(kind)
         return self._of_generic(kind, typing.get_origin(kind), typing.get_args(kind))
@@ -75,7 +77,7 @@ class Schemas:
         if _is_union(kind):
             return {"anyOf": [self.of(it) for it in parts]}
         if origin is typing.Literal:
-            return {"enum": list(parts)}
+            return _choice(list(parts))
         given = [it for it in parts if not isinstance(it, typing.TypeVar)]
         if origin in _ARRAYS:
             return {"type": "array", **({"items": self.of(given[0])} if given else {})}
@@ -87,7 +89,7 @@ class Schemas:
         )
 
     def _of_class(self, kind: Any) -> Json:
-        name = kind.__name__
+        name = self._name_of(kind)
         if name not in self.defs:
             made: Json = {"type": "object"}
             self.defs[name] = made
@@ -108,12 +110,28 @@ class Schemas:
                 made["required"] = required
         return {"$ref": f"#/$defs/{name}"}
 
+    def _name_of(self, kind: Any) -> str:
+        """The name of a class here: its own, or with a number behind it where another class has that."""
+        name: str = kind.__name__
+        for at in itertools.count(2):
+            if self._kinds.setdefault(name, kind) is kind:
+                break
+            name = f"{kind.__name__}{at}"
+        return name
+
     def whole(self, schema: Json) -> Json:
         """A schema with what it refers to; a class that it is itself stands there, if nothing else refers to it."""
         name = schema.get("$ref", "").rpartition("/")[2]
         if name and f'"#/$defs/{name}"' not in json.dumps(self.defs):
             schema = self.defs.pop(name)
         return {**schema, "$defs": self.defs} if self.defs else schema
+
+
+def _choice(values: List[Any]) -> Json:
+    """The schema of a few values, with their type, where they have one."""
+    kinds = {_TYPES.get(type(it)) for it in values}
+    of = {"type": kinds.pop()} if len(kinds) == 1 and None not in kinds else {}
+    return {**of, "enum": values}
 
 
 def _with_default(schema: Json, default: Any) -> Json:

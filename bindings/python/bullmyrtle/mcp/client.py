@@ -3,7 +3,7 @@ from __future__ import annotations
 
 import dataclasses
 import inspect
-from typing import Any, Callable, Dict, List, Optional, Sequence, Union
+from typing import Any, Callable, Dict, List, Optional, Sequence, Set, Union
 
 from .._middleware import raw
 from .._params import PLAIN
@@ -132,12 +132,16 @@ class ToolClient(Client):
         """All items of a list, page by page."""
         items: List[Json] = []
         cursor: Optional[str] = None
+        seen: Set[str] = set()
         while True:
             page = await self.call(method, None if cursor is None else {"cursor": cursor})
             items += page[name]
             cursor = page.get("nextCursor")
             if cursor is None:
                 return items
+            if cursor in seen:
+                raise ValueError(f"the pages of {method} go round: {cursor[:100]!r} comes again")
+            seen.add(cursor)
 
     async def list_tools(self) -> List[Json]:
         """All tools, of all pages."""

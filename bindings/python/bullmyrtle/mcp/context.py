@@ -72,7 +72,11 @@ class Context:
         """Tell how far it is, where the host asked for that. Progress that doesn't rise isn't told. Any thread may."""
         token = self.meta.get("progressToken")
         is_over = self.request.is_cancelled or self.request.number not in self.request.session._open
-        if token is None or is_over or (self._reached is not None and progress <= self._reached):
+        if (
+            type(token) not in (str, int)
+            or is_over
+            or (self._reached is not None and progress <= self._reached)
+        ):
             return
         self._reached = progress
         about: Json = {"progressToken": token, "progress": progress}
@@ -127,8 +131,7 @@ class Context:
         The schema is a dataclass of texts, numbers, booleans and choices, or an object by hand. Since 2025-06-18.
         """
         if not isinstance(schema, dict):
-            schemas = Schemas()
-            schema = schemas.whole(schemas.of(schema))
+            schema = _asked_for(schema)
         waited = self._ask(
             "elicitation", "elicitation/create", {"message": message, "requestedSchema": schema}
         )
@@ -141,6 +144,19 @@ class Context:
     def read_resource(self, uri: str) -> Any:
         """The contents of one of the server's own resources, to be awaited: a list."""
         return self.server.contents_of(uri, self._life, self.request)
+
+
+def _asked_for(kind: Any) -> Json:
+    """The schema of what a user is asked for: members that are texts, numbers, booleans and choices of them."""
+    schemas = Schemas()
+    schema = schemas.of(kind)
+    members: Json = schemas.defs.get(schema.get("$ref", "").rpartition("/")[2], schema).get("properties", {})
+    for name, it in members.items():
+        if it.get("type") not in ("string", "number", "integer", "boolean"):
+            raise TypeError(
+                f"{name!r} can't be asked for: a user gives texts, numbers, booleans and choices of these"
+            )
+    return schemas.whole(schema)
 
 
 def _elicited(result: Any) -> Elicited:

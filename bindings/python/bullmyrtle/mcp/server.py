@@ -8,16 +8,15 @@ import inspect
 import logging
 import re
 import urllib.parse
-from typing import Any, Callable, Dict, List, Optional, Pattern, Sequence, Tuple, TypeVar, Union
+from typing import Any, Callable, Dict, List, Optional, Pattern, Sequence, Tuple, TypeVar, Union, overload
 
-from .._channels import Channel
 from .._json import dumps, plain_loads
+from .._merging import merged
 from .._middleware import handed, limited, raw
 from .._params import ASYNC, PLAIN, THREAD, Method, Methods
 from .._request import Request
 from .._session import Session
 from ..errors import INVALID_REQUEST, Closed, Error, InvalidParams
-from ..lsp._capabilities import merged
 from ..server import Server
 from ._functions import Function, result_schema
 from ._life import VERSIONS, Gate, Life
@@ -120,6 +119,25 @@ class ToolServer(Server):
             self._methods.add(raw(method, function, PLAIN))
 
     # Tools
+
+    @overload
+    def tool(self, name: F) -> F:
+        ...
+
+    @overload
+    def tool(
+        self,
+        name: Optional[str] = None,
+        *,
+        title: Optional[str] = None,
+        description: Optional[str] = None,
+        annotations: Optional[Json] = None,
+        input_schema: Optional[Json] = None,
+        output_schema: Optional[Json] = None,
+        thread: bool = False,
+        timeout: Optional[float] = None,
+    ) -> Callable[[F], F]:
+        ...
 
     def tool(
         self,
@@ -273,6 +291,21 @@ class ToolServer(Server):
             if uri in life.subscribed and life.session is not None:
                 life.session.notify("notifications/resources/updated", {"uri": uri})
 
+    @overload
+    def prompt(self, name: F) -> F:
+        ...
+
+    @overload
+    def prompt(
+        self,
+        name: Optional[str] = None,
+        *,
+        title: Optional[str] = None,
+        description: Optional[str] = None,
+        thread: bool = False,
+    ) -> Callable[[F], F]:
+        ...
+
     def prompt(
         self,
         name: Union[str, Callable[..., Any], None] = None,
@@ -354,15 +387,12 @@ class ToolServer(Server):
     # Sessions
 
     def _table(self) -> Methods:
-        return Gate(super()._table(), Life())
+        return Gate(self._methods, Life())
 
-    def _session_over(self, channel: Channel, **other: Any) -> Session:
-        session = super()._session_over(channel, **other)
-        gate = session._methods
-        assert isinstance(gate, Gate)
-        gate.life.session = session
-        self._lives[session] = gate.life
-        return session
+    def _began(self, session: Session, table: Methods) -> None:
+        assert isinstance(table, Gate)
+        table.life.session = session
+        self._lives[session] = table.life
 
     async def _serve(self, session: Session) -> int:
         try:

@@ -26,7 +26,7 @@ static size_t count, length;
 static void check(int32_t code)
 {
     if (code != BM_OK) {
-        fprintf(stderr, "few_calls: %s\n", bm_code_text(code));
+        fprintf(stderr, "quick_host: %s\n", bm_code_text(code));
         exit(1);
     }
 }

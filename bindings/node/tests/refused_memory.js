@@ -1,0 +1,127 @@
+'use strict'
+// Each request for memory of the addon, and of the library in it, is refused in turn. Run by checks/node_package.py with an
+// addon that is linked with refused_memory.c.
+
+const assert = require('node:assert/strict')
+const { test } = require('node:test')
+const { Connection, Refused } = require('..')
+const { joined, sleep, Log } = require('./helping')
+
+const MOST = 400
+
+/** Does something with the n-th request for memory refused, and gives whether it came to that. */
+function refusing(n, act) {
+  process.env.REFUSE_NTH = `${n}`
+  try {
+    act()
+  } finally {
+    var was = process.env.REFUSE_NTH
+    delete process.env.REFUSE_NTH
+  }
+  return was === 'refused'
+}
+
+const isNoMemory = error => (error instanceof Refused && error.code === 'NoMemory') || error.code === 'ERR_MEMORY_ALLOCATION_FAILED'
+const text = 'x'.repeat(100_000)
+const line = it => Buffer.from(`${JSON.stringify({ jsonrpc: '2.0', ...it })}\n`)
+
+/** What is done with a connection, one step after the other. */
+const STEPS = [
+  it => { it.connection = new Connection({ framing: 'lines' }) },
+  it => it.connection.feed(Buffer.concat([line({ method: 'm', id: 1, params: [text] }), line({ method: 'é', id: 2 }), line({ method: 'n', id: 3 })])),
+  it => { it.told.push(...it.connection.events()) },
+  it => it.told.push(it.connection.call(1, 'ask', `["${text}"]`)),
+  it => it.told.push(it.connection.callBatch(2, [['a', '[1]'], ['b']])),
+  it => it.connection.notify('note', '{"a":[1,2,3]}'),
+  it => it.connection.withdraw(1),
+  it => it.connection.feed(Buffer.concat([line({ id: 1, result: [text] }), line({ id: 2, error: { code: 5, message: 'm', data: text } })])),
+  it => { for (let told; (told = it.connection.nextEvent());) it.told.push(told) },
+  it => it.connection.answer(1, `"${text}"`),
+  it => it.connection.fail(2, 5, 'message', '{"data":1}'),
+  it => it.connection.cancel(3)
+]
+
+function played(upTo) {
+  const it = { told: [] }
+  for (const step of STEPS.slice(0, upTo)) step(it)
+  return it
+}
+
+function rest(it, from) {
+  for (const step of STEPS.slice(from)) step(it)
+  it.connection.end()
+  it.told.push(...it.connection.events())
+  return [it.told, it.connection.take().toString(), it.connection.counts()]
+}
+
+test('the lower floor: what is refused memory says so, and goes on when it is done again', () => {
+  const wanted = rest(played(0), 0)
+  let count = 0
+  STEPS.forEach((step, at) => {
+    for (let n = 1; n < MOST; n++) {
+      const it = played(at)
+      let isDone = false
+      const wasRefused = refusing(n, () => {
+        try {
+          step(it)
+          isDone = true
+        } catch (error) {
+          if (!isNoMemory(error)) throw error
+        }
+      })
+      if (!isDone) step(it)
+      assert.deepEqual(rest(it, at + 1), wanted, `step ${at}, request ${n}`)
+      if (!wasRefused) break
+      count++
+    }
+  })
+  assert.ok(count >= 40, `${count}`)
+})
+
+test('fed: bytes are taken or not, and events come later', () => {
+  const bytes = Buffer.concat([line({ method: 'm', id: 1, params: [text] }), line({ method: 'n', id: 2 })])
+  let count = 0
+  for (let n = 1; n < MOST; n++) {
+    const connection = new Connection({ framing: 'lines' })
+    let told
+    const wasRefused = refusing(n, () => {
+      try {
+        told = connection.fed(bytes)
+      } catch (error) {
+        if (!isNoMemory(error)) throw error
+      }
+    })
+    told = [...(told ?? connection.fed(bytes)), ...connection.events()]
+    assert.deepEqual(told.map(it => it.id), ['1', '2'], `request ${n}`)
+    if (!wasRefused) break
+    count++
+  }
+  assert.ok(count > 3, `${count}`)
+})
+
+test('the upper floor: a call is answered or rejected, or the connection ends and says why', async () => {
+  let refused = 0
+  let answered = 0
+  let ended = 0
+  for (let n = 1; n < MOST; n++) {
+    const { server, client, dispose } = joined({ logger: new Log() })
+    server.onRequest('echo', it => it)
+    server.onRequest('back', it => client.hasPendingResponse() && server.sendRequest('echo', it))
+    client.onRequest('echo', it => it)
+    server.listen()
+    client.listen()
+    process.env.REFUSE_NTH = `${n}`
+    const calls = [client.sendRequest('echo', { text }), client.sendRequest('back', { n }), client.sendBatch([['echo', { n }]])]
+    const settled = await Promise.race([Promise.allSettled(calls), sleep(300, 'open')])
+    const wasRefused = process.env.REFUSE_NTH === 'refused'
+    delete process.env.REFUSE_NTH
+    if (settled === 'open') assert.ok(server.reason || client.reason, `request ${n}: calls are open, and nothing has ended`)
+    else answered += settled.filter(it => it.status === 'fulfilled').length
+    if (server.reason || client.reason) ended++
+    else assert.deepEqual(await client.sendRequest('echo', { well: n }), { well: n })
+    dispose()
+    if (!wasRefused) break
+    refused++
+  }
+  assert.ok(refused >= 30 && answered > refused, `${refused} refusals, ${answered} answers, ${ended} ends`)
+})
