@@ -30,7 +30,7 @@ WITHOUT_PROCESSES += [
     "test_faults.Open",
 ]
 WITHOUT_PROCESSES += ["test_language_server", "test_middleware", "test_tool_server"]
-FEWEST, FEWEST_WITHOUT_PROCESSES = 440, 285
+FEWEST, FEWEST_WITHOUT_PROCESSES = 440, 275
 SECONDS = 900
 
 

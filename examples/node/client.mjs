@@ -1,5 +1,5 @@
 // Starts a language server and a tool server, calls them, and answers what they call back: those of this folder, or
-// with the word `python` those of examples/python.
+// with the word `python` those of examples/python that make each message themselves.
 import { spawn } from 'node:child_process'
 import { once } from 'node:events'
 import path from 'node:path'
@@ -13,8 +13,8 @@ const folder = fileURLToPath(new URL(isPython ? '../python' : '.', import.meta.u
 
 /** A server's process, and the connection to it. */
 function start(name, options) {
-  const [program, ending] = isPython ? ['python3', 'py'] : [process.execPath, 'mjs']
-  const server = spawn(program, [path.join(folder, `${name}.${ending}`)], { stdio: ['pipe', 'pipe', 'inherit'] })
+  const [program, ending] = isPython ? ['python3', '_by_hand.py'] : [process.execPath, '.mjs']
+  const server = spawn(program, [path.join(folder, `${name}${ending}`)], { stdio: ['pipe', 'pipe', 'inherit'] })
   const connection = createMessageConnection(server.stdout, server.stdin, undefined, options)
   return { connection, ended: once(server, 'close') }
 }

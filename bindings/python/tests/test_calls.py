@@ -6,7 +6,7 @@ import threading
 import unittest
 import warnings
 
-from helping import Case, frame, joined, logged, notice, request
+from helping import MANY, Case, frame, joined, logged, notice, request
 
 from bullmyrtle import LATER, Client, Closed, Empty, Error, Server, Unanswered
 from bullmyrtle._channels import Channel
@@ -746,7 +746,7 @@ class BeforeItsTurn(Case):
             server.method("x")(lambda params: params)
             serving = asyncio.ensure_future(server.serve_over(channel))
             await asyncio.sleep(0)
-            for count in (400, 800):
+            for count in (MANY // 25, MANY // 12):
                 data = b"".join(
                     b'{"jsonrpc":"2.0","method":"x","id":%d}\n' % it for it in range(count)
                 ) + b"".join(
@@ -759,7 +759,7 @@ class BeforeItsTurn(Case):
             channel.session.input_ended(False)
             self.assertEqual(await serving, 0)
 
-        self.wait(main(), 5)
+        self.wait(main(), 20)
 
 
 if __name__ == "__main__":

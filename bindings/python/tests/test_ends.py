@@ -301,7 +301,9 @@ class OnStandardError(Case):
         self.assertIn("m returned LATER, and request.answer or request.fail was never called", lines[-1])
 
     def test_an_interrupt(self):
-        text = "server.method('m')(lambda: __import__('os').kill(__import__('os').getpid(), 2))\n"
+        # (what a shell runs in the background ignores the signal)
+        text = "import signal\nsignal.signal(signal.SIGINT, signal.default_int_handler)\n"
+        text += "server.method('m')(lambda: __import__('os').kill(__import__('os').getpid(), 2))\n"
         status, lines = self.run_server(frame(request(1, "m")), text)
         self.assertEqual((status, len(lines)), (1, 1))
         self.assertEqual(lines[0], "the session ended: it was interrupted, as by Ctrl-C")

@@ -144,7 +144,8 @@ class Storms(Case):
             writer.close()
             # (which first writes what it still has; the server may not read it as long as nobody reads its answers)
             await asyncio.sleep(0.1)
-        writer.transport.abort()
+        with contextlib.suppress(AttributeError):  # (asyncio's own, where it is closed already)
+            writer.transport.abort()
 
     def test_over_tcp(self):
         async def listen(server):
