@@ -434,11 +434,6 @@ class ClosesFirst:
 WIDTHS = {"uint32_t": 4, "int32_t": 4, "uint64_t": 8, "int64_t": 8, "size_t": 8, "bool": 1}
 
 
-# Several events, and several things to say, in one call: additions that the package doesn't use.
-ADDED_CALLS = {"bm_has", "bm_tell", "bm_fed", "bm_say_all", "bm_taken", "bm_close_call"}
-ADDED_STRUCTS = {"bm_told", "bm_saying", "bm_said"}
-
-
 class Header(Case):
     """The package's declarations are those of the header."""
 
@@ -452,8 +447,8 @@ class Header(Case):
 
     def test_calls(self):
         found = re.findall(r"^(\w+) (bm_\w+)\(([^)]*)\);", self.text, re.M | re.S)
-        self.assertEqual({name for _, name, _ in found}, {*_library.CALLS, *ADDED_CALLS})
-        for result, name, words in (it for it in found if it[1] not in ADDED_CALLS):
+        self.assertEqual({name for _, name, _ in found}, set(_library.CALLS))
+        for result, name, words in found:
             given, parameters = _library.CALLS[name]
             self.assertEqual(ctypes.sizeof(given) if given else None, WIDTHS.get(result), name)
             types = [] if words == "void" else [it.strip() for it in words.split(",")]
@@ -483,8 +478,8 @@ class Header(Case):
         found = dict(
             (name, body) for body, name in re.findall(r"typedef struct \{(.*?)\} (\w+);", self.text, re.S)
         )
-        self.assertEqual(set(found), {*structs, *ADDED_STRUCTS})
-        for name, body in ((it, found[it]) for it in structs):
+        self.assertEqual(set(found), set(structs))
+        for name, body in found.items():
             fields = []
             for line in filter(None, map(str.strip, body.split(";"))):
                 kind, names = line.split(" ", 1)
