@@ -1,5 +1,6 @@
-/* What host.c does, with two calls of the library for a piece of input: one feeds it and tells what came, and one says
- * all that there is to say and takes what is to be written. */
+/* What host.c does, with two calls of the library for a few messages: one feeds a piece and tells what came, and one
+ * says all that there is to say and takes what is to be written. From C a call costs next to nothing, and host.c is as
+ * quick: it is made so in languages from which a call is costly. */
 #include "bullmyrtle.h"
 
 #include <stdio.h>
@@ -7,7 +8,8 @@
 #include <string.h>
 #include <unistd.h>
 
-enum { MOST = 200, ROOM = 1 << 20 };
+/* (what is told is open all at once, and few open calls take less time than many) */
+enum { MOST = 16, ROOM = 1 << 20 };
 
 static bm_connection connection;
 

@@ -59,8 +59,41 @@ class Event(ctypes.Structure):
     ]
 
 
-# The same, for what bm_next_all packs.
+# The same, for what bm_tell packs.
 EVENT = struct.Struct("@IIQQqNNN")
+
+
+class Told(ctypes.Structure):
+    _fields_ = [
+        ("count", c_uint32),
+        ("stopped", c_uint32),
+        ("used", c_size_t),
+        ("needed", c_size_t),
+        ("pending", c_size_t),
+    ]
+
+
+class Saying(ctypes.Structure):
+    _fields_ = [
+        ("kind", c_uint32),
+        ("said", c_int32),
+        ("number", c_uint64),
+        ("key", c_uint64),
+        ("code", c_int64),
+        ("name_len", c_size_t),
+        ("text_len", c_size_t),
+        ("calls", c_size_t),
+    ]
+
+
+class Said(ctypes.Structure):
+    _fields_ = [("refused", c_size_t), ("taken", c_size_t), ("pending", c_size_t)]
+
+
+# Why no more events are told.
+NO_EVENT, NO_ROOM, NO_MORE, NO_MEMORY_LEFT = range(4)
+# The addition that has bm_tell and bm_fed.
+TOGETHER = 1
 
 
 class Counts(ctypes.Structure):
@@ -85,21 +118,27 @@ _BYTES = [c_char_p, c_size_t]
 # Each call, with its result and its parameters.
 CALLS: Dict[str, Tuple[Any, List[Any]]] = {
     "bm_interface": (c_uint32, []),
+    "bm_has": (c_bool, [c_uint32]),
     "bm_new": (c_int32, [POINTER(Settings), POINTER(c_void_p)]),
     "bm_free": (None, [Handle]),
     "bm_feed": (c_int32, [_AT, *_BYTES]),
     "bm_end": (c_int32, [_AT, c_uint32]),
     "bm_next": (c_int32, [_AT, POINTER(Event), c_void_p, c_size_t]),
     "bm_next_all": (c_int32, [_AT, c_void_p, c_size_t, POINTER(c_size_t), POINTER(c_uint32)]),
+    "bm_tell": (None, [_AT, c_void_p, c_size_t, c_uint32, POINTER(Told)]),
+    "bm_fed": (c_int32, [_AT, *_BYTES, c_void_p, c_size_t, c_uint32, POINTER(Told)]),
+    "bm_say_all": (c_int32, [_AT, POINTER(Saying), c_size_t, *_BYTES, c_void_p, c_size_t, POINTER(Said)]),
     "bm_call": (c_int32, [_AT, c_uint64, *_BYTES, *_BYTES, POINTER(c_uint64)]),
     "bm_call_batch": (c_int32, [_AT, c_uint64, *_BYTES, POINTER(c_size_t), c_size_t, POINTER(c_uint64)]),
     "bm_notify": (c_int32, [_AT, *_BYTES, *_BYTES]),
     "bm_withdraw": (c_int32, [_AT, c_uint64]),
     "bm_answer": (c_int32, [_AT, c_uint64, *_BYTES]),
+    "bm_close_call": (c_int32, [_AT, c_uint64]),
     "bm_fail": (c_int32, [_AT, c_uint64, c_int64, *_BYTES, *_BYTES]),
     "bm_cancel": (c_int32, [_AT, c_uint64]),
     "bm_pending": (c_size_t, [_AT]),
     "bm_take": (c_size_t, [_AT, c_void_p, c_size_t]),
+    "bm_taken": (c_int32, [_AT, c_void_p, c_size_t, POINTER(c_size_t)]),
     "bm_is_done": (c_bool, [_AT]),
     "bm_counts": (None, [_AT, POINTER(Counts)]),
 }
@@ -163,6 +202,8 @@ def declare(library: Any) -> None:
     version = library.bm_interface()
     if version != INTERFACE:
         raise LibraryError(f"the library has the interface {version}, and this package is for {INTERFACE}")
+    if not library.bm_has(TOGETHER):
+        raise LibraryError("the library is older than this package")
 
 
 def library() -> Any:

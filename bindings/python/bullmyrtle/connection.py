@@ -7,7 +7,7 @@ from ctypes import byref, c_size_t, c_uint32, c_uint64, c_void_p, string_at
 from typing import Any, Callable, Iterable, List, Literal, NamedTuple, Optional, Tuple, Union
 
 from . import _library, _settings, events
-from .errors import REFUSALS, SMALL, Closed, NotOpen, NotWaiting
+from .errors import NO_MEMORY, REFUSALS, SMALL, Closed, NotOpen, NotWaiting
 from .events import Event
 
 Framing = Literal["frames", "lines", "contents"]
@@ -89,14 +89,14 @@ class Connection:
         self._framing = framing
         # What the calls below pass, once for all; whoever has the lock may change it.
         self._number, self._length, self._more, self._key = c_uint64(), c_size_t(), c_size_t(), c_uint64()
-        self._used, self._count = c_size_t(), c_uint32()
-        self._key_at, self._used_at, self._count_at = byref(self._key), byref(self._used), byref(self._count)
+        self._told, self._unbounded = _library.Told(), c_uint32(0)
+        self._key_at, self._told_at = byref(self._key), byref(self._told)
         self._make_room(_ROOM)
         self._out = ctypes.create_string_buffer(_ROOM)
         self._out_view, self._out_size = memoryview(self._out), c_size_t(_ROOM)
-        names = ("bm_feed", "bm_next_all", "bm_call", "bm_answer", "bm_take")
+        names = ("bm_feed", "bm_fed", "bm_tell", "bm_call", "bm_answer", "bm_take")
         quick = [_library.undeclared(library, it) for it in names]
-        self._bm_feed, self._bm_next_all, self._bm_call, self._bm_answer, self._bm_take = quick
+        self._bm_feed, self._bm_fed, self._bm_tell, self._bm_call, self._bm_answer, self._bm_take = quick
         # Where a session wants the numbers of the requests whose cancels are told.
         self._cancelled: Optional[List[int]] = None
 
@@ -153,7 +153,9 @@ class Connection:
         """All events that there are now. Broken input has no event, and is answered as it is gone past here."""
         told: List[Event] = []
         with self._lock:
-            self._tell(self._at or self._open(), told, self._bm_next_all)
+            at = self._at or self._open()
+            self._bm_tell(at, self._room, self._room_size, self._unbounded, self._told_at)
+            self._gather(at, told, self._bm_tell)
         return told
 
     def fed(self, data: bytes, aside: bool = False) -> List[Event]:
@@ -164,38 +166,38 @@ class Connection:
         if type(data) is not bytes:
             data = bytes(memoryview(data))
         told: List[Event] = []
-        feed, tell = self._bm_feed, self._bm_next_all
+        fed, tell = self._bm_fed, self._bm_tell
         if aside:
-            feed, tell = (_library.released(self._library, it) for it in ("bm_feed", "bm_next_all"))
+            fed, tell = (_library.released(self._library, it) for it in ("bm_fed", "bm_tell"))
         with self._lock:
             at, self._length.value = self._at or self._open(), len(data)
-            code = feed(at, data, self._length)
+            code = fed(at, data, self._length, self._room, self._room_size, self._unbounded, self._told_at)
             if code:
                 raise REFUSALS[code]()
-            self._tell(at, told, tell)
+            self._gather(at, told, tell)
         return told
 
     def _make_room(self, size: int) -> None:
         self._room = ctypes.create_string_buffer(size)
         self._room_view, self._room_size = memoryview(self._room), c_size_t(size)
 
-    def _tell(self, at: Any, told: List[Event], tell: Any) -> None:
-        """Appends all events that there are."""
+    def _gather(self, at: Any, told: List[Event], tell: Any) -> None:
+        """Appends the events that the last call has told, and all others that there are."""
+        it = self._told
         while True:
-            code = tell(at, self._room, self._room_size, self._used_at, self._count_at)
-            if code == SMALL:
-                self._make_room(self._used.value + _ROOM)
-                continue
-            if code:
+            if it.count:
+                _read(self._room_view[: it.used].tobytes(), it.count, told, self._cancelled)
+            if it.stopped == _library.NO_EVENT:
+                break
+            if it.stopped == _library.NO_MEMORY_LEFT:
                 if told:
-                    return  # (they are told, and what is left comes with the next call)
-                raise REFUSALS[code]()
-            count = self._count.value
-            if not count:
-                return
-            _read(self._room_view[: self._used.value].tobytes(), count, told, self._cancelled)
-            if len(self._room) > 16 * _ROOM:
-                self._make_room(_ROOM)
+                    break  # (they are told, and what is left comes with the next call)
+                raise REFUSALS[NO_MEMORY]()
+            if it.needed > len(self._room):
+                self._make_room(it.needed + _ROOM)
+            tell(at, self._room, self._room_size, self._unbounded, self._told_at)
+        if len(self._room) > 16 * _ROOM:
+            self._make_room(_ROOM)
 
     def next_event(self) -> Optional[Event]:
         """The next event, or None where there is none now."""
@@ -371,7 +373,7 @@ _make = tuple.__new__
 
 
 def _read(data: bytes, count: int, told: List[Event], cancelled: Optional[List[int]]) -> None:
-    """Appends the events that lie in some bytes, as bm_next_all packs them."""
+    """Appends the events that lie in some bytes, as bm_tell packs them."""
     at = 0
     for _ in range(count):
         kind, flags, number, key, code, name_length, text_length, id_length = _unpack(data, at)

@@ -97,21 +97,63 @@ int32_t bm_next(bm_connection *connection, bm_event *event, uint8_t *room, size_
     return tell(connection, event, room, length) ? BM_OK : BM_SMALL;
 }
 
-int32_t bm_next_all(bm_connection *connection, uint8_t *room, size_t length, size_t *used, uint32_t *count)
+void bm_tell(bm_connection *connection, uint8_t *room, size_t length, uint32_t most, bm_told *told)
 {
-    *used = 0, *count = 0;
+    memset(told, 0, sizeof *told);
+    if (most) {
+        abort(); /* (the package asks for as many as there are) */
+    }
     while (((made *)connection->at)->events) {
-        size_t at = (*used + 7) / 8 * 8;
+        size_t at = (told->used + 7) / 8 * 8;
         if ((uintptr_t)room % 8 || length < at + sizeof(bm_event) + sizeof TEXTS) {
-            return BM_SMALL;
+            told->stopped = BM_STOP_ROOM, told->needed = sizeof(bm_event) + sizeof TEXTS;
+            return;
         }
         bm_event event;
         tell(connection, &event, room + at + sizeof event, sizeof TEXTS);
         memcpy(room + at, &event, sizeof event);
-        *used = at + sizeof event + sizeof TEXTS;
-        ++*count;
+        told->used = at + sizeof event + sizeof TEXTS;
+        told->count++;
     }
+}
+
+int32_t bm_fed(bm_connection *connection, const uint8_t *bytes, size_t length, uint8_t *room, size_t room_length,
+               uint32_t most, bm_told *told)
+{
+    bm_feed(connection, bytes, length);
+    bm_tell(connection, room, room_length, most, told);
     return BM_OK;
+}
+
+bool bm_has(uint32_t addition)
+{
+    return addition == BM_HAS_TOGETHER;
+}
+
+/* What the package doesn't call. */
+int32_t bm_next_all(bm_connection *connection, uint8_t *room, size_t length, size_t *used, uint32_t *count)
+{
+    (void)connection, (void)room, (void)length, (void)used, (void)count;
+    abort();
+}
+
+int32_t bm_say_all(bm_connection *connection, bm_saying *sayings, size_t count, const uint8_t *bytes, size_t length,
+                   uint8_t *room, size_t room_length, bm_said *said)
+{
+    (void)connection, (void)sayings, (void)count, (void)bytes, (void)length, (void)room, (void)room_length, (void)said;
+    abort();
+}
+
+int32_t bm_close_call(bm_connection *connection, uint64_t number)
+{
+    (void)connection, (void)number;
+    abort();
+}
+
+int32_t bm_taken(bm_connection *connection, uint8_t *room, size_t length, size_t *count)
+{
+    (void)connection, (void)room, (void)length, (void)count;
+    abort();
 }
 
 int32_t bm_call(bm_connection *connection, uint64_t number, const uint8_t *method, size_t method_length,

@@ -144,26 +144,48 @@ class StandIn:
         held.event = None
         return 0
 
+    def bm_has(self, addition):
+        return addition == _library.TOGETHER
+
     def bm_next_all(self, at, room, length, used, count):
-        if room % 8:
+        told = _library.Told()
+        self.bm_tell(at, room, length, 0, ctypes.pointer(told))
+        used[0], count[0] = told.used if told.count else told.needed, told.count
+        return SMALL if told.needed and not told.count else 0
+
+    def bm_tell(self, at, room, length, most, told):
+        if length and room % 8:
             raise ValueError(f"the room isn't aligned: {room}")
-        held = self._at(at)
-        size, packs = 0, 0
-        while held.peek() is not None:
+        held, it = self._at(at), told.contents
+        size, packs, needed, stopped = 0, 0, 0, _library.NO_EVENT
+        while not most or packs < most:
+            if held.peek() is None:
+                break
             numbers, texts = packed(held.peek())
             pack = _library.EVENT.pack(*numbers) + texts
             start = -(-size // 8) * 8
             if start + len(pack) > length:
-                if packs:
-                    break
-                used[0], count[0] = len(pack), 0
-                return SMALL
+                needed, stopped = len(pack), _library.NO_ROOM
+                break
             ctypes.memmove(room + start, pack, len(pack))
             size = start + len(pack)
             packs += 1
             held.event = None
-        used[0], count[0] = size, packs
-        return 0
+        else:
+            stopped = _library.NO_MORE
+        it.count, it.stopped, it.used, it.needed, it.pending = (
+            packs,
+            stopped,
+            size,
+            needed,
+            self.bm_pending(at),
+        )
+
+    def bm_fed(self, at, data, length, room, room_length, most, told):
+        code = self.bm_feed(at, data, length)
+        if not code:
+            self.bm_tell(at, room, room_length, most, told)
+        return code
 
     def bm_call(self, at, number, method, method_length, params, params_length, key):
         def call():
@@ -188,6 +210,49 @@ class StandIn:
         given = text(method, method_length), text(params, params_length) or None
         return said(lambda: self._model(at).notify(*given))
 
+    def bm_say_all(self, at, sayings, count, data, length, room, room_length, report):
+        whole, place, passed = text(data, length), 0, 0
+        heads = [sayings[it] for it in range(count)]
+        if sum(it.name_len + it.text_len for it in heads) != length:
+            return CODES["settings"]
+        for index, it in enumerate(heads):
+            name, given = whole[place:][: it.name_len], whole[place + it.name_len :][: it.text_len]
+            place += it.name_len + it.text_len
+            if passed:
+                passed -= 1
+                continue
+            passed = it.calls if it.kind == 5 else 0
+            it.said = self._say(at, it, name, given, heads[index + 1 :][:passed], whole[place:])
+        it = report.contents
+        it.refused = sum(head.said != 0 for head in heads)
+        it.taken = self.bm_take(at, room, room_length) if room_length else 0
+        it.pending = self.bm_pending(at)
+        return 0
+
+    def _say(self, at, it, name, given, calls, behind):
+        model_ = self._model(at)
+        parts, place = [], 0
+        for call in calls:
+            end = place + call.name_len
+            parts.append((behind[place:end], behind[end : end + call.text_len] or None))
+            place = end + call.text_len
+        ways = {
+            1: lambda: model_.answer(it.number, given or None),
+            2: lambda: model_.fail(it.number, it.code, name, given or None),
+            3: lambda: model_.answer(it.number, None),
+            4: lambda: setattr(it, "key", model_.call(it.number, name, given or None)),
+            5: lambda: setattr(it, "key", model_.batch(it.number, parts)),
+            6: lambda: model_.notify(name, given or None),
+            7: lambda: model_.withdraw(it.key),
+            8: lambda: model_.cancel(it.number),
+        }
+        if it.kind not in ways or len(calls) < (it.calls if it.kind == 5 else 0):
+            return CODES["settings"]
+        return said(ways[it.kind])
+
+    def bm_close_call(self, at, number):
+        return said(lambda: self._model(at).answer(number, None))
+
     def bm_withdraw(self, at, key):
         return said(lambda: self._model(at).withdraw(key))
 
@@ -208,6 +273,11 @@ class StandIn:
         data = self._model(at).take(length)
         ctypes.memmove(room, data, len(data))
         return len(data)
+
+    def bm_taken(self, at, room, length, count):
+        pending, moved = self.bm_pending(at), self.bm_take(at, room, length)
+        count[0] = moved or pending
+        return SMALL if pending and not moved else 0
 
     def bm_is_done(self, at):
         held = self._at(at)

@@ -434,11 +434,6 @@ class ClosesFirst:
 WIDTHS = {"uint32_t": 4, "int32_t": 4, "uint64_t": 8, "int64_t": 8, "size_t": 8, "bool": 1}
 
 
-# Several events, and several things to say, in one call: additions that the package doesn't use.
-ADDED_CALLS = {"bm_has", "bm_tell", "bm_fed", "bm_say_all", "bm_taken", "bm_close_call"}
-ADDED_STRUCTS = {"bm_told", "bm_saying", "bm_said"}
-
-
 class Header(Case):
     """The package's declarations are those of the header."""
 
@@ -452,8 +447,8 @@ class Header(Case):
 
     def test_calls(self):
         found = re.findall(r"^(\w+) (bm_\w+)\(([^)]*)\);", self.text, re.M | re.S)
-        self.assertEqual({name for _, name, _ in found}, {*_library.CALLS, *ADDED_CALLS})
-        for result, name, words in (it for it in found if it[1] not in ADDED_CALLS):
+        self.assertEqual({name for _, name, _ in found}, set(_library.CALLS))
+        for result, name, words in found:
             given, parameters = _library.CALLS[name]
             self.assertEqual(ctypes.sizeof(given) if given else None, WIDTHS.get(result), name)
             types = [] if words == "void" else [it.strip() for it in words.split(",")]
@@ -476,12 +471,15 @@ class Header(Case):
             "bm_connection": _library.Handle,
             "bm_event": _library.Event,
             "bm_report": _library.Counts,
+            "bm_told": _library.Told,
+            "bm_saying": _library.Saying,
+            "bm_said": _library.Said,
         }
         found = dict(
             (name, body) for body, name in re.findall(r"typedef struct \{(.*?)\} (\w+);", self.text, re.S)
         )
-        self.assertEqual(set(found), {*structs, *ADDED_STRUCTS})
-        for name, body in ((it, found[it]) for it in structs):
+        self.assertEqual(set(found), set(structs))
+        for name, body in found.items():
             fields = []
             for line in filter(None, map(str.strip, body.split(";"))):
                 kind, names = line.split(" ", 1)
@@ -500,6 +498,11 @@ class Header(Case):
         self.assertEqual(
             kinds[1:], ["BM_CALL", "BM_CANCELLED", "BM_REPLIED", "BM_UNANSWERED", "BM_INPUT_OVER"]
         )
+        stops = next(it for it in lists if it[0] == "BM_STOP_NONE")
+        ours = {"NONE": _library.NO_EVENT, "ROOM": _library.NO_ROOM, "MOST": _library.NO_MORE}
+        ours["NO_MEMORY"] = _library.NO_MEMORY_LEFT
+        self.assertEqual({it[8:]: at for at, it in enumerate(stops)}, ours)
+        self.assertIn(f"BM_HAS_TOGETHER = {_library.TOGETHER}", self.text)
         self.assertIn(f"#define BM_INTERFACE {_library.INTERFACE}", self.text)
 
 
