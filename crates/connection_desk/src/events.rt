@@ -88,6 +88,7 @@ impl Events {
             self.let_go_of_room();
             return Some(event);
         }
+        self.let_go_of_room();
         if let Some(key) = self.unanswered.pop_first() {
             return Some(Event::Unanswered { key });
         }
@@ -97,10 +98,11 @@ impl Events {
         }
     }
 
-    /// Room for many events is given back once all are told: what a large batch took isn't kept behind it.
+    /// Room for many events is given back once all are told, also where none came: what a large batch took isn't kept.
     fn let_go_of_room(&mut self)
-        ensures untold { untold_of self.new ≡ untold_of self.old }
-        ensures open { IsOpenEnded self.old → IsOpenEnded self.new }
+        ensures items { self.new.items.items ≡ self.old.items.items }
+        ensures unanswered { self.new.unanswered ≡ self.old.unanswered }
+        ensures over { self.new.over ≡ self.old.over }
     {
         if self.items.is_empty() && self.items.capacity() > MOST_KEPT {
             drop(mem::replace(&mut self.items, VecDeque::new(self.alloc)));
