@@ -27,8 +27,6 @@ ROWS_READ = ("single requests", "batches of 100", "one param of 8 MB")
 # The same of the tables of the host.
 ROWS_HOST = ("requests", "batches of 100", "open calls", "a request", "a call back", "a param of 8 MB")
 ROWS_HOST_MEMORY = ("a small request", "an unknown method", "a notification")
-# What a desk keeps for further calls (docs/answer_desk.md): 256 blocks of 120 bytes, and the pointers to them.
-SPARE_BLOCKS = 256 * (120 + 8)
 
 # A request with small params and its answer ask for memory so often at most, where nothing but reading and writing is
 # done.
@@ -93,7 +91,7 @@ def check_all():
 
 
 def check_memory():
-    """Of 10,000 requests that were open at once 256 empty blocks are kept once they are released, for further calls,
+    """Of 10,000 requests that were open at once 128 empty blocks are kept once they are released, for further calls,
     and nothing else; and few bytes of each behind an open call."""
     desk = [BENCH, "desk", "--units", "10000", "--order"]
     status, most, last, *_ = refusals.counted([*desk, "straight"])

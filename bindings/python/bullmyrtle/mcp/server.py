@@ -55,7 +55,7 @@ class _Prompt:
 
 
 class ToolServer(Server):
-    """A tool server, as for a host with a language model.
+    """A tool server, for hosts as the Model Context Protocol has them.
 
     >>> server = ToolServer("words", "1.0")
     >>> @server.tool
