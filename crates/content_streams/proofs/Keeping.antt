@@ -10,12 +10,13 @@ use Rattle.lsp_frames.specs.Decoding.{StandsAfter, known}
 use Rattle.lsp_frames.specs.declared.frame.Frame.{Frame}
 use Rattle.lsp_frames.specs.declared.frame.FrameFault.{FrameFault}
 use Rattle.lsp_frames.specs.declared.frame.FrameFault.TheVariants.{TooLarge}
-use Rattle.content_streams.specs.Framed.{frames_of, standing_of, peeled}
+use Rattle.content_streams.specs.Framed.{frames_of, standing_of, peeled, place_of_rest}
 use Rattle.content_streams.specs.Lines.{parts, ended_lines, fits, all_fit, line_contents}
-use Rattle.content_streams.specs.Streams.{joined, plain, lines_read, fault_left, fault_of, contents_of}
+use Rattle.content_streams.specs.Streams.{joined, plain, capped, lines_read, fault_left, fault_of, contents_of}
 use Rattle.content_streams.specs.Inner.Cutting.{line_fault, text_standing, last_line}
 use Rattle.content_streams.specs.Inner.Rows.{row_items}
-use Rattle.content_streams.specs.Inner.Cutters.{framing_of, limit_of, Tells, Stands, read_by, IsStream}
+use Rattle.content_streams.specs.Inner.Cutters.{framing_of, limit_of, FramesStand, LinesStartAt, Tells, Stands, read_by, IsStream}
+use Rattle.content_streams.specs.Inner.Heads.{StandsAt}
 use Rattle.content_streams.specs.declared.cutter.Cutter.{Cutter}
 use Rattle.content_streams.specs.declared.cutter.Cutter.TheVariants as cutters
 use Rattle.content_streams.specs.declared.ending.HowEnded.{HowEnded}
@@ -26,6 +27,9 @@ use Rattle.content_streams.specs.declared.row.Row.{Row}
 use Rattle.content_streams.proofs.Fitting.{all_first, not_all_first, not_all_append, lines_all_first}
 use Rattle.content_streams.proofs.LineTexts.{long_stays, long_ended, long_parts, contents_behind, parts_behind, ended_fit}
 use Rattle.content_streams.proofs.LineSteps.{standing_long}
+use Rattle.content_streams.proofs.FramePlaces.{places_keep}
+use Rattle.content_streams.proofs.LinePlaces.{long_place}
+use Rattle.content_streams.proofs.TextPlaces.{place_long}
 use Rattle.content_streams.proofs.Peeling.{Goes, goes, keeps_frames, keeps_fault, are_contents, is_standing}
 use Rattle.content_streams.proofs.Streaming.{joined_more, lines_fault}
 
@@ -38,7 +42,7 @@ pub broken_at : (standing : Standing) (fault : FrameFault) → fault_left standi
 broken_at (frames.Open rest) fault is = cc
 broken_at (frames.Broken other) fault is = (let same : other ≡ fault = cc in ap frames.Broken same)
 
-test_is : (t : Bool) (fault : FrameFault) → cond t None (Some TooLarge) ≡ Some fault → (t ≡ false) × (Some TooLarge ≡ Some fault)
+pub test_is : (t : Bool) (fault : FrameFault) → cond t None (Some TooLarge) ≡ Some fault → (t ≡ false) × (Some TooLarge ≡ Some fault)
 test_is true fault is = cc
 test_is false fault is = (refl, is)
 
@@ -115,8 +119,8 @@ nothing_read Lines limit = refl
 nothing_read Contents limit = refl
 
 pub stands_tells : (cutter : Cutter) (pieces : List (List ℕ)) → Stands cutter pieces → Tells cutter pieces
-stands_tells (cutters.Frames decoder) pieces stands = stands
-stands_tells (cutters.Lines cutter) pieces stands = ap line_fault stands ∙ lines_fault cutter.limit (joined pieces)
+stands_tells (cutters.Frames cutter) pieces stands = stands
+stands_tells (cutters.Lines cutter) pieces stands = (ap line_fault stands.0 ∙ lines_fault cutter.limit (joined pieces), stands.1)
 stands_tells (cutters.Contents cutter) pieces stands = stands
 
 pub starts : (cutter : Cutter) (row : Row) (pieces : List (List ℕ)) (taken : ℕ) → Stands cutter [] → row_items row ≡ [] → row.last ≡ None → pieces ≡ [] → taken ≡ 0 → IsStream cutter row pieces None taken
@@ -147,22 +151,34 @@ fed old new row next pieces piece taken given is framing limit more stands items
 
 -- one that is ignored
 fault_tells : (cutter : Cutter) (pieces : List (List ℕ)) (piece : List ℕ) (fault : FrameFault) → Stands cutter pieces → fault_of (framing_of cutter) (limit_of cutter) pieces ≡ Some fault → Stands cutter (pieces ++ piece ∷ [])
-fault_tells (cutters.Frames decoder) pieces piece fault stands is =
-    let limit = decoder.limit in
-    let broken = broken_at (standing_of limit (joined pieces)) fault is in
-    let left : stands.0 ≡ frames.Broken fault = is_standing limit (joined pieces) (frames_of limit (joined pieces)) stands.0 stands.1 ∙ broken in
-    let known_fault : decoder.standing ≡ known limit (frames.Broken fault) = stands.2 ∙ ap (known limit) left in
-    let later = keeps_fault limit (joined pieces) piece fault broken in
-    let P : List ℕ → Type 0 = λ bytes. StandsAfter decoder bytes (frames_of limit bytes) in
-    subst P (sym (joined_more pieces piece)) (standing_of limit (joined pieces ++ piece), are_contents limit (joined pieces ++ piece), known_fault ∙ ap (known limit) (sym later))
+fault_tells (cutters.Frames cutter) pieces piece fault stands is =
+    let limit = cutter.decoder.limit in
+    let bytes = joined pieces in
+    let broken = broken_at (standing_of limit bytes) fault is in
+    let left : stands.0.0 ≡ frames.Broken fault = is_standing limit bytes (frames_of limit bytes) stands.0.0 stands.0.1 ∙ broken in
+    let known_fault : cutter.decoder.standing ≡ known limit (frames.Broken fault) = stands.0.2 ∙ ap (known limit) left in
+    let later = keeps_fault limit bytes piece fault broken in
+    let At : Standing → Type 0 = λ s. StandsAt cutter.under_way (place_of_rest limit bytes) s in
+    let place : cutter.under_way.start ≡ capped (place_of_rest limit (bytes ++ piece)) = subst At broken stands.1 ∙ ap capped (sym (places_keep limit bytes piece fault broken).rest) in
+    let After : Standing → Type 0 = λ s. StandsAt cutter.under_way (place_of_rest limit (bytes ++ piece)) s in
+    let P : List ℕ → Type 0 = λ xs. FramesStand cutter xs in
+    subst P (sym (joined_more pieces piece)) (
+      (standing_of limit (bytes ++ piece), are_contents limit (bytes ++ piece), known_fault ∙ ap (known limit) (sym later)),
+      subst After (sym later) place,
+    )
 fault_tells (cutters.Lines cutter) pieces piece fault stands is =
     let limit = cutter.limit in
     let long = test_is (all_fit limit (parts (joined pieces))) fault is in
-    stands ∙ standing_long limit (parts (joined pieces)) long.0
-    ∙ sym (ap (text_standing limit) (joined_more pieces piece) ∙ standing_long limit (parts (joined pieces ++ piece)) (long_stays limit (joined pieces) piece long.0))
+    let P : List ℕ → Type 0 = λ bytes. LinesStartAt cutter bytes in (
+      stands.0 ∙ standing_long limit (parts (joined pieces)) long.0
+          ∙ sym (ap (text_standing limit) (joined_more pieces piece) ∙ standing_long limit (parts (joined pieces ++ piece)) (long_stays limit (joined pieces) piece long.0)),
+      subst P (sym (joined_more pieces piece)) (stands.1 ∙ ap capped (sym (long_place limit (joined pieces) piece long.0))),
+    )
 fault_tells (cutters.Contents cutter) pieces piece fault stands is =
-    let long = test_is (list_all (fits cutter.limit) pieces) fault is in
-    stands ∙ ap not (long.0 ∙ sym (not_all_append (fits cutter.limit) pieces (piece ∷ []) long.0))
+    let long = test_is (list_all (fits cutter.limit) pieces) fault is in (
+      stands.0 ∙ ap not (long.0 ∙ sym (not_all_append (fits cutter.limit) pieces (piece ∷ []) long.0)),
+      stands.1 ∙ ap capped (sym (place_long (fits cutter.limit) 0 0 pieces (piece ∷ []) long.0)),
+    )
 
 pub ignored : (cutter : Cutter) (row : Row) (pieces : List (List ℕ)) (piece : List ℕ) (taken : ℕ) (fault : FrameFault) → IsStream cutter row pieces None taken
     → fault_of (framing_of cutter) (limit_of cutter) pieces ≡ Some fault → IsStream cutter row (pieces ++ piece ∷ []) None taken
@@ -178,7 +194,7 @@ ignored cutter row pieces piece taken fault is shown =
     }
 
 -- one content is taken
-at_length : {X : Type 0} (xs ys : List X) → slice_get (xs ++ ys) (length xs) ≡ slice_get ys 0
+pub at_length : {X : Type 0} (xs ys : List X) → slice_get (xs ++ ys) (length xs) ≡ slice_get ys 0
 at_length [] ys = refl
 at_length (x ∷ xs) ys = at_length xs ys
 
@@ -186,7 +202,7 @@ pub next_is : (cutter : Cutter) (row : Row) (pieces : List (List ℕ)) (ended : 
 next_is cutter row pieces ended taken is =
     ap (λ n. slice_get (read_by cutter pieces ended) n) (sym is.counted) ∙ ap (λ xs. slice_get xs (length is.passed)) is.whole ∙ at_length is.passed (row_items row)
 
-split_first : {X : Type 0} (xs : List X) → IsSome (slice_get xs 0) → (x : X) × (xs ≡ x ∷ drop 1 xs)
+pub split_first : {X : Type 0} (xs : List X) → IsSome (slice_get xs 0) → (x : X) × (xs ≡ x ∷ drop 1 xs)
 split_first [] some = cc
 split_first (x ∷ xs) some = (x, refl)
 

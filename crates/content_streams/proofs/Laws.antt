@@ -10,9 +10,9 @@ use Rattle.lsp_frames.specs.Contents.{Standing, IsContents}
 use Rattle.lsp_frames.specs.declared.frame.Frame.{Frame}
 use Rattle.lsp_frames.specs.declared.frame.FrameFault.{FrameFault}
 use Rattle.lsp_frames.specs.declared.frame.FrameFault.TheVariants.{TooLarge}
-use Rattle.content_streams.specs.Framed.{frames_of, standing_of}
-use Rattle.content_streams.specs.Lines.{parts, ends_in_cr, without_cr, fits, all_fit, line_contents}
-use Rattle.content_streams.specs.Streams.{joined, plain, lines_read, fault_left, fault_of, stream_end, closed_end, end_at, end_of, contents_of}
+use Rattle.content_streams.specs.Framed.{frames_of, standing_of, placed_frames, place_of_rest}
+use Rattle.content_streams.specs.Lines.{parts, ended_lines, ends_in_cr, without_cr, fits, all_fit, line_contents, placed_line_contents, line_place}
+use Rattle.content_streams.specs.Streams.{joined, plain, lines_read, fault_left, fault_of, stream_end, closed_end, end_at, end_of, contents_of, placed_contents_of, plain_at, place_left, place_at_fault, fault_place_of}
 use Rattle.content_streams.specs.declared.ending.HowEnded.{HowEnded}
 use Rattle.content_streams.specs.declared.ending.HowEnded.TheVariants.{Closed, ReadFailed}
 use Rattle.content_streams.specs.declared.ending.StreamEnd.{StreamEnd}
@@ -20,6 +20,7 @@ use Rattle.content_streams.specs.declared.ending.StreamEnd.TheVariants as ends
 use Rattle.content_streams.specs.declared.framing.Framing.{Framing}
 use Rattle.content_streams.specs.declared.framing.Framing.TheVariants.{Frames, Lines, Contents}
 use Rattle.content_streams.proofs.Keeping.{Grows, grows, Ignores, ignores}
+use Rattle.content_streams.proofs.KeepingPlaces.{PlacesGrow, places_grow}
 use Rattle.content_streams.proofs.LineTexts.{length-without_cr, at_most_one}
 use Rattle.content_streams.proofs.Peeling.{are_contents, is_standing}
 
@@ -34,6 +35,25 @@ cuts_leave_end Frames limit pieces others ended cut same =
     ap (λ bytes. end_at (fault_left (standing_of limit bytes)) ended (stream_end (frames.end_of (standing_of limit bytes)))) same
 cuts_leave_end Lines limit pieces others ended cut same = ap (λ bytes. end_at (cond (all_fit limit (parts bytes)) None (Some TooLarge)) ended ends.Clean) same
 cuts_leave_end Contents limit pieces others ended cut same = absurd (cut refl)
+
+pub cuts_leave_places : (framing : Framing) (limit : ℕ) (pieces others : List (List ℕ)) (ended : Option HowEnded) → framing ≢ Contents → joined pieces ≡ joined others → placed_contents_of framing limit pieces ended ≡ placed_contents_of framing limit others ended
+cuts_leave_places Frames limit pieces others ended cut same = ap (placed_frames limit) same
+cuts_leave_places Lines limit pieces others ended cut same = ap (λ bytes. map plain_at (placed_line_contents limit 0 (lines_read ended bytes))) same
+cuts_leave_places Contents limit pieces others ended cut same = absurd (cut refl)
+
+place_left_same : (framing : Framing) (limit : ℕ) (pieces others : List (List ℕ)) → framing ≢ Contents → joined pieces ≡ joined others → place_left framing limit pieces ≡ place_left framing limit others
+place_left_same Frames limit pieces others cut same = ap (place_of_rest limit) same
+place_left_same Lines limit pieces others cut same = ap (λ bytes. line_place limit 0 (ended_lines bytes)) same
+place_left_same Contents limit pieces others cut same = absurd (cut refl)
+
+pub cuts_leave_fault_place : (framing : Framing) (limit : ℕ) (pieces others : List (List ℕ)) (ended : Option HowEnded) → framing ≢ Contents → joined pieces ≡ joined others → fault_place_of framing limit pieces ended ≡ fault_place_of framing limit others ended
+cuts_leave_fault_place framing limit pieces others ended cut same =
+    ap (λ (close : Option StreamEnd). place_at_fault close (place_left framing limit pieces)) (cuts_leave_end framing limit pieces others ended cut same)
+    ∙ ap (place_at_fault (end_of framing limit others ended)) (place_left_same framing limit pieces others cut same)
+
+pub places_only_grow : (framing : Framing) (limit : ℕ) (pieces more : List (List ℕ)) (ended : Option HowEnded)
+    → (later : List (ℕ × Frame)) × (placed_contents_of framing limit (pieces ++ more) ended ≡ placed_contents_of framing limit pieces None ++ later)
+places_only_grow framing limit pieces more ended = let grown : PlacesGrow framing limit pieces more ended = places_grow framing limit pieces more ended in (grown.later, grown.contents)
 
 -- More pieces, and the end, only add contents.
 pub contents_grow : (framing : Framing) (limit : ℕ) (pieces more : List (List ℕ)) (ended : Option HowEnded)

@@ -145,13 +145,13 @@ more_standing limit bytes piece line end is found fit =
 
 -- ---- what a cutter sees of its fields
 
-abbrev pub cutting : ℕ → LineStanding → LineCutting
-cutting limit standing = record { limit = limit; standing = standing }
+abbrev pub cutting : ℕ → LineStanding → ℕ → LineCutting
+cutting limit standing start = record { limit = limit; standing = standing; start = start }
 
-pub seen_within : (limit : ℕ) (is_over : Bool) (line : List ℕ) (cutter : LineCutting) → cutting limit (standing_at is_over line) ≡ cutter → IsWithin cutter.standing → cutter ≡ cutting limit (Within line)
-seen_within limit is_over line cutter seen within = sym seen ∙ go is_over (subst (λ (c : LineCutting). IsWithin c.standing) (sym seen) within)
+pub seen_within : (limit : ℕ) (is_over : Bool) (line : List ℕ) (start : ℕ) (cutter : LineCutting) → cutting limit (standing_at is_over line) start ≡ cutter → IsWithin cutter.standing → cutter ≡ cutting limit (Within line) start
+seen_within limit is_over line start cutter seen within = sym seen ∙ go is_over (subst (λ (c : LineCutting). IsWithin c.standing) (sym seen) within)
   where
-    go : (t : Bool) → IsWithin (standing_at t line) → cutting limit (standing_at t line) ≡ cutting limit (Within line)
+    go : (t : Bool) → IsWithin (standing_at t line) → cutting limit (standing_at t line) start ≡ cutting limit (Within line) start
     go true h = absurd h
     go false h = refl
 
@@ -159,16 +159,16 @@ pub fits_at : (limit : ℕ) (line : List ℕ) → length (without_cr line) ≤ l
 fits_at limit line few = grind (arith, nat_tests)
 
 -- the content of the line that it holds
-pub content_seen : (limit : ℕ) (is_over : Bool) (line : List ℕ) (cutter : LineCutting) → cutting limit (standing_at is_over line) ≡ cutter → IsWithin cutter.standing → length (without_cr line) ≤ limit
+pub content_seen : (limit : ℕ) (is_over : Bool) (line : List ℕ) (start : ℕ) (cutter : LineCutting) → cutting limit (standing_at is_over line) start ≡ cutter → IsWithin cutter.standing → length (without_cr line) ≤ limit
     → last_contents cutter.limit cutter.standing ≡ cond (is_blank (without_cr line)) [] (plain (without_cr line) ∷ [])
-content_seen limit is_over line cutter seen within few =
-    ap (λ (c : LineCutting). last_contents c.limit c.standing) (seen_within limit is_over line cutter seen within)
+content_seen limit is_over line start cutter seen within few =
+    ap (λ (c : LineCutting). last_contents c.limit c.standing) (seen_within limit is_over line start cutter seen within)
     ∙ last_kept limit line (fits_at limit line few) ∙ kept_frames (without_cr line)
 
-pub line_known : (limit : ℕ) (is_over : Bool) (line : List ℕ) (cutter : LineCutting) → cutting limit (standing_at is_over line) ≡ cutter → IsWithin cutter.standing → (cutter.limit ≡ limit) × (cutter.standing ≡ Within line)
-line_known limit is_over line cutter seen within =
-    let is = seen_within limit is_over line cutter seen within in
-    (ap (λ (c : LineCutting). c.limit) is, ap (λ (c : LineCutting). c.standing) is)
+pub line_known : (limit : ℕ) (is_over : Bool) (line : List ℕ) (start : ℕ) (cutter : LineCutting) → cutting limit (standing_at is_over line) start ≡ cutter → IsWithin cutter.standing → (cutter.limit ≡ limit) × (cutter.standing ≡ Within line) × (cutter.start ≡ start)
+line_known limit is_over line start cutter seen within =
+    let is = seen_within limit is_over line start cutter seen within in
+    (ap (λ (c : LineCutting). c.limit) is, ap (λ (c : LineCutting). c.standing) is, ap (λ (c : LineCutting). c.start) is)
 
 pub take_without_cr : (line : List ℕ) → take (length (without_cr line)) line ≡ without_cr line
 take_without_cr line = go (ends_in_cr line)
@@ -181,10 +181,10 @@ take_without_cr line = go (ends_in_cr line)
     go false = take_all (length line) line (omega arith)
 
 -- with more bytes in the field
-pub whole_seen : (limit : ℕ) (is_over : Bool) (line whole : List ℕ) (cutter : LineCutting) → cutting limit (standing_at is_over line) ≡ cutter → IsWithin cutter.standing → cutting limit (standing_at is_over whole) ≡ cutting cutter.limit (Within whole)
-whole_seen limit is_over line whole cutter seen within = go is_over (subst (λ (c : LineCutting). IsWithin c.standing) (sym seen) within) ∙ ap (λ (c : LineCutting). cutting c.limit (Within whole)) seen
+pub whole_seen : (limit : ℕ) (is_over : Bool) (line whole : List ℕ) (start : ℕ) (cutter : LineCutting) → cutting limit (standing_at is_over line) start ≡ cutter → IsWithin cutter.standing → cutting limit (standing_at is_over whole) start ≡ cutting cutter.limit (Within whole) cutter.start
+whole_seen limit is_over line whole start cutter seen within = go is_over (subst (λ (c : LineCutting). IsWithin c.standing) (sym seen) within) ∙ ap (λ (c : LineCutting). cutting c.limit (Within whole) c.start) seen
   where
-    go : (t : Bool) → IsWithin (standing_at t line) → cutting limit (standing_at t whole) ≡ cutting limit (Within whole)
+    go : (t : Bool) → IsWithin (standing_at t line) → cutting limit (standing_at t whole) start ≡ cutting limit (Within whole) start
     go true h = absurd h
     go false h = refl
 

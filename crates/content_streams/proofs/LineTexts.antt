@@ -204,10 +204,10 @@ without_last_is_empty limit line [] long = refl
 without_last_is_empty limit line (next ∷ []) long = refl
 without_last_is_empty limit line (next ∷ other ∷ lines) long = first_is_too_long limit (line ++ next) (without_last (other ∷ lines)) (stays_long limit line next long)
 
-parts_lead : (bytes more : List ℕ) → parts (bytes ++ more) ≡ ended_lines bytes ++ lead (last_line (parts bytes)) (parts more)
+pub parts_lead : (bytes more : List ℕ) → parts (bytes ++ more) ≡ ended_lines bytes ++ lead (last_line (parts bytes)) (parts more)
 parts_lead bytes more = parts-append bytes more ∙ meet-is (parts bytes) (parts more) (parts-some bytes)
 
-ended_lead : (bytes more : List ℕ) → ended_lines (bytes ++ more) ≡ ended_lines bytes ++ without_last (lead (last_line (parts bytes)) (parts more))
+pub ended_lead : (bytes more : List ℕ) → ended_lines (bytes ++ more) ≡ ended_lines bytes ++ without_last (lead (last_line (parts bytes)) (parts more))
 ended_lead bytes more = ap without_last (parts_lead bytes more) ∙ without_last-append (ended_lines bytes) (lead (last_line (parts bytes)) (parts more)) (lead-some (last_line (parts bytes)) (parts more))
 
 -- where some line is too long, it is one whose LF has come, or the last

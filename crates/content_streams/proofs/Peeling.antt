@@ -8,12 +8,12 @@ use Rattle.lsp_frames.specs.declared.frame.FrameFault.{FrameFault}
 use Rattle.lsp_frames.proofs.Laws.{front_is_a_frame, contents_are_unique, contents_keep_a_fault, contents_go_on}
 use Rattle.content_streams.specs.Framed.{with_front, peeled, frames_of, standing_of}
 
-front-nil : (limit : ℕ) → front limit [] ≡ Less
+pub front-nil : (limit : ℕ) → front limit [] ≡ Less
 unfolding front head_at head_from
 front-nil limit = refl
 
 -- a frame has bytes
-rest_is_shorter : (limit : ℕ) (bytes : List ℕ) (frame : Frame) (rest : List ℕ) → front limit bytes ≡ Whole frame rest → length rest < length bytes
+pub rest_is_shorter : (limit : ℕ) (bytes : List ℕ) (frame : Frame) (rest : List ℕ) → front limit bytes ≡ Whole frame rest → length rest < length bytes
 rest_is_shorter limit bytes frame rest is =
     let found = (front_is_a_frame limit bytes frame rest).0 is in
     let form : HasForm limit found.0 frame = found.2 in

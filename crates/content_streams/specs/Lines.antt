@@ -1,5 +1,5 @@
 -- Lines and their contents.
-use Rattle.std.specs.Prelude.{ℕ, ◌-◌, Bool, not, ◌||◌, List, [], ◌∷◌, length, take, map, filter, take_while, nat_le, ◌==◌, if◌then◌else◌, slice_index}
+use Rattle.std.specs.Prelude.{ℕ, ◌+◌, ◌-◌, Bool, not, ◌||◌, List, [], ◌∷◌, length, take, map, filter, take_while, nat_le, ◌==◌, if◌then◌else◌, slice_index}
 use Rattle.std.specs.List.{list_all, slice_split}
 
 abbrev pub is_lf : ℕ → Bool
@@ -39,3 +39,24 @@ all_fit limit lines = list_all (fits limit) (map without_cr lines)
 -- The contents of the lines before the first that is too long. Blank lines are passed over.
 unfoldable pub line_contents : ℕ → List (List ℕ) → List (List ℕ)
 line_contents limit lines = filter (λ content. not (is_blank content)) (take_while (fits limit) (map without_cr lines))
+
+-- Texts that follow one another, each with the offset of its first byte, where the first begins at `start` and so many
+-- bytes stand between two of them.
+abbrev pub placed_texts : ℕ → ℕ → List (List ℕ) → List (ℕ × List ℕ)
+placed_texts gap start [] = []
+placed_texts gap start (text ∷ texts) = (start, text) ∷ placed_texts gap (start + length text + gap) texts
+
+-- where the first of them begins that doesn't pass, or else what is behind them all
+abbrev pub place_behind : (List ℕ → Bool) → ℕ → ℕ → List (List ℕ) → ℕ
+place_behind passes gap start [] = start
+place_behind passes gap start (text ∷ texts) = if passes text then place_behind passes gap (start + length text + gap) texts else start
+
+-- The contents of lines, each with the offset of its first byte, which is its line's. Behind each line stands its LF.
+unfoldable pub placed_line_contents : ℕ → ℕ → List (List ℕ) → List (ℕ × List ℕ)
+placed_line_contents limit start lines =
+    filter (λ placed. not (is_blank placed.1)) (map (λ placed. (placed.0, without_cr placed.1))
+    (take_while (λ placed. fits limit (without_cr placed.1)) (placed_texts 1 start lines)))
+
+-- where the first line begins that is too long, or else the line behind these
+unfoldable pub line_place : ℕ → ℕ → List (List ℕ) → ℕ
+line_place limit start lines = place_behind (λ line. fits limit (without_cr line)) 1 start lines

@@ -1,12 +1,13 @@
 //! The input side of a connection: from pieces to contents.
 
-ghost use Rattle.std.specs.Prelude.{◌≡◌, ◌≤◌, ◌+◌, ◌++◌, ◌∷◌, [], Some, None, IsSome, IsOk, IsTrue, OnOk, OnErr, is_some, option_copied};
+ghost use Rattle.std.specs.Prelude.{◌≡◌, ◌≤◌, ◌+◌, ◌++◌, ◌∷◌, [], Some, None, IsSome, IsOk, IsTrue, OnOk, OnErr, is_some, option_copied, option_map};
 ghost use Rattle.lsp_frames.specs.declared.limits.TheConstants.{LARGEST_CONTENT as MOST_BYTES};
 
 use crate::cutter::Cutter;
 use crate::ending::{HowEnded, StreamEnd};
 use crate::framing::Framing;
 use crate::past::Past;
+use crate::places::Places;
 use crate::row::Row;
 use lsp_frames::Frame;
 use std::alloc::{AllocError, Global};
@@ -20,13 +21,14 @@ use std::marker::Model;
 pub struct ContentStream {
     cutter: Cutter,
     row: Row,
+    places: Places,
     ended: Option<HowEnded>,
     past: Past,
 }
 
 impl Model for ContentStream {
     ghost use Rattle.content_streams.specs.Streams.{Stream};
-    ghost use Rattle.content_streams.specs.Inner.Cutters.{IsStream, framing_of, limit_of};
+    ghost use Rattle.content_streams.specs.Inner.Cutters.{IsHeld, framing_of, limit_of};
 
     ghost Value = { Stream };
 
@@ -38,11 +40,11 @@ impl Model for ContentStream {
       taken = a.past.taken;
     } };
 
-    ghost invariant = { λ a. IsStream a.cutter a.row a.past.pieces a.ended a.past.taken };
+    ghost invariant = { λ a. IsHeld a.cutter a.row a.places a.past.pieces a.ended a.past.taken };
 }
 
 impl ContentStream {
-    ghost use Rattle.content_streams.specs.Streams.{next_content, close_of};
+    ghost use Rattle.content_streams.specs.Streams.{next_content, next_placed, close_of, fault_place, capped};
 
     /// Contents have at most `limit` bytes. Takes no memory.
     pub fn new(alloc: Global, framing: Framing, limit: u32) -> ContentStream
@@ -59,6 +61,7 @@ impl ContentStream {
         ContentStream {
             cutter: Cutter::new(alloc, framing, limit),
             row: Row::new(alloc),
+            places: Places::new(alloc),
             ended: None,
             past: Past::new(),
         }
@@ -74,7 +77,7 @@ impl ContentStream {
     {
         if self.cutter.fault().is_none() {
             self.row.make_room()?;
-            let contents = self.cutter.feed(piece)?;
+            let contents = self.cutter.feed(piece, &mut self.places.waiting)?;
             self.row.add(contents);
         }
         self.past = Past::with_piece(&self.past, piece);
@@ -86,10 +89,16 @@ impl ContentStream {
         requires { self.old.ended ≡ None }
         ensures { self.new ≡ record self.old { ended = Some how } }
     {
-        if how == HowEnded::Closed
-            && let Some(content) = self.cutter.take_last()
-        {
-            self.row.add_last(content);
+        let place = self.cutter.place_left();
+        match how {
+            HowEnded::Closed => match self.cutter.take_last() {
+                Some(content) => {
+                    self.row.add_last(content);
+                    self.places.add_last(place);
+                }
+                None => {}
+            },
+            HowEnded::ReadFailed => {}
         }
         self.ended = Some(how);
     }
@@ -108,12 +117,21 @@ impl ContentStream {
         self.row.front()
     }
 
+    /// The offset of the next content's first byte, counted from the first byte that was fed, from 0, up to u64's
+    /// greatest value.
+    pub fn front_place(&self) -> Option<u64>
+        ensures { result ≡ option_map (λ placed. capped placed.0) (next_placed self.now) }
+    {
+        self.places.front()
+    }
+
     /// Takes the next content.
     pub fn pop(&mut self)
         requires { IsSome (next_content self.old) }
         ensures { self.new ≡ record self.old { taken = self.old.taken + 1 } }
     {
         self.row.pop();
+        self.places.pop();
         self.past = Past::with_one_taken(&self.past);
     }
 
@@ -128,6 +146,17 @@ impl ContentStream {
             Some(HowEnded::Closed) => Some(self.cutter.closed_end()),
             Some(HowEnded::ReadFailed) => Some(StreamEnd::ReadFailed),
             None => None,
+        }
+    }
+
+    /// Where the stream has ended by a fault: the offset of the first byte of the frame or line at fault, or of the
+    /// content that was too large, counted as for `front_place`.
+    pub fn fault_place(&self) -> Option<u64>
+        ensures { result ≡ option_map capped (fault_place self.now) }
+    {
+        match self.close() {
+            Some(StreamEnd::Fault(_)) => Some(self.cutter.place_left()),
+            _ => None,
         }
     }
 }

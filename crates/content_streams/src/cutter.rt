@@ -1,23 +1,24 @@
 //! What contents are cut from.
 
-ghost use Rattle.std.specs.Prelude.{◌≡◌, ◌≤◌, ◌++◌, ◌∷◌, [], ℕ, List, Some, None, OnOk, OnErr, IfOk, if◌then◌else◌};
+ghost use Rattle.std.specs.Prelude.{◌≡◌, ◌≤◌, ◌++◌, ◌∷◌, [], ℕ, List, Some, None, map, OnOk, OnErr, IfOk, if◌then◌else◌};
 ghost use Rattle.std.specs.Option.{option_to_list};
 ghost use Rattle.lsp_frames.specs.declared.limits.TheConstants.{LARGEST_CONTENT as MOST_BYTES};
-ghost use Rattle.content_streams.specs.Streams.{fault_of, closed_end};
-ghost use Rattle.content_streams.specs.Inner.Cutters.{framing_of, limit_of, MayFeed, Stands, Tells, read_by};
+ghost use Rattle.content_streams.specs.Streams.{capped, closed_end, fault_of, place_left};
+ghost use Rattle.content_streams.specs.Inner.Cutters.{framing_of, limit_of, MayFeed, Stands, Tells, places_by, read_by};
 
 use crate::content_cutter::ContentCutter;
 use crate::ending::{HowEnded, StreamEnd};
-use crate::frames::{fault_at_end, feed_frames, stream_end};
+use crate::frames::{FrameCutter, fault_at_end, stream_end};
 use crate::framing::Framing;
 use crate::line_cutter::LineCutter;
-use lsp_frames::{Decoder, Frame, FrameFault};
+use lsp_frames::{Frame, FrameFault};
 use std::alloc::{AllocError, Global};
+use std::collections::VecDeque;
 
 /// Cuts a stream into contents, in one of the framings.
 #[derive(Drop)]
 pub(crate) enum Cutter {
-    Frames(Decoder),
+    Frames(FrameCutter),
     Lines(LineCutter),
     Contents(ContentCutter),
 }
@@ -31,12 +32,13 @@ impl Cutter {
         ensures stands { Stands result [] }
     {
         match framing {
-            Framing::Frames => Cutter::Frames(Decoder::new(alloc, limit)),
-            Framing::Lines => Cutter::Lines(LineCutter::new(alloc, limit)),
+            Framing::Frames => Cutter::Frames(FrameCutter::new(alloc, limit)),
+            Framing::Lines => Cutter::Lines(LineCutter::new(alloc, limit, 0)),
             Framing::Contents => Cutter::Contents(ContentCutter {
                 alloc,
                 limit,
                 is_over: false,
+                start: 0,
             }),
         }
     }
@@ -48,28 +50,38 @@ impl Cutter {
         ensures none { result ≡ None → MayFeed self.now }
     {
         match self {
-            Cutter::Frames(decoder) => fault_at_end(decoder.end()),
+            Cutter::Frames(cutter) => fault_at_end(cutter.decoder.end()),
             Cutter::Lines(cutter) => too_large_if(cutter.is_over()),
             Cutter::Contents(cutter) => too_large_if(cutter.is_over),
         }
     }
 
-    /// The contents that this piece completes.
-    pub(crate) fn feed(&mut self, piece: &[u8]) -> Result<Vec<Frame>, AllocError>
-        requires { MayFeed self.old }
+    /// The contents that this piece completes, and at the end of `places` where they begin.
+    pub(crate) fn feed(
+        &mut self,
+        piece: &[u8],
+        places: &mut VecDeque<u64>,
+    ) -> Result<Vec<Frame>, AllocError>
+        requires may { MayFeed self.old }
+        requires known { (pieces : List (List ℕ)) × Stands self.old pieces }
         ensures framing { framing_of self.new ≡ framing_of self.old }
         ensures limit { limit_of self.new ≡ limit_of self.old }
         ensures given { IfOk result (λ given. (pieces : List (List ℕ)) → Stands self.old pieces →
             read_by self.old (pieces ++ piece.now ∷ []) None
             ≡ read_by self.old pieces None ++ given.items) }
+        ensures places { OnOk result ((pieces : List (List ℕ)) (passed : List ℕ) →
+            Stands self.old pieces →
+            places_by self.old pieces None ≡ passed ++ places.old.items →
+            places_by self.old (pieces ++ piece.now ∷ []) None ≡ passed ++ places.new.items) }
         ensures stands { OnOk result ((pieces : List (List ℕ)) → Stands self.old pieces →
             Stands self.new (pieces ++ piece.now ∷ [])) }
         ensures err { OnErr result (self.new ≡ self.old) }
+        ensures err_places { OnErr result (places.new.items ≡ places.old.items) }
     {
         match self {
-            Cutter::Frames(decoder) => feed_frames(decoder, piece),
-            Cutter::Lines(cutter) => cutter.feed(piece),
-            Cutter::Contents(cutter) => cutter.feed(piece),
+            Cutter::Frames(cutter) => cutter.feed(piece, places),
+            Cutter::Lines(cutter) => cutter.feed(piece, places),
+            Cutter::Contents(cutter) => cutter.feed(piece, places),
         }
     }
 
@@ -80,6 +92,10 @@ impl Cutter {
         ensures content { (pieces : List (List ℕ)) → Stands self.old pieces →
             read_by self.old pieces (Some HowEnded.Closed)
             ≡ read_by self.old pieces None ++ option_to_list result }
+        ensures place { (pieces : List (List ℕ)) → Stands self.old pieces →
+            places_by self.old pieces (Some HowEnded.Closed) ≡ places_by self.old pieces None
+            ++ map (λ _. capped (place_left (framing_of self.old) (limit_of self.old) pieces))
+            (option_to_list result) }
         ensures tells { (pieces : List (List ℕ)) → Stands self.old pieces → Tells self.new pieces }
     {
         match self {
@@ -89,13 +105,25 @@ impl Cutter {
         }
     }
 
+    /// Where what is left begins.
+    pub(crate) fn place_left(&self) -> u64
+        ensures { (pieces : List (List ℕ)) → Tells self.now pieces →
+            result ≡ capped (place_left (framing_of self.now) (limit_of self.now) pieces) }
+    {
+        match self {
+            Cutter::Frames(cutter) => cutter.under_way.start,
+            Cutter::Lines(cutter) => cutter.start(),
+            Cutter::Contents(cutter) => cutter.start,
+        }
+    }
+
     /// How the stream ends where it is closed and has shown no fault.
     pub(crate) fn closed_end(&self) -> StreamEnd
         ensures { (pieces : List (List ℕ)) → Tells self.now pieces →
             result ≡ closed_end (framing_of self.now) (limit_of self.now) pieces }
     {
         match self {
-            Cutter::Frames(decoder) => stream_end(decoder.end()),
+            Cutter::Frames(cutter) => stream_end(cutter.decoder.end()),
             Cutter::Lines(_) => StreamEnd::Clean,
             Cutter::Contents(_) => StreamEnd::Clean,
         }

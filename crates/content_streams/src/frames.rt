@@ -1,17 +1,86 @@
 //! Frames.
 
-ghost use Rattle.std.specs.Prelude.{◌≡◌, ◌++◌, ℕ, List, OnErr, IfOk};
+ghost use Rattle.std.specs.Prelude.{◌≡◌, ◌≤◌, ◌++◌, [], ℕ, List, OnOk, OnErr, IfOk};
 ghost use Rattle.lsp_frames.specs.Decoding.{StandsAfter};
 ghost use Rattle.lsp_frames.specs.declared.frame.Frame.{Frame};
-ghost use Rattle.content_streams.specs.Inner.Cutters.{fault_at_end};
-ghost use Rattle.content_streams.specs.Streams.{stream_end};
+ghost use Rattle.lsp_frames.specs.declared.limits.TheConstants.{LARGEST_CONTENT as MOST_BYTES};
+ghost use Rattle.content_streams.specs.Framed.{frames_of, placed_frames};
+ghost use Rattle.content_streams.specs.Inner.Cutters.{FramesStand, fault_at_end};
+ghost use Rattle.content_streams.specs.Streams.{capped_places, stream_end};
 
 use crate::ending::StreamEnd;
+use crate::under_way::UnderWay;
 use lsp_frames::{Decoder, End, FeedFault, Frame, FrameFault};
-use std::alloc::AllocError;
+use std::alloc::{AllocError, Global};
+use std::collections::VecDeque;
+
+/// A frame has more bytes than this: the name `Content-Length` has 14, and each of two lines a CR LF at its end.
+const FRAME_BYTES: usize = 16;
+
+/// Room for so many places is kept, however few are in use: those of a piece of 16 KiB, which few reads are longer than.
+const KEPT_PLACES: usize = 1024;
+
+/// Cuts a stream into frames, and knows where they stand.
+#[derive(Drop)]
+pub(crate) struct FrameCutter {
+    pub(crate) decoder: Decoder,
+    pub(crate) under_way: UnderWay,
+}
+
+impl FrameCutter {
+    /// At a stream's start. Takes no memory.
+    pub(crate) fn new(alloc: Global, limit: u32) -> FrameCutter
+        requires { limit ≤ MOST_BYTES }
+        ensures limit { result.decoder.limit ≡ limit }
+        ensures stands { FramesStand result [] }
+    {
+        FrameCutter {
+            decoder: Decoder::new(alloc, limit),
+            under_way: UnderWay::at(0),
+        }
+    }
+
+    /// The contents of the frames that this piece completes, and at the end of `places` where they begin.
+    pub(crate) fn feed(
+        &mut self,
+        piece: &[u8],
+        places: &mut VecDeque<u64>,
+    ) -> Result<Vec<Frame>, AllocError>
+        requires { (bytes : List ℕ) × FramesStand self.old bytes }
+        ensures limit { self.new.decoder.limit ≡ self.old.decoder.limit }
+        ensures given { IfOk result (λ given. (bytes : List ℕ) → FramesStand self.old bytes →
+            frames_of self.old.decoder.limit (bytes ++ piece.now)
+            ≡ frames_of self.old.decoder.limit bytes ++ given.items) }
+        ensures places { OnOk result ((bytes passed : List ℕ) → FramesStand self.old bytes →
+            capped_places (placed_frames self.old.decoder.limit bytes)
+            ≡ passed ++ places.old.items →
+            capped_places (placed_frames self.old.decoder.limit (bytes ++ piece.now))
+            ≡ passed ++ places.new.items) }
+        ensures stands { OnOk result ((bytes : List ℕ) → FramesStand self.old bytes →
+            FramesStand self.new (bytes ++ piece.now)) }
+        ensures err { OnErr result (self.new ≡ self.old) }
+        ensures err_places { OnErr result (places.new.items ≡ places.old.items) }
+    {
+        places.reserve(piece.len() / FRAME_BYTES + 1)?;
+        let frames = feed_frames(&mut self.decoder, piece)?;
+        self.under_way = self.under_way.follow(piece, frames.as_slice(), places);
+        give_room_back(places);
+        Ok(frames)
+    }
+}
+
+/// Gives memory back where less than a quarter is in use: a long piece may have had a place in each of its heads.
+fn give_room_back(places: &mut VecDeque<u64>)
+    ensures items { places.new.items ≡ places.old.items }
+{
+    let room = places.capacity();
+    if room > KEPT_PLACES && room / 4 > places.len() {
+        places.shrink_to((2 * places.len()).max(KEPT_PLACES));
+    }
+}
 
 /// The contents of the frames that this piece completes. A fault is told by the decoder's end.
-pub(crate) fn feed_frames(decoder: &mut Decoder, piece: &[u8]) -> Result<Vec<Frame>, AllocError>
+fn feed_frames(decoder: &mut Decoder, piece: &[u8]) -> Result<Vec<Frame>, AllocError>
     ensures limit { decoder.new.limit ≡ decoder.old.limit }
     ensures stands { (bytes : List ℕ) (frames : List Frame) →
         StandsAfter decoder.old bytes frames →

@@ -1,12 +1,12 @@
 //! What holds of contents and ends, whatever code there is. Each law is the contract of a function that does nothing.
 
-ghost use Rattle.std.specs.Prelude.{◌≡◌, ◌≢◌, ◌+◌, ◌<◌, ◌↔◌, ◌⊎◌, ℕ, List, ◌++◌, Option, Some, None, Bool, false, length, slice_get, unwrap_or, option_map};
+ghost use Rattle.std.specs.Prelude.{◌≡◌, ◌≢◌, ◌+◌, ◌<◌, ◌↔◌, ◌⊎◌, ℕ, List, ◌++◌, Option, Some, None, Bool, false, length, slice_get, unwrap_or, option_map, map, IsSome};
 ghost use Rattle.std.specs.List.{join_with_byte};
 ghost use Rattle.lsp_frames.specs.Contents as frames;
 ghost use Rattle.lsp_frames.specs.Contents.{IsContents, Standing};
 ghost use Rattle.lsp_frames.specs.declared.frame.Frame.{Frame};
 ghost use Rattle.content_streams.specs.Lines.{fits, parts, without_cr};
-ghost use Rattle.content_streams.specs.Streams.{contents_of, end_of, fault_left, joined, stream_end};
+ghost use Rattle.content_streams.specs.Streams.{contents_of, placed_contents_of, fault_place_of, end_of, fault_left, joined, stream_end};
 ghost use Rattle.content_streams.specs.declared.ending.HowEnded.{HowEnded as How};
 ghost use Rattle.content_streams.specs.declared.ending.StreamEnd.{StreamEnd as End};
 ghost use Rattle.content_streams.specs.declared.framing.Framing.{Framing as Cut};
@@ -39,6 +39,31 @@ pub fn faults_stay()
     ensures contents { (framing : Cut) (limit : ℕ) (pieces more : List (List ℕ))
         (ended : Option How) (close : End) → end_of framing limit pieces None ≡ Some close →
         contents_of framing limit (pieces ++ more) ended ≡ contents_of framing limit pieces None }
+{}
+
+/// Contents with their places are the contents.
+pub fn placed_contents_are_the_contents()
+    ensures { (framing : Cut) (limit : ℕ) (pieces : List (List ℕ)) (ended : Option How) →
+        map (λ placed. placed.1) (placed_contents_of framing limit pieces ended)
+        ≡ contents_of framing limit pieces ended }
+{}
+
+/// A content stays where it is: more pieces, and the end, only add contents. A fault stays where it is too. In frames
+/// and lines it doesn't matter how the bytes are cut into pieces.
+pub fn places_stay()
+    ensures grow { (framing : Cut) (limit : ℕ) (pieces more : List (List ℕ)) (ended : Option How) →
+        (later : List (ℕ × Frame)) × (placed_contents_of framing limit (pieces ++ more) ended
+        ≡ placed_contents_of framing limit pieces None ++ later) }
+    ensures fault { (framing : Cut) (limit : ℕ) (pieces more : List (List ℕ)) (ended : Option How)
+        (place : ℕ) → fault_place_of framing limit pieces None ≡ Some place →
+        fault_place_of framing limit (pieces ++ more) ended ≡ Some place }
+    ensures contents { (framing : Cut) (limit : ℕ) (pieces others : List (List ℕ))
+        (ended : Option How) → framing ≢ Framing.Contents → joined pieces ≡ joined others →
+        placed_contents_of framing limit pieces ended
+        ≡ placed_contents_of framing limit others ended }
+    ensures fault_cut { (framing : Cut) (limit : ℕ) (pieces others : List (List ℕ))
+        (ended : Option How) → framing ≢ Framing.Contents → joined pieces ≡ joined others →
+        fault_place_of framing limit pieces ended ≡ fault_place_of framing limit others ended }
 {}
 
 /// Frames are those of the joined pieces (LSP 3.17, "Base Protocol").

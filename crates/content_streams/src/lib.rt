@@ -10,14 +10,16 @@ mod framing;
 mod law;
 mod line_cutter;
 mod past;
+mod places;
 mod row;
+mod under_way;
 
 pub use content_stream::ContentStream;
 pub use ending::{HowEnded, StreamEnd};
 pub use framing::Framing;
 pub use law::{
     contents_only_grow, cuts_do_not_matter, faults_stay, frames_are_those_of_the_bytes,
-    lines_are_those_of_the_bytes,
+    lines_are_those_of_the_bytes, placed_contents_are_the_contents, places_stay,
 };
 
 #[cfg(test)]

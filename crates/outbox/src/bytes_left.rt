@@ -5,6 +5,7 @@ use content_streams::Framing;
 use lsp_frames::put_frame;
 use std::alloc::{AllocError, Global};
 use std::marker::Model;
+use std::mem;
 
 /// Room for so many bytes is kept, however few are left.
 const KEPT_ROOM: usize = 4096;
@@ -54,6 +55,25 @@ impl BytesLeft {
             Framing::Lines => put_line(&mut self.bytes, text),
             Framing::Contents => self.bytes.extend_from_slice(text),
         }
+    }
+
+    /// Puts the text in this room at the end, as this framing writes it. A long one is moved where it can be, so it isn't
+    /// there twice. What is in the room then has no meaning.
+    pub fn put_from(&mut self, framing: Framing, room: &mut Vec<u8>) -> Result<(), AllocError>
+        ensures ok { OnOk result (self.new ≡ self.old ++ framed framing room.old.items) }
+        ensures err { OnErr result (self.new ≡ self.old) }
+    {
+        if self.len() > 0 || room.len() <= KEPT_ROOM {
+            return self.put(framing, room.as_slice());
+        }
+        match framing {
+            Framing::Frames => return self.put(framing, room.as_slice()),
+            Framing::Lines => room.push(b'\n')?,
+            Framing::Contents => {}
+        }
+        mem::swap(&mut self.bytes, room);
+        self.start = 0;
+        Ok(())
     }
 
     /// Keeps the first so many bytes.
@@ -118,6 +138,8 @@ fn put_line(bytes: &mut Vec<u8>, text: &[u8]) -> Result<(), AllocError>
     ensures err { OnErr result (bytes.new.items ≡ bytes.old.items) }
 {
     let before = bytes.len();
+    // Room for both at once is just that, where a text without room for its LF would take twice as much.
+    bytes.reserve(text.len().saturating_add(1))?;
     bytes.extend_from_slice(text)?;
     match bytes.push(b'\n') {
         Ok(()) => Ok(()),

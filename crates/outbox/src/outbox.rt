@@ -73,6 +73,27 @@ impl Outbox {
         }
     }
 
+    /// Writes the text in this room. What is in the room then has no meaning. A long text is moved where nothing stands before
+    /// it, except in Frames.
+    pub fn put_from(&mut self, room: &mut Vec<u8>) -> Result<(), AllocError>
+        ensures ok { OnOk result (self.new ≡ with_text room.old.items self.old) }
+        ensures err { OnErr result (self.new ≡ self.old) }
+    {
+        let count = self.lengths.len();
+        let history = self.history.with_text(room.as_slice());
+        put_length(&mut self.lengths, self.framing, room.as_slice())?;
+        match self.bytes.put_from(self.framing, room) {
+            Ok(()) => {
+                self.history = history;
+                Ok(())
+            }
+            Err(refused) => {
+                self.lengths.truncate(count);
+                Err(refused)
+            }
+        }
+    }
+
     /// Where the outbox stands, for `back_to`. Takes no memory.
     pub fn mark(&self) -> Mark
         ensures { result ≡ self.now }

@@ -1,5 +1,6 @@
 use super::*;
 use content_streams::Framing;
+use std::alloc::{AllocError, Global};
 use std::test::Fail;
 
 #[test]
@@ -69,6 +70,41 @@ fn goes_back_to_a_mark(rt: HostRuntime) -> Result<(), Fail> {
     texts.put(b"[2]")?;
     texts.back_to(mark);
     assert_eq!(rt; (texts.take(&mut room), texts.is_empty()), (3, true));
+    Ok(())
+}
+
+fn long_text(alloc: Global, byte: u8) -> Result<Vec<u8>, AllocError> {
+    let mut text = Vec::new(alloc);
+    for _ in 0..10_000 {
+        text.push(byte)?;
+    }
+    Ok(text)
+}
+
+#[test]
+fn moves_a_long_text(rt: HostRuntime) -> Result<(), Fail> {
+    let alloc = rt.alloc();
+    let mut large = vec![in alloc; 0; 30_000]?;
+    for framing in [Framing::Frames, Framing::Lines, Framing::Contents] {
+        let mut copied = Outbox::new(alloc, framing);
+        let mut moved = Outbox::new(alloc, framing);
+        for byte in [b'1', b'2'] {
+            let mut room = long_text(alloc, byte)?;
+            copied.put(room.as_slice())?;
+            moved.put_from(&mut room)?;
+        }
+        let mut short = b"{}".to_vec(alloc)?;
+        copied.put(short.as_slice())?;
+        moved.put_from(&mut short)?;
+        for _ in 0..4 {
+            assert_eq!(rt; moved.pending(), copied.pending());
+            let count = copied.take(large.as_mut_slice());
+            let wanted = large.as_slice()[..count].to_vec(alloc)?;
+            assert_eq!(rt; moved.take(large.as_mut_slice()), count);
+            assert_eq!(rt; &large.as_slice()[..count], wanted.as_slice());
+        }
+        assert_eq!(rt; moved.is_empty(), true);
+    }
     Ok(())
 }
 

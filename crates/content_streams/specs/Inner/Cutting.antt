@@ -3,8 +3,8 @@ use Rattle.std.specs.Prelude.{ℕ, Bool, Option, Some, None, List, [], ◌∷◌
 use Rattle.lsp_frames.specs.declared.frame.Frame.{Frame}
 use Rattle.lsp_frames.specs.declared.frame.FrameFault.{FrameFault}
 use Rattle.lsp_frames.specs.declared.frame.FrameFault.TheVariants.{TooLarge}
-use Rattle.content_streams.specs.Lines.{parts, ended_lines, without_cr, fits, all_fit, line_contents}
-use Rattle.content_streams.specs.Streams.{plain}
+use Rattle.content_streams.specs.Lines.{parts, ended_lines, without_cr, fits, all_fit, line_contents, placed_line_contents}
+use Rattle.content_streams.specs.Streams.{capped, plain}
 
 -- behind the last LF: this much of a line, or some line is too long
 pub data LineStanding : Type 0 where
@@ -14,6 +14,8 @@ pub data LineStanding : Type 0 where
 pub record LineCutting : Type 0 where
   pub limit : ℕ
   pub standing : LineStanding
+  -- where the line under way begins, or the one that is too long
+  pub start : ℕ
 
 -- the last of the lines
 abbrev pub last_line : List (List ℕ) → List ℕ
@@ -42,6 +44,13 @@ IsWithin Over = ⊥
 -- the contents of the lines whose LF has come
 abbrev pub ended_contents : ℕ → List ℕ → List Frame
 ended_contents limit bytes = map plain (line_contents limit (ended_lines bytes))
+
+-- where the contents of lines begin, whose first begins at `start`
+abbrev pub places_from : ℕ → ℕ → List (List ℕ) → List ℕ
+places_from limit start lines = map (λ placed. capped placed.0) (placed_line_contents limit start lines)
+
+abbrev pub ended_places : ℕ → List ℕ → List ℕ
+ended_places limit bytes = places_from limit 0 (ended_lines bytes)
 
 -- the content of an unfinished line, once the input is closed
 abbrev pub last_contents : ℕ → LineStanding → List Frame

@@ -3,10 +3,12 @@ use Rattle.std.specs.Option.{is_some}
 use Rattle.lsp_frames.specs.declared.frame.Frame.{Frame}
 use Rattle.lsp_frames.specs.declared.frame.FrameFault.{FrameFault}
 use Rattle.content_streams.specs.Streams.{Stream}
-use Rattle.content_streams.specs.Inner.Cutters.{IsStream}
+use Rattle.content_streams.specs.Inner.Cutters.{IsHeld}
 use Rattle.content_streams.specs.declared.content_stream.ContentStream.TheInside.{Inside}
 use Rattle.content_streams.specs.declared.ending.HowEnded.{HowEnded}
+use Rattle.content_streams.specs.declared.places.Places.{Places}
 use Rattle.content_streams.proofs.Keeping.{fed, ignored}
+use Rattle.content_streams.proofs.KeepingPlaces.{placed_fed, placed_ignored}
 use Rattle.content_streams.proofs.content_stream.ContentStream.feed.Goals as goal
 use Rattle.content_streams.proofs.content_stream.ContentStream.feed.Goals.{then-is_none+in_ok-make_room+in_ok-contents, else-is_none}
 
@@ -19,26 +21,41 @@ invariant_of-self-2 c =
     let piece = c.args.piece.now in
     let cutter = c.self.inside.cutter in
     let row = c.self.inside.row in
+    let places = c.self.inside.places in
     let pieces = c.self.inside.past.pieces in
     let taken = c.self.inside.past.taken in
     let is_open : c.self.inside.ended ≡ None = ap (λ (s : Stream). s.ended) c.self.view_is ∙ c.requires in
-    let At : Option HowEnded → Type 0 = λ ended. IsStream cutter row pieces ended taken in
-    let is : IsStream cutter row pieces None taken = subst At is_open c.self.invariant in
+    let At : Option HowEnded → Type 0 = λ ended. IsHeld cutter row places pieces ended taken in
+    let held : IsHeld cutter row places pieces None taken = subst At is_open c.self.invariant in
+    let is = held.stream in
     let stands = is.stands refl in
-    let After : Inside → Type 0 = λ a. IsStream a.cutter a.row (a.past.pieces ++ piece ∷ []) a.ended a.past.taken in
+    let After : Inside → Type 0 = λ a. IsHeld a.cutter a.row a.places (a.past.pieces ++ piece ∷ []) a.ended a.past.taken in
     let done : After c.if-is_none.self-inside = elim c.if-is_none.branch [
       | then-is_none+in_ok-make_room+in_ok-contents w ↦
           (let given = w.in_ok-contents.contents.items in
-          let Ends : Option HowEnded → Type 0 = λ ended. IsStream w.feed.new.self w.add.new.self (pieces ++ piece ∷ []) ended taken in
-          subst After (sym w.self-inside-is) (subst Ends (sym is_open)
-          (fed cutter w.feed.new.self row w.add.new.self pieces piece taken given is w.in_ok-contents.ensures.framing w.in_ok-contents.ensures.limit
-          (w.in_ok-contents.ensures.given pieces stands) (w.in_ok-contents.ensures.stands pieces stands)
-          (w.add.ensures.items ∙ ap (λ (xs : List Frame). xs ++ given) w.make_room.ensures.items) w.add.ensures.last)))
+          let next : Places = record places { waiting = w.feed.new.places } in
+          let Ends : Option HowEnded → Type 0 = λ ended. IsHeld w.feed.new.self w.add.new.self next (pieces ++ piece ∷ []) ended taken in
+          subst After (sym w.self-inside-is) (subst Ends (sym is_open) (record {
+            stream = fed cutter w.feed.new.self row w.add.new.self pieces piece taken given is w.in_ok-contents.ensures.framing w.in_ok-contents.ensures.limit
+                (w.in_ok-contents.ensures.given pieces stands) (w.in_ok-contents.ensures.stands pieces stands)
+                (w.add.ensures.items ∙ ap (λ (xs : List Frame). xs ++ given) w.make_room.ensures.items) w.add.ensures.last;
+            placed = placed_fed cutter w.feed.new.self places next pieces piece taken held.placed w.in_ok-contents.ensures.framing w.in_ok-contents.ensures.limit
+                (λ passed. w.in_ok-contents.ensures.places pieces passed stands) refl;
+          })))
       | else-is_none w ↦
           (let fault = shown c.fault.result w.if-is_none.ensures in
-          let Ends : Option HowEnded → Type 0 = λ ended. IsStream cutter row (pieces ++ piece ∷ []) ended taken in
-          subst After (sym w.self-inside-is) (subst Ends (sym is_open) (ignored cutter row pieces piece taken fault.0 is (sym (c.fault.ensures.told pieces is.tells) ∙ fault.1))))
+          let Ends : Option HowEnded → Type 0 = λ ended. IsHeld cutter row places (pieces ++ piece ∷ []) ended taken in
+          let told = sym (c.fault.ensures.told pieces is.tells) ∙ fault.1 in
+          subst After (sym w.self-inside-is) (subst Ends (sym is_open) (record {
+            stream = ignored cutter row pieces piece taken fault.0 is told;
+            placed = placed_ignored cutter places pieces piece taken fault.0 held.placed told;
+          })))
     ] in
-    let P : List (List ℕ) → Type 0 = λ ps. IsStream c.if-is_none.self-inside.cutter c.if-is_none.self-inside.row ps c.if-is_none.self-inside.ended c.with_piece-self-inside.result.taken in
-    let Q : ℕ → Type 0 = λ n. IsStream c.if-is_none.self-inside.cutter c.if-is_none.self-inside.row (c.if-is_none.self-inside.past.pieces ++ piece ∷ []) c.if-is_none.self-inside.ended n in
+    let P : List (List ℕ) → Type 0 = λ ps. IsHeld c.if-is_none.self-inside.cutter c.if-is_none.self-inside.row c.if-is_none.self-inside.places ps c.if-is_none.self-inside.ended c.with_piece-self-inside.result.taken in
+    let Q : ℕ → Type 0 = λ n. IsHeld c.if-is_none.self-inside.cutter c.if-is_none.self-inside.row c.if-is_none.self-inside.places (c.if-is_none.self-inside.past.pieces ++ piece ∷ []) c.if-is_none.self-inside.ended n in
     subst P (sym c.with_piece-self-inside.ensures.0) (subst Q (sym c.with_piece-self-inside.ensures.1) done)
+
+pub feed-requires-clause-known : goal.feed-requires-clause-known
+feed-requires-clause-known c =
+    let is_open : c.self.inside.ended ≡ None = ap (λ (s : Stream). s.ended) c.self.view_is ∙ c.requires in
+    (c.self.inside.past.pieces, c.self.invariant.stream.stands is_open)

@@ -2,14 +2,16 @@ use Rattle.std.proofs.Common.{ℕ, List, sym, subst}
 use Rattle.std.specs.List.{slice_get}
 use Rattle.std.specs.Option.{IsSome}
 use Rattle.content_streams.specs.Streams.{Stream, next_content}
-use Rattle.content_streams.specs.Inner.Cutters.{IsStream, read_by}
+use Rattle.content_streams.specs.Inner.Cutters.{IsHeld, read_by}
 use Rattle.content_streams.proofs.Keeping.{popped}
+use Rattle.content_streams.proofs.KeepingPlaces.{placed_popped}
 use Rattle.content_streams.proofs.content_stream.ContentStream.pop.Goals as goal
 
 pub invariant_of-self : goal.invariant_of-self
 invariant_of-self c =
     let there : IsSome (slice_get (read_by c.self.inside.cutter c.self.inside.past.pieces c.self.inside.ended) c.self.inside.past.taken) = subst (λ (s : Stream). IsSome (next_content s)) (sym c.self.view_is) c.requires in
-    let next = popped c.self.inside.cutter c.self.inside.row c.pop.new.self c.self.inside.past.pieces c.self.inside.ended c.self.inside.past.taken c.self.invariant there c.pop.ensures.items c.pop.ensures.last in
-    let P : List (List ℕ) → Type 0 = λ pieces. IsStream c.self.inside.cutter c.pop.new.self pieces c.self.inside.ended c.with_one_taken-self-inside.result.taken in
-    let Q : ℕ → Type 0 = λ taken. IsStream c.self.inside.cutter c.pop.new.self c.self.inside.past.pieces c.self.inside.ended taken in
-    subst P (sym c.with_one_taken-self-inside.ensures.0) (subst Q (sym c.with_one_taken-self-inside.ensures.1) next)
+    let stream = popped c.self.inside.cutter c.self.inside.row c.pop.new.self c.self.inside.past.pieces c.self.inside.ended c.self.inside.past.taken c.self.invariant.stream there c.pop.ensures.items c.pop.ensures.last in
+    let placed = placed_popped c.self.inside.cutter c.self.inside.places c.pop-2.new.self c.self.inside.past.pieces c.self.inside.ended c.self.inside.past.taken c.self.invariant.placed there c.pop-2.ensures.items c.pop-2.ensures.last in
+    let P : List (List ℕ) → Type 0 = λ pieces. IsHeld c.self.inside.cutter c.pop.new.self c.pop-2.new.self pieces c.self.inside.ended c.with_one_taken-self-inside.result.taken in
+    let Q : ℕ → Type 0 = λ taken. IsHeld c.self.inside.cutter c.pop.new.self c.pop-2.new.self c.self.inside.past.pieces c.self.inside.ended taken in
+    subst P (sym c.with_one_taken-self-inside.ensures.0) (subst Q (sym c.with_one_taken-self-inside.ensures.1) (record { stream = stream; placed = placed }))

@@ -9,6 +9,6 @@ use Rattle.content_streams.proofs.cutter.Cutter.closed_end.Goals as goal
 pub returns-in-Frames : goal.returns-in-Frames
 returns-in-Frames c pieces =
     let P : Cutter → Type 0 = λ k. Tells k pieces → c.stream_end.result ≡ closed_end (framing_of k) (limit_of k) pieces in
-    let limit = c.in-Frames.decoder.limit in
+    let limit = c.in-Frames.cutter.decoder.limit in
     subst P (sym c.in-Frames.is) (λ tells. c.stream_end.ensures
-    ∙ ap stream_end (c.end.ensures.contents (joined pieces) (frames_of limit (joined pieces)) (standing_of limit (joined pieces)) tells (are_contents limit (joined pieces))))
+    ∙ ap stream_end (c.end.ensures.contents (joined pieces) (frames_of limit (joined pieces)) (standing_of limit (joined pieces)) tells.0 (are_contents limit (joined pieces))))

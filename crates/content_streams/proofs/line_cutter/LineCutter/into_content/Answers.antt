@@ -10,7 +10,7 @@ returns-then-is_blank c =
     let cut : c.truncate.new.self.items ≡ without_cr line =
     c.truncate.ensures.items ∙ ap (λ (xs : List ℕ). take (length xs) line) (c.without_cr-size.ensures ∙ ap without_cr c.as_slice.ensures.value) ∙ take_without_cr line in
     let blank : is_blank (without_cr line) ≡ true = ap is_blank (sym (c.as_slice-2.ensures.value ∙ cut)) ∙ sym c.is_blank.ensures ∙ c.if-is_blank.true in
-    sym (content_seen c.self.inside.limit c.self.inside.is_over line c.args.self c.self.view_is c.requires c.self.invariant
+    sym (content_seen c.self.inside.limit c.self.inside.is_over line c.self.inside.start c.args.self c.self.view_is c.requires c.self.invariant
     ∙ ap (λ t. cond t [] (plain (without_cr line) ∷ [])) blank)
 
 pub returns : goal.returns
@@ -20,5 +20,5 @@ returns c =
     c.truncate.ensures.items ∙ ap (λ (xs : List ℕ). take (length xs) line) (c.without_cr-size.ensures ∙ ap without_cr c.as_slice.ensures.value) ∙ take_without_cr line in
     let blank : is_blank (without_cr line) ≡ false = ap is_blank (sym (c.as_slice-2.ensures.value ∙ cut)) ∙ sym c.is_blank.ensures ∙ c.if-is_blank.false in
     ap (λ (content : List ℕ). plain content ∷ []) (c.into.ensures ∙ cut)
-    ∙ sym (content_seen c.self.inside.limit c.self.inside.is_over line c.args.self c.self.view_is c.requires c.self.invariant
+    ∙ sym (content_seen c.self.inside.limit c.self.inside.is_over line c.self.inside.start c.args.self c.self.view_is c.requires c.self.invariant
     ∙ ap (λ t. cond t [] (plain (without_cr line) ∷ [])) blank)
