@@ -10,7 +10,7 @@ use Rattle.std.specs.Str.{bytes_eq}
 use Rattle.std.specs.Str.Parse.{ParsesUnsigned, digits_value}
 use Rattle.connection_messages.specs.Numbers.{unsigned_of, negated, negative_of}
 
-below_is_true : (m n : ℕ) → m < n → nat_lt m n ≡ true
+pub below_is_true : (m n : ℕ) → m < n → nat_lt m n ≡ true
 below_is_true m n h = grind (arith, nat_tests)
 
 pub unsigned_of-decimal : (n : ℕ) → n < 2 ^ 64 → unsigned_of (decimal n) ≡ Some n

@@ -1,5 +1,5 @@
 -- What the compact texts of an object's members say of it.
-use Rattle.std.proofs.Common.{◌≡◌, ℕ, zero, suc, ◌+◌, ◌<◌, ◌≤◌, List, [], ◌∷◌, Bool, true, false, ◌&&◌, ◌||◌, ◌==◌, Option, Some, None, option_map, is_some, if◌then◌else◌, Bor, ◌++◌, length, refl, sym, ap, ap₂, ◌∙◌, subst, arith, append-nil, inl, inr, eqb-true, ne_eqb, IfSome}
+use Rattle.std.proofs.Common.{◌≡◌, ℕ, zero, suc, ◌+◌, ◌<◌, ◌≤◌, List, [], ◌∷◌, Bool, true, false, ◌&&◌, ◌||◌, ◌==◌, Option, Some, None, option_map, is_some, if◌then◌else◌, Bor, ◌++◌, length, refl, sym, ap, ◌∙◌, subst, arith, append-nil, inl, inr, eqb-true, ne_eqb, IfSome}
 use Rattle.std.specs.Prelude.{codes, option_and_then}
 use Rattle.std.specs.Option.{option_map_or, is_none}
 use Rattle.std.specs.Str.{bytes_eq}
@@ -19,16 +19,18 @@ use Rattle.json.proofs.Printed.Trees.{value-json_tokens, ArePrintable-json_token
 use Rattle.json_texts.specs.Texts.{json_text}
 use Rattle.message_ids.specs.declared.id.Id.{Id}
 use Rattle.message_ids.specs.declared.id.Id.TheVariants.{Null, Text, Unsigned}
-use Rattle.connection_messages.specs.Envelope.{IsMember, MemberHasNumbers, HasEnvelopeAt, GivesId, GivesParams, GivesTarget}
+use Rattle.connection_messages.specs.Envelope.{IsMember, MemberHasNumbers, HasEnvelopeAt, Names, GivesId, GivesParams, target_part, cancels_by, GivesTarget}
 use Rattle.connection_messages.specs.Numbers.{unsigned_of, negative_of}
 use Rattle.connection_messages.specs.Params.{is_structured}
-use Rattle.connection_messages.specs.Reading.{is_version_2, number_id_of, call_id, call_params, call_from, call_in, cancelled_id, target_in, cancel_or_call, call_entry, reply_in, own_key, key_in, reply_entry, entry_of}
+use Rattle.connection_messages.specs.Reading.{is_version_2, number_id_of, call_id, call_params, call_from, call_in, cancel_method, cancel_member, cancelled_id, target_in, cancel_or_call, call_entry, reply_in, own_key, key_in, reply_entry, entry_of}
 use Rattle.connection_messages.specs.declared.call.Call.{Call as Came}
+use Rattle.connection_messages.specs.declared.cancels.Cancels.{Cancels}
+use Rattle.connection_messages.specs.declared.cancels.Cancels.TheVariants.{Lsp, Mcp}
 use Rattle.connection_messages.specs.declared.entry.Entry.TheVariants.{Call, Cancel, Reply, Invalid}
 use Rattle.connection_messages.specs.declared.read.envelope.Envelope.{Envelope}
 use Rattle.connection_messages.specs.declared.reply.Reply.TheVariants.{Result}
 use Rattle.connection_messages.proofs.Decimals.{unsigned_of-is}
-use Rattle.connection_messages.proofs.OnResults.{print-string}
+use Rattle.connection_messages.proofs.Whole.{string_text, number_text, null_text}
 
 -- ---- values by their texts
 
@@ -41,18 +43,6 @@ json_text-same j k j_numbers k_numbers same =
     ap (value levels) (tokens-print (json_tokens i) (ArePrintable-json_tokens i numbers) ∙ sym (append-nil (json_tokens i))) ∙ value-json_tokens i levels [] shallow in
     let both : Some (j, []) ≡ Some (k, []) = sym (read j j_numbers (omega arith)) ∙ ap (λ t. value levels (tokens t)) same ∙ read k k_numbers (omega arith) in
     ap (λ o. option_map_or (λ p. p.0) o j) both
-
-string_text : (s : List ℕ) → json_text (string s) ≡ quoted s
-unfolding json_text
-string_text s = print-string s
-
-number_text : (s : List ℕ) → json_text (number s) ≡ s
-unfolding json_text print_from
-number_text s = append-nil s
-
-null_text : json_text null ≡ codes "null"
-unfolding json_text print_from
-null_text = refl
 
 string_is : (v : Json) (s : List ℕ) → HasNumbers v → json_text v ≡ quoted s → v ≡ string s
 string_is v s numbers same = json_text-same v (string s) numbers tt (same ∙ sym (string_text s))
@@ -144,7 +134,7 @@ no_bracket x s is bracket =
           let f : None ≡ Some [] = subst (λ y. IsNumber (y ∷ s)) (eqb-true x 123 brace) is in cc
     ]
 
-structured_value : (v : Json) → HasNumbers v → is_structured (json_text v) ≡ true → call_params (Some v) ≡ Some (Some (json_text v))
+pub structured_value : (v : Json) → HasNumbers v → is_structured (json_text v) ≡ true → call_params (Some v) ≡ Some (Some (json_text v))
 unfolding json_text print_from
 structured_value null numbers is = absurd (let f : false ≡ true = is in cc)
 structured_value (boolean true) numbers is = absurd (let f : false ≡ true = is in cc)
@@ -180,22 +170,23 @@ pub and_false : (a b : Bool) → b ≡ false → (a && b) ≡ false
 and_false true b is = is
 and_false false b is = refl
 
-pub and_false_here : (cancels : Bool) (x : Bool) → cancels ≡ false → (cancels && x) ≡ false
-and_false_here cancels x is = ap (λ b. b && x) is
+no_cancel : (by : Cancels) (call : Came) (target : Option Id) → bytes_eq call.method (cancel_method by) ≡ false → Call call ≡ cancel_or_call by call target
+no_cancel by call None other = refl
+no_cancel by call (Some target) other = ap (λ b. if b then Cancel target else Call call) (sym (and_false (is_none call.id) (bytes_eq call.method (cancel_method by)) other))
 
-no_cancel : (call : Came) (target : Option Id) → bytes_eq call.method (codes "$/cancelRequest") ≡ false → Call call ≡ cancel_or_call call target
-no_cancel call None other = refl
-no_cancel call (Some target) other = ap (λ b. if b then Cancel target else Call call) (sym (and_false (is_none call.id) (bytes_eq call.method (codes "$/cancelRequest")) other))
+none_by : (by : Cancels) (b : Bool) → (if b then Some by else None) ≡ None → b ≡ false
+none_by by true e = cc
+none_by by false e = refl
 
-some_call : (cancels : Bool) (call : Came) (target : Option Id) → (cancels && bytes_eq call.method (codes "$/cancelRequest")) ≡ false → Call call ≡ call_entry cancels (Some call) target
-some_call false call target other = refl
-some_call true call target other = no_cancel call target other
+some_call : (cancels : Option Cancels) (call : Came) (j : Json) → cancels_by cancels call.method ≡ None → Call call ≡ call_entry cancels (Some call) j
+some_call None call j other = refl
+some_call (Some by) call j other = no_cancel by call (target_in by j) (none_by by (bytes_eq call.method (cancel_method by)) other)
 
-pub call_entry_is : (cancels : Bool) (j : Json) (call : Came) → is_some (get (codes "method") j) ≡ true → call_in j ≡ Some call
-    → (cancels && bytes_eq call.method (codes "$/cancelRequest")) ≡ false → Call call ≡ entry_of cancels j
+pub call_entry_is : (cancels : Option Cancels) (j : Json) (call : Came) → is_some (get (codes "method") j) ≡ true → call_in j ≡ Some call
+    → cancels_by cancels call.method ≡ None → Call call ≡ entry_of cancels j
 call_entry_is cancels j call named is other =
-    some_call cancels call (target_in j) other ∙ ap (λ o. call_entry cancels o (target_in j)) (sym is)
-    ∙ ap (λ b. if b then call_entry cancels (call_in j) (target_in j)
+    some_call cancels call j other ∙ ap (λ o. call_entry cancels o j) (sym is)
+    ∙ ap (λ b. if b then call_entry cancels (call_in j) j
     else (if is_some (get (codes "result") j) || is_some (get (codes "error") j) then reply_entry (key_in j) (reply_in j) else Invalid)) (sym named)
 
 pub key_is : (part : Option (Bor (List ℕ))) (text : Bor (List ℕ)) (k : ℕ) (j : Json) → part ≡ Some text → unsigned_of text.now ≡ Some k → 0 < k → HasNumbers j → IsMember part (get (codes "id") j)
@@ -210,7 +201,7 @@ key_is part text (suc k) j is read positive numbers member =
     ap (λ o. own_key (option_and_then unsigned_of (option_and_then as_number o))) (f.1 ∙ ap Some number_s) ∙ ap own_key read
     ∙ ap (λ b. if b then None else Some (suc k)) (ne_eqb (suc k) 0 (λ e. omega (arith, e)))
 
-pub result_entry_is : (cancels : Bool) (j v : Json) (k : ℕ) → is_version_2 j ≡ true → get (codes "method") j ≡ None → get (codes "result") j ≡ Some v → get (codes "error") j ≡ None → key_in j ≡ Some k
+pub result_entry_is : (cancels : Option Cancels) (j v : Json) (k : ℕ) → is_version_2 j ≡ true → get (codes "method") j ≡ None → get (codes "result") j ≡ Some v → get (codes "error") j ≡ None → key_in j ≡ Some k
     → Reply k (Result (json_text v)) ≡ entry_of cancels j
 result_entry_is cancels j v k version no_method result no_error key = rw (no_method, result, no_error, key, version) refl
 
@@ -223,15 +214,19 @@ whole_object : (levels : ℕ) (params : List ℕ) (end : ℕ) (e : Envelope) (h 
 whole_object levels params end e h whole =
     h.stands ∙ ap (λ l. json_text (object h.members) ++ l) (drop_all end params (omega (arith, whole))) ∙ append-nil (json_text (object h.members))
 
-pub target_of : (levels : ℕ) (params : List ℕ) (end : ℕ) (e : Envelope) (part : Bor (List ℕ)) (target : Id) → HasEnvelopeAt levels params 0 end e → end ≡ length params → e.id ≡ Some part
-    → ((v : Json) → HasNumbers v → json_text v ≡ part.now → cancelled_id v ≡ Some target) → GivesTarget params target
-target_of levels params end e part target h whole is gives p numbers same =
+target_member : (by : Cancels) (e : Envelope) (j : Json) → Names e j → IsMember (target_part by e) (get (cancel_member by) j)
+target_member Lsp e j names = names.id
+target_member Mcp e j names = names.request
+
+pub target_of : (by : Cancels) (levels : ℕ) (params : List ℕ) (end : ℕ) (e : Envelope) (part : Bor (List ℕ)) (target : Id) → HasEnvelopeAt levels params 0 end e → end ≡ length params
+    → target_part by e ≡ Some part → ((v : Json) → HasNumbers v → json_text v ≡ part.now → cancelled_id v ≡ Some target) → GivesTarget by params target
+target_of by levels params end e part target h whole is gives p numbers same =
     let o = object h.members in
     let text : params ≡ json_text o = whole_object levels params end e h whole in
     let object_p : p ≡ o = json_text-same p o numbers h.numbers (same ∙ text) in
-    let f = member_found e.id part (get (codes "id") o) is h.names.id in (
+    let f = member_found (target_part by e) part (get (cancel_member by) o) is (target_member by e o h.names) in (
       ap (λ q. call_params (Some q)) object_p ∙ ap (λ s. Some (Some s)) (sym text),
-      ap (λ q. option_and_then cancelled_id (get (codes "id") q)) object_p ∙ ap (option_and_then cancelled_id) f.1 ∙ gives f.0 (HasNumbers-get (codes "id") o f.0 h.numbers (sym f.1)) f.2,
+      ap (λ q. option_and_then cancelled_id (get (cancel_member by) q)) object_p ∙ ap (option_and_then cancelled_id) f.1 ∙ gives f.0 (HasNumbers-get (cancel_member by) o f.0 h.numbers (sym f.1)) f.2,
     )
 
 pub number_target : (s : List ℕ) (n : ℕ) → unsigned_of s ≡ Some n → (v : Json) → HasNumbers v → json_text v ≡ s → cancelled_id v ≡ Some (Unsigned n)
@@ -243,18 +238,29 @@ number_target s n read v numbers same =
 pub string_target : (text s : List ℕ) → text ≡ quoted s → (v : Json) → HasNumbers v → json_text v ≡ text → cancelled_id v ≡ Some (Text s)
 string_target text s is v numbers same = ap cancelled_id (string_is v s numbers (same ∙ is))
 
-cancelled : (call : Came) (target : Id) → is_none call.id ≡ true → call.method ≡ codes "$/cancelRequest" → Cancel target ≡ cancel_or_call call (Some target)
-cancelled call target no_id named =
-    let same : bytes_eq call.method (codes "$/cancelRequest") ≡ true = (bytes_eq-Decides call.method (codes "$/cancelRequest")).1 named in
-    ap (λ b. if b then Cancel target else Call call) (sym (ap (λ b. b && bytes_eq call.method (codes "$/cancelRequest")) no_id ∙ same))
+cancelled : (by : Cancels) (call : Came) (target : Id) → is_none call.id ≡ true → call.method ≡ cancel_method by → Cancel target ≡ cancel_or_call by call (Some target)
+cancelled by call target no_id named =
+    let same : bytes_eq call.method (cancel_method by) ≡ true = (bytes_eq-Decides call.method (cancel_method by)).1 named in
+    ap (λ b. if b then Cancel target else Call call) (sym (ap (λ b. b && bytes_eq call.method (cancel_method by)) no_id ∙ same))
 
-pub cancel_is : (j p : Json) (params : List ℕ) (target : Id) → is_version_2 j ≡ true → is_some (get (codes "method") j) ≡ true
-    → option_and_then as_str (get (codes "method") j) ≡ Some (codes "$/cancelRequest") → get (codes "id") j ≡ None → get (codes "params") j ≡ Some p → call_params (Some p) ≡ Some (Some params)
-    → option_and_then cancelled_id (get (codes "id") p) ≡ Some target → Cancel target ≡ entry_of true j
-cancel_is j p params target version some named absent found given targeted =
-    let call : Came = record { id = None; method = codes "$/cancelRequest"; params = Some params } in
-    let came : call_in j ≡ Some call = call_is j (codes "$/cancelRequest") (Some params) None version named (ap call_params found ∙ given) (ap call_id absent) in
-    let aimed : target_in j ≡ Some target = ap (option_and_then (λ q. option_and_then cancelled_id (get (codes "id") q))) found ∙ targeted in
-    cancelled call target refl refl ∙ ap₂ (λ c t. call_entry true c t) (sym came) (sym aimed)
-    ∙ ap (λ b. if b then call_entry true (call_in j) (target_in j)
+-- the cancels whose method it is
+pub cancels_by_is : (cancels : Option Cancels) (method : List ℕ) (by : Cancels) → cancels_by cancels method ≡ Some by → (cancels ≡ Some by) × (method ≡ cancel_method by)
+cancels_by_is None method by e = cc
+cancels_by_is (Some theirs) method by e = by_test (bytes_eq method (cancel_method theirs)) refl e
+  where
+    by_test : (b : Bool) → bytes_eq method (cancel_method theirs) ≡ b → (if b then Some theirs else None) ≡ Some by → (Some theirs ≡ Some by) × (method ≡ cancel_method by)
+    by_test true same is =
+        let one : theirs ≡ by = cc in
+        (is, (bytes_eq-Decides method (cancel_method theirs)).0 same ∙ ap cancel_method one)
+    by_test false same is = cc
+
+pub cancel_is : (by : Cancels) (j p : Json) (params : List ℕ) (target : Id) → is_version_2 j ≡ true → is_some (get (codes "method") j) ≡ true
+    → option_and_then as_str (get (codes "method") j) ≡ Some (cancel_method by) → get (codes "id") j ≡ None → get (codes "params") j ≡ Some p → call_params (Some p) ≡ Some (Some params)
+    → option_and_then cancelled_id (get (cancel_member by) p) ≡ Some target → Cancel target ≡ entry_of (Some by) j
+cancel_is by j p params target version some named absent found given targeted =
+    let call : Came = record { id = None; method = cancel_method by; params = Some params } in
+    let came : call_in j ≡ Some call = call_is j (cancel_method by) (Some params) None version named (ap call_params found ∙ given) (ap call_id absent) in
+    let aimed : target_in by j ≡ Some target = ap (option_and_then (λ q. option_and_then cancelled_id (get (cancel_member by) q))) found ∙ targeted in
+    cancelled by call target refl refl ∙ ap (λ t. cancel_or_call by call t) (sym aimed) ∙ ap (λ c. call_entry (Some by) c j) (sym came)
+    ∙ ap (λ b. if b then call_entry (Some by) (call_in j) j
     else (if is_some (get (codes "result") j) || is_some (get (codes "error") j) then reply_entry (key_in j) (reply_in j) else Invalid)) (sym some)

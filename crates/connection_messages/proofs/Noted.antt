@@ -15,9 +15,10 @@ use Rattle.json_texts.proofs.Placed.{MembersStand, stand_more, stand_last, Items
 use Rattle.json_texts.proofs.ReadBack.{value_of-json_text}
 use Rattle.connection_messages.specs.Envelope.{IsMember, HasEnvelope, HasEnvelopeAt, HasBatch}
 use Rattle.connection_messages.specs.Reading.{entry_of, entries_of}
+use Rattle.connection_messages.specs.declared.cancels.Cancels.{Cancels}
 use Rattle.connection_messages.specs.declared.entry.Entry.{Entry}
 use Rattle.json.specs.Tree.{depth, HasNumbers}
-use Rattle.connection_messages.specs.declared.read.unit.TheConstants.{MOST_DEPTH}
+use Rattle.connection_messages.specs.declared.read.unit.TheConstants.{MOST_DEPTH_IN}
 use Rattle.connection_messages.specs.declared.read.envelope.Envelope.{Envelope}
 
 -- each slot has the text that was noted for its name
@@ -28,6 +29,7 @@ pub record AreNoted (e : Envelope) (note : List ℕ → Option Json) : Type 0 wh
   pub params : IsMember e.params (note (codes "params"))
   pub result : IsMember e.result (note (codes "result"))
   pub error : IsMember e.error (note (codes "error"))
+  pub request : IsMember e.request (note (codes "requestId"))
 
 -- all members, where these stand at the end
 abbrev pub AllMembers : ℕ → List ℕ → ℕ → (List ℕ → Option Json) → Members → ℕ → Type 0
@@ -103,21 +105,23 @@ abbrev Puts : Option (Bor (List ℕ)) → Option (Bor (List ℕ)) → List ℕ �
 Puts old new slice part word = option_map (λ s. s.now) new ≡ (if bytes_eq slice word then Some part else option_map (λ s. s.now) old)
 
 plain_words : (escape (codes "jsonrpc") ≡ codes "jsonrpc") × (escape (codes "id") ≡ codes "id") × (escape (codes "method") ≡ codes "method") × (escape (codes "params") ≡ codes "params")
-    × (escape (codes "result") ≡ codes "result") × (escape (codes "error") ≡ codes "error")
+    × (escape (codes "result") ≡ codes "result") × (escape (codes "error") ≡ codes "error") × (escape (codes "requestId") ≡ codes "requestId")
 unfolding escape_byte
-plain_words = (refl, refl, refl, refl, refl, refl)
+plain_words = (refl, refl, refl, refl, refl, refl, refl)
 
 pub all_noted : (old new : Envelope) (note : List ℕ → Option Json) (name slice part : List ℕ) (j : Json) → slice ≡ escape name → json_text j ≡ part → AreNoted old note
     → Puts old.version new.version slice part (codes "jsonrpc") → Puts old.id new.id slice part (codes "id") → Puts old.method new.method slice part (codes "method")
     → Puts old.params new.params slice part (codes "params") → Puts old.result new.result slice part (codes "result") → Puts old.error new.error slice part (codes "error")
+    → Puts old.request new.request slice part (codes "requestId")
     → AreNoted new (with_member note name j)
-all_noted old new note name slice part j same text before version id method params result error = record {
+all_noted old new note name slice part j same text before version id method params result error request = record {
   version = slot_noted old.version new.version note name slice (codes "jsonrpc") part j plain_words.0 same text before.version version;
   id = slot_noted old.id new.id note name slice (codes "id") part j plain_words.1 same text before.id id;
   method = slot_noted old.method new.method note name slice (codes "method") part j plain_words.2 same text before.method method;
   params = slot_noted old.params new.params note name slice (codes "params") part j plain_words.3 same text before.params params;
   result = slot_noted old.result new.result note name slice (codes "result") part j plain_words.4 same text before.result result;
   error = slot_noted old.error new.error note name slice (codes "error") part j plain_words.5 same text before.error error;
+  request = slot_noted old.request new.request note name slice (codes "requestId") part j plain_words.6 same text before.request request;
 }
 
 -- the bytes of a name between its quotes
@@ -149,14 +153,15 @@ envelope_is levels text bytes e note all from end same first stand names noted =
         params = noted.params ∙ slot (codes "params");
         result = noted.result ∙ slot (codes "result");
         error = noted.error ∙ slot (codes "error");
+        request = noted.request ∙ slot (codes "requestId");
       };
     }
 
 -- a value that is a whole text is read
-pub whole_value : (text : List ℕ) (j : Json) → IsUtf8 text → HasNumbers j → depth j ≤ MOST_DEPTH → json_text j ≡ text → value_of MOST_DEPTH text ≡ Some j
+pub whole_value : (text : List ℕ) (j : Json) → IsUtf8 text → HasNumbers j → depth j ≤ MOST_DEPTH_IN → json_text j ≡ text → value_of MOST_DEPTH_IN text ≡ Some j
 whole_value text j utf8 numbers nests is_text =
     let is_utf8_text : is_utf8 (json_text j) ≡ true = is_utf8-from_IsUtf8 (json_text j) (subst (λ t. IsUtf8 t) (sym is_text) utf8) in
-    subst (λ t. value_of MOST_DEPTH t ≡ Some j) is_text (value_of-json_text MOST_DEPTH j numbers nests is_utf8_text)
+    subst (λ t. value_of MOST_DEPTH_IN t ≡ Some j) is_text (value_of-json_text MOST_DEPTH_IN j numbers nests is_utf8_text)
 
 pub whole_envelope : (text : List ℕ) (e : Envelope) (end : ℕ) → IsUtf8 text → HasEnvelopeAt 126 text 0 end e → end ≡ length text → HasEnvelope text e
 whole_envelope text e end utf8 h whole =
@@ -168,27 +173,27 @@ whole_envelope text e end utf8 h whole =
 abbrev pub element : (levels : ℕ) (text : List ℕ) (e : Envelope) (from end : ℕ) (h : HasEnvelopeAt levels text from end e) → HasValue (suc levels) text from end
 element levels text e from end h = record { value = object h.members; numbers = h.numbers; nests = (let nests = h.nests in omega (arith, nests)); stands = h.stands }
 
-pub nothing_noted : AreNoted (record { version = None; id = None; method = None; params = None; result = None; error = None }) nothing
-nothing_noted = record { version = refl; id = refl; method = refl; params = refl; result = refl; error = refl }
+pub nothing_noted : AreNoted (record { version = None; id = None; method = None; params = None; result = None; error = None; request = None }) nothing
+nothing_noted = record { version = refl; id = refl; method = refl; params = refl; result = refl; error = refl; request = refl }
 
 -- ---- batches
 
 -- the entries are those of the elements before this place
-abbrev pub AreBehind : Bool → List ℕ → ℕ → List Entry → Type 0
+abbrev pub AreBehind : Option Cancels → List ℕ → ℕ → List Entry → Type 0
 AreBehind cancels text at entries =
     (end : ℕ) (j : Json) (js : Items) → ItemsStand 126 text at (item j js) end
     → (k : Json) × (ks : Items) × ItemsStand 126 text 1 (item k ks) end × (entries_of cancels (item k ks) ≡ entries ++ entries_of cancels (item j js))
 
-pub none_behind : (cancels : Bool) (text : List ℕ) → AreBehind cancels text 1 []
+pub none_behind : (cancels : Option Cancels) (text : List ℕ) → AreBehind cancels text 1 []
 none_behind cancels text end j js stand = (j, js, stand, refl)
 
-pub entry_behind : (cancels : Bool) (text : List ℕ) (at stop : ℕ) (entries : List Entry) (entry : Entry) (v : HasValue 126 text at stop) → entry ≡ entry_of cancels v.value → get_or text stop 0 ≡ 44
+pub entry_behind : (cancels : Option Cancels) (text : List ℕ) (at stop : ℕ) (entries : List Entry) (entry : Entry) (v : HasValue 126 text at stop) → entry ≡ entry_of cancels v.value → get_or text stop 0 ≡ 44
     → AreBehind cancels text at entries → AreBehind cancels text (stop + 1) (entries ++ entry ∷ [])
 entry_behind cancels text at stop entries entry v is comma behind end j js stand =
     let all = behind end v.value (item j js) (stand_more_items 126 text at stop end v comma j js stand) in
     (all.0, all.1, all.2, all.3 ∙ ap (λ e. entries ++ e ∷ entries_of cancels (item j js)) (sym is) ∙ sym (append_assoc entries (entry ∷ []) (entries_of cancels (item j js))))
 
-pub batch_is : (cancels : Bool) (text bytes : List ℕ) (at end : ℕ) (entries : List Entry) (entry : Entry) (v : HasValue 126 bytes at end) → entry ≡ entry_of cancels v.value → get_or bytes end 0 ≡ 93
+pub batch_is : (cancels : Option Cancels) (text bytes : List ℕ) (at end : ℕ) (entries : List Entry) (entry : Entry) (v : HasValue 126 bytes at end) → entry ≡ entry_of cancels v.value → get_or bytes end 0 ≡ 93
     → AreBehind cancels bytes at entries → get_or bytes 0 0 ≡ 91 → end + 1 ≡ length bytes → bytes ≡ text → IsUtf8 text → HasBatch cancels text (entries ++ entry ∷ [])
 batch_is cancels text bytes at end entries entry v is bracket behind first whole same utf8 =
     let all = behind (end + 1) v.value no_items (stand_last_item 126 bytes at end v bracket) in

@@ -1,17 +1,20 @@
 -- What the texts of an object's members say.
-use Rattle.std.specs.Prelude.{◌≡◌, ◌≤◌, ℕ, List, Option, Some, None, option_map, option_and_then, is_some, codes, Bool, true, ⊤}
+use Rattle.std.specs.Prelude.{◌≡◌, ◌≤◌, ℕ, List, Option, Some, None, option_map, option_and_then, is_some, codes, true, ⊤, if◌then◌else◌}
 use Rattle.std.specs.Borrow.{Bor}
+use Rattle.std.specs.Str.{bytes_eq}
 use Rattle.json.specs.Json.{Json, array, object, Items, item, Members}
 use Rattle.json.specs.Find.{get, as_str}
 use Rattle.json.specs.Tree.{members_depth, HasNumbers, MembersHaveNumbers}
 use Rattle.json_texts.specs.Standing.{Stands}
 use Rattle.json_texts.specs.Texts.{json_text, value_of}
 use Rattle.message_ids.specs.declared.id.Id.{Id}
-use Rattle.connection_messages.specs.Reading.{is_version_2, call_id, call_params, call_in, cancelled_id, entry_of, entries_of}
+use Rattle.connection_messages.specs.Reading.{is_version_2, call_id, call_params, call_in, cancel_method, cancel_member, cancelled_id, entry_of, entries_of}
 use Rattle.connection_messages.specs.declared.call.Call.{Call}
+use Rattle.connection_messages.specs.declared.cancels.Cancels.{Cancels}
+use Rattle.connection_messages.specs.declared.cancels.Cancels.TheVariants.{Lsp, Mcp}
 use Rattle.connection_messages.specs.declared.entry.Entry.{Entry}
 use Rattle.connection_messages.specs.declared.read.envelope.Envelope.{Envelope}
-use Rattle.connection_messages.specs.declared.read.unit.TheConstants.{MOST_DEPTH}
+use Rattle.connection_messages.specs.declared.read.unit.TheConstants.{MOST_DEPTH_IN}
 
 -- the text is the member's, or both are absent
 abbrev pub IsMember : Option (Bor (List ℕ)) → Option Json → Type 0
@@ -25,6 +28,7 @@ pub record Names (e : Envelope) (j : Json) : Type 0 where
   pub params : IsMember e.params (get (codes "params") j)
   pub result : IsMember e.result (get (codes "result") j)
   pub error : IsMember e.error (get (codes "error") j)
+  pub request : IsMember e.request (get (codes "requestId") j)
 
 -- an object stands there, and the envelope is of its members
 pub record HasEnvelopeAt (levels : ℕ) (text : List ℕ) (from end : ℕ) (e : Envelope) : Type 0 where
@@ -37,15 +41,15 @@ pub record HasEnvelopeAt (levels : ℕ) (text : List ℕ) (from end : ℕ) (e : 
 -- the text is an object's, and the envelope is of its members
 pub record HasEnvelope (text : List ℕ) (e : Envelope) : Type 0 where
   pub members : Members
-  pub is : value_of MOST_DEPTH text ≡ Some (object members)
+  pub is : value_of MOST_DEPTH_IN text ≡ Some (object members)
   pub numbers : MembersHaveNumbers members
   pub names : Names e (object members)
 
 -- the text is an array's, and these are the entries of its elements
-pub record HasBatch (cancels : Bool) (text : List ℕ) (entries : List Entry) : Type 0 where
+pub record HasBatch (cancels : Option Cancels) (text : List ℕ) (entries : List Entry) : Type 0 where
   pub first : Json
   pub rest : Items
-  pub is : value_of MOST_DEPTH text ≡ Some (array (item first rest))
+  pub is : value_of MOST_DEPTH_IN text ≡ Some (array (item first rest))
   pub are : entries ≡ entries_of cancels (item first rest)
 
 abbrev pub MemberHasNumbers : Option Json → Type 0
@@ -67,17 +71,27 @@ abbrev pub GivesCall : Envelope → List ℕ → Call → Type 0
 GivesCall e method call =
     (j : Json) → HasNumbers j → Names e j → is_version_2 j ≡ true → option_and_then as_str (get (codes "method") j) ≡ Some method → call_in j ≡ Some call
 
-abbrev pub GivesEntry : Bool → Envelope → Entry → Type 0
+abbrev pub GivesEntry : Option Cancels → Envelope → Entry → Type 0
 GivesEntry cancels e entry = (j : Json) → HasNumbers j → Names e j → entry ≡ entry_of cancels j
 
-abbrev pub GivesReply : Bool → Envelope → Entry → Type 0
+abbrev pub GivesReply : Option Cancels → Envelope → Entry → Type 0
 GivesReply cancels e entry = (j : Json) → HasNumbers j → Names e j → is_version_2 j ≡ true → get (codes "method") j ≡ None → entry ≡ entry_of cancels j
 
 -- the id that the params of a cancel name
-abbrev pub GivesTarget : List ℕ → Id → Type 0
-GivesTarget params target =
-    (p : Json) → HasNumbers p → json_text p ≡ params → (call_params (Some p) ≡ Some (Some params)) × (option_and_then cancelled_id (get (codes "id") p) ≡ Some target)
+abbrev pub GivesTarget : Cancels → List ℕ → Id → Type 0
+GivesTarget by params target =
+    (p : Json) → HasNumbers p → json_text p ≡ params → (call_params (Some p) ≡ Some (Some params)) × (option_and_then cancelled_id (get (cancel_member by) p) ≡ Some target)
 
-abbrev pub GivesCancel : Envelope → Entry → Type 0
-GivesCancel e entry =
-    (j : Json) → HasNumbers j → Names e j → is_version_2 j ≡ true → (is_some (get (codes "method") j) ≡ true) × (option_and_then as_str (get (codes "method") j) ≡ Some (codes "$/cancelRequest")) → entry ≡ entry_of true j
+-- the text by which such cancels name a request
+abbrev pub target_part : Cancels → Envelope → Option (Bor (List ℕ))
+target_part Lsp e = e.id
+target_part Mcp e = e.request
+
+-- the cancels, where theirs have this method
+abbrev pub cancels_by : Option Cancels → List ℕ → Option Cancels
+cancels_by None method = None
+cancels_by (Some by) method = if bytes_eq method (cancel_method by) then Some by else None
+
+abbrev pub GivesCancel : Cancels → Envelope → Entry → Type 0
+GivesCancel by e entry =
+    (j : Json) → HasNumbers j → Names e j → is_version_2 j ≡ true → (is_some (get (codes "method") j) ≡ true) × (option_and_then as_str (get (codes "method") j) ≡ Some (cancel_method by)) → entry ≡ entry_of (Some by) j

@@ -1,5 +1,6 @@
 pub mod Envelope
 pub mod Numbers
 pub mod Params
+pub mod ReadBack
 pub mod Reading
 pub mod Texts

@@ -1,4 +1,5 @@
--- What a content is (JSON-RPC 2.0, sections 4 to 6), and what a cancel names (LSP 3.17, "Cancellation Support").
+-- What a content is (JSON-RPC 2.0, sections 4 to 6), and what a cancel names (LSP 3.17, "Cancellation Support"; MCP 2025-06-18,
+-- "Cancellation").
 use Rattle.std.specs.Prelude.{ℕ, ◌==◌, ◌&&◌, ◌||◌, List, [], ◌∷◌, Bool, true, false, Option, Some, None, option_map, option_and_then, is_some, codes, if◌then◌else◌, ℤ, negsuc}
 use Rattle.std.specs.Option.{option_map_or, is_none}
 use Rattle.std.specs.Str.{bytes_eq}
@@ -9,9 +10,11 @@ use Rattle.message_ids.specs.declared.id.Id.{Id}
 use Rattle.message_ids.specs.declared.id.Id.TheVariants.{Null, Text, Signed, Unsigned}
 use Rattle.connection_messages.specs.Numbers.{unsigned_of, negative_of, integer_of}
 use Rattle.connection_messages.specs.declared.call.Call.{Call as Came}
+use Rattle.connection_messages.specs.declared.cancels.Cancels.{Cancels}
+use Rattle.connection_messages.specs.declared.cancels.Cancels.TheVariants.{Lsp, Mcp}
 use Rattle.connection_messages.specs.declared.entry.Entry.{Entry}
 use Rattle.connection_messages.specs.declared.entry.Entry.TheVariants.{Call, Cancel, Reply, Stray, Invalid}
-use Rattle.connection_messages.specs.declared.read.unit.TheConstants.{MOST_DEPTH}
+use Rattle.connection_messages.specs.declared.read.unit.TheConstants.{MOST_DEPTH_IN}
 use Rattle.connection_messages.specs.declared.reply.Reply.{Reply as Replied}
 use Rattle.connection_messages.specs.declared.reply.Reply.TheVariants.{Result, Error}
 use Rattle.connection_messages.specs.declared.unit.Unit.{Unit as Units}
@@ -70,28 +73,39 @@ call_from _ _ _ _ = None
 abbrev pub call_in : Json → Option Came
 call_in j = call_from (is_version_2 j) (option_and_then as_str (get (codes "method") j)) (call_params (get (codes "params") j)) (call_id (get (codes "id") j))
 
--- LSP: the id to cancel is a string or an integer
+-- LSP: a notification `$/cancelRequest`, whose params name a request by `id`;
+-- MCP: a notification `notifications/cancelled`, whose params name it by `requestId`
+abbrev pub cancel_method : Cancels → List ℕ
+cancel_method Lsp = codes "$/cancelRequest"
+cancel_method Mcp = codes "notifications/cancelled"
+
+abbrev pub cancel_member : Cancels → List ℕ
+cancel_member Lsp = codes "id"
+cancel_member Mcp = codes "requestId"
+
+-- LSP and MCP: the id to cancel is a string or an integer
 abbrev pub cancelled_id : Json → Option Id
 cancelled_id (number s) = number_id s
 cancelled_id (string s) = Some (Text s)
 cancelled_id _ = None
 
 -- the id that the params name
-abbrev pub target_in : Json → Option Id
-target_in j = option_and_then (λ params. option_and_then cancelled_id (get (codes "id") params)) (get (codes "params") j)
+abbrev pub target_in : Cancels → Json → Option Id
+target_in by j = option_and_then (λ params. option_and_then cancelled_id (get (cancel_member by) params)) (get (codes "params") j)
 
--- LSP: a notification `$/cancelRequest` with such an id is a cancel
-abbrev pub is_cancel : Came → Bool
-is_cancel c = is_none c.id && bytes_eq c.method (codes "$/cancelRequest")
+-- such a notification with such an id is a cancel
+abbrev pub is_cancel : Cancels → Came → Bool
+is_cancel by c = is_none c.id && bytes_eq c.method (cancel_method by)
 
-abbrev pub cancel_or_call : Came → Option Id → Entry
-cancel_or_call c None = Call c
-cancel_or_call c (Some target) = if is_cancel c then Cancel target else Call c
+abbrev pub cancel_or_call : Cancels → Came → Option Id → Entry
+cancel_or_call by c None = Call c
+cancel_or_call by c (Some target) = if is_cancel by c then Cancel target else Call c
 
-abbrev pub call_entry : Bool → Option Came → Option Id → Entry
-call_entry cancels None target = Invalid
-call_entry true (Some c) target = cancel_or_call c target
-call_entry false (Some c) target = Call c
+-- without cancels, what would be one is a call
+abbrev pub call_entry : Option Cancels → Option Came → Json → Entry
+call_entry cancels None j = Invalid
+call_entry None (Some c) j = Call c
+call_entry (Some by) (Some c) j = cancel_or_call by c (target_in by j)
 
 -- ---- replies
 
@@ -133,12 +147,12 @@ reply_entry (Some k) r = Reply k r
 -- ---- entries and units
 
 -- What has a member `method` is a call or invalid; what has `result` or `error` is a reply; anything else is invalid.
-abbrev pub entry_of : Bool → Json → Entry
+abbrev pub entry_of : Option Cancels → Json → Entry
 entry_of cancels j =
-    if is_some (get (codes "method") j) then call_entry cancels (call_in j) (target_in j)
+    if is_some (get (codes "method") j) then call_entry cancels (call_in j) j
     else (if is_some (get (codes "result") j) || is_some (get (codes "error") j) then reply_entry (key_in j) (reply_in j) else Invalid)
 
-abbrev pub entries_of : Bool → Items → List Entry
+abbrev pub entries_of : Option Cancels → Items → List Entry
 entries_of cancels no_items = []
 entries_of cancels (item j js) = entry_of cancels j ∷ entries_of cancels js
 
@@ -147,16 +161,16 @@ abbrev pub batch_of : List Entry → Units
 batch_of [] = Single Invalid
 batch_of (e ∷ es) = Batch (e ∷ es)
 
-abbrev pub value_unit : Bool → Json → Units
+abbrev pub value_unit : Option Cancels → Json → Units
 value_unit cancels (array js) = batch_of (entries_of cancels js)
 value_unit cancels j = Single (entry_of cancels j)
 
-abbrev pub unit_of_reading : Bool → Option Json → Units
+abbrev pub unit_of_reading : Option Cancels → Option Json → Units
 unit_of_reading cancels None = Unreadable
 unit_of_reading cancels (Some j) = value_unit cancels j
 
--- The content of a foreign frame, and one that is no JSON of at most 127 levels, are unreadable. The first truth value says
--- whether cancels are told apart, the second whether the frame is foreign.
-abbrev pub unit_of : Bool → Bool → List ℕ → Units
+-- The content of a foreign frame, and one that is no JSON of at most 127 levels, are unreadable. The cancels are those that are
+-- told apart from calls, and the truth value says whether the frame is foreign.
+abbrev pub unit_of : Option Cancels → Bool → List ℕ → Units
 unit_of cancels true content = Unreadable
-unit_of cancels false content = unit_of_reading cancels (value_of MOST_DEPTH content)
+unit_of cancels false content = unit_of_reading cancels (value_of MOST_DEPTH_IN content)

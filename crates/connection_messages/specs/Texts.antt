@@ -11,6 +11,8 @@ use Rattle.message_ids.specs.declared.standard.Standard.{Standard}
 use Rattle.connection_messages.specs.declared.answer.Answer.{Answer}
 use Rattle.connection_messages.specs.declared.answer.Answer.TheVariants.{Result, Error, Standard as Fixed}
 use Rattle.connection_messages.specs.declared.answer.AnswerError.{AnswerError}
+use Rattle.connection_messages.specs.declared.cancels.Cancels.{Cancels}
+use Rattle.connection_messages.specs.declared.cancels.Cancels.TheVariants.{Lsp, Mcp}
 use Rattle.connection_messages.specs.declared.outgoing.Outgoing.{Outgoing}
 
 -- ---- parts
@@ -93,6 +95,11 @@ calls_text k os = batch_text (call_texts k os)
 abbrev pub notice_text : Outgoing → List ℕ
 notice_text o = codes "{\"jsonrpc\":\"2.0\"" ++ method_text o
 
--- the notification that withdraws our call k (LSP 3.17, "Cancellation Support")
-abbrev pub withdrawal_text : ℕ → List ℕ
-withdrawal_text k = codes "{\"jsonrpc\":\"2.0\",\"method\":\"$/cancelRequest\",\"params\":{\"id\":" ++ decimal k ++ codes "}}"
+-- the notification that withdraws our call k (LSP 3.17, "Cancellation Support"; MCP 2025-06-18, "Cancellation"): what stands
+-- before the key, and the whole
+abbrev pub withdrawal_head : Cancels → List ℕ
+withdrawal_head Lsp = codes "{\"jsonrpc\":\"2.0\",\"method\":\"$/cancelRequest\",\"params\":{\"id\":"
+withdrawal_head Mcp = codes "{\"jsonrpc\":\"2.0\",\"method\":\"notifications/cancelled\",\"params\":{\"requestId\":"
+
+abbrev pub withdrawal_text : Cancels → ℕ → List ℕ
+withdrawal_text by k = withdrawal_head by ++ decimal k ++ codes "}}"

@@ -7,8 +7,8 @@ use message_ids::Id;
 pub enum Entry {
     /// A request or a notification.
     Call(Call),
-    /// The notification that cancels the requests with this id (LSP 3.17, "Cancellation Support"), where cancels are told
-    /// apart from calls.
+    /// The notification that cancels the requests with this id (LSP 3.17, "Cancellation Support"; MCP 2025-06-18,
+    /// "Cancellation"), where such cancels are told apart from calls.
     Cancel(Id),
     /// The reply to our call with this key, which is at least 1.
     Reply { key: u64, reply: Reply },

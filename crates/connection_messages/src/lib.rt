@@ -3,7 +3,9 @@
 
 mod answer;
 mod call;
+mod cancels;
 mod entry;
+mod law;
 mod outgoing;
 mod params;
 mod read;
@@ -13,10 +15,16 @@ mod unit;
 
 pub use answer::{Answer, AnswerError};
 pub use call::Call;
+pub use cancels::Cancels;
 pub use entry::Entry;
+pub use law::{
+    a_batch_of_answers_reads_back, a_batch_of_calls_reads_back, a_call_reads_back,
+    a_notification_reads_back, a_withdrawal_reads_back, an_answer_reads_back,
+    each_text_is_one_line,
+};
 pub use outgoing::Outgoing;
-pub use params::Params;
-pub use read::unit::{MOST_DEPTH, UnitReader, limit_of_depth_in_figures};
+pub use params::OutgoingParams;
+pub use read::unit::{MOST_DEPTH_IN, UnitReader, limit_of_depth_in_figures};
 pub use reply::{Reply, ReplyError};
 pub use texts::{write_answer, write_call, write_calls, write_notice, write_withdrawal};
 pub use unit::Unit;

@@ -6,11 +6,11 @@ use std::marker::Model;
 
 /// The params of a call or a notification that goes out: the text of an array or an object (JSON-RPC 2.0, section 4.2).
 #[derive(Debug, Drop)]
-pub struct Params {
+pub struct OutgoingParams {
     text: JsonText,
 }
 
-impl Model for Params {
+impl Model for OutgoingParams {
     ghost use Rattle.std.specs.Prelude.{◌≡◌, ℕ, List, true};
     ghost use Rattle.connection_messages.specs.Params.{is_structured};
 
@@ -21,13 +21,13 @@ impl Model for Params {
     ghost invariant = { λ p. is_structured p.text ≡ true };
 }
 
-impl Params {
+impl OutgoingParams {
     /// Params of this text. There are none where it is neither an array nor an object.
-    pub fn new(text: JsonText) -> Option<Params>
+    pub fn new(text: JsonText) -> Option<OutgoingParams>
         ensures { result ≡ (if is_structured text then Some text else None) }
     {
         match text.as_bytes().first() {
-            Some(b'[' | b'{') => Some(Params { text }),
+            Some(b'[' | b'{') => Some(OutgoingParams { text }),
             _ => None,
         }
     }

@@ -6,11 +6,12 @@ ghost use Rattle.std.specs.List.{join_with_byte};
 ghost use Rattle.std.specs.Fmt.{signed_decimal};
 ghost use Rattle.json.specs.Print.{quoted};
 ghost use Rattle.connection_messages.specs.declared.answer.AnswerError.{AnswerError};
-ghost use Rattle.connection_messages.specs.Texts.{id_text, error_text, code_text, error_rest, error_head, error_end, data_member, params_member, answer_text, result_text, error_answer_text, fixed_error, method_text, call_text, call_texts, calls_text, notice_text, withdrawal_text};
+ghost use Rattle.connection_messages.specs.Texts.{id_text, error_text, code_text, error_rest, error_head, error_end, data_member, params_member, answer_text, result_text, error_answer_text, fixed_error, method_text, call_text, call_texts, calls_text, notice_text, withdrawal_head, withdrawal_text};
 
 use crate::answer::{Answer, AnswerError};
+use crate::cancels::Cancels;
 use crate::outgoing::Outgoing;
-use crate::params::Params;
+use crate::params::OutgoingParams;
 use itoa::{Buffer, Integer};
 use json::Writer;
 use json_texts::JsonText;
@@ -71,7 +72,7 @@ fn data_len(extra: &Option<JsonText>) -> usize {
     }
 }
 
-fn params_len(params: &Option<Params>) -> usize {
+fn params_len(params: &Option<OutgoingParams>) -> usize {
     match params {
         Some(params) => params.as_str().len(),
         None => 0,
@@ -286,16 +287,28 @@ pub fn write_notice(
     Ok(())
 }
 
-/// Writes the text of the notification that withdraws our call with this key (LSP 3.17, "Cancellation Support").
-pub fn write_withdrawal(bytes: &mut Vec<u8>, key: u64) -> Result<(), AllocError>
-    ensures { OnOk result (bytes.new.items ≡ bytes.old.items ++ withdrawal_text key) }
+/// Writes the text of the notification that withdraws our call with this key, as these cancels have it.
+pub fn write_withdrawal(bytes: &mut Vec<u8>, by: Cancels, key: u64) -> Result<(), AllocError>
+    ensures { OnOk result (bytes.new.items ≡ bytes.old.items ++ withdrawal_text by key) }
 {
-    bytes.extend_from_slice(
-        b"{\"jsonrpc\":\"2.0\",\"method\":\"$/cancelRequest\",\"params\":{\"id\":",
-    )?;
+    bytes.extend_from_slice(withdrawal_head(by))?;
     write_decimal(bytes, key)?;
     bytes.extend_from_slice(b"}}")?;
     Ok(())
+}
+
+/// What stands before the key in a withdrawal.
+fn withdrawal_head(by: Cancels) -> &'static [u8]
+    ensures { result.now ≡ withdrawal_head by }
+{
+    match by {
+        Cancels::Lsp => {
+            b"{\"jsonrpc\":\"2.0\",\"method\":\"$/cancelRequest\",\"params\":{\"id\":"
+        }
+        Cancels::Mcp => {
+            b"{\"jsonrpc\":\"2.0\",\"method\":\"notifications/cancelled\",\"params\":{\"requestId\":"
+        }
+    }
 }
 
 /// Writes the method and the params of a call or notification, and its end.
@@ -309,7 +322,7 @@ fn write_method(alloc: Global, bytes: &mut Vec<u8>, outgoing: &Outgoing) -> Resu
     Ok(())
 }
 
-fn write_params(bytes: &mut Vec<u8>, params: &Option<Params>) -> Result<(), AllocError>
+fn write_params(bytes: &mut Vec<u8>, params: &Option<OutgoingParams>) -> Result<(), AllocError>
     ensures { OnOk result (bytes.new.items ≡
         bytes.old.items ++ params_member params.now) }
 {

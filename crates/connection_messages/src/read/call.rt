@@ -5,19 +5,17 @@ ghost use Rattle.json.specs.Find.{get, as_str};
 ghost use Rattle.json.specs.Tree.{HasNumbers};
 ghost use Rattle.json.specs.Value.{value_view};
 ghost use Rattle.json_texts.specs.Texts.{json_text};
-ghost use Rattle.connection_messages.specs.Reading.{is_version_2, number_id, id_of, call_id, call_params, call_in, cancelled_id, target_in, is_cancel, cancel_or_call, call_entry};
+ghost use Rattle.connection_messages.specs.Reading.{is_version_2, number_id, id_of, call_id, call_params, call_in, cancel_member, cancelled_id, target_in, is_cancel, cancel_or_call, call_entry};
 
 use super::number::{negative, unsigned};
 use crate::call::Call;
+use crate::cancels::Cancels;
 use crate::entry::Entry;
 use json::Value;
 use json_texts::text_of;
 use json_values::{Negative, Text};
 use message_ids::Id;
 use std::alloc::{AllocError, Global};
-
-/// The method of a cancel (LSP 3.17, "Cancellation Support").
-pub(crate) const CANCEL: &str = "$/cancelRequest";
 
 /// Whether the member `jsonrpc` is exactly "2.0".
 pub(crate) fn is_version_2(value: &Value<'_>) -> bool
@@ -32,36 +30,36 @@ pub(crate) fn is_version_2(value: &Value<'_>) -> bool
 /// A value with a member `method`: a call, a cancel, or invalid.
 pub(crate) fn read_call(
     alloc: Global,
-    cancels: bool,
+    cancels: Option<Cancels>,
     value: &Value<'_>,
 ) -> Result<Entry, AllocError>
     requires { HasNumbers (value_view value.now) }
     ensures { IfOk result (λ e. e
-        ≡ call_entry cancels (call_in (value_view value.now)) (target_in (value_view value.now))) }
+        ≡ call_entry cancels (call_in (value_view value.now)) (value_view value.now)) }
 {
     let Some(call) = read_members(alloc, value)? else {
         return Ok(Entry::Invalid);
     };
-    if !cancels {
+    let Some(by) = cancels else {
         return Ok(Entry::Call(call));
-    }
-    let target = read_target(alloc, value)?;
-    Ok(cancel_or_call(call, target))
+    };
+    let target = read_target(alloc, by, value)?;
+    Ok(cancel_or_call(by, call, target))
 }
 
-fn cancel_or_call(call: Call, target: Option<Id>) -> Entry
-    ensures { result ≡ cancel_or_call call target }
+fn cancel_or_call(by: Cancels, call: Call, target: Option<Id>) -> Entry
+    ensures { result ≡ cancel_or_call by call target }
 {
     match target {
-        Some(target) if is_cancel(&call) => Entry::Cancel(target),
+        Some(target) if is_cancel(by, &call) => Entry::Cancel(target),
         _ => Entry::Call(call),
     }
 }
 
-fn is_cancel(call: &Call) -> bool
-    ensures { result ≡ is_cancel call.now }
+fn is_cancel(by: Cancels, call: &Call) -> bool
+    ensures { result ≡ is_cancel by call.now }
 {
-    call.id.is_none() && call.method.as_str() == CANCEL
+    call.id.is_none() && call.method.as_str() == by.method()
 }
 
 /// The members of a call, where each is what it has to be.
@@ -143,19 +141,19 @@ fn read_number_id(text: &str) -> Option<Id>
 }
 
 /// The id that the params name, where they are those of a cancel.
-fn read_target(alloc: Global, value: &Value<'_>) -> Result<Option<Id>, AllocError>
-    ensures { IfOk result (λ target. target ≡ target_in (value_view value.now)) }
+fn read_target(alloc: Global, by: Cancels, value: &Value<'_>) -> Result<Option<Id>, AllocError>
+    ensures { IfOk result (λ target. target ≡ target_in by (value_view value.now)) }
 {
-    match target_member(value) {
+    match target_member(by, value) {
         Some(Value::String(text)) => Ok(Some(Id::Text(Text::copy_of(alloc, text)?))),
         Some(Value::Number(text)) => Ok(read_number_id(text)),
         _ => Ok(None),
     }
 }
 
-fn target_member<'v, 't>(value: &'v Value<'t>) -> Option<&'v Value<'t>>
+fn target_member<'v, 't>(by: Cancels, value: &'v Value<'t>) -> Option<&'v Value<'t>>
     ensures { option_map (λ v. value_view v.now) result
-        ≡ option_and_then (get (codes "id")) (get (codes "params") (value_view value.now)) }
+        ≡ option_and_then (get (cancel_member by)) (get (codes "params") (value_view value.now)) }
 {
-    value.get("params")?.get("id")
+    value.get("params")?.get(by.member())
 }

@@ -1,17 +1,18 @@
 //! Contents that are compact objects, read from the texts of their members. What isn't seen to be a call or a result is left
 //! to a reader of tokens.
 
-ghost use Rattle.std.specs.Prelude.{◌≡◌, Bool, IfOk, IfSome, IsTrue, false};
+ghost use Rattle.std.specs.Prelude.{◌≡◌, Option, IfOk, IfSome, IsTrue, false};
 ghost use Rattle.json.specs.Print.{quoted, escape};
-ghost use Rattle.connection_messages.specs.Envelope.{HasBatch, GivesId, GivesParams, GivesVersion, GivesCall, GivesEntry, GivesReply, GivesCancel, GivesTarget};
+ghost use Rattle.connection_messages.specs.Envelope.{HasBatch, cancels_by, GivesId, GivesParams, GivesVersion, GivesCall, GivesEntry, GivesReply, GivesCancel, GivesTarget};
 ghost use Rattle.connection_messages.specs.Params.{is_structured};
 ghost use Rattle.connection_messages.specs.Reading.{unit_of};
+ghost use Rattle.connection_messages.specs.declared.cancels.Cancels.{Cancels};
 
-use super::call::CANCEL;
 use super::envelope::{Envelope, envelope_at, envelope_of};
 use super::number::unsigned;
-use super::unit::MOST_DEPTH;
+use super::unit::MOST_DEPTH_IN;
 use crate::call::Call;
+use crate::cancels::Cancels;
 use crate::entry::Entry;
 use crate::reply::Reply;
 use crate::unit::Unit;
@@ -23,7 +24,7 @@ use std::alloc::{AllocError, Global};
 /// The unit of a content that is seen to be one compact call or result, or a batch of such.
 pub(crate) fn read_compact(
     alloc: Global,
-    cancels: bool,
+    cancels: Option<Cancels>,
     text: &str,
 ) -> Result<Option<Unit>, AllocError>
     ensures { IfOk result (λ u. IfSome u (λ unit. unit ≡ unit_of cancels false text.now)) }
@@ -37,7 +38,7 @@ pub(crate) fn read_compact(
 /// The same of a content whose text isn't compact, once it is made so.
 pub(crate) fn read_compacted(
     alloc: Global,
-    cancels: bool,
+    cancels: Option<Cancels>,
     text: &str,
 ) -> Result<Option<Unit>, AllocError>
     ensures { IfOk result (λ u. IfSome u (λ unit. unit ≡ unit_of cancels false text.now)) }
@@ -48,7 +49,11 @@ pub(crate) fn read_compacted(
     }
 }
 
-fn read_single(alloc: Global, cancels: bool, text: &str) -> Result<Option<Unit>, AllocError>
+fn read_single(
+    alloc: Global,
+    cancels: Option<Cancels>,
+    text: &str,
+) -> Result<Option<Unit>, AllocError>
     ensures { IfOk result (λ u. IfSome u (λ unit. unit ≡ unit_of cancels false text.now)) }
 {
     let Some(envelope) = envelope_of(text) else {
@@ -60,7 +65,11 @@ fn read_single(alloc: Global, cancels: bool, text: &str) -> Result<Option<Unit>,
     }
 }
 
-fn read_batch(alloc: Global, cancels: bool, text: &str) -> Result<Option<Unit>, AllocError>
+fn read_batch(
+    alloc: Global,
+    cancels: Option<Cancels>,
+    text: &str,
+) -> Result<Option<Unit>, AllocError>
     ensures { IfOk result (λ u. IfSome u (λ unit. unit ≡ unit_of cancels false text.now)) }
 {
     match read_entries(alloc, cancels, text)? {
@@ -69,7 +78,11 @@ fn read_batch(alloc: Global, cancels: bool, text: &str) -> Result<Option<Unit>, 
     }
 }
 
-fn read_entries(alloc: Global, cancels: bool, text: &str) -> Result<Option<Vec<Entry>>, AllocError>
+fn read_entries(
+    alloc: Global,
+    cancels: Option<Cancels>,
+    text: &str,
+) -> Result<Option<Vec<Entry>>, AllocError>
     ensures { IfOk result (λ e. IfSome e (λ entries. HasBatch cancels text.now entries.items)) }
 {
     let bytes = text.as_bytes();
@@ -79,7 +92,7 @@ fn read_entries(alloc: Global, cancels: bool, text: &str) -> Result<Option<Vec<E
     let mut entries = Vec::new(alloc);
     let mut at = 1;
     while at < bytes.len() {
-        let Some((envelope, end)) = envelope_at(text, at, MOST_DEPTH - 2) else {
+        let Some((envelope, end)) = envelope_at(text, at, MOST_DEPTH_IN - 2) else {
             drop(entries);
             return Ok(None);
         };
@@ -108,7 +121,7 @@ fn read_entries(alloc: Global, cancels: bool, text: &str) -> Result<Option<Vec<E
 
 fn read_envelope(
     alloc: Global,
-    cancels: bool,
+    cancels: Option<Cancels>,
     envelope: &Envelope<'_>,
 ) -> Result<Option<Entry>, AllocError>
     ensures { IfOk result (λ e. IfSome e (λ entry. GivesEntry cancels envelope.now entry)) }
@@ -122,8 +135,8 @@ fn read_envelope(
     let Some(method) = plain(part) else {
         return Ok(None);
     };
-    if cancels && method == CANCEL {
-        return read_cancel(alloc, envelope);
+    if let Some(by) = cancels_by(cancels, method) {
+        return read_cancel(alloc, by, envelope);
     }
     match read_call(alloc, envelope, method)? {
         Some(call) => Ok(Some(Entry::Call(call))),
@@ -131,29 +144,43 @@ fn read_envelope(
     }
 }
 
+/// The cancels, where theirs have this method.
+fn cancels_by(cancels: Option<Cancels>, method: &str) -> Option<Cancels>
+    ensures { result ≡ cancels_by cancels method.now }
+{
+    match cancels {
+        Some(by) if method == by.method() => Some(by),
+        _ => None,
+    }
+}
+
 /// A cancel. One whose target isn't seen to be a string or a whole number from 0 on is left to the reader of tokens.
-fn read_cancel(alloc: Global, envelope: &Envelope<'_>) -> Result<Option<Entry>, AllocError>
-    ensures { IfOk result (λ e. IfSome e (λ entry. GivesCancel envelope.now entry)) }
+fn read_cancel(
+    alloc: Global,
+    by: Cancels,
+    envelope: &Envelope<'_>,
+) -> Result<Option<Entry>, AllocError>
+    ensures { IfOk result (λ e. IfSome e (λ entry. GivesCancel by envelope.now entry)) }
 {
     let (None, Some(params)) = (envelope.id, envelope.params) else {
         return Ok(None);
     };
-    match read_target(alloc, params)? {
+    match read_target(alloc, by, params)? {
         Some(target) => Ok(Some(Entry::Cancel(target))),
         None => Ok(None),
     }
 }
 
-fn read_target(alloc: Global, params: &str) -> Result<Option<Id>, AllocError>
-    ensures { IfOk result (λ t. IfSome t (λ target. GivesTarget params.now target)) }
+fn read_target(alloc: Global, by: Cancels, params: &str) -> Result<Option<Id>, AllocError>
+    ensures { IfOk result (λ t. IfSome t (λ target. GivesTarget by params.now target)) }
 {
-    let Some((members, end)) = envelope_at(params, 0, MOST_DEPTH - 1) else {
+    let Some((members, end)) = envelope_at(params, 0, MOST_DEPTH_IN - 1) else {
         return Ok(None);
     };
     if end != params.len() {
         return Ok(None);
     }
-    let Some(part) = members.id else {
+    let Some(part) = members.target(by) else {
         return Ok(None);
     };
     if let Some(number) = unsigned(part) {
@@ -237,7 +264,7 @@ fn read_id(alloc: Global, part: Option<&str>) -> Result<Option<Option<Id>>, Allo
 
 /// A result of a call of ours.
 fn read_result(alloc: Global, envelope: &Envelope<'_>) -> Result<Option<Entry>, AllocError>
-    ensures { IfOk result (λ e. IfSome e (λ entry. (cancels : Bool) → GivesReply cancels envelope.now entry)) }
+    ensures { IfOk result (λ e. IfSome e (λ entry. (cancels : Option Cancels) → GivesReply cancels envelope.now entry)) }
 {
     let (Some(id), Some(result), None) = (envelope.id, envelope.result, envelope.error) else {
         return Ok(None);

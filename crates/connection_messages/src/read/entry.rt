@@ -7,6 +7,7 @@ ghost use Rattle.connection_messages.specs.Reading.{entry_of, entries_of};
 
 use super::call::read_call;
 use super::reply::read_reply;
+use crate::cancels::Cancels;
 use crate::entry::Entry;
 use json::Value;
 use std::alloc::{AllocError, Global};
@@ -14,7 +15,7 @@ use std::alloc::{AllocError, Global};
 /// What one value is.
 pub(crate) fn read_entry(
     alloc: Global,
-    cancels: bool,
+    cancels: Option<Cancels>,
     value: &Value<'_>,
 ) -> Result<Entry, AllocError>
     requires { HasNumbers (value_view value.now) }
@@ -32,7 +33,7 @@ pub(crate) fn read_entry(
 /// What the elements of an array are, in their order.
 pub(crate) fn read_entries(
     alloc: Global,
-    cancels: bool,
+    cancels: Option<Cancels>,
     values: &[Value<'_>],
 ) -> Result<Vec<Entry>, AllocError>
     requires { ItemsHaveNumbers (items_view values.now) }

@@ -2,12 +2,14 @@
 
 ghost use Rattle.std.specs.Prelude.{◌≡◌, ◌<◌, ◌≤◌, length, IfSome, Some, if◌then◌else◌, codes, option_map};
 ghost use Rattle.std.specs.Str.{bytes_eq};
-ghost use Rattle.connection_messages.specs.Envelope.{HasEnvelope, HasEnvelopeAt};
+ghost use Rattle.connection_messages.specs.Envelope.{HasEnvelope, HasEnvelopeAt, target_part};
 
-use super::unit::MOST_DEPTH;
+use super::unit::MOST_DEPTH_IN;
+use crate::cancels::Cancels;
 use json_texts::{name_end, value_end};
 
-/// The texts of the members that tell what an object is. Of members that stand twice it has the last.
+/// The texts of the members that tell what an object is, and of those by which the params of a cancel name a request. Of
+/// members that stand twice it has the last.
 #[derive(Clone, Copy, Drop)]
 pub(crate) struct Envelope<'a> {
     pub(crate) version: Option<&'a str>,
@@ -16,13 +18,14 @@ pub(crate) struct Envelope<'a> {
     pub(crate) params: Option<&'a str>,
     pub(crate) result: Option<&'a str>,
     pub(crate) error: Option<&'a str>,
+    pub(crate) request: Option<&'a str>,
 }
 
 /// The envelope of a text that is a compact object. There is none where it isn't seen to be one.
 pub(crate) fn envelope_of(text: &str) -> Option<Envelope<'_>>
     ensures { IfSome result (λ envelope. HasEnvelope text.now envelope) }
 {
-    let (envelope, end) = envelope_at(text, 0, MOST_DEPTH - 1)?;
+    let (envelope, end) = envelope_at(text, 0, MOST_DEPTH_IN - 1)?;
     if end == text.len() {
         Some(envelope)
     } else {
@@ -46,6 +49,7 @@ pub(crate) fn envelope_at(text: &str, start: usize, levels: usize) -> Option<(En
         params: None,
         result: None,
         error: None,
+        request: None,
     };
     let mut at = start + 1;
     while at < bytes.len() {
@@ -81,6 +85,8 @@ impl<'a> Envelope<'a> {
             ≡ (if bytes_eq name.now (codes "result") then Some part.now else option_map (λ s. s.now) self.old.result) }
         ensures error { option_map (λ s. s.now) self.new.error
             ≡ (if bytes_eq name.now (codes "error") then Some part.now else option_map (λ s. s.now) self.old.error) }
+        ensures request { option_map (λ s. s.now) self.new.request
+            ≡ (if bytes_eq name.now (codes "requestId") then Some part.now else option_map (λ s. s.now) self.old.request) }
     {
         self.version = noted(name, b"jsonrpc", part, self.version);
         self.id = noted(name, b"id", part, self.id);
@@ -88,6 +94,17 @@ impl<'a> Envelope<'a> {
         self.params = noted(name, b"params", part, self.params);
         self.result = noted(name, b"result", part, self.result);
         self.error = noted(name, b"error", part, self.error);
+        self.request = noted(name, b"requestId", part, self.request);
+    }
+
+    /// The text of the member by which such cancels name a request.
+    pub(crate) fn target(&self, by: Cancels) -> Option<&'a str>
+        ensures { result ≡ target_part by self.now }
+    {
+        match by {
+            Cancels::Lsp => self.id,
+            Cancels::Mcp => self.request,
+        }
     }
 }
 

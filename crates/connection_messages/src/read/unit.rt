@@ -5,10 +5,11 @@ ghost use Rattle.std.specs.Prelude.{false};
 ghost use Rattle.json.specs.Tree.{HasNumbers, ItemsHaveNumbers};
 ghost use Rattle.json.specs.Value.{value_view, items_view};
 ghost use Rattle.connection_messages.specs.Reading.{entries_of, batch_of, value_unit, unit_of};
-ghost use Rattle.connection_messages.specs.declared.read.unit.TheConstants.{MOST_DEPTH};
+ghost use Rattle.connection_messages.specs.declared.read.unit.TheConstants.{MOST_DEPTH_IN};
 
 use super::compact::{read_compact, read_compacted};
 use super::entry::{read_entries, read_entry};
+use crate::cancels::Cancels;
 use crate::entry::Entry;
 use crate::unit::Unit;
 use json::{Scratch, Value};
@@ -18,36 +19,41 @@ use lsp_frames::Frame;
 use std::alloc::{AllocError, Global};
 use std::marker::Model;
 
-/// Contents nest at most this deep, each array or object counting one.
-pub const MOST_DEPTH: usize = 127;
+/// Contents nest at most this deep, each array or object counting one. Other readers of JSON take as much (serde_json's
+/// limit of recursion is 128), and the texts that go out nest less, so two connections understand each other.
+pub const MOST_DEPTH_IN: usize = 127;
 
 /// The limit in figures. All other definitions and clauses cite the constant.
 pub fn limit_of_depth_in_figures()
-    ensures { MOST_DEPTH ≡ 127 }
+    ensures { MOST_DEPTH_IN ≡ 127 }
 {}
 
-/// The room that reading takes is kept from one content to the next where the content is at most this long, in bytes.
+/// The room that reading takes is kept from one content to the next where the content is at most this long, in bytes. Most
+/// contents are, and a connection that rests doesn't hold the room of a long one, which is at least as long as its text.
 const KEPT_ROOM: usize = 65_536;
 
 /// Reads one content after another, over the same room.
 #[derive(Drop)]
 pub struct UnitReader {
     alloc: Global,
-    cancels: bool,
+    /// The cancels that are told apart from calls.
+    cancels: Option<Cancels>,
+    /// The room of the reader of tokens, where one is kept.
     scratch: Option<Box<Scratch>>,
 }
 
 impl Model for UnitReader {
-    ghost use Rattle.std.specs.Prelude.{Bool};
+    ghost use Rattle.std.specs.Prelude.{Option};
+    ghost use Rattle.connection_messages.specs.declared.cancels.Cancels.{Cancels};
 
-    ghost Value = { Bool };
+    ghost Value = { Option Cancels };
 
     ghost view = { λ r. r.cancels };
 }
 
 impl UnitReader {
-    /// A reader that has no room yet. With `cancels` it tells cancels apart from calls. Takes no memory.
-    pub fn new(alloc: Global, cancels: bool) -> UnitReader
+    /// A reader that has no room yet. It tells these cancels apart from calls. Takes no memory.
+    pub fn new(alloc: Global, cancels: Option<Cancels>) -> UnitReader
         ensures { result ≡ cancels }
     {
         UnitReader {
@@ -112,19 +118,23 @@ impl UnitReader {
 
 fn read_unit(
     alloc: Global,
-    cancels: bool,
+    cancels: Option<Cancels>,
     text: &str,
     scratch: &mut Scratch,
 ) -> Result<Unit, AllocError>
     ensures { IfOk result (λ u. u ≡ unit_of cancels false text.now) }
 {
-    match read_str(alloc, text, MOST_DEPTH, scratch)? {
+    match read_str(alloc, text, MOST_DEPTH_IN, scratch)? {
         Some(value) => unit_of_value(alloc, cancels, &value),
         None => Ok(Unit::Unreadable),
     }
 }
 
-fn unit_of_value(alloc: Global, cancels: bool, value: &Value<'_>) -> Result<Unit, AllocError>
+fn unit_of_value(
+    alloc: Global,
+    cancels: Option<Cancels>,
+    value: &Value<'_>,
+) -> Result<Unit, AllocError>
     requires { HasNumbers (value_view value.now) }
     ensures { IfOk result (λ u. u ≡ value_unit cancels (value_view value.now)) }
 {
@@ -134,7 +144,11 @@ fn unit_of_value(alloc: Global, cancels: bool, value: &Value<'_>) -> Result<Unit
     }
 }
 
-fn read_batch(alloc: Global, cancels: bool, values: &[Value<'_>]) -> Result<Unit, AllocError>
+fn read_batch(
+    alloc: Global,
+    cancels: Option<Cancels>,
+    values: &[Value<'_>],
+) -> Result<Unit, AllocError>
     requires { ItemsHaveNumbers (items_view values.now) }
     ensures { IfOk result (λ u. u ≡ batch_of (entries_of cancels (items_view values.now))) }
 {

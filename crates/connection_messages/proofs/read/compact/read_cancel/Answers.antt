@@ -12,8 +12,9 @@ returns-in-Some c j numbers names version named =
     let parts = c.in-None-Some in
     let target = c.in-Some.target in
     let text = parts.params.now in
-    let gives : GivesTarget text target = some_holds (GivesTarget text) c.in_ok-target.field-0 target c.in-Some.is c.in_ok-target.ensures in
+    let by = c.args.by in
+    let gives : GivesTarget by text target = some_holds (GivesTarget by text) c.in_ok-target.field-0 target c.in-Some.is c.in_ok-target.ensures in
     let absent = member_absent e.id (get (codes "id") j) parts.is-0 names.id in
     let params = member_found e.params parts.params (get (codes "params") j) parts.is-1 names.params in
     let aimed = gives params.0 (HasNumbers-get (codes "params") j params.0 numbers (sym params.1)) params.2 in
-    cancel_is j params.0 text target version named.0 named.1 absent params.1 aimed.0 aimed.1
+    cancel_is by j params.0 text target version named.0 named.1 absent params.1 aimed.0 aimed.1

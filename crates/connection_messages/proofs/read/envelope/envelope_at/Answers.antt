@@ -39,7 +39,7 @@ returns-then-next-eq125-clause-envelope c =
     let part : json_text v.value ≡ c.range.result.now =
     sym (part_is bytes (json_text v.value) from end v.stands (omega (arith, low)) ended.1) ∙ ap (λ t. take (end - from) (drop from t)) same ∙ sym c.range.ensures.value in
     let noted = all_noted c.loop-at.envelope c.note.new.self c.loop-at.invariant.1 n.name _ c.range.result.now v.value slice part c.loop-at.invariant.2
-    c.note.ensures.version c.note.ensures.id c.note.ensures.method c.note.ensures.params c.note.ensures.result c.note.ensures.error in
+    c.note.ensures.version c.note.ensures.id c.note.ensures.method c.note.ensures.params c.note.ensures.result c.note.ensures.error c.note.ensures.request in
     let last = last_behind c.args.levels bytes (c.args.start + 1) at from end c.loop-at.invariant.1 n v c.if-next-eq125.true c.loop-at.invariant.3 in
     envelope_is c.args.levels c.args.text.now bytes c.note.new.self (with_member c.loop-at.invariant.1 n.name v.value) last.0 c.args.start (end + 1) same c.if-bytes-start-ne123.false last.1 last.2 noted
 
@@ -59,7 +59,7 @@ loop-at-preserved c =
     let part : json_text v.value ≡ c.range.result.now =
     sym (part_is bytes (json_text v.value) from end v.stands (omega (arith, low)) ended.1) ∙ ap (λ t. take (end - from) (drop from t)) same ∙ sym c.range.ensures.value in
     let noted = all_noted c.loop-at.envelope c.note.new.self c.loop-at.invariant.1 n.name _ c.range.result.now v.value slice part c.loop-at.invariant.2
-    c.note.ensures.version c.note.ensures.id c.note.ensures.method c.note.ensures.params c.note.ensures.result c.note.ensures.error in
+    c.note.ensures.version c.note.ensures.id c.note.ensures.method c.note.ensures.params c.note.ensures.result c.note.ensures.error c.note.ensures.request in
     let comma : get_or bytes end 0 ≡ 44 =
     elim c.else-next-ne44.branch [
       | else-next-ne44-via-then-next-ne44+else-next-ne125 w ↦ absurd (c.if-next-eq125.false w.if-next-ne125.false)
