@@ -1,5 +1,5 @@
 -- The calls that are told.
-use Rattle.std.proofs.Common.{◌≡◌, ℕ, ◌+◌, List, [], ◌∷◌, ◌++◌, length, map, Bool, true, false, cond, refl, sym, ap, ◌∙◌, append-nil, arith}
+use Rattle.std.proofs.Common.{◌≡◌, ℕ, ◌+◌, List, [], ◌∷◌, ◌++◌, length, map, Bool, true, false, cond, refl, sym, ap, ◌∙◌, append-nil, arith, Option, None}
 use Rattle.connection_messages.specs.declared.call.Call.{Call as Came}
 use Rattle.connection_messages.specs.declared.entry.Entry.{Entry}
 use Rattle.connection_messages.specs.declared.entry.Entry.TheVariants.{Call, Cancel, Reply, Stray, Invalid}
@@ -7,11 +7,13 @@ use Rattle.connection_messages.specs.declared.unit.Unit.TheVariants.{Batch}
 use Rattle.connection_history.specs.declared.event.Event.{Event}
 use Rattle.connection_history.specs.declared.event.Event.TheVariants as event
 use Rattle.connection_history.specs.Stream.{entries_in, entries_along, call_in, calls_in}
-use Rattle.connection_history.specs.Events.{call_count, reached, events_of_entry, events_along, events_at, events_of}
-use Rattle.connection_history.specs.History.{Happening, came, called, called_all, noticed, withdrew, answered, ended, History, units_at, stream, is_waiting, waiting}
+use Rattle.connection_history.specs.Events.{call_count, reached, events_of_entry, events_along, events_at, events_of, broken_in, broken_at}
+use Rattle.connection_history.specs.History.{Happening, came, called, called_all, noticed, withdrew, answered, ended, History, units_at, stream, is_waiting, waiting, Origin}
 use Rattle.connection_history.specs.Told.{calls_told, numbered}
 use Rattle.connection_history.proofs.Streams.{calls_in-append}
 use Rattle.connection_history.proofs.Histories.{stream-more, call_count-entry, call_count-more}
+use Rattle.connection_history.specs.declared.broken.Broken.{Broken}
+use Rattle.connection_messages.specs.declared.unit.Unit.{Unit}
 
 -- the calls of events, and then of more
 pub calls_told-append : (told more : List Event) → calls_told (told ++ more) ≡ calls_told told ++ calls_told more
@@ -21,6 +23,15 @@ calls_told-append (event.Cancelled n ∷ told) more = calls_told-append told mor
 calls_told-append (event.Replied k r ∷ told) more = calls_told-append told more
 calls_told-append (event.Unanswered k ∷ told) more = calls_told-append told more
 calls_told-append (event.Over close ∷ told) more = calls_told-append told more
+calls_told-append (event.Broken b ∷ told) more = calls_told-append told more
+
+calls_told-defects : (bs : List Broken) (told : List Event) → calls_told (map event.Broken bs ++ told) ≡ calls_told told
+calls_told-defects [] told = refl
+calls_told-defects (b ∷ bs) told = calls_told-defects bs told
+
+-- what is broken tells no call
+calls_told-broken : (from : Option Origin) (u : Unit) (told : List Event) → calls_told (broken_at from u ++ told) ≡ calls_told told
+calls_told-broken from u told = calls_told-defects (broken_in from u) told
 
 calls_told-cancelled : (ns : List ℕ) → calls_told (map event.Cancelled ns) ≡ []
 calls_told-cancelled [] = refl
@@ -46,25 +57,25 @@ entry_told history (Reply k r) = if_told (is_waiting k history) k r
 entry_told history Stray = refl
 entry_told history Invalid = refl
 
-entries_told : (past : History) (front es : List Entry) → calls_told (events_along past front es) ≡ numbered (call_count (came (Batch front) ∷ past) + 1) (calls_in es)
+entries_told : (past : History) (front es : List Entry) → calls_told (events_along past front es) ≡ numbered (call_count (came None (Batch front) ∷ past) + 1) (calls_in es)
 entries_told past front [] = refl
 entries_told past front (e ∷ es) =
-    let now = call_count (came (Batch front) ∷ past) in
-    let later = call_count (came (Batch (front ++ e ∷ [])) ∷ past) in
+    let now = call_count (came None (Batch front) ∷ past) in
+    let later = call_count (came None (Batch (front ++ e ∷ [])) ∷ past) in
     let next : now + 1 + length (call_in e) ≡ later + 1 = omega (arith, call_count-entry past front e) in
-    calls_told-append (events_of_entry (came (Batch front) ∷ past) e) (events_along past (front ++ e ∷ []) es)
-    ∙ (λ i. entry_told (came (Batch front) ∷ past) e i ++ entries_told past (front ++ e ∷ []) es i)
+    calls_told-append (events_of_entry (came None (Batch front) ∷ past) e) (events_along past (front ++ e ∷ []) es)
+    ∙ (λ i. entry_told (came None (Batch front) ∷ past) e i ++ entries_told past (front ++ e ∷ []) es i)
     ∙ sym (numbered-append (now + 1) (later + 1) (call_in e) (calls_in es) next)
 
 -- what happens tells the calls that came with it
 happening_told : (past : History) (h : Happening) → calls_told (events_at past h) ≡ numbered (call_count past + 1) (calls_in (entries_along (units_at h)))
-happening_told past (came u) =
-    let none : call_count (came (Batch []) ∷ past) ≡ call_count past = call_count-more past (came (Batch [])) ∙ omega arith in
-    entries_told past [] (entries_in u) ∙ (λ i. numbered (none i + 1) (calls_in (sym (append-nil (entries_in u)) i)))
+happening_told past (came from u) =
+    let none : call_count (came None (Batch []) ∷ past) ≡ call_count past = call_count-more past (came None (Batch [])) ∙ omega arith in
+    calls_told-broken from u (events_along past [] (entries_in u)) ∙ entries_told past [] (entries_in u) ∙ (λ i. numbered (none i + 1) (calls_in (sym (append-nil (entries_in u)) i)))
 happening_told past (called n o) = refl
 happening_told past (called_all n os) = refl
 happening_told past (noticed o) = refl
-happening_told past (withdrew k) = refl
+happening_told past (withdrew by k) = refl
 happening_told past (answered n a) = refl
 happening_told past (ended close) = calls_told-unanswered (waiting past) (event.Over close ∷ [])
 

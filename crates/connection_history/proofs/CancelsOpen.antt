@@ -14,7 +14,7 @@ use Rattle.connection_history.proofs.Histories.{stream-more, answer_to-came, ope
 use Rattle.connection_history.proofs.Numbers.{one_if}
 use Rattle.connection_history.proofs.Tests.{or_else-none_left}
 use Rattle.connection_history.proofs.Along.{so_far}
-use Rattle.connection_history.proofs.CancelsTold.{is_hit, cancels_told-append, cancels_told-unanswered, cancels_told-reply, identified, told_of_cancel, hits, hit-entry, hit-none, hit-unit, same_stream}
+use Rattle.connection_history.proofs.CancelsTold.{is_hit, cancels_told-append, cancels_told-broken, cancels_told-unanswered, cancels_told-reply, identified, told_of_cancel, hits, hit-entry, hit-none, hit-unit, same_stream}
 
 -- ---- each open request
 
@@ -53,7 +53,7 @@ entries_open n told past front (e ∷ es) none h =
     let here = cancels_told n (events_of_entry (so_far past front) e) in
     let rest = cancels_told n (events_along past (front ++ e ∷ []) es) in
     let now : told + here ≡ one_if (is_hit n (so_far past (front ++ e ∷ []))) =
-    entry_open n told past front e (answer_to-came n past (Batch front) ∙ none) h ∙ ap one_if (sym (hit-entry n past front e)) in
+    entry_open n told past front e (answer_to-came n past None (Batch front) ∙ none) h ∙ ap one_if (sym (hit-entry n past front e)) in
     let sums : told + (here + rest) ≡ told + here + rest = omega arith in
     ap (λ m. told + m) (cancels_told-append n (events_of_entry (so_far past front) e) (events_along past (front ++ e ∷ []) es))
     ∙ sums ∙ entries_open n (told + here) past (front ++ e ∷ []) es none now
@@ -63,12 +63,13 @@ stays_told : (n told : ℕ) (past : History) (h : Happening) → stream (h ∷ p
 stays_told n told past h e before = let same : told + 0 ≡ told = omega arith in same ∙ before ∙ ap (λ es. one_if (is_cancelled n es)) (sym (same_stream past h e))
 
 happening_open : (n told : ℕ) (past : History) (h : Happening) → answer_to n past ≡ None → told ≡ one_if (is_hit n past) → told + cancels_told n (events_at past h) ≡ one_if (is_hit n (h ∷ past))
-happening_open n told past (came u) none before =
-    entries_open n told past [] (entries_in u) none (before ∙ ap one_if (sym (hit-none n past))) ∙ ap one_if (hit-unit n past u)
+happening_open n told past (came from u) none before =
+    ap (λ m. told + m) (cancels_told-broken n from u (events_along past [] (entries_in u)))
+    ∙ entries_open n told past [] (entries_in u) none (before ∙ ap one_if (sym (hit-none n past))) ∙ ap one_if (hit-unit n past from u)
 happening_open n told past (called m o) none before = stays_told n told past (called m o) (stream-more past (called m o)) before
 happening_open n told past (called_all m os) none before = stays_told n told past (called_all m os) (stream-more past (called_all m os)) before
 happening_open n told past (noticed o) none before = stays_told n told past (noticed o) (stream-more past (noticed o)) before
-happening_open n told past (withdrew k) none before = stays_told n told past (withdrew k) (stream-more past (withdrew k)) before
+happening_open n told past (withdrew by k) none before = stays_told n told past (withdrew by k) (stream-more past (withdrew by k)) before
 happening_open n told past (answered m a) none before = stays_told n told past (answered m a) (stream-more past (answered m a)) before
 happening_open n told past (ended close) none before =
     ap (λ m. told + m) (cancels_told-unanswered n (waiting past) (event.Over close ∷ [])) ∙ stays_told n told past (ended close) (stream-more past (ended close)) before

@@ -15,14 +15,15 @@ use Rattle.connection_messages.specs.declared.unit.Unit.TheVariants.{Batch}
 use Rattle.connection_history.specs.declared.event.Event.{Event}
 use Rattle.connection_history.specs.declared.event.Event.TheVariants as event
 use Rattle.connection_history.specs.Stream.{entries_in, call_numbered, request_id, cancels, is_cancelled}
-use Rattle.connection_history.specs.Events.{call_count, is_reached, reached, events_of_entry, events_along, events_at, events_of}
-use Rattle.connection_history.specs.History.{Happening, came, called, called_all, noticed, withdrew, answered, ended, History, stream, answer_to, is_open, is_waiting, waiting}
+use Rattle.connection_history.specs.Events.{call_count, is_reached, reached, events_of_entry, events_along, events_at, events_of, broken_in, broken_at}
+use Rattle.connection_history.specs.History.{Happening, came, called, called_all, noticed, withdrew, answered, ended, History, stream, answer_to, is_open, is_waiting, waiting, Origin}
 use Rattle.connection_history.specs.Told.{cancels_told}
 use Rattle.connection_history.proofs.Histories.{stream-came, stream-entry, stream-more, answer_to-came}
 use Rattle.connection_history.proofs.Numbers.{one_if, occurs, occurs-passing}
 use Rattle.connection_history.proofs.Streams.{call_numbered-within, is_cancelled-push}
 use Rattle.connection_history.proofs.Tests.{and-left, and-right, not-true}
 use Rattle.connection_history.proofs.Along.{so_far}
+use Rattle.connection_history.specs.declared.broken.Broken.{Broken}
 
 -- whether the request n is cancelled by what has come
 abbrev pub is_hit : ℕ → History → Bool
@@ -38,6 +39,15 @@ cancels_told-append n (event.Cancelled m ∷ told) more = omega (arith, cancels_
 cancels_told-append n (event.Replied k r ∷ told) more = cancels_told-append n told more
 cancels_told-append n (event.Unanswered k ∷ told) more = cancels_told-append n told more
 cancels_told-append n (event.Over close ∷ told) more = cancels_told-append n told more
+cancels_told-append n (event.Broken b ∷ told) more = cancels_told-append n told more
+
+cancels_told-defects : (n : ℕ) (bs : List Broken) (told : List Event) → cancels_told n (map event.Broken bs ++ told) ≡ cancels_told n told
+cancels_told-defects n [] told = refl
+cancels_told-defects n (b ∷ bs) told = cancels_told-defects n bs told
+
+-- what is broken tells no cancel
+pub cancels_told-broken : (n : ℕ) (from : Option Origin) (u : Unit) (told : List Event) → cancels_told n (broken_at from u ++ told) ≡ cancels_told n told
+cancels_told-broken n from u told = cancels_told-defects n (broken_in from u) told
 
 cancels_told-numbers : (n : ℕ) (ns : List ℕ) → cancels_told n (map event.Cancelled ns) ≡ occurs n ns
 cancels_told-numbers n [] = refl
@@ -128,11 +138,11 @@ entries_once n told past front (e ∷ es) h =
 
 -- an array that has brought nothing yet
 pub hit-none : (n : ℕ) (past : History) → is_hit n (so_far past []) ≡ is_hit n past
-hit-none n past = ap (is_cancelled n) (stream-came past (Batch []) ∙ append-nil (stream past))
+hit-none n past = ap (is_cancelled n) (stream-came past None (Batch []) ∙ append-nil (stream past))
 
 -- a unit is the array of its entries
-pub hit-unit : (n : ℕ) (past : History) (u : Unit) → is_hit n (so_far past (entries_in u)) ≡ is_hit n (came u ∷ past)
-hit-unit n past u = ap (is_cancelled n) (stream-came past (Batch (entries_in u)) ∙ sym (stream-came past u))
+pub hit-unit : (n : ℕ) (past : History) (from : Option Origin) (u : Unit) → is_hit n (so_far past (entries_in u)) ≡ is_hit n (came from u ∷ past)
+hit-unit n past from u = ap (is_cancelled n) (stream-came past None (Batch (entries_in u)) ∙ sym (stream-came past from u))
 
 -- nothing came
 idle : (n : ℕ) (past : History) (h : Happening) → stream (h ∷ past) ≡ stream past → is_hit n (h ∷ past) ≡ is_hit n past
@@ -146,13 +156,14 @@ pub same_stream : (past : History) (h : Happening) → stream (h ∷ past) ≡ s
 same_stream past h e = e ∙ append-nil (stream past)
 
 happening_once : (n told : ℕ) (past : History) (h : Happening) → told ≤ one_if (is_hit n past) → told + cancels_told n (events_at past h) ≤ one_if (is_hit n (h ∷ past))
-happening_once n told past (came u) before =
-    subst (λ b. told + cancels_told n (events_at past (came u)) ≤ one_if b) (hit-unit n past u)
-    (entries_once n told past [] (entries_in u) (subst (λ b. told ≤ one_if b) (sym (hit-none n past)) before))
+happening_once n told past (came from u) before =
+    subst (λ m. told + m ≤ one_if (is_hit n (came from u ∷ past))) (sym (cancels_told-broken n from u (events_along past [] (entries_in u))))
+    (subst (λ b. told + cancels_told n (events_along past [] (entries_in u)) ≤ one_if b) (hit-unit n past from u)
+    (entries_once n told past [] (entries_in u) (subst (λ b. told ≤ one_if b) (sym (hit-none n past)) before)))
 happening_once n told past (called m o) before = stays_once n told past (called m o) (idle n past (called m o) (same_stream past (called m o) (stream-more past (called m o)))) before
 happening_once n told past (called_all m os) before = stays_once n told past (called_all m os) (idle n past (called_all m os) (same_stream past (called_all m os) (stream-more past (called_all m os)))) before
 happening_once n told past (noticed o) before = stays_once n told past (noticed o) (idle n past (noticed o) (same_stream past (noticed o) (stream-more past (noticed o)))) before
-happening_once n told past (withdrew k) before = stays_once n told past (withdrew k) (idle n past (withdrew k) (same_stream past (withdrew k) (stream-more past (withdrew k)))) before
+happening_once n told past (withdrew by k) before = stays_once n told past (withdrew by k) (idle n past (withdrew by k) (same_stream past (withdrew by k) (stream-more past (withdrew by k)))) before
 happening_once n told past (answered m a) before = stays_once n told past (answered m a) (idle n past (answered m a) (same_stream past (answered m a) (stream-more past (answered m a)))) before
 happening_once n told past (ended close) before =
     subst (λ m. told + m ≤ one_if (is_hit n (ended close ∷ past))) (sym (cancels_told-unanswered n (waiting past) (event.Over close ∷ [])))
@@ -184,40 +195,40 @@ told_cancelled history n some = some_if _ (is_hit n history) (told_if_hit histor
 
 -- ---- a request that is answered
 
-none_passes : (known id : Bool) (a : Answer) (o : Option Answer) (rest : Bool) → o ≡ Some a → (id && (known && is_none o) && rest) ≡ false
+none_passes : (known id : Bool) (a : Option Answer) (o : Option (Option Answer)) (rest : Bool) → o ≡ Some a → (id && (known && is_none o) && rest) ≡ false
 none_passes known id a None rest is = absurd (cc)
 none_passes true true a (Some b) rest is = refl
 none_passes false true a (Some b) rest is = refl
 none_passes known false a (Some b) rest is = refl
 
-not_reached : (id : Id) (n : ℕ) (history : History) (a : Answer) → answer_to n history ≡ Some a → is_reached id history n ≡ false
+not_reached : (id : Id) (n : ℕ) (history : History) (a : Option Answer) → answer_to n history ≡ Some a → is_reached id history n ≡ false
 not_reached id zero history a is = refl
 not_reached id (suc n) history a is =
     none_passes (is_some (call_numbered (suc n) (stream history))) (has_id id (request_id (suc n) (stream history))) a (answer_to (suc n) history) (not (is_hit (suc n) history)) is
 
-answered_entry : (n : ℕ) (history : History) (a : Answer) (e : Entry) → answer_to n history ≡ Some a → cancels_told n (events_of_entry history e) ≡ 0
+answered_entry : (n : ℕ) (history : History) (a : Option Answer) (e : Entry) → answer_to n history ≡ Some a → cancels_told n (events_of_entry history e) ≡ 0
 answered_entry n history a (Call c) is = refl
 answered_entry n history a (Cancel id) is = told_of_cancel n id history ∙ ap one_if (not_reached id n history a is)
 answered_entry n history a (Reply j r) is = cancels_told-reply n (is_waiting j history) j r
 answered_entry n history a Stray is = refl
 answered_entry n history a Invalid is = refl
 
-answered_along : (n : ℕ) (past : History) (a : Answer) (front es : List Entry) → answer_to n past ≡ Some a → cancels_told n (events_along past front es) ≡ 0
+answered_along : (n : ℕ) (past : History) (a : Option Answer) (front es : List Entry) → answer_to n past ≡ Some a → cancels_told n (events_along past front es) ≡ 0
 answered_along n past a front [] is = refl
 answered_along n past a front (e ∷ es) is =
     omega (
       arith,
       cancels_told-append n (events_of_entry (so_far past front) e) (events_along past (front ++ e ∷ []) es),
-      answered_entry n (so_far past front) a e (answer_to-came n past (Batch front) ∙ is),
+      answered_entry n (so_far past front) a e (answer_to-came n past None (Batch front) ∙ is),
       answered_along n past a (front ++ e ∷ []) es is,
     )
 
 -- nothing of it is told
-pub answered_told : (past : History) (h : Happening) (n : ℕ) (a : Answer) → answer_to n past ≡ Some a → cancels_told n (events_at past h) ≡ 0
-answered_told past (came u) n a is = answered_along n past a [] (entries_in u) is
+pub answered_told : (past : History) (h : Happening) (n : ℕ) (a : Option Answer) → answer_to n past ≡ Some a → cancels_told n (events_at past h) ≡ 0
+answered_told past (came from u) n a is = cancels_told-broken n from u (events_along past [] (entries_in u)) ∙ answered_along n past a [] (entries_in u) is
 answered_told past (called m o) n a is = refl
 answered_told past (called_all m os) n a is = refl
 answered_told past (noticed o) n a is = refl
-answered_told past (withdrew k) n a is = refl
+answered_told past (withdrew by k) n a is = refl
 answered_told past (answered m b) n a is = refl
 answered_told past (ended close) n a is = cancels_told-unanswered n (waiting past) (event.Over close ∷ [])

@@ -2,14 +2,13 @@
 use Rattle.std.proofs.Common.{◌≡◌, ℕ, ◌+◌, List, [], ◌∷◌, ◌++◌, length, Option, Some, None, refl, sym, ap, subst, ◌∙◌}
 use Rattle.std.specs.Prelude.{⊤, option_map}
 use Rattle.message_ids.specs.declared.id.Id.{Id}
-use Rattle.connection_messages.specs.Texts.{answer_text}
 use Rattle.connection_messages.specs.declared.answer.Answer.{Answer}
 use Rattle.connection_messages.specs.declared.entry.Entry.{Entry}
 use Rattle.connection_messages.specs.declared.entry.Entry.TheVariants.{Call, Cancel, Reply, Stray, Invalid}
 use Rattle.connection_messages.specs.declared.unit.Unit.{Unit}
 use Rattle.connection_messages.specs.declared.unit.Unit.TheVariants.{Unreadable, Single, Batch}
 use Rattle.connection_history.specs.Stream.{entries_in, calls_in, call_in}
-use Rattle.connection_history.specs.Answers.{Texts, both, call_texts, entry_texts, texts_along, unit_texts, Due, open_yet, nothing, text, due_from, due_of, dues_along, dues}
+use Rattle.connection_history.specs.Answers.{Texts, both, texts_of, call_texts, entry_texts, texts_along, unit_texts, Due, open_yet, nothing, text, due_from, due_of, dues_along, dues}
 use Rattle.connection_history.specs.History.{Happening, History, units_of, units_at, answer_to}
 use Rattle.connection_history.proofs.Histories.{answer_to-kept}
 
@@ -35,7 +34,7 @@ both-parts None others ts h = absurd (cc)
 both-parts (Some xs) None ts h = absurd (cc)
 both-parts (Some xs) (Some ys) ts h = (xs, ys, (refl, refl, cc))
 
-mapped-part : (id : Id) (o : Option Answer) (ts : List (List ℕ)) → option_map (λ a. answer_text id a ∷ []) o ≡ Some ts → (a : Answer) × (o ≡ Some a)
+mapped-part : (id : Id) (o : Option (Option Answer)) (ts : List (List ℕ)) → option_map (texts_of id) o ≡ Some ts → (a : Option Answer) × (o ≡ Some a)
 mapped-part id None ts h = absurd (cc)
 mapped-part id (Some a) ts h = (a, refl)
 
@@ -44,8 +43,8 @@ module _ (past : History) (h : Happening) where
   call-stays n None ts texts = texts
   call-stays n (Some id) ts texts =
       let found = mapped-part id (answer_to n past) ts texts in
-      ap (option_map (λ a. answer_text id a ∷ [])) (answer_to-kept n past h found.0 found.1)
-      ∙ (ap (option_map (λ a. answer_text id a ∷ [])) (sym found.1) ∙ texts)
+      ap (option_map (texts_of id)) (answer_to-kept n past h found.0 found.1)
+      ∙ (ap (option_map (texts_of id)) (sym found.1) ∙ texts)
 
   entry-stays : (n : ℕ) (e : Entry) (ts : List (List ℕ)) → entry_texts past n e ≡ Some ts → entry_texts (h ∷ past) n e ≡ Some ts
   entry-stays n (Call c) ts texts = call-stays n c.id ts texts

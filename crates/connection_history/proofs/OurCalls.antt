@@ -1,12 +1,12 @@
 -- The keys of our calls, and the replies to them, after one more thing happened, by its kind.
-use Rattle.std.proofs.Common.{◌≡◌, ℕ, zero, suc, ◌+◌, ◌-◌, ◌<◌, ◌≤◌, List, [], ◌∷◌, ◌++◌, length, Option, Some, None, Bool, true, false, cond, refl, ap, ◌∙◌, append-nil, length-append, arith}
+use Rattle.std.proofs.Common.{◌≡◌, ℕ, zero, suc, ◌+◌, ◌-◌, ◌<◌, ◌≤◌, List, [], ◌∷◌, ◌++◌, length, Option, Some, None, Bool, true, false, cond, ◌&&◌, ◌||◌, refl, ap, ◌∙◌, append-nil, length-append, arith}
 use Rattle.std.proofs.lemmas.List.{length-map}
 use Rattle.std.proofs.lemmas.Option.{slice_get_past, slice_get-map}
 use Rattle.std.specs.Prelude.{slice_get, is_some, option_map}
 use Rattle.connection_messages.specs.declared.outgoing.Outgoing.{Outgoing}
 use Rattle.connection_messages.specs.declared.reply.Reply.{Reply}
 use Rattle.connection_history.specs.Stream.{entries_along, first_reply}
-use Rattle.connection_history.specs.History.{Happening, called, called_all, History, or_else, units_at, callers, callers_at, key_count, caller_of, reply_to}
+use Rattle.connection_history.specs.History.{Happening, called, called_all, History, or_else, units_at, callers, callers_at, key_count, caller_of, reply_to, gives_up, is_given_up}
 use Rattle.connection_history.proofs.Histories.{caller_of-kept}
 use Rattle.connection_history.proofs.Streams.{slice_get-front, slice_get-beyond, slice_get-known}
 use Rattle.connection_history.proofs.Tests.{or_else-none}
@@ -86,3 +86,20 @@ reply_to-unmade k [] none = refl
 reply_to-unmade k (h ∷ past) none =
     let before : caller_of k past ≡ None = unmade_before k past h (caller_of k past) refl none in
     λ i. or_else (reply_to-unmade k past before i) (cond (is_some (before i)) (first_reply k (entries_along (units_at h))) None)
+
+-- ---- calls that were given up
+
+not_yet : (b : Bool) → ((b && false) || false) ≡ false
+not_yet true = refl
+not_yet false = refl
+
+-- a call that wasn't made isn't given up, whatever was said
+pub given_up-unmade : (k : ℕ) (history : History) → caller_of k history ≡ None → is_given_up k history ≡ false
+given_up-unmade k [] none = refl
+given_up-unmade k (h ∷ past) none =
+    let before : caller_of k past ≡ None = unmade_before k past h (caller_of k past) refl none in
+    (λ i. (gives_up k h && is_some (before i)) || given_up-unmade k past before i) ∙ not_yet (gives_up k h)
+
+-- nor is one that is just made
+pub given_up-new : (k : ℕ) (past : History) (h : Happening) → caller_of k past ≡ None → is_given_up k (h ∷ past) ≡ false
+given_up-new k past h none = (λ i. (gives_up k h && is_some (none i)) || given_up-unmade k past none i) ∙ not_yet (gives_up k h)

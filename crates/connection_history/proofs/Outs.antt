@@ -120,11 +120,11 @@ newly_out-at i (suc place) at (b ∷ before) (a ∷ after) h =
 -- ---- a unit's answer in all that is written
 
 said-no_answers : (place : ℕ) (past : History) (h : Happening) → answers_of place (said_at past h) ≡ []
-said-no_answers place past (came u) = refl
+said-no_answers place past (came from u) = refl
 said-no_answers place past (called n o) = refl
 said-no_answers place past (called_all n os) = refl
 said-no_answers place past (noticed o) = refl
-said-no_answers place past (withdrew k) = refl
+said-no_answers place past (withdrew by k) = refl
 said-no_answers place past (answered n a) = refl
 said-no_answers place past (ended close) = refl
 

@@ -3,7 +3,6 @@ use Rattle.std.proofs.Common.{◌≡◌, ◌≢◌, ℕ, zero, suc, ◌+◌, ◌
 use Rattle.std.specs.Prelude.{⊤, slice_get, option_map, is_some}
 use Rattle.std.specs.Option.{is_none}
 use Rattle.message_ids.specs.declared.id.Id.{Id}
-use Rattle.connection_messages.specs.Texts.{answer_text}
 use Rattle.connection_messages.specs.declared.answer.Answer.{Answer}
 use Rattle.connection_messages.specs.declared.call.Call.{Call as Came}
 use Rattle.connection_messages.specs.declared.entry.Entry.{Entry}
@@ -13,7 +12,7 @@ use Rattle.connection_messages.specs.declared.unit.Unit.TheVariants.{Unreadable,
 use Rattle.connection_history.specs.declared.order.Order.{Order}
 use Rattle.connection_history.specs.declared.order.Order.TheVariants.{AsAnswered, AsCame}
 use Rattle.connection_history.specs.Stream.{entries_in, entries_along, call_in, calls_in, call_numbered}
-use Rattle.connection_history.specs.Answers.{Texts, both, call_texts, entry_texts, texts_along, unit_texts, Due, open_yet, nothing, text, joined, due_from, dues_along, dues}
+use Rattle.connection_history.specs.Answers.{Texts, both, texts_of, call_texts, entry_texts, texts_along, unit_texts, Due, open_yet, nothing, text, joined, due_from, dues_along, dues}
 use Rattle.connection_history.specs.Events.{call_count}
 use Rattle.connection_history.specs.History.{History, units_of, stream, answer_to, is_open}
 use Rattle.connection_history.specs.Items.{text_if_due, out}
@@ -21,9 +20,9 @@ use Rattle.connection_history.proofs.Streams.{length-calls_in-append, call_numbe
 
 -- ---- units whose calls are answered
 
--- the host answered call n
+-- the host answered call n, or closed it without an answer
 abbrev IsAnswered : History → ℕ → Type 0
-IsAnswered history n = (a : Answer) × (answer_to n history ≡ Some a)
+IsAnswered history n = (a : Option Answer) × (answer_to n history ≡ Some a)
 
 abbrev HasTexts : Texts → Type 0
 HasTexts texts = (ts : List (List ℕ)) × (texts ≡ Some ts)
@@ -34,7 +33,7 @@ both-has these others h k = (h.0 ++ k.0, λ i. both (h.1 i) (k.1 i))
 module _ (history : History) where
   call-has : (n : ℕ) (id : Option Id) → IsAnswered history n → HasTexts (call_texts history n id)
   call-has n None h = ([], refl)
-  call-has n (Some id) h = (answer_text id h.0 ∷ [], ap (option_map (λ a. answer_text id a ∷ [])) h.1)
+  call-has n (Some id) h = (texts_of id h.0, ap (option_map (texts_of id)) h.1)
 
   entry-has : (n : ℕ) (e : Entry) → ((k : ℕ) → n ≤ k → k < n + length (call_in e) → IsAnswered history k) → HasTexts (entry_texts history n e)
   entry-has n (Call c) h = call-has n c.id (h n (omega arith) (omega arith))
@@ -86,7 +85,7 @@ dues-settled history n (u ∷ us) h =
       dues-settled history (n + length (calls_in (entries_in u))) us (λ k from below. h k (omega arith) (omega (arith, two))),
     )
 
-answered-if : (o : Option Came) (a : Option Answer) (c : Came) → o ≡ Some c → (is_some o && is_none a) ≡ false → (b : Answer) × (a ≡ Some b)
+answered-if : (o : Option Came) (a : Option (Option Answer)) (c : Came) → o ≡ Some c → (is_some o && is_none a) ≡ false → (b : Option Answer) × (a ≡ Some b)
 answered-if None a c some h = absurd (cc)
 answered-if (Some d) None c some h = absurd (cc)
 answered-if (Some d) (Some b) c some h = (b, refl)

@@ -8,12 +8,14 @@ use Rattle.connection_messages.specs.declared.unit.Unit.TheVariants.{Batch}
 use Rattle.connection_history.specs.declared.event.Event.{Event}
 use Rattle.connection_history.specs.declared.event.Event.TheVariants as event
 use Rattle.connection_history.specs.Stream.{entries_in, first_reply}
-use Rattle.connection_history.specs.Events.{reached, events_of_entry, events_along, events_at, events_of}
-use Rattle.connection_history.specs.History.{Happening, came, called, called_all, noticed, withdrew, answered, ended, History, or_else, caller_of, reply_at, reply_to, is_waiting, waiting}
+use Rattle.connection_history.specs.Events.{reached, events_of_entry, events_along, events_at, events_of, broken_in, broken_at}
+use Rattle.connection_history.specs.History.{Happening, came, called, called_all, noticed, withdrew, answered, ended, History, or_else, caller_of, reply_at, reply_to, is_waiting, waiting, Origin}
 use Rattle.connection_history.specs.Told.{replies_told, AtMost}
 use Rattle.connection_history.proofs.Histories.{caller_of-came, reply_to-came, reply_to-entries, waits}
 use Rattle.connection_history.proofs.Tests.{same, or_else-none}
 use Rattle.connection_history.proofs.Along.{so_far}
+use Rattle.connection_history.specs.declared.broken.Broken.{Broken}
+use Rattle.connection_messages.specs.declared.unit.Unit.{Unit}
 
 -- ---- lists of events
 
@@ -29,6 +31,15 @@ replies_told-append k (event.Cancelled n ∷ told) more = replies_told-append k 
 replies_told-append k (event.Replied j r ∷ told) more = told_on (j == k) r (replies_told k told) (replies_told k more) (replies_told k (told ++ more)) (replies_told-append k told more)
 replies_told-append k (event.Unanswered j ∷ told) more = replies_told-append k told more
 replies_told-append k (event.Over close ∷ told) more = replies_told-append k told more
+replies_told-append k (event.Broken b ∷ told) more = replies_told-append k told more
+
+replies_told-defects : (k : ℕ) (bs : List Broken) (told : List Event) → replies_told k (map event.Broken bs ++ told) ≡ replies_told k told
+replies_told-defects k [] told = refl
+replies_told-defects k (b ∷ bs) told = replies_told-defects k bs told
+
+-- what is broken tells no reply
+pub replies_told-broken : (k : ℕ) (from : Option Origin) (u : Unit) (told : List Event) → replies_told k (broken_at from u ++ told) ≡ replies_told k told
+replies_told-broken k from u told = replies_told-defects k (broken_in from u) told
 
 -- a cancel tells no reply
 pub replies_told-cancelled : (k : ℕ) (ns : List ℕ) → replies_told k (map event.Cancelled ns) ≡ []
@@ -71,7 +82,7 @@ reply-told k past front told j r true true waits_for is h =
     let key : j ≡ k = same j k is in
     let w = waits k (so_far past front) (ap (λ i. is_waiting i (so_far past front)) (sym key) ∙ waits_for) in
     let none : told ≡ [] = none-yet told (reply_to k (so_far past front)) h w.none in
-    let made : is_some (caller_of k past) ≡ true = ap is_some (sym (caller_of-came k past (Batch front)) ∙ w.caller) in
+    let made : is_some (caller_of k past) ≡ true = ap is_some (sym (caller_of-came k past None (Batch front)) ∙ w.caller) in
     let all : ◌≡◌ {A = List Replied} (r ∷ []) (told ++ cond (j == k) (r ∷ []) []) = λ i. sym none i ++ cond (sym is i) (r ∷ []) [] in
     let reply : or_else (reply_to k (so_far past front)) (cond (is_some (caller_of k past)) (Some r) None) ≡ Some r = λ i. or_else (w.none i) (cond (made i) (Some r) None) in
     subst (λ l. AtMost l (or_else (reply_to k (so_far past front)) (cond (is_some (caller_of k past)) (Some r) None))) all reply
@@ -106,14 +117,15 @@ no_more true o = or_else-none o
 no_more false o = or_else-none o
 
 happening-told : (k : ℕ) (past : History) (h : Happening) (told : List Replied) → AtMost told (reply_to k past) → AtMost (told ++ replies_told k (events_at past h)) (reply_to k (h ∷ past))
-happening-told k past (came u) told before =
-    let start : reply_to k (so_far past []) ≡ reply_to k past = reply_to-came k past (Batch []) ∙ no_more (is_some (caller_of k past)) (reply_to k past) in
+happening-told k past (came from u) told before =
+    let start : reply_to k (so_far past []) ≡ reply_to k past = reply_to-came k past None (Batch []) ∙ no_more (is_some (caller_of k past)) (reply_to k past) in
     let all = entries-told k past [] (entries_in u) told (subst (λ o. AtMost told o) (sym start) before) in
-    subst (λ o. AtMost (told ++ replies_told k (events_at past (came u))) o) (reply_to-came k past (Batch (entries_in u)) ∙ sym (reply_to-came k past u)) all
+    subst (λ l. AtMost (told ++ l) (reply_to k (came from u ∷ past))) (sym (replies_told-broken k from u (events_along past [] (entries_in u))))
+    (subst (λ o. AtMost (told ++ replies_told k (events_along past [] (entries_in u))) o) (reply_to-came k past None (Batch (entries_in u)) ∙ sym (reply_to-came k past from u)) all)
 happening-told k past (called n o) told before = nothing_told told (reply_to k past) (reply_at k past (called n o)) _ before refl
 happening-told k past (called_all n os) told before = nothing_told told (reply_to k past) (reply_at k past (called_all n os)) _ before refl
 happening-told k past (noticed o) told before = nothing_told told (reply_to k past) (reply_at k past (noticed o)) _ before refl
-happening-told k past (withdrew j) told before = nothing_told told (reply_to k past) (reply_at k past (withdrew j)) _ before refl
+happening-told k past (withdrew by j) told before = nothing_told told (reply_to k past) (reply_at k past (withdrew by j)) _ before refl
 happening-told k past (answered n a) told before = nothing_told told (reply_to k past) (reply_at k past (answered n a)) _ before refl
 happening-told k past (ended close) told before =
     subst (λ l. AtMost (told ++ l) (reply_to k (ended close ∷ past))) (sym (replies_told-unanswered k (waiting past) (event.Over close ∷ [])))

@@ -9,14 +9,15 @@ use Rattle.connection_messages.specs.declared.unit.Unit.TheVariants.{Batch}
 use Rattle.connection_history.specs.declared.event.Event.TheVariants as event
 use Rattle.connection_history.specs.Stream.{entries_in, first_reply}
 use Rattle.connection_history.specs.Events.{reached, events_of_entry, events_along, events_at}
-use Rattle.connection_history.specs.History.{Happening, came, called, called_all, noticed, withdrew, answered, ended, History, or_else, caller_of, reply_to, is_waiting, waiting}
+use Rattle.connection_history.specs.History.{Happening, came, called, called_all, noticed, withdrew, answered, ended, History, or_else, caller_of, reply_to, is_waiting, waiting, Origin}
 use Rattle.connection_history.specs.Refusals.{IsLawful}
 use Rattle.connection_history.specs.Told.{replies_told}
 use Rattle.connection_history.proofs.Histories.{caller_of-came, reply_to-came, reply_to-entries, open-came, open-entry, Waits, waits, waiting-from}
 use Rattle.connection_history.proofs.Waiting.{never, waited_before}
 use Rattle.connection_history.proofs.Tests.{two, same, same_test}
 use Rattle.connection_history.proofs.Along.{so_far}
-use Rattle.connection_history.proofs.RepliesTold.{replies_told-append, replies_told-cancelled, replies_told-unanswered, no_more}
+use Rattle.connection_history.proofs.RepliesTold.{replies_told-append, replies_told-broken, replies_told-cancelled, replies_told-unanswered, no_more}
+use Rattle.connection_messages.specs.declared.cancels.Cancels.{Cancels}
 
 -- ---- a call that has its reply
 
@@ -41,7 +42,7 @@ quiet_entry k history Stray h = refl
 quiet_entry k history Invalid h = refl
 
 -- where the call waits no more, nothing is told to it
-quiet_along : (k : ℕ) (past : History) (front es : List Entry) → ((more : List Entry) → is_waiting k (so_far past (front ++ more)) ≡ false) → replies_told k (events_along past front es) ≡ []
+pub quiet_along : (k : ℕ) (past : History) (front es : List Entry) → ((more : List Entry) → is_waiting k (so_far past (front ++ more)) ≡ false) → replies_told k (events_along past front es) ≡ []
 quiet_along k past front [] h = refl
 quiet_along k past front (e ∷ es) h =
     replies_told-append k (events_of_entry (so_far past front) e) (events_along past (front ++ e ∷ []) es)
@@ -67,19 +68,20 @@ neither false = refl
 waits_on : (k : ℕ) (past : History) (front : List Entry) (e : Entry) → Waits k (so_far past front) → first_reply k (e ∷ []) ≡ None → Waits k (so_far past (front ++ e ∷ []))
 waits_on k past front e w none = record {
   number = w.number;
-  caller = caller_of-came k past (Batch (front ++ e ∷ [])) ∙ sym (caller_of-came k past (Batch front)) ∙ w.caller;
+  caller = caller_of-came k past None (Batch (front ++ e ∷ [])) ∙ sym (caller_of-came k past None (Batch front)) ∙ w.caller;
   opened = open-entry w.number past front e w.opened;
   none =
       reply_to-entries k past front (e ∷ [])
       ∙ (λ i. or_else (w.none i) (cond (is_some (caller_of k past)) (none i) None))
       ∙ neither (is_some (caller_of k past));
   going_on = w.going_on;
+  kept = w.kept;
 }
 
 -- the reply that is told to it
 the_reply : (k : ℕ) (past : History) (front : List Entry) (j : ℕ) (r : Replied) → j ≡ k → Waits k (so_far past front) → reply_to k (so_far past (front ++ Reply j r ∷ [])) ≡ Some r
 the_reply k past front j r key w =
-    let made : is_some (caller_of k past) ≡ true = ap is_some (sym (caller_of-came k past (Batch front)) ∙ w.caller) in
+    let made : is_some (caller_of k past) ≡ true = ap is_some (sym (caller_of-came k past None (Batch front)) ∙ w.caller) in
     let is : first_reply k (Reply j r ∷ []) ≡ Some r = ap (λ b. cond b (Some r) None) (same_test j k key) in
     reply_to-entries k past front (Reply j r ∷ []) ∙ (λ i. or_else (w.none i) (cond (made i) (is i) None))
 
@@ -118,27 +120,31 @@ waiting-along k past front (Invalid ∷ es) r w is = skipped k past front Invali
 waits_at_first : (k : ℕ) (past : History) → Waits k past → Waits k (so_far past [])
 waits_at_first k past w = record {
   number = w.number;
-  caller = caller_of-came k past (Batch []) ∙ w.caller;
-  opened = open-came w.number past (Batch []) w.opened;
-  none = reply_to-came k past (Batch []) ∙ no_more (is_some (caller_of k past)) (reply_to k past) ∙ w.none;
+  caller = caller_of-came k past None (Batch []) ∙ w.caller;
+  opened = open-came w.number past None (Batch []) w.opened;
+  none = reply_to-came k past None (Batch []) ∙ no_more (is_some (caller_of k past)) (reply_to k past) ∙ w.none;
   going_on = w.going_on;
+  kept = w.kept;
 }
 
 -- a call that waits is told its reply
-pub waiting_told : (past : History) (u : Unit) (k : ℕ) (r : Replied) → is_waiting k past ≡ true → first_reply k (entries_in u) ≡ Some r → replies_told k (events_at past (came u)) ≡ r ∷ []
-waiting_told past u k r waiting_now is = waiting-along k past [] (entries_in u) r (waits_at_first k past (waits k past waiting_now)) is
+pub waiting_told : (past : History) (from : Option Origin) (u : Unit) (k : ℕ) (r : Replied) → is_waiting k past ≡ true → first_reply k (entries_in u) ≡ Some r → replies_told k (events_at past (came from u)) ≡ r ∷ []
+waiting_told past from u k r waiting_now is =
+    replies_told-broken k from u (events_along past [] (entries_in u))
+    ∙ waiting-along k past [] (entries_in u) r (waits_at_first k past (waits k past waiting_now)) is
 
 -- ---- a call that doesn't wait
 
 -- a call that doesn't wait is told no reply
-pub not_waiting_told : (cancels : Bool) (past : History) (h : Happening) (k : ℕ) → IsLawful cancels past → is_waiting k past ≡ false → replies_told k (events_at past h) ≡ []
-not_waiting_told cancels past (came u) k lawful idle =
-    quiet_along k past [] (entries_in u) (λ more. never (is_waiting k (so_far past more)) (λ waiting_now.
-    let before = waiting-from k past (waited_before cancels k past (Batch more) lawful (waits k (so_far past more) waiting_now)) in
+pub not_waiting_told : (cancels : Option Cancels) (past : History) (h : Happening) (k : ℕ) → IsLawful cancels past → is_waiting k past ≡ false → replies_told k (events_at past h) ≡ []
+not_waiting_told cancels past (came from u) k lawful idle =
+    replies_told-broken k from u (events_along past [] (entries_in u))
+    ∙ quiet_along k past [] (entries_in u) (λ more. never (is_waiting k (so_far past more)) (λ waiting_now.
+    let before = waiting-from k past (waited_before cancels k past None (Batch more) lawful (waits k (so_far past more) waiting_now)) in
     cc))
 not_waiting_told cancels past (called n o) k lawful idle = refl
 not_waiting_told cancels past (called_all n os) k lawful idle = refl
 not_waiting_told cancels past (noticed o) k lawful idle = refl
-not_waiting_told cancels past (withdrew j) k lawful idle = refl
+not_waiting_told cancels past (withdrew by j) k lawful idle = refl
 not_waiting_told cancels past (answered n a) k lawful idle = refl
 not_waiting_told cancels past (ended close) k lawful idle = replies_told-unanswered k (waiting past) (event.Over close ∷ [])

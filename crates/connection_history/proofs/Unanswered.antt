@@ -1,5 +1,5 @@
 -- The calls that are told to have no reply.
-use Rattle.std.proofs.Common.{◌≡◌, ℕ, ◌+◌, ◌==◌, List, [], ◌∷◌, ◌++◌, map, Bool, true, false, cond, refl, ap, ◌∙◌, arith}
+use Rattle.std.proofs.Common.{◌≡◌, ℕ, ◌+◌, ◌==◌, List, [], ◌∷◌, ◌++◌, map, Bool, true, false, cond, refl, ap, ◌∙◌, arith, Option}
 use Rattle.connection_messages.specs.declared.entry.Entry.{Entry}
 use Rattle.connection_messages.specs.declared.entry.Entry.TheVariants.{Call, Cancel, Reply, Stray, Invalid}
 use Rattle.connection_messages.specs.declared.reply.Reply.{Reply as Replied}
@@ -7,13 +7,15 @@ use Rattle.connection_history.specs.declared.close.Close.{Close}
 use Rattle.connection_history.specs.declared.event.Event.{Event}
 use Rattle.connection_history.specs.declared.event.Event.TheVariants as event
 use Rattle.connection_history.specs.Stream.{entries_in}
-use Rattle.connection_history.specs.Events.{reached, events_of_entry, events_along, events_at, events_of}
-use Rattle.connection_history.specs.History.{Happening, came, called, called_all, noticed, withdrew, answered, ended, History, ends, is_over, key_count, is_waiting, waiting}
+use Rattle.connection_history.specs.Events.{reached, events_of_entry, events_along, events_at, events_of, broken_in, broken_at}
+use Rattle.connection_history.specs.History.{Happening, came, called, called_all, noticed, withdrew, answered, ended, History, ends, is_over, key_count, is_waiting, waiting, Origin}
 use Rattle.connection_history.specs.Told.{unanswered_told}
 use Rattle.connection_history.proofs.Histories.{caller_of-within, waits}
 use Rattle.connection_history.proofs.Numbers.{one_if, occurs, occurs-passing}
 use Rattle.connection_history.proofs.Tests.{or-left, or-right}
 use Rattle.connection_history.proofs.Along.{so_far}
+use Rattle.connection_history.specs.declared.broken.Broken.{Broken}
+use Rattle.connection_messages.specs.declared.unit.Unit.{Unit}
 
 -- ---- calls that are told to have no reply
 
@@ -25,6 +27,15 @@ unanswered_told-append k (event.Cancelled n ∷ told) more = unanswered_told-app
 unanswered_told-append k (event.Replied j r ∷ told) more = unanswered_told-append k told more
 unanswered_told-append k (event.Unanswered j ∷ told) more = omega (arith, unanswered_told-append k told more)
 unanswered_told-append k (event.Over close ∷ told) more = unanswered_told-append k told more
+unanswered_told-append k (event.Broken b ∷ told) more = unanswered_told-append k told more
+
+unanswered_told-defects : (k : ℕ) (bs : List Broken) (told : List Event) → unanswered_told k (map event.Broken bs ++ told) ≡ unanswered_told k told
+unanswered_told-defects k [] told = refl
+unanswered_told-defects k (b ∷ bs) told = unanswered_told-defects k bs told
+
+-- what is broken tells it of no call
+unanswered_told-broken : (k : ℕ) (from : Option Origin) (u : Unit) (told : List Event) → unanswered_told k (broken_at from u ++ told) ≡ unanswered_told k told
+unanswered_told-broken k from u told = unanswered_told-defects k (broken_in from u) told
 
 unanswered_told-waiting : (k : ℕ) (ks : List ℕ) (close : Close) → unanswered_told k (map event.Unanswered ks ++ event.Over close ∷ []) ≡ occurs k ks
 unanswered_told-waiting k [] close = refl
@@ -56,12 +67,13 @@ unanswered_told-along k past front [] = refl
 unanswered_told-along k past front (e ∷ es) =
     omega (arith, unanswered_told-append k (events_of_entry (so_far past front) e) (events_along past (front ++ e ∷ []) es), unanswered_told-entry k (so_far past front) e, unanswered_told-along k past (front ++ e ∷ []) es)
 
-unanswered_told-before : (k : ℕ) (past : History) (h : Happening) → ends h ≡ false → unanswered_told k (events_at past h) ≡ 0
-unanswered_told-before k past (came u) h = unanswered_told-along k past [] (entries_in u)
+-- before the end it is told of no call
+pub unanswered_told-before : (k : ℕ) (past : History) (h : Happening) → ends h ≡ false → unanswered_told k (events_at past h) ≡ 0
+unanswered_told-before k past (came from u) h = unanswered_told-broken k from u (events_along past [] (entries_in u)) ∙ unanswered_told-along k past [] (entries_in u)
 unanswered_told-before k past (called n o) h = refl
 unanswered_told-before k past (called_all n os) h = refl
 unanswered_told-before k past (noticed o) h = refl
-unanswered_told-before k past (withdrew j) h = refl
+unanswered_told-before k past (withdrew by j) h = refl
 unanswered_told-before k past (answered n a) h = refl
 unanswered_told-before k past (ended close) h = absurd (cc)
 

@@ -68,11 +68,11 @@ stands (w ∷ xs) ys (v ∷ front) x rest h =
 
 -- what is said is no answer
 pub said-no_places : (past : History) (h : Happening) → places_in (said_at past h) ≡ []
-said-no_places past (came u) = refl
+said-no_places past (came from u) = refl
 said-no_places past (called n o) = refl
 said-no_places past (called_all n os) = refl
 said-no_places past (noticed o) = refl
-said-no_places past (withdrew k) = refl
+said-no_places past (withdrew by k) = refl
 said-no_places past (answered n a) = refl
 said-no_places past (ended close) = refl
 

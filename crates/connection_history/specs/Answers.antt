@@ -4,6 +4,7 @@ use Rattle.message_ids.specs.declared.id.Id.{Id}
 use Rattle.message_ids.specs.declared.id.Id.TheVariants.{Null}
 use Rattle.message_ids.specs.declared.standard.Standard.TheVariants.{ParseError, InvalidRequest}
 use Rattle.connection_messages.specs.Texts.{answer_text, batch_text}
+use Rattle.connection_messages.specs.declared.answer.Answer.{Answer}
 use Rattle.connection_messages.specs.declared.answer.Answer.TheVariants.{Standard}
 use Rattle.connection_messages.specs.declared.entry.Entry.{Entry}
 use Rattle.connection_messages.specs.declared.entry.Entry.TheVariants.{Call, Cancel, Reply, Stray, Invalid}
@@ -21,10 +22,15 @@ both None others = None
 both (Some texts) None = None
 both (Some texts) (Some others) = Some (texts ++ others)
 
+-- the answer to a request with this id, where it isn't closed without one
+abbrev pub texts_of : Id → Option Answer → List (List ℕ)
+texts_of id None = []
+texts_of id (Some a) = answer_text id a ∷ []
+
 -- the answer of the call with this number: a request has one once it is answered, and a notification has none
 abbrev pub call_texts : History → ℕ → Option Id → Texts
 call_texts history n None = Some []
-call_texts history n (Some id) = option_map (λ a. answer_text id a ∷ []) (answer_to n history)
+call_texts history n (Some id) = option_map (texts_of id) (answer_to n history)
 
 -- the answer of an entry, where the next call has this number: what is invalid is answered under the id null
 abbrev pub entry_texts : History → ℕ → Entry → Texts

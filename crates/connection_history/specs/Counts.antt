@@ -1,12 +1,12 @@
 -- How often things have happened (docs/connection.md, "The report").
-use Rattle.std.specs.Prelude.{ℕ, ◌+◌, ◌-◌, ◌^◌, min, List, [], ◌∷◌, ◌++◌, Bool, true, false, filter, length, is_some}
+use Rattle.std.specs.Prelude.{ℕ, ◌+◌, ◌-◌, ◌^◌, min, List, [], ◌∷◌, ◌++◌, Bool, true, false, filter, length, None, is_some}
 use Rattle.connection_messages.specs.declared.entry.Entry.{Entry}
 use Rattle.connection_messages.specs.declared.entry.Entry.TheVariants.{Call, Cancel, Reply, Stray, Invalid}
 use Rattle.connection_messages.specs.declared.unit.Unit.{Unit}
 use Rattle.connection_messages.specs.declared.unit.Unit.TheVariants.{Unreadable, Single, Batch}
 use Rattle.connection_history.specs.declared.event.Event.{Event}
 use Rattle.connection_history.specs.declared.order.Order.{Order}
-use Rattle.connection_history.specs.Stream.{entries_in, calls_in}
+use Rattle.connection_history.specs.Stream.{entries_in, calls_in, is_invalid}
 use Rattle.connection_history.specs.History.{Happening, came, called, called_all, noticed, withdrew, answered, ended, History, stream, units_of, is_open, numbers_to}
 use Rattle.connection_history.specs.Events.{call_count, events_of_entry}
 use Rattle.connection_history.specs.Items.{Item, said, answer, items_of}
@@ -26,13 +26,6 @@ is_unreadable (Batch es) = false
 
 abbrev pub unreadable_count : History → ℕ
 unreadable_count history = length (filter is_unreadable (units_of history))
-
-abbrev pub is_invalid : Entry → Bool
-is_invalid (Call c) = false
-is_invalid (Cancel id) = false
-is_invalid (Reply k r) = false
-is_invalid Stray = false
-is_invalid Invalid = true
 
 abbrev pub invalid_count : History → ℕ
 invalid_count history = length (filter is_invalid (stream history))
@@ -60,14 +53,14 @@ ignored_of history Invalid = 0
 -- of entries one after another, each after those in front of it
 abbrev pub ignored_along : History → List Entry → List Entry → ℕ
 ignored_along past front [] = 0
-ignored_along past front (e ∷ es) = ignored_of (came (Batch front) ∷ past) e + ignored_along past (front ++ e ∷ []) es
+ignored_along past front (e ∷ es) = ignored_of (came None (Batch front) ∷ past) e + ignored_along past (front ++ e ∷ []) es
 
 abbrev pub ignored_at : History → Happening → ℕ
-ignored_at past (came u) = ignored_along past [] (entries_in u)
+ignored_at past (came o u) = ignored_along past [] (entries_in u)
 ignored_at past (called n o) = 0
 ignored_at past (called_all n os) = 0
 ignored_at past (noticed o) = 0
-ignored_at past (withdrew k) = 0
+ignored_at past (withdrew by k) = 0
 ignored_at past (answered n a) = 0
 ignored_at past (ended close) = 0
 

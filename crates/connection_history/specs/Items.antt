@@ -17,11 +17,11 @@ text_of (answer place t) = t
 
 -- what the host says goes out as it is said
 abbrev pub said_at : History → Happening → List Item
-said_at past (came u) = []
+said_at past (came o u) = []
 said_at past (called n o) = said (call_text (key_count past + 1) o) ∷ []
 said_at past (called_all n os) = said (calls_text (key_count past + 1) os) ∷ []
 said_at past (noticed o) = said (notice_text o) ∷ []
-said_at past (withdrew k) = said (withdrawal_text k) ∷ []
+said_at past (withdrew by k) = said (withdrawal_text by k) ∷ []
 said_at past (answered n a) = []
 said_at past (ended close) = []
 

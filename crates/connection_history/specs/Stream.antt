@@ -1,5 +1,5 @@
 -- The entries of units, and the calls among them (JSON-RPC 2.0, sections 4 to 6).
-use Rattle.std.specs.Prelude.{ℕ, zero, suc, ◌-◌, ◌==◌, ◌||◌, List, [], ◌∷◌, ◌++◌, Bool, false, slice_get, Option, Some, None, option_and_then, if◌then◌else◌}
+use Rattle.std.specs.Prelude.{ℕ, zero, suc, ◌-◌, ◌==◌, ◌||◌, List, [], ◌∷◌, ◌++◌, Bool, true, false, slice_get, Option, Some, None, option_and_then, if◌then◌else◌}
 use Rattle.message_ids.specs.Ids.{has_id}
 use Rattle.message_ids.specs.declared.id.Id.{Id}
 use Rattle.connection_messages.specs.declared.call.Call.{Call as Came}
@@ -19,6 +19,13 @@ entries_in (Batch es) = es
 abbrev pub entries_along : List Unit → List Entry
 entries_along [] = []
 entries_along (u ∷ us) = entries_in u ++ entries_along us
+
+abbrev pub is_invalid : Entry → Bool
+is_invalid (Call c) = false
+is_invalid (Cancel id) = false
+is_invalid (Reply k r) = false
+is_invalid Stray = false
+is_invalid Invalid = true
 
 -- the calls among entries; in this order they have the numbers 1, 2, ..
 abbrev pub call_in : Entry → List Came
@@ -68,6 +75,7 @@ cancels id (Reply k r ∷ es) = cancels id es
 cancels id (Stray ∷ es) = cancels id es
 cancels id (Invalid ∷ es) = cancels id es
 
--- A cancel reaches the requests with its id that stand before it (LSP 3.17, "Cancellation Support").
+-- A cancel reaches the requests with its id that stand before it (LSP 3.17, "Cancellation Support"; MCP 2025-06-18,
+-- "Cancellation").
 abbrev pub is_cancelled : ℕ → List Entry → Bool
 is_cancelled n es = cancels (request_id n es) (after_call n es)

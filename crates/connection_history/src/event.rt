@@ -1,3 +1,4 @@
+use crate::broken::Broken;
 use crate::close::Close;
 use connection_messages::{Call, Reply};
 
@@ -14,4 +15,6 @@ pub enum Event {
     Unanswered { key: u64 },
     /// The input is over. Nothing is told after this.
     Over(Close),
+    /// A content came that is broken. This is told in front of the content's other events, where the host asked for it.
+    Broken(Broken),
 }

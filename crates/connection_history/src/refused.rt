@@ -11,7 +11,7 @@ pub enum Refused {
     NotWaiting,
     /// The input is over.
     Over,
-    /// A batch of no calls.
+    /// A batch of no calls; or nothing is said where an answer is owed.
     Empty,
     /// There are no more keys for calls of ours.
     Full,

@@ -1,5 +1,5 @@
 -- What each happening adds to the counts.
-use Rattle.std.proofs.Common.{◌≡◌, ℕ, suc, ◌+◌, List, [], ◌∷◌, ◌++◌, length, None, Bool, true, false, cond, refl, sym, ap, ◌∙◌, add-zero, length-append}
+use Rattle.std.proofs.Common.{◌≡◌, ℕ, ◌+◌, List, [], ◌∷◌, ◌++◌, map, length, None, Bool, true, false, cond, refl, sym, ap, ◌∙◌, add-zero, length-append, Option}
 use Rattle.std.proofs.lemmas.List.Elements.{filter-append}
 use Rattle.std.specs.Prelude.{filter, is_some}
 use Rattle.connection_messages.specs.declared.answer.Answer.{Answer}
@@ -8,19 +8,20 @@ use Rattle.connection_messages.specs.declared.entry.Entry.{Entry}
 use Rattle.connection_messages.specs.declared.entry.Entry.TheVariants.{Call, Cancel, Reply, Stray, Invalid}
 use Rattle.connection_messages.specs.declared.unit.Unit.{Unit}
 use Rattle.connection_history.specs.declared.order.Order.{Order}
-use Rattle.connection_history.specs.Stream.{entries_in, entries_along, calls_in}
-use Rattle.connection_history.specs.History.{Happening, came, called, called_all, noticed, withdrew, answered, ended, History, units_of, units_at, stream, answer_at}
+use Rattle.connection_history.specs.Stream.{entries_in, entries_along, calls_in, is_invalid}
+use Rattle.connection_history.specs.History.{Happening, came, called, called_all, noticed, withdrew, answered, ended, History, units_of, units_at, stream, answer_at, Origin}
 use Rattle.connection_history.specs.Refusals.{IsLawful}
-use Rattle.connection_history.specs.Items.{said_at, answers_at, items_of, items_at}
-use Rattle.connection_history.specs.Counts.{request_count, is_answer, answer_count, is_unreadable, unreadable_count, is_invalid, invalid_count, if_none, ignored_of, ignored_along, ignored_at, ignored_count}
+use Rattle.connection_history.specs.Items.{Item, answer, said_at, answers_at, items_of, items_at}
+use Rattle.connection_history.specs.Counts.{request_count, is_answer, answer_count, is_unreadable, unreadable_count, invalid_count, if_none, ignored_of, ignored_along, ignored_at, ignored_count}
 use Rattle.connection_history.proofs.Along.{so_far}
 use Rattle.connection_history.proofs.Histories.{stream-came}
 use Rattle.connection_history.proofs.Streams.{calls_in-append}
+use Rattle.open_calls.specs.Numbered.{at}
 use Rattle.open_calls.specs.Own.{OwnState}
-use Rattle.open_calls.specs.Owed.{OwedUnit}
+use Rattle.open_calls.specs.Owed.{OwedUnit, unit_texts}
 use Rattle.open_calls.specs.Theirs.{TheirState}
 use Rattle.connection_states.specs.States.{state_of, own_of, theirs_of, owed_of}
-use Rattle.connection_states.specs.Steps.{theirs_after, own_after, told_of, answers_of, leaving, owed_with}
+use Rattle.connection_states.specs.Steps.{theirs_after, own_after, told_of, answer_of, answers_of, leaving, owed_with, owed_given}
 use Rattle.connection_states.specs.Tallies.{Tally, tally_of, requests_in, invalid_in, ignored_if, ignored_in, tally_in, plus, answers_let_out, plus_answers}
 use Rattle.connection_states.proofs.OwedSame.{silent-units, silent-answers}
 use Rattle.connection_states.proofs.OwedSteps.{came-answers}
@@ -29,6 +30,7 @@ use Rattle.connection_states.proofs.OwnEntries.{own_nothing, own_entry}
 use Rattle.connection_states.proofs.TheirEntries.{theirs-none, theirs-entry}
 use Rattle.connection_states.proofs.TheirSites.{slots_in}
 use Rattle.connection_states.proofs.ToldEntries.{told-entry, bare, bare_after, bare_told}
+use Rattle.connection_messages.specs.declared.cancels.Cancels.{Cancels}
 
 -- ---- a tally by its parts
 
@@ -46,35 +48,42 @@ length-filter-append p xs ys = ap length (filter-append p xs ys) ∙ length-appe
 abbrev has_id : Came → Bool
 has_id c = is_some c.id
 
-requests-came : (past : History) (u : Unit) → request_count (came u ∷ past) ≡ request_count past + requests_in (entries_in u)
-requests-came past u =
-    ap (λ es. length (filter has_id (calls_in es))) (stream-came past u)
+requests-came : (past : History) (from : Option Origin) (u : Unit) → request_count (came from u ∷ past) ≡ request_count past + requests_in (entries_in u)
+requests-came past from u =
+    ap (λ es. length (filter has_id (calls_in es))) (stream-came past from u)
     ∙ ap (λ cs. length (filter has_id cs)) (calls_in-append (stream past) (entries_in u))
     ∙ length-filter-append has_id (calls_in (stream past)) (calls_in (entries_in u))
 
-invalid-came : (past : History) (u : Unit) → invalid_count (came u ∷ past) ≡ invalid_count past + invalid_in (entries_in u)
-invalid-came past u = ap (λ es. length (filter is_invalid es)) (stream-came past u) ∙ length-filter-append is_invalid (stream past) (entries_in u)
+invalid-came : (past : History) (from : Option Origin) (u : Unit) → invalid_count (came from u ∷ past) ≡ invalid_count past + invalid_in (entries_in u)
+invalid-came past from u = ap (λ es. length (filter is_invalid es)) (stream-came past from u) ∙ length-filter-append is_invalid (stream past) (entries_in u)
 
 one_unreadable : (b : Bool) (u : Unit) → length (cond b (u ∷ []) []) ≡ cond b 1 0
 one_unreadable true u = refl
 one_unreadable false u = refl
 
-unreadable-came : (past : History) (u : Unit) → unreadable_count (came u ∷ past) ≡ unreadable_count past + cond (is_unreadable u) 1 0
-unreadable-came past u =
+unreadable-came : (past : History) (from : Option Origin) (u : Unit) → unreadable_count (came from u ∷ past) ≡ unreadable_count past + cond (is_unreadable u) 1 0
+unreadable-came past from u =
     length-filter-append is_unreadable (units_of past) (u ∷ []) ∙ ap (λ n. unreadable_count past + n) (one_unreadable (is_unreadable u) u)
 
 -- ---- answers
 
-answers-counted : (owed : List (ℕ × OwedUnit)) → length (filter is_answer (answers_of owed)) ≡ length owed
-answers-counted [] = refl
-answers-counted (e ∷ es) = ap suc (answers-counted es)
+all_answers : (place : ℕ) (ts : List (List ℕ)) (items : List Item) → filter is_answer (map (answer place) ts ++ items) ≡ map (answer place) ts ++ filter is_answer items
+all_answers place [] items = refl
+all_answers place (t ∷ ts) items = ap (λ l. answer place t ∷ l) (all_answers place ts items)
+
+answers-only : (owed : List (ℕ × OwedUnit)) → filter is_answer (answers_of owed) ≡ answers_of owed
+answers-only [] = refl
+answers-only (e ∷ es) = all_answers e.0 (unit_texts e.1) (answers_of es) ∙ ap (λ l. answer_of e ++ l) (answers-only es)
+
+answers-counted : (owed : List (ℕ × OwedUnit)) → length (filter is_answer (answers_of owed)) ≡ length (answers_of owed)
+answers-counted owed = ap length (answers-only owed)
 
 none_said : (past : History) (h : Happening) → filter is_answer (said_at past h) ≡ []
-none_said past (came u) = refl
+none_said past (came from u) = refl
 none_said past (called n o) = refl
 none_said past (called_all n os) = refl
 none_said past (noticed o) = refl
-none_said past (withdrew k) = refl
+none_said past (withdrew by k) = refl
 none_said past (answered n a) = refl
 none_said past (ended close) = refl
 
@@ -86,7 +95,7 @@ answers-more order past h =
     ∙ ap (λ is. length (is ++ filter is_answer (answers_at order past h))) (none_said past h))
 
 answers-out : (order : Order) (past : History) (h : Happening) (owed : List (ℕ × OwedUnit)) → answers_at order past h ≡ answers_of owed
-    → answer_count order (h ∷ past) ≡ answer_count order past + length owed
+    → answer_count order (h ∷ past) ≡ answer_count order past + length (answers_of owed)
 answers-out order past h owed is =
     answers-more order past h
     ∙ ap (λ n. answer_count order past + n) (ap (λ is. length (filter is_answer is)) is ∙ answers-counted owed)
@@ -114,7 +123,7 @@ same_ignored own s place slot e es =
     ∙ ap (λ t. ignored_in own t es) (sym (bare_after place slot e s) ∙ bare_after 0 0 e s)
     ∙ sym (bare_ignored own (theirs_after 0 0 e s) es)
 
-ignored-along : (cancels : Bool) (past : History) (front es : List Entry) → IsLawful cancels past
+ignored-along : (cancels : Option Cancels) (past : History) (front es : List Entry) → IsLawful cancels past
     → ignored_along past front es ≡ ignored_in (own_of (so_far past front)) (theirs_of (so_far past front)) es
 ignored-along cancels past front [] lawful = refl
 ignored-along cancels past front (e ∷ es) lawful =
@@ -125,19 +134,19 @@ ignored-along cancels past front (e ∷ es) lawful =
     ∙ (λ j. ignored_in (own_entry cancels past front e lawful j) (theirs-entry cancels past front e lawful j) es)
     ∙ same_ignored (own_after e own) theirs (length (units_of past)) (slots_in front) e es) i
 
-ignored-came : (cancels : Bool) (past : History) (u : Unit) → IsLawful cancels past
-    → ignored_count (came u ∷ past) ≡ ignored_count past + ignored_in (own_of past) (theirs_of past) (entries_in u)
-ignored-came cancels past u lawful =
+ignored-came : (cancels : Option Cancels) (past : History) (from : Option Origin) (u : Unit) → IsLawful cancels past
+    → ignored_count (came from u ∷ past) ≡ ignored_count past + ignored_in (own_of past) (theirs_of past) (entries_in u)
+ignored-came cancels past from u lawful =
     ap (λ n. ignored_count past + n)
     (ignored-along cancels past [] (entries_in u) lawful ∙ (λ i. ignored_in (own_nothing past i) (theirs-none past i) (entries_in u)))
 
 -- ---- a unit
 
-pub tally-came : (cancels : Bool) (order : Order) (past : History) (u : Unit) → IsLawful cancels past
-    → tally_of order (came u ∷ past) ≡ plus (tally_of order past) (tally_in order u (state_of order past))
-tally-came cancels order past u lawful =
-    let outs = answers-out order past (came u) (leaving order (owed_with u (owed_of order past))) (came-answers cancels order past u lawful) in
-    λ i. tally (requests-came past u i) (outs i) (unreadable-came past u i) (invalid-came past u i) (ignored-came cancels past u lawful i)
+pub tally-came : (cancels : Option Cancels) (order : Order) (past : History) (from : Option Origin) (u : Unit) → IsLawful cancels past
+    → tally_of order (came from u ∷ past) ≡ plus (tally_of order past) (tally_in order u (state_of order past))
+tally-came cancels order past from u lawful =
+    let outs = answers-out order past (came from u) (leaving order (owed_with u (owed_of order past))) (came-answers cancels order past from u lawful) in
+    λ i. tally (requests-came past from u i) (outs i) (unreadable-came past from u i) (invalid-came past from u i) (ignored-came cancels past from u lawful i)
 
 -- ---- nothing comes
 
@@ -159,7 +168,9 @@ tally-silent order past h none silent ignored =
     answers-out order past h [] (silent-answers order past h none silent) ∙ add-zero (answer_count order past) in
     silent-tally order past h (answer_count order past) none outs ignored
 
-pub tally-answered : (cancels : Bool) (order : Order) (past : History) (n : ℕ) (a : Answer) → IsLawful cancels (answered n a ∷ past)
+pub tally-answered : (cancels : Option Cancels) (order : Order) (past : History) (n : ℕ) (a : Option Answer) → IsLawful cancels (answered n a ∷ past)
     → tally_of order (answered n a ∷ past) ≡ plus_answers (answers_let_out order n a (state_of order past)) (tally_of order past)
 tally-answered cancels order past n a lawful =
-    silent-tally order past (answered n a) _ refl (answers-out order past (answered n a) _ (answered-answers cancels order past n a lawful)) refl
+    let out = leaving order (owed_given (at n (theirs_of past).calls) a (owed_of order past).owed) in
+    silent-tally order past (answered n a) (answer_count order past + length (answers_of out)) refl
+    (answers-out order past (answered n a) out (answered-answers cancels order past n a lawful)) refl

@@ -1,9 +1,8 @@
 -- An answer that is given: the slot in which it stands.
-use Rattle.std.proofs.Common.{◌≡◌, ◌≢◌, ℕ, zero, suc, ◌+◌, ◌<◌, ◌≤◌, ◌==◌, List, [], ◌∷◌, ◌++◌, map, length, set, Bool, true, false, cond, not, ◌||◌, Option, Some, None, ◌⊎◌, inl, inr, refl, sym, ap, subst, ◌∙◌, append-nil, arith}
+use Rattle.std.proofs.Common.{◌≡◌, ◌≢◌, ℕ, zero, suc, ◌+◌, ◌<◌, ◌≤◌, ◌==◌, List, [], ◌∷◌, ◌++◌, map, length, set, Bool, true, false, cond, not, ◌&&◌, ◌||◌, Option, Some, None, ◌⊎◌, inl, inr, refl, sym, ap, subst, ◌∙◌, append-nil, arith}
 use Rattle.std.proofs.lemmas.List.{map-id}
 use Rattle.std.specs.Prelude.{⊤, option_map}
 use Rattle.message_ids.specs.declared.id.Id.{Id}
-use Rattle.connection_messages.specs.Texts.{answer_text}
 use Rattle.connection_messages.specs.declared.answer.Answer.{Answer}
 use Rattle.connection_messages.specs.declared.call.Call.{Call as Came}
 use Rattle.connection_messages.specs.declared.entry.Entry.{Entry}
@@ -11,35 +10,37 @@ use Rattle.connection_messages.specs.declared.entry.Entry.TheVariants.{Call, Can
 use Rattle.connection_messages.specs.declared.unit.Unit.{Unit}
 use Rattle.connection_messages.specs.declared.unit.Unit.TheVariants.{Unreadable, Single, Batch}
 use Rattle.connection_history.specs.declared.order.Order.{Order}
-use Rattle.connection_history.specs.declared.refused.Refused.TheVariants.{NotOpen}
+use Rattle.connection_history.specs.declared.refused.Refused.{Refused}
+use Rattle.connection_history.specs.declared.refused.Refused.TheVariants.{NotOpen, Empty}
 use Rattle.connection_history.specs.Stream.{entries_in, calls_in, is_cancelled}
 use Rattle.connection_history.specs.History.{answered, History, stream, units_of, or_else, answer_to, is_open}
 use Rattle.connection_history.specs.Items.{answers_at}
-use Rattle.connection_history.specs.Refusals.{first_of, IsLawful}
+use Rattle.connection_history.specs.Refusals.{first_of, is_left, may_be_left, IsLawful}
 use Rattle.connection_history.proofs.Histories.{open_unanswered}
 use Rattle.connection_history.proofs.Tests.{same, same_test, apart, different, two, or_else-none}
 use Rattle.open_calls.specs.declared.their_call.TheirCall.{TheirCall}
 use Rattle.open_calls.specs.Numbered.{at}
 use Rattle.open_calls.specs.Owed.{OwedUnit}
-use Rattle.connection_states.specs.States.{call_slots, invalid_slot, slots_along, unit_slots, is_batch, owed_of, id_slots, theirs_along, theirs_in, theirs_of}
+use Rattle.connection_states.specs.States.{given_text, call_slots, invalid_slot, slots_along, unit_slots, is_batch, owed_of, id_slots, theirs_along, theirs_in, theirs_of}
 use Rattle.connection_states.specs.Steps.{leaving, staying, answers_of, given_to, owed_given}
 use Rattle.connection_states.proofs.OwedSlots.{Slots, all_given, unit_with}
 use Rattle.connection_states.proofs.OwedRows.{with_slots, all_units, state_with, owed-slots}
 use Rattle.connection_states.proofs.OwedSame.{SameFrom, entries-same, units-same}
 use Rattle.connection_states.proofs.OwedChanges.{IsLater, IsChange, changed, change}
 use Rattle.connection_states.proofs.OwedSteps.{Moves, moved-owed, moved-answers}
+use Rattle.connection_messages.specs.declared.cancels.Cancels.{Cancels}
 
 -- the answer of a request stands in this slot; a notification has none
-abbrev slots_given : Option Id → ℕ → Answer → Slots → Slots
+abbrev slots_given : Option Id → ℕ → Option Answer → Slots → Slots
 slots_given None i a ss = ss
-slots_given (Some id) i a ss = set ss i (Some (answer_text id a))
+slots_given (Some id) i a ss = set ss i (Some (given_text id a))
 
 -- the slots of the unit at a place, once this call is answered
-abbrev given_as : Option Id → TheirCall → Answer → ℕ → Slots → Slots
+abbrev given_as : Option Id → TheirCall → Option Answer → ℕ → Slots → Slots
 given_as None c a place ss = ss
-given_as (Some id) c a place ss = cond (c.place == place) (set ss c.slot (Some (answer_text id a))) ss
+given_as (Some id) c a place ss = cond (c.place == place) (set ss c.slot (Some (given_text id a))) ss
 
-abbrev given_at : Option TheirCall → Answer → ℕ → Slots → Slots
+abbrev given_at : Option TheirCall → Option Answer → ℕ → Slots → Slots
 given_at None a place ss = ss
 given_at (Some c) a place ss = given_as c.id c a place ss
 
@@ -64,11 +65,11 @@ later-if : (b : Bool) (ss now : Slots) → IsLater ss now → IsLater ss (cond b
 later-if true ss now later = later
 later-if false ss now later = later-same ss
 
-later-given : (id : Option Id) (c : TheirCall) (a : Answer) → IsChange (given_as id c a)
+later-given : (id : Option Id) (c : TheirCall) (a : Option Answer) → IsChange (given_as id c a)
 later-given None c a place ss = later-same ss
-later-given (Some id) c a place ss = later-if (c.place == place) ss (set ss c.slot (Some (answer_text id a))) (later-set ss c.slot (answer_text id a))
+later-given (Some id) c a place ss = later-if (c.place == place) ss (set ss c.slot (Some (given_text id a))) (later-set ss c.slot (given_text id a))
 
-given-change : (o : Option TheirCall) (a : Answer) → IsChange (given_at o a)
+given-change : (o : Option TheirCall) (a : Option Answer) → IsChange (given_at o a)
 given-change None a place ss = later-same ss
 given-change (Some c) a place ss = later-given c.id c a place ss
 
@@ -81,22 +82,22 @@ slot_if : (b : Bool) (place : ℕ) (w : OwedUnit) (ss : Slots) → pair place (u
 slot_if true place w ss = refl
 slot_if false place w ss = refl
 
-request-list : (id : Id) (c : TheirCall) (a : Answer) (es : List (ℕ × OwedUnit)) → map (change (given_as (Some id) c a)) es ≡ given_to (Some id) c a es
+request-list : (id : Id) (c : TheirCall) (a : Option Answer) (es : List (ℕ × OwedUnit)) → map (change (given_as (Some id) c a)) es ≡ given_to (Some id) c a es
 request-list id c a [] = refl
-request-list id c a (e ∷ es) = λ i. slot_if (c.place == e.0) e.0 e.1 (set e.1.slots c.slot (Some (answer_text id a))) i ∷ request-list id c a es i
+request-list id c a (e ∷ es) = λ i. slot_if (c.place == e.0) e.0 e.1 (set e.1.slots c.slot (Some (given_text id a))) i ∷ request-list id c a es i
 
-call-list : (id : Option Id) (c : TheirCall) (a : Answer) (es : List (ℕ × OwedUnit)) → map (change (given_as id c a)) es ≡ given_to id c a es
+call-list : (id : Option Id) (c : TheirCall) (a : Option Answer) (es : List (ℕ × OwedUnit)) → map (change (given_as id c a)) es ≡ given_to id c a es
 call-list None c a es = map-id es
 call-list (Some id) c a es = request-list id c a es
 
-given-list : (o : Option TheirCall) (a : Answer) (es : List (ℕ × OwedUnit)) → map (change (given_at o a)) es ≡ owed_given o a es
+given-list : (o : Option TheirCall) (a : Option Answer) (es : List (ℕ × OwedUnit)) → map (change (given_at o a)) es ≡ owed_given o a es
 given-list None a es = map-id es
 given-list (Some c) a es = call-list c.id c a es
 
 -- ---- the slot of a call that is open
 
 -- Where the answer to call n stands among the slots of a unit at a place, from this one on, whose calls end there.
-record StandsIn (place first n end : ℕ) (a : Answer) (c : TheirCall) (was now : Slots) : Type 0 where
+record StandsIn (place first n end : ℕ) (a : Option Answer) (c : TheirCall) (was now : Slots) : Type 0 where
   index : ℕ
   same_place : c.place ≡ place
   same_slot : c.slot ≡ first + index
@@ -104,24 +105,24 @@ record StandsIn (place first n end : ℕ) (a : Answer) (c : TheirCall) (was now 
   given : now ≡ slots_given c.id index a was
 
 -- the slots after the answer, where this is the call that was found among theirs
-abbrev IsGiven : ℕ → ℕ → ℕ → ℕ → Answer → Option TheirCall → Slots → Slots → Type 0
+abbrev IsGiven : ℕ → ℕ → ℕ → ℕ → Option Answer → Option TheirCall → Slots → Slots → Type 0
 IsGiven place first n end a None was now = now ≡ was
 IsGiven place first n end a (Some c) was now = StandsIn place first n end a c was now
 
-stands-from : (place first next n end last : ℕ) (a : Answer) (c : TheirCall) (was now : Slots) → first ≡ next → end ≡ last → StandsIn place first n end a c was now → StandsIn place next n last a c was now
+stands-from : (place first next n end last : ℕ) (a : Option Answer) (c : TheirCall) (was now : Slots) → first ≡ next → end ≡ last → StandsIn place first n end a c was now → StandsIn place next n last a c was now
 stands-from place first next n end last a c was now same_first same_end it =
     record { index = it.index; same_place = it.same_place; same_slot = omega arith; within = omega arith; given = it.given }
 
-given-from : (place first next n end last : ℕ) (a : Answer) (o : Option TheirCall) (was now : Slots) → first ≡ next → end ≡ last → IsGiven place first n end a o was now → IsGiven place next n last a o was now
+given-from : (place first next n end last : ℕ) (a : Option Answer) (o : Option TheirCall) (was now : Slots) → first ≡ next → end ≡ last → IsGiven place first n end a o was now → IsGiven place next n last a o was now
 given-from place first next n end last a None was now same_first same_end it = it
 given-from place first next n end last a (Some c) was now same_first same_end it = stands-from place first next n end last a c was now same_first same_end it
 
-slots_given-on : (id : Option Id) (i : ℕ) (a : Answer) (s : Option (List ℕ)) (ss : Slots) → s ∷ slots_given id i a ss ≡ slots_given id (suc i) a (s ∷ ss)
+slots_given-on : (id : Option Id) (i : ℕ) (a : Option Answer) (s : Option (List ℕ)) (ss : Slots) → s ∷ slots_given id i a ss ≡ slots_given id (suc i) a (s ∷ ss)
 slots_given-on None i a s ss = refl
 slots_given-on (Some id) i a s ss = refl
 
 -- one more slot stands in front
-stands-on : (place first n end : ℕ) (a : Answer) (c : TheirCall) (s t : Option (List ℕ)) (was now : Slots) → t ≡ s → StandsIn place (first + 1) n end a c was now
+stands-on : (place first n end : ℕ) (a : Option Answer) (c : TheirCall) (s t : Option (List ℕ)) (was now : Slots) → t ≡ s → StandsIn place (first + 1) n end a c was now
     → StandsIn place first n end a c (s ∷ was) (t ∷ now)
 stands-on place first n end a c s t was now same_text it =
     record {
@@ -132,7 +133,7 @@ stands-on place first n end a c s t was now same_text it =
       given = (λ i. same_text i ∷ it.given i) ∙ slots_given-on c.id it.index a s was;
     }
 
-given-on : (place first n end : ℕ) (a : Answer) (o : Option TheirCall) (s t : Option (List ℕ)) (was now : Slots) → t ≡ s → IsGiven place (first + 1) n end a o was now
+given-on : (place first n end : ℕ) (a : Option Answer) (o : Option TheirCall) (s t : Option (List ℕ)) (was now : Slots) → t ≡ s → IsGiven place (first + 1) n end a o was now
     → IsGiven place first n end a o (s ∷ was) (t ∷ now)
 given-on place first n end a None s t was now same_text it = λ i. same_text i ∷ it i
 given-on place first n end a (Some c) s t was now same_text it = stands-on place first n end a c s t was now same_text it
@@ -153,7 +154,7 @@ at-append : (n : ℕ) (es more : List (ℕ × TheirCall)) → at n (es ++ more) 
 at-append n [] more = refl
 at-append n (e ∷ es) more = at_if (n == e.0) e.1 (at n (es ++ more)) (at n es) (at n more) (at-append n es more)
 
-module _ (past : History) (n : ℕ) (a : Answer) where
+module _ (past : History) (n : ℕ) (a : Option Answer) where
   abbrev now : History
   now = answered n a ∷ past
 
@@ -171,14 +172,14 @@ module _ (past : History) (n : ℕ) (a : Answer) where
   module _ (opened : is_open n past ≡ true) (none : answer_to n past ≡ None) where
     its-slot : (m : ℕ) (id : Option Id) (was later : Slots) → n ≡ m → later ≡ was → call_slots now m id ++ later ≡ slots_given id 0 a (call_slots past m id ++ was)
     its-slot m None was later is same_rest = same_rest
-    its-slot m (Some id) was later is same_rest = λ i. option_map (answer_text id) (its-answer m is none i) ∷ same_rest i
+    its-slot m (Some id) was later is same_rest = λ i. option_map (given_text id) (its-answer m is none i) ∷ same_rest i
 
     other-slot : (place first m end : ℕ) (id : Option Id) (o : Option TheirCall) (was later : Slots) → n ≢ m → IsGiven place (first + id_slots id) n end a o was later
         → IsGiven place first n end a o (call_slots past m id ++ was) (call_slots now m id ++ later)
     other-slot place first m end None o was later other given = given-from place (first + 0) first n end end a o was later (omega arith) refl given
     other-slot place first m end (Some id) o was later other given =
-        given-on place first n end a o (option_map (answer_text id) (answer_to m past)) (option_map (answer_text id) (answer_to m now)) was later
-        (ap (option_map (answer_text id)) (other-answer m other)) given
+        given-on place first n end a o (option_map (given_text id) (answer_to m past)) (option_map (given_text id) (answer_to m now)) was later
+        (ap (option_map (given_text id)) (other-answer m other)) given
 
     abbrev found : ℕ → ℕ → ℕ → List Entry → Option TheirCall
     found place m first es = at n (theirs_along past place m first es)
@@ -244,7 +245,7 @@ module _ (past : History) (n : ℕ) (a : Answer) where
 
     as-before : (id : Option Id) (c : TheirCall) (place : ℕ) (ss : Slots) → c.place ≢ place → given_as id c a place ss ≡ ss
     as-before None c place ss other = refl
-    as-before (Some id) c place ss other = ap (λ b. cond b (set ss c.slot (Some (answer_text id a))) ss) (different c.place place other)
+    as-before (Some id) c place ss other = ap (λ b. cond b (set ss c.slot (Some (given_text id a))) ss) (different c.place place other)
 
     at-before : (o : Option TheirCall) (place : ℕ) (ss : Slots) → IsFrom (place + 1) o → given_at o a place ss ≡ ss
     at-before None place ss from = refl
@@ -259,8 +260,8 @@ module _ (past : History) (n : ℕ) (a : Answer) where
     as-here None c place i ss is slot = refl
     as-here (Some id) c place i ss is slot =
         let same_slot : i ≡ c.slot = omega arith in
-        ap (λ k. set ss k (Some (answer_text id a))) same_slot
-        ∙ sym (ap (λ b. cond b (set ss c.slot (Some (answer_text id a))) ss) (same_test c.place place is))
+        ap (λ k. set ss k (Some (given_text id a))) same_slot
+        ∙ sym (ap (λ b. cond b (set ss c.slot (Some (given_text id a))) ss) (same_test c.place place is))
 
     from-next : (place : ℕ) (o : Option TheirCall) → IsFrom (place + 1) o → IsFrom place o
     from-next place None from = tt
@@ -291,10 +292,10 @@ module _ (past : History) (n : ℕ) (a : Answer) where
 
 -- ---- the answer of an open call
 
-tested : (b o : Bool) → first_of ((b || not o, NotOpen) ∷ []) ≡ None → (b ≡ false) × (o ≡ true)
-tested true o h = absurd (cc)
-tested false true h = (refl, refl)
-tested false false h = absurd (cc)
+tested : (b o : Bool) (tests : List (Bool × Refused)) → first_of ((b || not o, NotOpen) ∷ tests) ≡ None → (b ≡ false) × (o ≡ true)
+tested true o tests h = absurd (cc)
+tested false true tests h = (refl, refl)
+tested false false tests h = absurd (cc)
 
 unanswered : (past : History) (n : ℕ) → (n == 0) ≡ false → is_open n past ≡ true → answer_to n past ≡ None
 unanswered past zero some opened = absurd (apart zero 0 some refl)
@@ -303,20 +304,20 @@ unanswered past (suc n) some opened = open_unanswered n past opened
 abbrev call_found : History → ℕ → Option TheirCall
 call_found past n = at n (theirs_of past).calls
 
-answered-moves : (cancels : Bool) (past : History) (n : ℕ) (a : Answer) → IsLawful cancels (answered n a ∷ past) → Moves past (answered n a) (given_at (call_found past n) a) []
+answered-moves : (cancels : Option Cancels) (past : History) (n : ℕ) (a : Option Answer) → IsLawful cancels (answered n a ∷ past) → Moves past (answered n a) (given_at (call_found past n) a) []
 answered-moves cancels past n a lawful =
-    let allowed = tested (n == 0) (is_open n past) lawful.0 in
+    let allowed = tested (n == 0) (is_open n past) ((is_left a && not (may_be_left cancels n past), Empty) ∷ []) lawful.0 in
     ap (with_slots (answered n a ∷ past) 1) (append-nil (units_of past))
     ∙ (units-given past n a allowed.1 (unanswered past n allowed.0 allowed.1) 0 1 (units_of past)).0
     ∙ sym (append-nil (changed (given_at (call_found past n) a) 0 (all_units past)))
 
-answered-list : (order : Order) (past : History) (n : ℕ) (a : Answer)
+answered-list : (order : Order) (past : History) (n : ℕ) (a : Option Answer)
     → map (change (given_at (call_found past n) a)) (owed_of order past).owed ++ [] ≡ owed_given (call_found past n) a (owed_of order past).owed
 answered-list order past n a =
     append-nil (map (change (given_at (call_found past n) a)) (owed_of order past).owed) ∙ given-list (call_found past n) a (owed_of order past).owed
 
 -- it stands in its slot, and the answers that can go out do
-pub answered-owed : (cancels : Bool) (order : Order) (past : History) (n : ℕ) (a : Answer) → IsLawful cancels (answered n a ∷ past)
+pub answered-owed : (cancels : Option Cancels) (order : Order) (past : History) (n : ℕ) (a : Option Answer) → IsLawful cancels (answered n a ∷ past)
     → owed_of order (answered n a ∷ past) ≡ state_with (length (units_of past)) (staying order (owed_given (call_found past n) a (owed_of order past).owed))
 answered-owed cancels order past n a lawful =
     owed-slots order (answered n a ∷ past)
@@ -324,7 +325,7 @@ answered-owed cancels order past n a lawful =
     ((moved-owed order past (answered n a) (given_at (call_found past n) a) (given-change (call_found past n) a) [] (answered-moves cancels past n a lawful)
     ∙ ap (staying order) (answered-list order past n a)) i))
 
-pub answered-answers : (cancels : Bool) (order : Order) (past : History) (n : ℕ) (a : Answer) → IsLawful cancels (answered n a ∷ past)
+pub answered-answers : (cancels : Option Cancels) (order : Order) (past : History) (n : ℕ) (a : Option Answer) → IsLawful cancels (answered n a ∷ past)
     → answers_at order past (answered n a) ≡ answers_of (leaving order (owed_given (call_found past n) a (owed_of order past).owed))
 answered-answers cancels order past n a lawful =
     moved-answers order past (answered n a) (given_at (call_found past n) a) (given-change (call_found past n) a) [] (answered-moves cancels past n a lawful)

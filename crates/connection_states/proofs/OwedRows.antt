@@ -1,5 +1,5 @@
 -- The units that came, each with the slots of its answer, and which of them are owed.
-use Rattle.std.proofs.Common.{◌≡◌, ℕ, ◌+◌, List, [], ◌∷◌, ◌++◌, map, length, Bool, true, false, cond, not, Option, Some, None, refl, sym, ap, ◌∙◌}
+use Rattle.std.proofs.Common.{◌≡◌, ℕ, ◌+◌, List, [], ◌∷◌, ◌++◌, map, length, Bool, true, false, cond, not, Option, refl, sym, ap, ◌∙◌}
 use Rattle.std.proofs.lemmas.List.Elements.{filter-append}
 use Rattle.std.specs.Prelude.{filter}
 use Rattle.connection_messages.specs.declared.unit.Unit.{Unit}
@@ -7,12 +7,12 @@ use Rattle.connection_history.specs.declared.order.Order.{Order}
 use Rattle.connection_history.specs.declared.order.Order.TheVariants.{AsAnswered, AsCame}
 use Rattle.connection_history.specs.Stream.{entries_in, calls_in}
 use Rattle.connection_history.specs.History.{Happening, History, units_of}
-use Rattle.connection_history.specs.Answers.{Due, open_yet, text, dues_along, dues}
-use Rattle.connection_history.specs.Items.{text_if_due, out, newly_out, answers_at}
-use Rattle.open_calls.specs.Owed.{OwedState, OwedUnit, unit_text}
-use Rattle.connection_states.specs.States.{unit_slots, is_batch, owed_slots, owed_unit, owed_along, owed_of}
+use Rattle.connection_history.specs.Answers.{Due, open_yet, nothing, text, dues_along, dues}
+use Rattle.connection_history.specs.Items.{out, newly_out, answers_at}
+use Rattle.open_calls.specs.Owed.{OwedState, OwedUnit, unit_texts}
+use Rattle.connection_states.specs.States.{unit_slots, is_batch, owed_slots, is_settled, gone, owed_unit, owed_along, owed_of}
 use Rattle.connection_states.specs.Steps.{is_complete, incomplete_rest, staying}
-use Rattle.connection_states.proofs.OwedSlots.{Slots, unit_with, due_slots, due_owed, due-slots}
+use Rattle.connection_states.proofs.OwedSlots.{Slots, unit_with, due_text, due_slots, due_owed, due-slots}
 
 -- ---- units with their slots
 
@@ -37,68 +37,90 @@ pub dues-slots : (history : History) (n : ℕ) (us : List Unit) → dues_along h
 dues-slots history n [] = refl
 dues-slots history n (u ∷ us) = λ i. due-slots history n u i ∷ dues-slots history (n + length (calls_in (entries_in u))) us i
 
--- ---- those whose answer isn't out
+-- ---- those that aren't done with
 
-abbrev row : ℕ → OwedUnit → Option (List ℕ) → List (ℕ × OwedUnit)
-row place w (Some t) = []
-row place w None = owed_slots place w.is_batch w.slots
+abbrev row : ℕ → OwedUnit → Bool → List (ℕ × OwedUnit)
+row place w true = []
+row place w false = owed_slots place w.is_batch w.slots
 
-abbrev rows : ℕ → List OwedUnit → List (Option (List ℕ)) → List (ℕ × OwedUnit)
-rows place [] outs = []
+abbrev rows : ℕ → List OwedUnit → List Bool → List (ℕ × OwedUnit)
+rows place [] done = []
 rows place (w ∷ ws) [] = []
-rows place (w ∷ ws) (o ∷ outs) = row place w o ++ rows (place + 1) ws outs
+rows place (w ∷ ws) (d ∷ done) = row place w d ++ rows (place + 1) ws done
 
-unit-row : (history : History) (place n : ℕ) (u : Unit) (o : Option (List ℕ)) → owed_unit history place n u o ≡ row place (unit_with (is_batch u) (unit_slots history n u)) o
-unit-row history place n u None = refl
-unit-row history place n u (Some t) = refl
+unit-row : (history : History) (place n : ℕ) (u : Unit) (d : Bool) → owed_unit history place n u d ≡ row place (unit_with (is_batch u) (unit_slots history n u)) d
+unit-row history place n u true = refl
+unit-row history place n u false = refl
 
-along-rows : (history : History) (place n : ℕ) (us : List Unit) (outs : List (Option (List ℕ))) → owed_along history place n us outs ≡ rows place (with_slots history n us) outs
-along-rows history place n [] outs = refl
+along-rows : (history : History) (place n : ℕ) (us : List Unit) (done : List Bool) → owed_along history place n us done ≡ rows place (with_slots history n us) done
+along-rows history place n [] done = refl
 along-rows history place n (u ∷ us) [] = refl
-along-rows history place n (u ∷ us) (o ∷ outs) =
-    λ i. unit-row history place n u o i ++ along-rows history (place + 1) (n + length (calls_in (entries_in u))) us outs i
+along-rows history place n (u ∷ us) (d ∷ done) =
+    λ i. unit-row history place n u d i ++ along-rows history (place + 1) (n + length (calls_in (entries_in u))) us done i
 
 abbrev is_incomplete : ℕ × OwedUnit → Bool
 is_incomplete e = not (is_complete e.1)
 
--- as answered, each that is complete is out
-kept_if : (b : Bool) (place : ℕ) (batch : Bool) (s : Option (List ℕ)) (ss : Slots) (t : List ℕ)
-    → row place (unit_with batch (s ∷ ss)) (text_if_due (cond b (text t) open_yet)) ≡ cond (not b) ((place, unit_with batch (s ∷ ss)) ∷ []) []
-kept_if true place batch s ss t = refl
-kept_if false place batch s ss t = refl
+-- a unit is settled where it is complete
+text-settled : (ts : List (List ℕ)) → is_settled (due_text ts) ≡ true
+text-settled [] = refl
+text-settled (t ∷ ts) = refl
 
-answered_row : (place : ℕ) (batch : Bool) (ss : Slots) → row place (unit_with batch ss) (text_if_due (due_slots batch ss)) ≡ filter is_incomplete (owed_slots place batch ss)
+settled_if : (b : Bool) (ts : List (List ℕ)) → is_settled (cond b (due_text ts) open_yet) ≡ b
+settled_if true ts = text-settled ts
+settled_if false ts = refl
+
+settled-complete : (w : OwedUnit) → is_settled (due_owed w) ≡ is_complete w
+settled-complete w = settled_if (is_complete w) (unit_texts w)
+
+-- as answered, each that is complete is done with
+kept_if : (b : Bool) (place : ℕ) (batch : Bool) (s : Option (List ℕ)) (ss : Slots)
+    → row place (unit_with batch (s ∷ ss)) b ≡ cond (not b) ((place, unit_with batch (s ∷ ss)) ∷ []) []
+kept_if true place batch s ss = refl
+kept_if false place batch s ss = refl
+
+answered_row : (place : ℕ) (batch : Bool) (ss : Slots) → row place (unit_with batch ss) (is_settled (due_slots batch ss)) ≡ filter is_incomplete (owed_slots place batch ss)
 answered_row place batch [] = refl
-answered_row place batch (s ∷ ss) = kept_if (is_complete (unit_with batch (s ∷ ss))) place batch s ss (unit_text (unit_with batch (s ∷ ss)))
+answered_row place batch (s ∷ ss) =
+    ap (row place (unit_with batch (s ∷ ss))) (settled-complete (unit_with batch (s ∷ ss))) ∙ kept_if (is_complete (unit_with batch (s ∷ ss))) place batch s ss
 
-answered_rows : (place : ℕ) (ws : List OwedUnit) → rows place ws (out AsAnswered (dues_of ws)) ≡ filter is_incomplete (placed place ws)
+answered_rows : (place : ℕ) (ws : List OwedUnit) → rows place ws (gone AsAnswered (dues_of ws)) ≡ filter is_incomplete (placed place ws)
 answered_rows place [] = refl
 answered_rows place (w ∷ ws) =
     (λ i. answered_row place w.is_batch w.slots i ++ answered_rows (place + 1) ws i)
     ∙ sym (filter-append is_incomplete (owed_slots place w.is_batch w.slots) (placed (place + 1) ws))
 
--- as came, none is out from the first that isn't complete on
-none_out : (place : ℕ) (ws : List OwedUnit) → rows place ws (map (λ d. None) (dues_of ws)) ≡ placed place ws
-none_out place [] = refl
-none_out place (w ∷ ws) = ap (λ l. owed_slots place w.is_batch w.slots ++ l) (none_out (place + 1) ws)
+-- as came, none is done with from the first that isn't complete on
+none_done : (place : ℕ) (ws : List OwedUnit) → rows place ws (map (λ d. false) (dues_of ws)) ≡ placed place ws
+none_done place [] = refl
+none_done place (w ∷ ws) = ap (λ l. owed_slots place w.is_batch w.slots ++ l) (none_done (place + 1) ws)
 
-came_if : (b : Bool) (place : ℕ) (batch : Bool) (s : Option (List ℕ)) (ss : Slots) (t : List ℕ) (ws : List OwedUnit)
-    → rows (place + 1) ws (out AsCame (dues_of ws)) ≡ incomplete_rest (placed (place + 1) ws)
-    → rows place (unit_with batch (s ∷ ss) ∷ ws) (out AsCame (cond b (text t) open_yet ∷ dues_of ws))
+gone-came : (d : Due) (ds : List Due) → gone AsCame (d ∷ ds) ≡ cond (is_settled d) (true ∷ gone AsCame ds) (false ∷ map (λ d. false) ds)
+gone-came open_yet ds = refl
+gone-came nothing ds = refl
+gone-came (text t) ds = refl
+
+came_if : (b : Bool) (place : ℕ) (batch : Bool) (s : Option (List ℕ)) (ss : Slots) (ws : List OwedUnit)
+    → rows (place + 1) ws (gone AsCame (dues_of ws)) ≡ incomplete_rest (placed (place + 1) ws)
+    → rows place (unit_with batch (s ∷ ss) ∷ ws) (cond b (true ∷ gone AsCame (dues_of ws)) (false ∷ map (λ d. false) (dues_of ws)))
     ≡ cond b (incomplete_rest (placed (place + 1) ws)) ((place, unit_with batch (s ∷ ss)) ∷ placed (place + 1) ws)
-came_if true place batch s ss t ws more = more
-came_if false place batch s ss t ws more = ap (λ l. (place, unit_with batch (s ∷ ss)) ∷ l) (none_out (place + 1) ws)
+came_if true place batch s ss ws more = more
+came_if false place batch s ss ws more = ap (λ l. (place, unit_with batch (s ∷ ss)) ∷ l) (none_done (place + 1) ws)
 
-came_row : (place : ℕ) (batch : Bool) (ss : Slots) (ws : List OwedUnit) → rows (place + 1) ws (out AsCame (dues_of ws)) ≡ incomplete_rest (placed (place + 1) ws)
-    → rows place (unit_with batch ss ∷ ws) (out AsCame (due_slots batch ss ∷ dues_of ws)) ≡ incomplete_rest (owed_slots place batch ss ++ placed (place + 1) ws)
+came_row : (place : ℕ) (batch : Bool) (ss : Slots) (ws : List OwedUnit) → rows (place + 1) ws (gone AsCame (dues_of ws)) ≡ incomplete_rest (placed (place + 1) ws)
+    → rows place (unit_with batch ss ∷ ws) (gone AsCame (due_slots batch ss ∷ dues_of ws)) ≡ incomplete_rest (owed_slots place batch ss ++ placed (place + 1) ws)
 came_row place batch [] ws more = more
-came_row place batch (s ∷ ss) ws more = came_if (is_complete (unit_with batch (s ∷ ss))) place batch s ss (unit_text (unit_with batch (s ∷ ss))) ws more
+came_row place batch (s ∷ ss) ws more =
+    let w = unit_with batch (s ∷ ss) in
+    ap (rows place (w ∷ ws))
+    (gone-came (due_owed w) (dues_of ws) ∙ ap (λ b. cond b (true ∷ gone AsCame (dues_of ws)) (false ∷ map (λ d. false) (dues_of ws))) (settled-complete w))
+    ∙ came_if (is_complete w) place batch s ss ws more
 
-came_rows : (place : ℕ) (ws : List OwedUnit) → rows place ws (out AsCame (dues_of ws)) ≡ incomplete_rest (placed place ws)
+came_rows : (place : ℕ) (ws : List OwedUnit) → rows place ws (gone AsCame (dues_of ws)) ≡ incomplete_rest (placed place ws)
 came_rows place [] = refl
 came_rows place (w ∷ ws) = came_row place w.is_batch w.slots ws (came_rows (place + 1) ws)
 
-rows-staying : (order : Order) (place : ℕ) (ws : List OwedUnit) → rows place ws (out order (dues_of ws)) ≡ staying order (placed place ws)
+rows-staying : (order : Order) (place : ℕ) (ws : List OwedUnit) → rows place ws (gone order (dues_of ws)) ≡ staying order (placed place ws)
 rows-staying AsAnswered place ws = answered_rows place ws
 rows-staying AsCame place ws = came_rows place ws
 
@@ -109,8 +131,8 @@ state_with places owed = record { places = places; owed = owed }
 pub owed-slots : (order : Order) (history : History) → owed_of order history ≡ state_with (length (units_of history)) (staying order (placed 0 (all_units history)))
 owed-slots order history =
     ap (state_with (length (units_of history)))
-    (along-rows history 0 1 (units_of history) (out order (dues history))
-    ∙ ap (λ ds. rows 0 (all_units history) (out order ds)) (dues-slots history 1 (units_of history)) ∙ rows-staying order 0 (all_units history))
+    (along-rows history 0 1 (units_of history) (gone order (dues history))
+    ∙ ap (λ ds. rows 0 (all_units history) (gone order ds)) (dues-slots history 1 (units_of history)) ∙ rows-staying order 0 (all_units history))
 
 -- what is written when something happens
 pub answers-slots : (order : Order) (past : History) (h : Happening)

@@ -2,7 +2,6 @@
 use Rattle.std.proofs.Common.{◌≡◌, ℕ, ◌+◌, ◌≤◌, List, [], ◌∷◌, ◌++◌, length, Option, Some, None, refl, sym, ap, ◌∙◌, append-nil, arith}
 use Rattle.std.specs.Prelude.{option_map}
 use Rattle.message_ids.specs.declared.id.Id.{Id}
-use Rattle.connection_messages.specs.Texts.{answer_text}
 use Rattle.connection_messages.specs.declared.entry.Entry.{Entry}
 use Rattle.connection_messages.specs.declared.entry.Entry.TheVariants.{Call, Cancel, Reply, Stray, Invalid}
 use Rattle.connection_messages.specs.declared.unit.Unit.{Unit}
@@ -12,7 +11,7 @@ use Rattle.connection_history.specs.Stream.{entries_in, call_in, calls_in}
 use Rattle.connection_history.specs.History.{Happening, History, units_of, units_at, or_else, answer_at, answer_to}
 use Rattle.connection_history.specs.Items.{out, newly_at, newly_out, answers_at}
 use Rattle.connection_history.proofs.Tests.{or_else-none}
-use Rattle.connection_states.specs.States.{call_slots, entry_slots, slots_along, unit_slots, is_batch, owed_of}
+use Rattle.connection_states.specs.States.{given_text, call_slots, entry_slots, slots_along, unit_slots, is_batch, owed_of}
 use Rattle.connection_states.specs.Steps.{staying}
 use Rattle.connection_states.proofs.OwedSlots.{unit_with}
 use Rattle.connection_states.proofs.OwedRows.{with_slots, all_units, placed, dues_of, state_with, owed-slots, answers-slots}
@@ -27,7 +26,7 @@ later_on n more now was same k from = same k (omega arith)
 module _ (now was : History) where
   call-same : (n : ℕ) (id : Option Id) → SameFrom n now was → call_slots now n id ≡ call_slots was n id
   call-same n None same = refl
-  call-same n (Some id) same = ap (λ o. option_map (answer_text id) o ∷ []) (same n (omega arith))
+  call-same n (Some id) same = ap (λ o. option_map (given_text id) o ∷ []) (same n (omega arith))
 
   entry-same : (n : ℕ) (e : Entry) → SameFrom n now was → entry_slots now n e ≡ entry_slots was n e
   entry-same n (Call c) same = call-same n c.id same
@@ -68,7 +67,7 @@ silent-all : (past : History) (h : Happening) → units_at h ≡ [] → IsSilent
 silent-all past h none silent =
     ap (with_slots (h ∷ past) 1) (silent-units past h none) ∙ units-same (h ∷ past) past 1 (units_of past) (silent-same past h silent)
 
-newly-none : (place : ℕ) (o : Option (List ℕ)) → newly_at place o o ≡ []
+pub newly-none : (place : ℕ) (o : Option (List ℕ)) → newly_at place o o ≡ []
 newly-none place None = refl
 newly-none place (Some t) = refl
 

@@ -8,7 +8,7 @@ use Rattle.connection_messages.specs.declared.reply.Reply.{Reply as Replied}
 use Rattle.connection_messages.specs.declared.unit.Unit.{Unit}
 use Rattle.connection_messages.specs.declared.unit.Unit.TheVariants.{Batch}
 use Rattle.connection_history.specs.Stream.{entries_in, call_numbered, first_reply}
-use Rattle.connection_history.specs.History.{Happening, came, History, or_else, stream, is_over, is_open, key_count, caller_of, reply_to, is_waiting, is_withdrawn}
+use Rattle.connection_history.specs.History.{Happening, came, History, or_else, stream, is_over, is_open, key_count, caller_of, reply_to, is_given_up, is_waiting, is_withdrawn, Origin}
 use Rattle.connection_history.specs.Refusals.{IsLawful}
 use Rattle.connection_history.proofs.Histories.{stream-came, answer_to-came, caller_of-came, caller_of-within, reply_to-came, waits}
 use Rattle.connection_history.proofs.OurCalls.{key_count-other}
@@ -21,6 +21,7 @@ use Rattle.open_calls.specs.Own.{OwnState}
 use Rattle.connection_states.specs.States.{own_call, own_of}
 use Rattle.connection_states.specs.Steps.{own_after}
 use Rattle.connection_states.proofs.OwnPicked.{picked, picked-agree, at-picked, filter-picked}
+use Rattle.connection_messages.specs.declared.cancels.Cancels.{Cancels}
 
 -- ---- our calls as a list
 
@@ -61,39 +62,39 @@ waits_at history key = sym (ap is_some (found history key) ∙ is_some-cond (is_
 -- ---- what comes
 
 -- it makes no call of ours and withdraws none
-pub own_call-came : (past : History) (u : Unit) (k : ℕ) → own_call k (came u ∷ past) ≡ own_call k past
-own_call-came past u k = ap (λ o. record { caller = unwrap_or o 0; is_withdrawn = is_withdrawn k past }) (caller_of-came k past u)
+pub own_call-came : (past : History) (from : Option Origin) (u : Unit) (k : ℕ) → own_call k (came from u ∷ past) ≡ own_call k past
+own_call-came past from u k = ap (λ o. record { caller = unwrap_or o 0; is_withdrawn = is_withdrawn k past }) (caller_of-came k past from u)
 
 neither : (b : Bool) (o : Option Replied) → or_else o (cond b None None) ≡ o
 neither true o = or_else-none o
 neither false o = or_else-none o
 
-nothing-open : (n : ℕ) (past : History) → is_open n (came (Batch []) ∷ past) ≡ is_open n past
+nothing-open : (n : ℕ) (past : History) → is_open n (came None (Batch []) ∷ past) ≡ is_open n past
 nothing-open zero past = refl
 nothing-open (suc n) past =
-    let same : stream (came (Batch []) ∷ past) ≡ stream past = stream-came past (Batch []) ∙ append-nil (stream past) in
-    λ i. is_some (call_numbered (suc n) (same i)) && is_none (answer_to-came (suc n) past (Batch []) i)
+    let same : stream (came None (Batch []) ∷ past) ≡ stream past = stream-came past None (Batch []) ∙ append-nil (stream past) in
+    λ i. is_some (call_numbered (suc n) (same i)) && is_none (answer_to-came (suc n) past None (Batch []) i)
 
-nothing-waiting : (k : ℕ) (past : History) → is_waiting k (came (Batch []) ∷ past) ≡ is_waiting k past
+nothing-waiting : (k : ℕ) (past : History) → is_waiting k (came None (Batch []) ∷ past) ≡ is_waiting k past
 nothing-waiting k past =
-    let reply : reply_to k (came (Batch []) ∷ past) ≡ reply_to k past = reply_to-came k past (Batch []) ∙ neither (is_some (caller_of k past)) (reply_to k past) in
-    λ i. option_map_or (λ n. nothing-open n past i) (caller_of-came k past (Batch []) i) false && is_none (reply i) && not (is_over past)
+    let reply : reply_to k (came None (Batch []) ∷ past) ≡ reply_to k past = reply_to-came k past None (Batch []) ∙ neither (is_some (caller_of k past)) (reply_to k past) in
+    λ i. option_map_or (λ n. nothing-open n past i) (caller_of-came k past None (Batch []) i) false && is_none (reply i) && not (is_over past) && not (is_given_up k past)
 
 -- an array with no entry changes nothing
-pub own_nothing : (past : History) → own_of (came (Batch []) ∷ past) ≡ own_of past
+pub own_nothing : (past : History) → own_of (came None (Batch []) ∷ past) ≡ own_of past
 own_nothing past =
-    own-changed past (came (Batch [])) (λ k. is_waiting k past) (λ k. own_call k past) (key_count-other past (came (Batch [])) refl)
-    (λ k some h. nothing-waiting k past) (λ k some h waiting. own_call-came past (Batch []) k)
+    own-changed past (came None (Batch [])) (λ k. is_waiting k past) (λ k. own_call k past) (key_count-other past (came None (Batch [])) refl)
+    (λ k some h. nothing-waiting k past) (λ k some h waiting. own_call-came past None (Batch []) k)
 
 -- our calls of a history that wait on after these entries
 abbrev pub unreplied : History → List Entry → OwnState
 unreplied past es = own_list (key_count past) (λ k. is_waiting k past && is_none (first_reply k es)) (λ k. own_call k past)
 
 -- when a unit comes, our calls wait on unless their reply is there
-pub own-came : (cancels : Bool) (past : History) (u : Unit) → IsLawful cancels past → own_of (came u ∷ past) ≡ unreplied past (entries_in u)
-own-came cancels past u lawful =
-    own-changed past (came u) (λ k. is_waiting k past && is_none (first_reply k (entries_in u))) (λ k. own_call k past) (key_count-other past (came u) refl)
-    (λ k some h. waiting-came cancels k past u lawful) (λ k some h waiting. own_call-came past u k)
+pub own-came : (cancels : Option Cancels) (past : History) (from : Option Origin) (u : Unit) → IsLawful cancels past → own_of (came from u ∷ past) ≡ unreplied past (entries_in u)
+own-came cancels past from u lawful =
+    own-changed past (came from u) (λ k. is_waiting k past && is_none (first_reply k (entries_in u))) (λ k. own_call k past) (key_count-other past (came from u) refl)
+    (λ k some h. waiting-came cancels k past from u lawful) (λ k some h waiting. own_call-came past from u k)
 
 none-later : (b : Bool) (o later : Option Replied) → later ≡ None → (b && is_none (or_else o later)) ≡ (b && is_none o)
 none-later b o later none = ap (λ p. b && is_none (or_else o p)) none ∙ ap (λ p. b && is_none p) (or_else-none o)
@@ -128,7 +129,7 @@ one_entry past front Stray = other_entry past front Stray (λ k. refl)
 one_entry past front Invalid = other_entry past front Invalid (λ k. refl)
 
 -- one entry more in an array that comes
-pub own_entry : (cancels : Bool) (past : History) (front : List Entry) (e : Entry) → IsLawful cancels past
-    → own_of (came (Batch (front ++ e ∷ [])) ∷ past) ≡ own_after e (own_of (came (Batch front) ∷ past))
+pub own_entry : (cancels : Option Cancels) (past : History) (front : List Entry) (e : Entry) → IsLawful cancels past
+    → own_of (came None (Batch (front ++ e ∷ [])) ∷ past) ≡ own_after e (own_of (came None (Batch front) ∷ past))
 own_entry cancels past front e lawful =
-    own-came cancels past (Batch (front ++ e ∷ [])) lawful ∙ one_entry past front e ∙ ap (own_after e) (sym (own-came cancels past (Batch front) lawful))
+    own-came cancels past None (Batch (front ++ e ∷ [])) lawful ∙ one_entry past front e ∙ ap (own_after e) (sym (own-came cancels past None (Batch front) lawful))

@@ -5,7 +5,7 @@ use Rattle.std.specs.Option.{is_none, option_map_or}
 use Rattle.connection_history.specs.declared.close.Close.{Close}
 use Rattle.connection_history.specs.declared.event.Event.TheVariants as event
 use Rattle.connection_history.specs.Events.{events_at}
-use Rattle.connection_history.specs.History.{ended, History, is_over, is_open, key_count, caller_of, reply_to, is_waiting, is_withdrawn, waiting}
+use Rattle.connection_history.specs.History.{ended, History, is_over, is_open, key_count, caller_of, reply_to, is_given_up, is_waiting, is_withdrawn, waiting}
 use Rattle.connection_history.specs.Refusals.{is_withdrawable, withdrawable}
 use Rattle.connection_history.proofs.Histories.{waits}
 use Rattle.connection_history.proofs.Numbers.{passing-agree}
@@ -51,7 +51,7 @@ same_wanted (Some m) n w d idle = sym (swapped (m == n) w d)
 
 -- a call that wasn't made doesn't wait
 pub unmade_idle : (k : ℕ) (history : History) → caller_of k history ≡ None → is_waiting k history ≡ false
-unmade_idle k history none = ap (λ o. option_map_or (λ n. is_open n history) o false && is_none (reply_to k history) && not (is_over history)) none
+unmade_idle k history none = ap (λ o. option_map_or (λ n. is_open n history) o false && is_none (reply_to k history) && not (is_over history) && not (is_given_up k history)) none
 
 -- the keys of those that a caller still wants
 pub withdrawable_found : (history : History) (number : ℕ) → withdrawable number history ≡ map (λ e. e.0) (filter (λ e. is_wanted_by number e.1) (own_of history).waiting)

@@ -1,5 +1,5 @@
 -- The calls that are open after one more thing happened.
-use Rattle.std.proofs.Common.{◌≡◌, ℕ, ◌<◌, ◌≤◌, ◌==◌, List, [], ◌∷◌, ◌++◌, length, Bool, true, false, cond, not, refl, sym, ap, subst, ◌∙◌, append-nil}
+use Rattle.std.proofs.Common.{◌≡◌, ℕ, ◌<◌, ◌≤◌, ◌==◌, List, [], ◌∷◌, ◌++◌, length, Bool, true, false, cond, not, refl, sym, ap, subst, ◌∙◌, append-nil, Option}
 use Rattle.std.proofs.lemmas.List.Elements.{filter-append}
 use Rattle.connection_messages.specs.declared.answer.Answer.{Answer}
 use Rattle.connection_messages.specs.declared.entry.Entry.{Entry}
@@ -14,6 +14,7 @@ use Rattle.open_calls.specs.Numbered.{without}
 use Rattle.open_calls.specs.Theirs.{TheirState}
 use Rattle.connection_states.specs.States.{theirs_of}
 use Rattle.connection_states.proofs.TheirSites.{sites_in, sites_of, seen_as, seen, all_seen, theirs-seen, AreSites, all-are}
+use Rattle.connection_messages.specs.declared.cancels.Cancels.{Cancels}
 
 -- ---- what is seen the same
 
@@ -62,8 +63,8 @@ pub after-noticed : (past : History) (o : Outgoing) → theirs_of (noticed o ∷
 after-noticed past o = said past (noticed o) refl (λ k. open-noticed k past o)
 
 -- a withdrawal
-pub after-withdrew : (past : History) (key : ℕ) → theirs_of (withdrew key ∷ past) ≡ theirs_of past
-after-withdrew past key = said past (withdrew key) refl (λ k. open-withdrew k past key)
+pub after-withdrew : (past : History) (by : Cancels) (key : ℕ) → theirs_of (withdrew by key ∷ past) ≡ theirs_of past
+after-withdrew past by key = said past (withdrew by key) refl (λ k. open-withdrew k past by key)
 
 -- the end of the input
 pub after-ended : (past : History) (close : Close) → theirs_of (ended close ∷ past) ≡ theirs_of past
@@ -80,7 +81,7 @@ kept_or_gone m s false true now hit is gone kept =
     ap (λ b. seen_as b hit s) (kept refl) ∙ sym (ap (λ b. cond (not b) ((s.0, record s.1 { is_cancelled = hit }) ∷ []) []) is)
 kept_or_gone m s false false now hit is gone kept = ap (λ b. seen_as b hit s) (kept refl)
 
-answered-seen : (past : History) (m : ℕ) (a : Answer) (es : List Entry) (ss : List (ℕ × TheirCall)) → AreSites es ss
+answered-seen : (past : History) (m : ℕ) (a : Option Answer) (es : List Entry) (ss : List (ℕ × TheirCall)) → AreSites es ss
     → all_seen (answered m a ∷ past) ss ≡ without m (all_seen past ss)
 answered-seen past m a es [] are = refl
 answered-seen past m a es (s ∷ ss) are =
@@ -93,7 +94,7 @@ answered-seen past m a es (s ∷ ss) are =
     ∙ sym (filter-append (λ (e : ℕ × TheirCall). not (m == e.0)) (seen past s) (all_seen past ss))
 
 -- a call that is answered isn't open any more
-pub after-answered : (past : History) (m : ℕ) (a : Answer)
+pub after-answered : (past : History) (m : ℕ) (a : Option Answer)
     → theirs_of (answered m a ∷ past) ≡ record (theirs_of past) { calls = without m (theirs_of past).calls }
 after-answered past m a =
     theirs-from (answered m a ∷ past) (length (calls_in (stream past))) (without m (theirs_of past).calls)

@@ -1,5 +1,5 @@
 -- The calls that are open after one more entry came, and after a unit.
-use Rattle.std.proofs.Common.{◌≡◌, ℕ, zero, suc, ◌+◌, ◌<◌, ◌≤◌, List, [], ◌∷◌, ◌++◌, length, None, Bool, true, false, cond, ◌&&◌, ◌||◌, not, refl, sym, ap, ◌∙◌, append_assoc, append-nil, arith}
+use Rattle.std.proofs.Common.{◌≡◌, ℕ, zero, suc, ◌+◌, ◌<◌, ◌≤◌, List, [], ◌∷◌, ◌++◌, length, None, Bool, true, false, cond, ◌&&◌, ◌||◌, not, refl, sym, ap, ◌∙◌, append_assoc, append-nil, arith, Option}
 use Rattle.std.proofs.lemmas.List.{map-append}
 use Rattle.std.specs.Prelude.{is_some}
 use Rattle.std.specs.Option.{is_none}
@@ -12,7 +12,7 @@ use Rattle.connection_messages.specs.declared.unit.Unit.{Unit}
 use Rattle.connection_messages.specs.declared.unit.Unit.TheVariants.{Batch}
 use Rattle.connection_history.specs.Stream.{entries_in, call_in, calls_in, call_numbered, request_id, after_call, cancels, is_cancelled}
 use Rattle.connection_history.specs.Events.{call_count}
-use Rattle.connection_history.specs.History.{came, History, units_of, stream, is_open, answer_to}
+use Rattle.connection_history.specs.History.{came, History, units_of, stream, is_open, answer_to, Origin}
 use Rattle.connection_history.specs.Refusals.{IsLawful}
 use Rattle.connection_history.proofs.Along.{so_far}
 use Rattle.connection_history.proofs.Histories.{stream-came, stream-entry, call_count-entry, answer_to-came}
@@ -26,6 +26,7 @@ use Rattle.connection_states.specs.States.{theirs_of}
 use Rattle.connection_states.specs.Steps.{cancelled_if, cancelled_all, theirs_after, theirs_after_all}
 use Rattle.connection_states.proofs.TheirAfter.{seen-agree, theirs-from, theirs-same}
 use Rattle.connection_states.proofs.TheirSites.{site, sites_along, sites_of, slots_in, seen_as, seen, all_seen, all_seen-append, theirs-seen, sites-entry, sites-unit, slots-entry, AreSites, all-are}
+use Rattle.connection_messages.specs.declared.cancels.Cancels.{Cancels}
 
 -- ---- an array that has brought nothing, and one that brings a unit's entries
 
@@ -33,9 +34,9 @@ opens-alike : (g h : History) → stream g ≡ stream h → ((k : ℕ) → answe
 opens-alike g h streams answers zero = refl
 opens-alike g h streams answers (suc k) = λ i. is_some (call_numbered (suc k) (streams i)) && is_none (answers (suc k) i)
 
-sites-came : (past : History) (u : Unit)
-    → sites_of (came u ∷ past) ≡ sites_of past ++ sites_along (length (units_of past)) (call_count past + 1) 0 (entries_in u)
-sites-came past u =
+sites-came : (past : History) (from : Option Origin) (u : Unit)
+    → sites_of (came from u ∷ past) ≡ sites_of past ++ sites_along (length (units_of past)) (call_count past + 1) 0 (entries_in u)
+sites-came past from u =
     let place : 0 + length (units_of past) ≡ length (units_of past) = omega arith in
     let number : 1 + call_count past ≡ call_count past + 1 = omega arith in
     sites-unit 0 1 (units_of past) u ∙ (λ i. sites_of past ++ sites_along (place i) (number i) 0 (entries_in u))
@@ -43,16 +44,16 @@ sites-came past u =
 -- an array that has brought nothing yet
 pub theirs-none : (past : History) → theirs_of (so_far past []) ≡ theirs_of past
 theirs-none past =
-    let streams : stream (so_far past []) ≡ stream past = stream-came past (Batch []) ∙ append-nil (stream past) in
-    theirs-same (so_far past []) past (sites-came past (Batch []) ∙ append-nil (sites_of past)) streams
-    (opens-alike (so_far past []) past streams (λ k. answer_to-came k past (Batch [])))
+    let streams : stream (so_far past []) ≡ stream past = stream-came past None (Batch []) ∙ append-nil (stream past) in
+    theirs-same (so_far past []) past (sites-came past None (Batch []) ∙ append-nil (sites_of past)) streams
+    (opens-alike (so_far past []) past streams (λ k. answer_to-came k past None (Batch [])))
 
 -- a unit is the array of its entries
-pub theirs-unit : (past : History) (u : Unit) → theirs_of (came u ∷ past) ≡ theirs_of (so_far past (entries_in u))
-theirs-unit past u =
-    let streams : stream (came u ∷ past) ≡ stream (so_far past (entries_in u)) = stream-came past u ∙ sym (stream-came past (Batch (entries_in u))) in
-    theirs-same (came u ∷ past) (so_far past (entries_in u)) (sites-came past u ∙ sym (sites-came past (Batch (entries_in u)))) streams
-    (opens-alike (came u ∷ past) (so_far past (entries_in u)) streams (λ k. refl))
+pub theirs-unit : (past : History) (from : Option Origin) (u : Unit) → theirs_of (came from u ∷ past) ≡ theirs_of (so_far past (entries_in u))
+theirs-unit past from u =
+    let streams : stream (came from u ∷ past) ≡ stream (so_far past (entries_in u)) = stream-came past from u ∙ sym (stream-came past None (Batch (entries_in u))) in
+    theirs-same (came from u ∷ past) (so_far past (entries_in u)) (sites-came past from u ∙ sym (sites-came past None (Batch (entries_in u)))) streams
+    (opens-alike (came from u ∷ past) (so_far past (entries_in u)) streams (λ k. refl))
 
 -- ---- one more entry
 
@@ -62,12 +63,12 @@ sites-more past front e =
     let place = length (units_of past) in
     let n = call_count past + 1 in
     let number : n + length (calls_in front) ≡ call_count (so_far past front) + 1 =
-    omega (arith, ap (λ es. length (calls_in es)) (stream-came past (Batch front)), length-calls_in-append (stream past) front) in
+    omega (arith, ap (λ es. length (calls_in es)) (stream-came past None (Batch front)), length-calls_in-append (stream past) front) in
     let slot : 0 + slots_in front ≡ slots_in front = omega arith in
-    sites-came past (Batch (front ++ e ∷ []))
+    sites-came past None (Batch (front ++ e ∷ []))
     ∙ ap (λ l. sites_of past ++ l) (sites-entry place n 0 front e ∙ (λ i. sites_along place n 0 front ++ site place (number i) (slot i) e))
     ∙ sym (append_assoc (sites_of past) (sites_along place n 0 front) (site place (call_count (so_far past front) + 1) (slots_in front) e))
-    ∙ ap (λ l. l ++ site place (call_count (so_far past front) + 1) (slots_in front) e) (sym (sites-came past (Batch front)))
+    ∙ ap (λ l. l ++ site place (call_count (so_far past front) + 1) (slots_in front) e) (sym (sites-came past None (Batch front)))
 
 -- a call that has come stays open, or isn't open
 open-more : (k : ℕ) (past : History) (front : List Entry) (e : Entry) → k ≤ call_count (so_far past front)
@@ -112,18 +113,18 @@ called_here : (place slot n : ℕ) (past : History) (front : List Entry) (c : Ca
 called_here place slot n past front c new within none =
     let h = so_far past front in
     opened-new (n, new_call c.id place slot) (is_open n (so_far past (front ++ Call c ∷ []))) (is_cancelled n (stream (so_far past (front ++ Call c ∷ []))))
-    (open-new n past (Batch (front ++ Call c ∷ [])) (omega arith) within none)
+    (open-new n past None (Batch (front ++ Call c ∷ [])) (omega arith) within none)
     (hit-more n past front (Call c) ∙ or-false (is_cancelled n (stream h))
     ∙ ap (λ id. cancels id (after_call n (stream h))) (request_id-unknown n (stream h) new) ∙ cancels-none (after_call n (stream h)))
 
-came_call : (cancels : Bool) (past : History) (front : List Entry) (c : Came) → IsLawful cancels past
+came_call : (cancels : Option Cancels) (past : History) (front : List Entry) (c : Came) → IsLawful cancels past
     → theirs_of (so_far past (front ++ Call c ∷ [])) ≡ theirs_after (length (units_of past)) (slots_in front) (Call c) (theirs_of (so_far past front))
 came_call cancels past front c lawful =
     let g = so_far past (front ++ Call c ∷ []) in
     let h = so_far past front in
     let n = call_count h + 1 in
     let new : List (ℕ × TheirCall) = (n, new_call c.id (length (units_of past)) (slots_in front)) ∷ [] in
-    let before : call_count past < n = omega (arith, ap (λ es. length (calls_in es)) (stream-came past (Batch front)), length-calls_in-append (stream past) front) in
+    let before : call_count past < n = omega (arith, ap (λ es. length (calls_in es)) (stream-came past None (Batch front)), length-calls_in-append (stream past) front) in
     let now : call_count g ≡ n = call_count-entry past front (Call c) in
     theirs-from g n ((theirs_of h).calls ++ new) now
     (ap (all_seen g) (sites-more past front (Call c)) ∙ all_seen-append g (sites_of h) new
@@ -164,7 +165,7 @@ came_cancel past front id place slot =
 -- ---- entries
 
 -- what one more entry changes
-pub theirs-entry : (cancels : Bool) (past : History) (front : List Entry) (e : Entry) → IsLawful cancels past
+pub theirs-entry : (cancels : Option Cancels) (past : History) (front : List Entry) (e : Entry) → IsLawful cancels past
     → theirs_of (so_far past (front ++ e ∷ [])) ≡ theirs_after (length (units_of past)) (slots_in front) e (theirs_of (so_far past front))
 theirs-entry cancels past front (Call c) lawful = came_call cancels past front c lawful
 theirs-entry cancels past front (Cancel id) lawful = came_cancel past front id (length (units_of past)) (slots_in front)
@@ -173,7 +174,7 @@ theirs-entry cancels past front Stray lawful = other past front Stray (λ id. re
 theirs-entry cancels past front Invalid lawful = other past front Invalid (λ id. refl) refl refl
 
 -- what more entries change
-pub theirs-entries : (cancels : Bool) (past : History) (front es : List Entry) → IsLawful cancels past
+pub theirs-entries : (cancels : Option Cancels) (past : History) (front es : List Entry) → IsLawful cancels past
     → theirs_of (so_far past (front ++ es)) ≡ theirs_after_all (length (units_of past)) (slots_in front) es (theirs_of (so_far past front))
 theirs-entries cancels past front [] lawful = ap (λ l. theirs_of (so_far past l)) (append-nil front)
 theirs-entries cancels past front (e ∷ es) lawful =
@@ -183,8 +184,8 @@ theirs-entries cancels past front (e ∷ es) lawful =
     ∙ (λ i. theirs_after_all place (slots-entry front e i) es (theirs-entry cancels past front e lawful i))
 
 -- what a unit changes
-pub theirs-came : (cancels : Bool) (past : History) (u : Unit) → IsLawful cancels past
-    → theirs_of (came u ∷ past) ≡ theirs_after_all (length (units_of past)) 0 (entries_in u) (theirs_of past)
-theirs-came cancels past u lawful =
-    theirs-unit past u ∙ theirs-entries cancels past [] (entries_in u) lawful
+pub theirs-came : (cancels : Option Cancels) (past : History) (from : Option Origin) (u : Unit) → IsLawful cancels past
+    → theirs_of (came from u ∷ past) ≡ theirs_after_all (length (units_of past)) 0 (entries_in u) (theirs_of past)
+theirs-came cancels past from u lawful =
+    theirs-unit past from u ∙ theirs-entries cancels past [] (entries_in u) lawful
     ∙ ap (theirs_after_all (length (units_of past)) 0 (entries_in u)) (theirs-none past)

@@ -1,7 +1,7 @@
 -- A call is looked up by its number.
-use Rattle.std.proofs.Common.{◌≡◌, ℕ, zero, suc, ◌<◌, ◌≤◌, ◌==◌, List, [], ◌∷◌, ◌++◌, Some, Bool, true, false, cond, ◌&&◌, ◌||◌, inl, inr, refl, sym, ap, ◌∙◌, arith}
+use Rattle.std.proofs.Common.{◌≡◌, ℕ, zero, suc, ◌<◌, ◌≤◌, ◌==◌, List, [], ◌∷◌, ◌++◌, Option, Some, Bool, true, false, cond, ◌&&◌, ◌||◌, inl, inr, refl, sym, ap, ◌∙◌, arith}
 use Rattle.std.proofs.lemmas.Bool.{cases_lt}
-use Rattle.std.specs.Prelude.{is_some}
+use Rattle.std.specs.Prelude.{is_some, option_map, unwrap_or}
 use Rattle.connection_history.specs.Stream.{is_cancelled}
 use Rattle.connection_history.specs.Events.{call_count}
 use Rattle.connection_history.specs.History.{History, stream, units_of, is_open, numbers_to}
@@ -66,3 +66,24 @@ found history n =
     let known = open_known n history opened in
     ap (is_among (suc n)) (all-numbers history) ∙ among-numbers (suc n) (call_count history) (omega arith) (call_numbered-within (suc n) (stream history) known.0 known.1).1)
     ∙ sym (ap (λ cs. is_some (at (suc n) cs)) (theirs-seen history 0 1 (units_of history)) ∙ seen-at (suc n) history (sites_of history))
+
+-- what stands under a number is cancelled where the request is
+seen_cancelled : (n : ℕ) (history : History) (s : ℕ × TheirCall) (rest : List (ℕ × TheirCall)) (opened test : Bool) (call : TheirCall) → (n == s.0) ≡ test
+    → (at n rest ≡ Some call → call.is_cancelled ≡ is_cancelled n (stream history))
+    → at n (seen_as opened (is_cancelled s.0 (stream history)) s ++ rest) ≡ Some call → call.is_cancelled ≡ is_cancelled n (stream history)
+seen_cancelled n history s rest false test call is later there = later there
+seen_cancelled n history s rest true true call is later there =
+    let here : Some (record s.1 { is_cancelled = is_cancelled s.0 (stream history) }) ≡ Some call =
+    sym (ap (λ b. cond b (Some (record s.1 { is_cancelled = is_cancelled s.0 (stream history) })) (at n rest)) is) ∙ there in
+    let its : is_cancelled s.0 (stream history) ≡ call.is_cancelled = ap (λ (o : Option TheirCall). unwrap_or (option_map (λ (c : TheirCall). c.is_cancelled) o) false) here in
+    sym its ∙ ap (λ k. is_cancelled k (stream history)) (sym (same n s.0 is))
+seen_cancelled n history s rest true false call is later there =
+    later (sym (ap (λ b. cond b (Some (record s.1 { is_cancelled = is_cancelled s.0 (stream history) })) (at n rest)) is) ∙ there)
+
+all_cancelled : (n : ℕ) (history : History) (ss : List (ℕ × TheirCall)) (call : TheirCall) → at n (all_seen history ss) ≡ Some call → call.is_cancelled ≡ is_cancelled n (stream history)
+all_cancelled n history [] call there = absurd (cc)
+all_cancelled n history (s ∷ ss) call there =
+    seen_cancelled n history s (all_seen history ss) (is_open s.0 history) (n == s.0) call refl (all_cancelled n history ss call) there
+
+pub cancelled_found : (history : History) (n : ℕ) (call : TheirCall) → at n (theirs_of history).calls ≡ Some call → call.is_cancelled ≡ is_cancelled n (stream history)
+cancelled_found history n call there = all_cancelled n history (sites_of history) call (sym (ap (at n) (theirs-seen history 0 1 (units_of history))) ∙ there)

@@ -1,5 +1,5 @@
 -- What a unit tells, entry by entry.
-use Rattle.std.proofs.Common.{◌≡◌, ℕ, ◌+◌, List, [], ◌∷◌, ◌++◌, length, map, Bool, true, false, cond, ◌&&◌, not, refl, sym, ap, ◌∙◌}
+use Rattle.std.proofs.Common.{◌≡◌, ℕ, ◌+◌, List, [], ◌∷◌, ◌++◌, length, map, Bool, true, false, cond, ◌&&◌, not, refl, sym, ap, ◌∙◌, Option}
 use Rattle.std.proofs.lemmas.List.{map-append}
 use Rattle.std.specs.Prelude.{filter}
 use Rattle.message_ids.specs.Ids.{has_id}
@@ -9,18 +9,19 @@ use Rattle.connection_messages.specs.declared.entry.Entry.TheVariants.{Call, Can
 use Rattle.connection_messages.specs.declared.unit.Unit.{Unit}
 use Rattle.connection_history.specs.declared.event.Event.TheVariants as event
 use Rattle.connection_history.specs.Stream.{entries_in, request_id, is_cancelled}
-use Rattle.connection_history.specs.Events.{is_reached, reached, events_of_entry, events_along, events_at}
-use Rattle.connection_history.specs.History.{came, History, units_of, stream, is_open}
+use Rattle.connection_history.specs.Events.{is_reached, reached, events_of_entry, events_along, events_at, broken_at}
+use Rattle.connection_history.specs.History.{came, History, units_of, stream, is_open, Origin}
 use Rattle.connection_history.specs.Refusals.{IsLawful}
 use Rattle.connection_history.proofs.Along.{so_far}
 use Rattle.open_calls.specs.declared.their_call.TheirCall.{TheirCall}
 use Rattle.open_calls.specs.Own.{OwnState}
 use Rattle.open_calls.specs.Theirs.{TheirState, new_call, cancelled, is_reached as reaches}
 use Rattle.connection_states.specs.States.{own_of, theirs_of}
-use Rattle.connection_states.specs.Steps.{reached_numbers, cancelled_all, theirs_after, own_after, told_of, told_of_all}
+use Rattle.connection_states.specs.Steps.{reached_numbers, cancelled_all, theirs_after, own_after, told_of, told_of_all, told_of_unit}
 use Rattle.connection_states.proofs.OwnEntries.{waits_at, own_nothing, own_entry}
 use Rattle.connection_states.proofs.TheirEntries.{theirs-none, theirs-entry}
 use Rattle.connection_states.proofs.TheirSites.{sites_of, slots_in, seen_as, all_seen, theirs-seen, AreSites, all-are, numbers_in, all-numbers}
+use Rattle.connection_messages.specs.declared.cancels.Cancels.{Cancels}
 
 -- ---- what a cancel reaches
 
@@ -116,7 +117,7 @@ same_told own s place slot e es =
 -- ---- entries
 
 -- entries tell the same, one after another
-pub told-along : (cancels : Bool) (past : History) (front es : List Entry) → IsLawful cancels past
+pub told-along : (cancels : Option Cancels) (past : History) (front es : List Entry) → IsLawful cancels past
     → events_along past front es ≡ told_of_all (own_of (so_far past front)) (theirs_of (so_far past front)) es
 told-along cancels past front [] lawful = refl
 told-along cancels past front (e ∷ es) lawful =
@@ -128,6 +129,7 @@ told-along cancels past front (e ∷ es) lawful =
     ∙ same_told (own_after e own) theirs (length (units_of past)) (slots_in front) e es) i
 
 -- what a unit tells
-pub told-came : (cancels : Bool) (past : History) (u : Unit) → IsLawful cancels past → events_at past (came u) ≡ told_of_all (own_of past) (theirs_of past) (entries_in u)
-told-came cancels past u lawful =
-    told-along cancels past [] (entries_in u) lawful ∙ (λ i. told_of_all (own_nothing past i) (theirs-none past i) (entries_in u))
+pub told-came : (cancels : Option Cancels) (past : History) (from : Option Origin) (u : Unit) → IsLawful cancels past → events_at past (came from u) ≡ told_of_unit from (own_of past) (theirs_of past) u
+told-came cancels past from u lawful =
+    ap (λ l. broken_at from u ++ l)
+    (told-along cancels past [] (entries_in u) lawful ∙ (λ i. told_of_all (own_nothing past i) (theirs-none past i) (entries_in u)))

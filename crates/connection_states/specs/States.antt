@@ -4,17 +4,18 @@ use Rattle.message_ids.specs.declared.id.Id.{Id}
 use Rattle.message_ids.specs.declared.id.Id.TheVariants.{Null}
 use Rattle.message_ids.specs.declared.standard.Standard.TheVariants.{ParseError, InvalidRequest}
 use Rattle.connection_messages.specs.Texts.{answer_text}
+use Rattle.connection_messages.specs.declared.answer.Answer.{Answer}
 use Rattle.connection_messages.specs.declared.answer.Answer.TheVariants.{Standard}
 use Rattle.connection_messages.specs.declared.entry.Entry.{Entry}
 use Rattle.connection_messages.specs.declared.entry.Entry.TheVariants.{Call, Cancel, Reply, Stray, Invalid}
 use Rattle.connection_messages.specs.declared.unit.Unit.{Unit}
 use Rattle.connection_messages.specs.declared.unit.Unit.TheVariants.{Unreadable, Single, Batch}
 use Rattle.connection_history.specs.declared.order.Order.{Order}
+use Rattle.connection_history.specs.declared.order.Order.TheVariants.{AsAnswered, AsCame}
 use Rattle.connection_history.specs.Stream.{entries_in, calls_in, call_in, is_cancelled}
 use Rattle.connection_history.specs.History.{History, stream, units_of, is_open, is_over, is_withdrawn, waiting, caller_of, key_count, answer_to}
 use Rattle.connection_history.specs.Events.{call_count}
-use Rattle.connection_history.specs.Answers.{dues}
-use Rattle.connection_history.specs.Items.{out}
+use Rattle.connection_history.specs.Answers.{Due, open_yet, nothing, text, dues}
 use Rattle.open_calls.specs.declared.own_call.OwnCall.{OwnCall}
 use Rattle.open_calls.specs.declared.their_call.TheirCall.{TheirCall}
 use Rattle.open_calls.specs.Own.{OwnState}
@@ -38,10 +39,15 @@ own_of history = record { made = key_count history; waiting = map (λ k. (k, own
 
 -- ---- answers
 
+-- the text of a slot that a request with this id has: that of a call which is closed without an answer is empty
+abbrev pub given_text : Id → Option Answer → List ℕ
+given_text id None = []
+given_text id (Some a) = answer_text id a
+
 -- the slot of a call in its unit's answer: a notification has none, and a request has its text once it is answered
 abbrev pub call_slots : History → ℕ → Option Id → List (Option (List ℕ))
 call_slots history n None = []
-call_slots history n (Some id) = option_map (answer_text id) (answer_to n history) ∷ []
+call_slots history n (Some id) = option_map (given_text id) (answer_to n history) ∷ []
 
 abbrev pub invalid_slot : Option (List ℕ)
 invalid_slot = Some (answer_text Null (Standard InvalidRequest))
@@ -71,25 +77,39 @@ is_batch Unreadable = false
 is_batch (Single e) = false
 is_batch (Batch es) = true
 
--- a unit whose answer isn't out, where it has any
+-- whether all requests of a unit are answered, or closed without an answer
+abbrev pub is_settled : Due → Bool
+is_settled open_yet = false
+is_settled nothing = true
+is_settled (text t) = true
+
+-- Of each unit whether it is done with: as answered, once it is settled; as came, once no unit up to it is open.
+abbrev pub gone : Order → List Due → List Bool
+gone AsAnswered due = map is_settled due
+gone AsCame [] = []
+gone AsCame (open_yet ∷ due) = false ∷ map (λ d. false) due
+gone AsCame (nothing ∷ due) = true ∷ gone AsCame due
+gone AsCame (text t ∷ due) = true ∷ gone AsCame due
+
+-- a unit that isn't done with, where it has any answer
 abbrev pub owed_slots : ℕ → Bool → List (Option (List ℕ)) → List (ℕ × OwedUnit)
 owed_slots place batch [] = []
 owed_slots place batch (s ∷ ss) = (place, record { is_batch = batch; slots = s ∷ ss }) ∷ []
 
-abbrev pub owed_unit : History → ℕ → ℕ → Unit → Option (List ℕ) → List (ℕ × OwedUnit)
-owed_unit history place n u (Some text) = []
-owed_unit history place n u None = owed_slots place (is_batch u) (unit_slots history n u)
+abbrev pub owed_unit : History → ℕ → ℕ → Unit → Bool → List (ℕ × OwedUnit)
+owed_unit history place n u true = []
+owed_unit history place n u false = owed_slots place (is_batch u) (unit_slots history n u)
 
--- of units from this place on, whose next call has this number, and what of them is out
-abbrev pub owed_along : History → ℕ → ℕ → List Unit → List (Option (List ℕ)) → List (ℕ × OwedUnit)
-owed_along history place n [] outs = []
+-- of units from this place on, whose next call has this number, and which of them are done with
+abbrev pub owed_along : History → ℕ → ℕ → List Unit → List Bool → List (ℕ × OwedUnit)
+owed_along history place n [] done = []
 owed_along history place n (u ∷ us) [] = []
-owed_along history place n (u ∷ us) (o ∷ outs) =
-    owed_unit history place n u o ++ owed_along history (place + 1) (n + length (calls_in (entries_in u))) us outs
+owed_along history place n (u ∷ us) (d ∷ done) =
+    owed_unit history place n u d ++ owed_along history (place + 1) (n + length (calls_in (entries_in u))) us done
 
--- the units whose answer isn't out, by their places
+-- the units that aren't done with, by their places
 abbrev pub owed_of : Order → History → OwedState
-owed_of order history = record { places = length (units_of history); owed = owed_along history 0 1 (units_of history) (out order (dues history)) }
+owed_of order history = record { places = length (units_of history); owed = owed_along history 0 1 (units_of history) (gone order (dues history)) }
 
 -- ---- the other side's calls
 

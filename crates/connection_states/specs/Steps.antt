@@ -1,8 +1,9 @@
 -- What each happening changes of what stands open.
 use Rattle.std.specs.Prelude.{ℕ, ◌+◌, ◌==◌, not, List, [], ◌∷◌, ◌++◌, Bool, true, map, filter, flat_map, Option, Some, None, is_some, if◌then◌else◌}
 use Rattle.message_ids.specs.declared.id.Id.{Id}
-use Rattle.connection_messages.specs.Texts.{answer_text}
 use Rattle.connection_messages.specs.declared.answer.Answer.{Answer}
+use Rattle.connection_messages.specs.declared.cancels.Cancels.{Cancels}
+use Rattle.connection_messages.specs.declared.cancels.Cancels.TheVariants.{Lsp, Mcp}
 use Rattle.connection_messages.specs.declared.entry.Entry.{Entry}
 use Rattle.connection_messages.specs.declared.entry.Entry.TheVariants.{Call, Cancel, Reply, Stray, Invalid}
 use Rattle.connection_messages.specs.declared.unit.Unit.{Unit}
@@ -13,13 +14,16 @@ use Rattle.connection_history.specs.declared.event.Event.TheVariants as event
 use Rattle.connection_history.specs.declared.order.Order.{Order}
 use Rattle.connection_history.specs.declared.order.Order.TheVariants.{AsAnswered, AsCame}
 use Rattle.connection_history.specs.Stream.{entries_in}
+use Rattle.connection_history.specs.Events.{broken_at}
+use Rattle.connection_history.specs.History.{Origin}
 use Rattle.connection_history.specs.Items.{Item, answer}
+use Rattle.open_calls.specs.declared.own_call.OwnCall.{OwnCall}
 use Rattle.open_calls.specs.declared.their_call.TheirCall.{TheirCall}
 use Rattle.open_calls.specs.Numbered.{at, without, changed_at}
 use Rattle.open_calls.specs.Own.{OwnState, new_calls, withdrawn, without_caller}
 use Rattle.open_calls.specs.Theirs.{TheirState, new_call, is_reached, cancelled}
-use Rattle.open_calls.specs.Owed.{OwedState, OwedUnit, given, lacking, unit_text}
-use Rattle.connection_states.specs.States.{State, is_batch, invalid_slot, unreadable_slot, owed_slots, slot_count}
+use Rattle.open_calls.specs.Owed.{OwedState, OwedUnit, given, lacking, unit_texts}
+use Rattle.connection_states.specs.States.{State, is_batch, given_text, invalid_slot, unreadable_slot, owed_slots, slot_count}
 
 -- ---- the entries of a unit
 
@@ -70,6 +74,10 @@ abbrev pub told_of_all : OwnState → TheirState → List Entry → List Event
 told_of_all own theirs [] = []
 told_of_all own theirs (e ∷ es) = told_of own theirs e ++ told_of_all (own_after e own) (theirs_after 0 0 e theirs) es
 
+-- What is told of a unit that came: where broken input is told, first what is broken.
+abbrev pub told_of_unit : Option Origin → OwnState → TheirState → Unit → List Event
+told_of_unit o own theirs u = broken_at o u ++ told_of_all own theirs (entries_in u)
+
 -- the slots that an entry brings
 abbrev pub new_call_slots : Option Id → List (Option (List ℕ))
 new_call_slots None = []
@@ -110,8 +118,12 @@ abbrev pub staying : Order → List (ℕ × OwedUnit) → List (ℕ × OwedUnit)
 staying AsAnswered owed = filter (λ e. not (is_complete e.1)) owed
 staying AsCame owed = incomplete_rest owed
 
+-- the answer of a unit, where it has any
+abbrev pub answer_of : ℕ × OwedUnit → List Item
+answer_of e = map (answer e.0) (unit_texts e.1)
+
 abbrev pub answers_of : List (ℕ × OwedUnit) → List Item
-answers_of owed = map (λ e. answer e.0 (unit_text e.1)) owed
+answers_of owed = flat_map answer_of owed
 
 -- ---- happenings
 
@@ -134,19 +146,24 @@ own_with n count s = record { made = s.made + count; waiting = s.waiting ++ new_
 abbrev pub after_called : ℕ → ℕ → State → State
 after_called n count s = record s { own = own_with n count s.own }
 
-abbrev pub after_withdrew : ℕ → State → State
-after_withdrew k s = record s { own = record s.own { waiting = changed_at k withdrawn s.own.waiting } }
+-- The calls that wait, where call k is withdrawn: by LSP's cancel it still waits, and by MCP's no longer.
+abbrev pub withdrawn_by : Cancels → ℕ → List (ℕ × OwnCall) → List (ℕ × OwnCall)
+withdrawn_by Lsp k waiting = changed_at k withdrawn waiting
+withdrawn_by Mcp k waiting = without k waiting
+
+abbrev pub after_withdrew : Cancels → ℕ → State → State
+after_withdrew by k s = record s { own = record s.own { waiting = withdrawn_by by k s.own.waiting } }
 
 -- the answer of a call stands in its slot; a notification has none
-abbrev pub given_to : Option Id → TheirCall → Answer → List (ℕ × OwedUnit) → List (ℕ × OwedUnit)
+abbrev pub given_to : Option Id → TheirCall → Option Answer → List (ℕ × OwedUnit) → List (ℕ × OwedUnit)
 given_to None call a owed = owed
-given_to (Some id) call a owed = changed_at call.place (given call.slot (answer_text id a)) owed
+given_to (Some id) call a owed = changed_at call.place (given call.slot (given_text id a)) owed
 
-abbrev pub owed_given : Option TheirCall → Answer → List (ℕ × OwedUnit) → List (ℕ × OwedUnit)
+abbrev pub owed_given : Option TheirCall → Option Answer → List (ℕ × OwedUnit) → List (ℕ × OwedUnit)
 owed_given None a owed = owed
 owed_given (Some call) a owed = given_to call.id call a owed
 
-abbrev pub after_answered : Order → ℕ → Answer → State → State
+abbrev pub after_answered : Order → ℕ → Option Answer → State → State
 after_answered order n a s = record {
   own = record s.own { waiting = without_caller n s.own.waiting };
   theirs = record s.theirs { calls = without n s.theirs.calls };

@@ -1,19 +1,19 @@
 -- How often things have happened, and what each happening adds.
-use Rattle.std.specs.Prelude.{ℕ, ◌+◌, List, [], ◌∷◌, filter, length, is_some, if◌then◌else◌}
+use Rattle.std.specs.Prelude.{ℕ, ◌+◌, List, [], ◌∷◌, filter, length, Option, is_some, if◌then◌else◌}
 use Rattle.connection_messages.specs.declared.answer.Answer.{Answer}
 use Rattle.connection_messages.specs.declared.entry.Entry.{Entry}
 use Rattle.connection_messages.specs.declared.entry.Entry.TheVariants.{Call, Cancel, Reply, Stray, Invalid}
 use Rattle.connection_messages.specs.declared.unit.Unit.{Unit}
 use Rattle.connection_history.specs.declared.event.Event.{Event}
 use Rattle.connection_history.specs.declared.order.Order.{Order}
-use Rattle.connection_history.specs.Stream.{entries_in, calls_in}
+use Rattle.connection_history.specs.Stream.{entries_in, calls_in, is_invalid}
 use Rattle.connection_history.specs.History.{History}
-use Rattle.connection_history.specs.Counts.{request_count, answer_count, is_unreadable, unreadable_count, is_invalid, invalid_count, if_none, ignored_count}
+use Rattle.connection_history.specs.Counts.{request_count, answer_count, is_unreadable, unreadable_count, invalid_count, if_none, ignored_count}
 use Rattle.open_calls.specs.Numbered.{at}
 use Rattle.open_calls.specs.Own.{OwnState}
 use Rattle.open_calls.specs.Theirs.{TheirState}
 use Rattle.connection_states.specs.States.{State}
-use Rattle.connection_states.specs.Steps.{own_after, theirs_after, told_of, leaving, owed_with, owed_given}
+use Rattle.connection_states.specs.Steps.{own_after, theirs_after, told_of, answers_of, leaving, owed_with, owed_given}
 
 -- what is counted, and doesn't stand in a `State`
 pub record Tally : Type 0 where
@@ -62,7 +62,7 @@ ignored_in own theirs (e ∷ es) = ignored_if e (told_of own theirs e) + ignored
 abbrev pub tally_in : Order → Unit → State → Tally
 tally_in order u s = record {
   requests = requests_in (entries_in u);
-  answers = length (leaving order (owed_with u s.owed));
+  answers = length (answers_of (leaving order (owed_with u s.owed)));
   unreadable = if is_unreadable u then 1 else 0;
   invalid = invalid_in (entries_in u);
   ignored = ignored_in s.own s.theirs (entries_in u);
@@ -78,8 +78,8 @@ plus t more = record {
 }
 
 -- how many answers the answer of call n lets out
-abbrev pub answers_let_out : Order → ℕ → Answer → State → ℕ
-answers_let_out order n a s = length (leaving order (owed_given (at n s.theirs.calls) a s.owed.owed))
+abbrev pub answers_let_out : Order → ℕ → Option Answer → State → ℕ
+answers_let_out order n a s = length (answers_of (leaving order (owed_given (at n s.theirs.calls) a s.owed.owed)))
 
 abbrev pub plus_answers : ℕ → Tally → Tally
 plus_answers count t = record t { answers = t.answers + count }

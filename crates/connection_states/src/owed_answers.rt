@@ -1,12 +1,13 @@
 //! The answers that aren't out. Each law is the contract of a function that does nothing.
 
-ghost use Rattle.std.specs.Prelude.{◌≡◌, ℕ, List, [], ◌∷◌, ◌+◌, Bool, length};
+ghost use Rattle.std.specs.Prelude.{◌≡◌, Option, ℕ, List, [], ◌∷◌, ◌+◌, Bool, length};
 ghost use Rattle.connection_messages.specs.declared.answer.Answer.{Answer};
+ghost use Rattle.connection_messages.specs.declared.cancels.Cancels.{Cancels};
 ghost use Rattle.connection_messages.specs.declared.outgoing.Outgoing.{Outgoing};
 ghost use Rattle.connection_messages.specs.declared.unit.Unit.{Unit};
 ghost use Rattle.connection_history.specs.declared.close.Close.{Close};
 ghost use Rattle.connection_history.specs.declared.order.Order.{Order};
-ghost use Rattle.connection_history.specs.History.{came, called, called_all, noticed, withdrew, answered, ended, History, units_of};
+ghost use Rattle.connection_history.specs.History.{Origin, came, called, called_all, noticed, withdrew, answered, ended, History, units_of};
 ghost use Rattle.connection_history.specs.Refusals.{IsLawful};
 ghost use Rattle.connection_history.specs.Items.{answers_at};
 ghost use Rattle.open_calls.specs.Numbered.{at};
@@ -21,27 +22,27 @@ pub fn nothing_is_owed_at_first()
 
 /// A unit that comes is owed its answers, and those that can go out do.
 pub fn a_unit_is_owed_its_answers()
-    ensures owed { (cancels : Bool) (order : Order) (past : History) (unit : Unit) →
+    ensures owed { (cancels : Option Cancels) (order : Order) (past : History) (origin : Option Origin) (unit : Unit) →
         IsLawful cancels past →
-        owed_of order (came unit ∷ past) ≡ record {
+        owed_of order (came origin unit ∷ past) ≡ record {
           places = length (units_of past) + 1;
           owed = staying order (owed_with unit (owed_of order past));
         } }
-    ensures written { (cancels : Bool) (order : Order) (past : History) (unit : Unit) →
+    ensures written { (cancels : Option Cancels) (order : Order) (past : History) (origin : Option Origin) (unit : Unit) →
         IsLawful cancels past →
-        answers_at order past (came unit)
+        answers_at order past (came origin unit)
         ≡ answers_of (leaving order (owed_with unit (owed_of order past))) }
 {}
 
 /// An answer stands in its slot, and the answers that can go out do.
 pub fn an_answer_stands_in_its_slot()
-    ensures owed { (cancels : Bool) (order : Order) (past : History) (number : ℕ) (answer : Answer) →
+    ensures owed { (cancels : Option Cancels) (order : Order) (past : History) (number : ℕ) (answer : Option Answer) →
         IsLawful cancels (answered number answer ∷ past) →
         owed_of order (answered number answer ∷ past) ≡ record (owed_of order past) {
           owed = staying order
               (owed_given (at number (theirs_of past).calls) answer (owed_of order past).owed);
         } }
-    ensures written { (cancels : Bool) (order : Order) (past : History) (number : ℕ) (answer : Answer) →
+    ensures written { (cancels : Option Cancels) (order : Order) (past : History) (number : ℕ) (answer : Option Answer) →
         IsLawful cancels (answered number answer ∷ past) →
         answers_at order past (answered number answer)
         ≡ answers_of (leaving order
@@ -59,9 +60,9 @@ pub fn nothing_else_changes_what_is_owed()
     ensures noticed { (order : Order) (past : History) (outgoing : Outgoing) →
         (owed_of order (noticed outgoing ∷ past) ≡ owed_of order past) ×
         (answers_at order past (noticed outgoing) ≡ []) }
-    ensures withdrew { (order : Order) (past : History) (key : ℕ) →
-        (owed_of order (withdrew key ∷ past) ≡ owed_of order past) ×
-        (answers_at order past (withdrew key) ≡ []) }
+    ensures withdrew { (order : Order) (past : History) (by : Cancels) (key : ℕ) →
+        (owed_of order (withdrew by key ∷ past) ≡ owed_of order past) ×
+        (answers_at order past (withdrew by key) ≡ []) }
     ensures ended { (order : Order) (past : History) (close : Close) →
         (owed_of order (ended close ∷ past) ≡ owed_of order past) ×
         (answers_at order past (ended close) ≡ []) }

@@ -1,12 +1,13 @@
 //! How often things have happened. Each law is the contract of a function that does nothing.
 
-ghost use Rattle.std.specs.Prelude.{◌≡◌, ℕ, List, [], ◌∷◌, Bool, length};
+ghost use Rattle.std.specs.Prelude.{◌≡◌, Option, ℕ, List, [], ◌∷◌, Bool, length};
 ghost use Rattle.connection_messages.specs.declared.answer.Answer.{Answer};
+ghost use Rattle.connection_messages.specs.declared.cancels.Cancels.{Cancels};
 ghost use Rattle.connection_messages.specs.declared.outgoing.Outgoing.{Outgoing};
 ghost use Rattle.connection_messages.specs.declared.unit.Unit.{Unit};
 ghost use Rattle.connection_history.specs.declared.close.Close.{Close};
 ghost use Rattle.connection_history.specs.declared.order.Order.{Order};
-ghost use Rattle.connection_history.specs.History.{came, called, called_all, noticed, withdrew, answered, ended, History, waiting};
+ghost use Rattle.connection_history.specs.History.{Origin, came, called, called_all, noticed, withdrew, answered, ended, History, waiting};
 ghost use Rattle.connection_history.specs.Refusals.{IsLawful};
 ghost use Rattle.connection_history.specs.Counts.{open_count};
 ghost use Rattle.connection_states.specs.States.{state_of, own_of, theirs_of};
@@ -19,15 +20,15 @@ pub fn nothing_is_counted_at_first()
 
 /// A unit that comes adds its requests, its answers that can go out, and what is unreadable, invalid or ignored.
 pub fn a_unit_adds_its_counts()
-    ensures { (cancels : Bool) (order : Order) (past : History) (unit : Unit) →
+    ensures { (cancels : Option Cancels) (order : Order) (past : History) (origin : Option Origin) (unit : Unit) →
         IsLawful cancels past →
-        tally_of order (came unit ∷ past)
+        tally_of order (came origin unit ∷ past)
         ≡ plus (tally_of order past) (tally_in order unit (state_of order past)) }
 {}
 
 /// An answer adds the answers that can go out then.
 pub fn an_answer_adds_what_it_lets_out()
-    ensures { (cancels : Bool) (order : Order) (past : History) (number : ℕ) (answer : Answer) →
+    ensures { (cancels : Option Cancels) (order : Order) (past : History) (number : ℕ) (answer : Option Answer) →
         IsLawful cancels (answered number answer ∷ past) →
         tally_of order (answered number answer ∷ past)
         ≡ plus_answers (answers_let_out order number answer (state_of order past))
@@ -42,8 +43,8 @@ pub fn nothing_else_is_counted()
         tally_of order (called_all number outgoings ∷ past) ≡ tally_of order past }
     ensures noticed { (order : Order) (past : History) (outgoing : Outgoing) →
         tally_of order (noticed outgoing ∷ past) ≡ tally_of order past }
-    ensures withdrew { (order : Order) (past : History) (key : ℕ) →
-        tally_of order (withdrew key ∷ past) ≡ tally_of order past }
+    ensures withdrew { (order : Order) (past : History) (by : Cancels) (key : ℕ) →
+        tally_of order (withdrew by key ∷ past) ≡ tally_of order past }
     ensures ended { (order : Order) (past : History) (close : Close) →
         tally_of order (ended close ∷ past) ≡ tally_of order past }
 {}

@@ -35,7 +35,7 @@ one_of_two_as_came = refl
 
 -- ---- what is answered without the host
 
-parse_error : written AsCame (came Unreadable ∷ [])
+parse_error : written AsCame (came None Unreadable ∷ [])
     ≡ codes "{\"error\":{\"code\":-32700,\"message\":\"Parse error\"},\"id\":null,\"jsonrpc\":\"2.0\"}" ∷ []
 unfolding digits escape_byte error_head code_text error_rest error_end
 parse_error = refl

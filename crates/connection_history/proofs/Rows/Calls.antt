@@ -1,5 +1,5 @@
 -- Worked rows of calls of ours and their replies.
-use Rattle.std.proofs.Common.{◌≡◌, List, [], ◌∷◌, ◌++◌, codes, Some, None, false, refl}
+use Rattle.std.proofs.Common.{◌≡◌, List, [], ◌∷◌, ◌++◌, codes, Some, None, refl}
 use Rattle.std.specs.Fmt.{digits}
 use Rattle.json.specs.Print.{escape_byte}
 use Rattle.connection_history.specs.declared.event.Event.TheVariants as event
@@ -8,6 +8,7 @@ use Rattle.connection_history.specs.declared.refused.Refused.TheVariants.{NotOpe
 use Rattle.connection_history.specs.History.{Happening, called, called_all, noticed, withdrew}
 use Rattle.connection_history.specs.Refusals.{after, refusal}
 use Rattle.connection_history.proofs.Rows.Words.{told, written, refused, add, request, reply, yes, no, one, array, ask, tell, gives}
+use Rattle.connection_messages.specs.declared.cancels.Cancels.TheVariants.{Lsp}
 
 -- ---- a call back
 
@@ -41,7 +42,7 @@ answered_early = one (request 7) ∷ called 1 ask ∷ gives 1 (codes "1") ∷ []
 late_reply : told (answered_early ++ one (reply 1 yes) ∷ []) ≡ event.Call 1 (add 7) ∷ []
 late_reply = refl
 
-withdrawn_too_late : refused answered_early (withdrew 1) ≡ Some NotWaiting
+withdrawn_too_late : refused answered_early (withdrew Lsp 1) ≡ Some NotWaiting
 withdrawn_too_late = refl
 
 called_too_late : refused answered_early (called 1 ask) ≡ Some NotOpen
@@ -91,7 +92,7 @@ array_of_none_for_no_call = refl
 
 -- a withdrawn call still waits, and its reply is told
 abbrev withdrawn : List Happening
-withdrawn = called 0 ask ∷ withdrew 1 ∷ []
+withdrawn = called 0 ask ∷ withdrew Lsp 1 ∷ []
 
 withdrawal_is_written : written AsAnswered withdrawn
     ≡ codes "{\"id\":1,\"jsonrpc\":\"2.0\",\"method\":\"ask\"}" ∷ codes "{\"jsonrpc\":\"2.0\",\"method\":\"$/cancelRequest\",\"params\":{\"id\":1}}" ∷ []
@@ -101,17 +102,17 @@ withdrawal_is_written = refl
 reply_to_withdrawn : told (withdrawn ++ one (reply 1 yes) ∷ []) ≡ event.Replied 1 yes ∷ []
 reply_to_withdrawn = refl
 
-withdrawn_twice : refused withdrawn (withdrew 1) ≡ Some NotWaiting
+withdrawn_twice : refused withdrawn (withdrew Lsp 1) ≡ Some NotWaiting
 withdrawn_twice = refl
 
-withdrawn_after_its_reply : refused (called 0 ask ∷ one (reply 1 yes) ∷ []) (withdrew 1) ≡ Some NotWaiting
+withdrawn_after_its_reply : refused (called 0 ask ∷ one (reply 1 yes) ∷ []) (withdrew Lsp 1) ≡ Some NotWaiting
 withdrawn_after_its_reply = refl
 
-withdrawn_unknown : refused withdrawn (withdrew 2) ≡ Some NotWaiting
+withdrawn_unknown : refused withdrawn (withdrew Lsp 2) ≡ Some NotWaiting
 withdrawn_unknown = refl
 
-withdrawal_without_cancels : refusal false (after [] (called 0 ask ∷ [])) (withdrew 1) ≡ Some NotWaiting
+withdrawal_without_cancels : refusal None (after [] (called 0 ask ∷ [])) (withdrew Lsp 1) ≡ Some NotWaiting
 withdrawal_without_cancels = refl
 
-withdrawal_in_time : refused (called 0 ask ∷ []) (withdrew 1) ≡ None
+withdrawal_in_time : refused (called 0 ask ∷ []) (withdrew Lsp 1) ≡ None
 withdrawal_in_time = refl

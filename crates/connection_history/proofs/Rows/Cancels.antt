@@ -1,5 +1,5 @@
 -- Worked rows of cancels, by the other side and by the host.
-use Rattle.std.proofs.Common.{◌≡◌, List, [], ◌∷◌, ◌++◌, codes, true, false, Some, refl}
+use Rattle.std.proofs.Common.{◌≡◌, List, [], ◌∷◌, ◌++◌, codes, Some, refl, None}
 use Rattle.std.specs.Fmt.{digits}
 use Rattle.json.specs.Print.{escape_byte}
 use Rattle.connection_messages.specs.declared.answer.Answer.TheVariants as answers
@@ -12,6 +12,7 @@ use Rattle.connection_history.specs.declared.refused.Refused.TheVariants.{NotOpe
 use Rattle.connection_history.specs.History.{Happening, called, called_all, withdrew, answered, ended}
 use Rattle.connection_history.specs.Refusals.{after, cancel_of}
 use Rattle.connection_history.proofs.Rows.Words.{told, written, refused, add, request, notification, cancel, reply, yes, one, array, ask, gives}
+use Rattle.connection_messages.specs.declared.cancels.Cancels.TheVariants.{Lsp}
 
 -- ---- cancels that come
 
@@ -47,12 +48,12 @@ cancelled_is_answered = refl
 
 -- a request with two calls that wait, one that has its reply, one that is withdrawn, and one of the host's own
 abbrev busy : List Happening
-busy = one (request 7) ∷ called_all 1 (ask ∷ ask ∷ ask ∷ ask ∷ []) ∷ called 0 ask ∷ one (reply 2 yes) ∷ withdrew 3 ∷ []
+busy = one (request 7) ∷ called_all 1 (ask ∷ ask ∷ ask ∷ ask ∷ []) ∷ called 0 ask ∷ one (reply 2 yes) ∷ withdrew Lsp 3 ∷ []
 
 abbrev cancelled : List Happening
-cancelled = cancel_of true 1 (after [] busy)
+cancelled = cancel_of (Some Lsp) 1 (after [] busy)
 
-busy_is_cancelled : cancelled ≡ withdrew 1 ∷ withdrew 4 ∷ answered 1 (answers.Standard Cancelled) ∷ []
+busy_is_cancelled : cancelled ≡ withdrew Lsp 1 ∷ withdrew Lsp 4 ∷ answered 1 (Some (answers.Standard Cancelled)) ∷ []
 busy_is_cancelled = refl
 
 busy_is_written : written AsAnswered (busy ++ cancelled)
@@ -65,15 +66,15 @@ unfolding digits escape_byte error_head code_text error_rest error_end
 busy_is_written = refl
 
 -- once the input is over, or without cancels, the request is only answered
-cancelled_at_the_end : cancel_of true 1 (ended Clean ∷ after [] busy) ≡ answered 1 (answers.Standard Cancelled) ∷ []
+cancelled_at_the_end : cancel_of (Some Lsp) 1 (ended Clean ∷ after [] busy) ≡ answered 1 (Some (answers.Standard Cancelled)) ∷ []
 cancelled_at_the_end = refl
 
-cancelled_without_cancels : cancel_of false 1 (after [] busy) ≡ answered 1 (answers.Standard Cancelled) ∷ []
+cancelled_without_cancels : cancel_of None 1 (after [] busy) ≡ answered 1 (Some (answers.Standard Cancelled)) ∷ []
 cancelled_without_cancels = refl
 
 -- a notification is closed
-notification_is_cancelled : written AsAnswered (one notification ∷ answered 1 (answers.Standard Cancelled) ∷ []) ≡ []
+notification_is_cancelled : written AsAnswered (one notification ∷ answered 1 (Some (answers.Standard Cancelled)) ∷ []) ≡ []
 notification_is_cancelled = refl
 
-zero_is_never_cancelled : refused busy (answered 0 (answers.Standard Cancelled)) ≡ Some NotOpen
+zero_is_never_cancelled : refused busy (answered 0 (Some (answers.Standard Cancelled))) ≡ Some NotOpen
 zero_is_never_cancelled = refl

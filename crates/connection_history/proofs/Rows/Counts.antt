@@ -1,5 +1,5 @@
 -- Worked rows of counts.
-use Rattle.std.proofs.Common.{◌≡◌, ℕ, List, [], ◌∷◌, ◌++◌, codes, length, refl}
+use Rattle.std.proofs.Common.{◌≡◌, ℕ, List, [], ◌∷◌, ◌++◌, codes, length, refl, None}
 use Rattle.connection_messages.specs.declared.entry.Entry.TheVariants.{Invalid, Stray}
 use Rattle.connection_messages.specs.declared.unit.Unit.TheVariants.{Unreadable}
 use Rattle.connection_history.specs.declared.order.Order.{Order}
@@ -10,13 +10,13 @@ use Rattle.connection_history.specs.Events.{call_count}
 use Rattle.connection_history.specs.Counts.{request_count, open_count, unreadable_count, invalid_count, answer_count, ignored_count}
 use Rattle.connection_history.proofs.Rows.Words.{request, notification, cancel, reply, yes, no, one, array, ask, gives}
 
-abbrev counts_of : Order → History → List ℕ
+abbrev pub counts_of : Order → History → List ℕ
 counts_of order history =
     call_count history ∷ request_count history ∷ open_count history ∷ length (waiting history) ∷ key_count history
     ∷ answer_count order history ∷ unreadable_count history ∷ invalid_count history ∷ ignored_count history ∷ []
 
 -- calls, requests, open, waiting, own calls, answers written, unreadable, invalid, ignored
-abbrev counts : Order → List Happening → List ℕ
+abbrev pub counts : Order → List Happening → List ℕ
 counts order happened = counts_of order (after [] happened)
 
 nothing : counts AsCame [] ≡ 0 ∷ 0 ∷ 0 ∷ 0 ∷ 0 ∷ 0 ∷ 0 ∷ 0 ∷ 0 ∷ []
@@ -58,7 +58,7 @@ answered_batch = refl
 
 -- ---- what has no events
 
-unreadable : counts AsAnswered (came Unreadable ∷ []) ≡ 0 ∷ 0 ∷ 0 ∷ 0 ∷ 0 ∷ 1 ∷ 1 ∷ 0 ∷ 0 ∷ []
+unreadable : counts AsAnswered (came None Unreadable ∷ []) ≡ 0 ∷ 0 ∷ 0 ∷ 0 ∷ 0 ∷ 1 ∷ 1 ∷ 0 ∷ 0 ∷ []
 unreadable = refl
 
 invalid : counts AsAnswered (one Invalid ∷ []) ≡ 0 ∷ 0 ∷ 0 ∷ 0 ∷ 0 ∷ 1 ∷ 0 ∷ 1 ∷ 0 ∷ []

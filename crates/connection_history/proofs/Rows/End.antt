@@ -8,6 +8,7 @@ use Rattle.connection_history.specs.declared.order.Order.TheVariants.{AsAnswered
 use Rattle.connection_history.specs.declared.refused.Refused.TheVariants.{Over, NotOpen, NotWaiting}
 use Rattle.connection_history.specs.History.{Happening, called, called_all, noticed, withdrew, ended}
 use Rattle.connection_history.proofs.Rows.Words.{told, written, refused, add, request, reply, yes, one, ask, gives}
+use Rattle.connection_messages.specs.declared.cancels.Cancels.TheVariants.{Lsp}
 
 -- three calls are made, one has its reply, and the input ends
 abbrev end : List Happening
@@ -39,7 +40,7 @@ call_for_no_number_after_the_end = refl
 no_calls_after_the_end : refused end (called_all 1 []) ≡ Some Over
 no_calls_after_the_end = refl
 
-withdrawal_after_the_end : refused end (withdrew 1) ≡ Some NotWaiting
+withdrawal_after_the_end : refused end (withdrew Lsp 1) ≡ Some NotWaiting
 withdrawal_after_the_end = refl
 
 -- an open request may still be answered, and notifications go out

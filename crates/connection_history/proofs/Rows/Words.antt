@@ -1,5 +1,5 @@
 -- The words of the worked rows. What happened is listed in its order, the earliest first.
-use Rattle.std.proofs.Common.{ℕ, List, [], codes, map, true, Option, Some, None}
+use Rattle.std.proofs.Common.{ℕ, List, [], codes, map, Option, Some, None}
 use Rattle.message_ids.specs.declared.id.Id.TheVariants.{Unsigned}
 use Rattle.connection_messages.specs.declared.answer.Answer.TheVariants as answers
 use Rattle.connection_messages.specs.declared.call.Call.{Call}
@@ -16,6 +16,7 @@ use Rattle.connection_history.specs.Events.{events_of}
 use Rattle.connection_history.specs.History.{Happening, came, answered}
 use Rattle.connection_history.specs.Items.{items_of, text_of}
 use Rattle.connection_history.specs.Refusals.{after, refusal}
+use Rattle.connection_messages.specs.declared.cancels.Cancels.TheVariants.{Lsp}
 
 -- ---- what stands after a row
 
@@ -27,7 +28,7 @@ written order happened = map text_of (items_of order (after [] happened))
 
 -- why something is refused after a row, where the protocol has cancels
 abbrev pub refused : List Happening → Happening → Option Refused
-refused happened h = refusal true (after [] happened) h
+refused happened h = refusal (Some Lsp) (after [] happened) h
 
 -- ---- what comes
 
@@ -59,10 +60,10 @@ reply key r = entries.Reply key r
 
 -- one entry came, or an array
 abbrev pub one : Entry → Happening
-one e = came (Single e)
+one e = came None (Single e)
 
 abbrev pub array : List Entry → Happening
-array es = came (Batch es)
+array es = came None (Batch es)
 
 -- ---- what the host says
 
@@ -75,4 +76,4 @@ tell = record { method = codes "tell"; params = Some (codes "[0.50,1e400]") }
 
 -- the host answers a call with this result
 abbrev pub gives : ℕ → List ℕ → Happening
-gives number text = answered number (answers.Result text)
+gives number text = answered number (Some (answers.Result text))

@@ -16,8 +16,8 @@ returns-clause-noticed c order past outgoing =
     (silent-owed order past (noticed outgoing) refl (λ k. refl), silent-answers order past (noticed outgoing) refl (λ k. refl))
 
 pub returns-clause-withdrew : goal.returns-clause-withdrew
-returns-clause-withdrew c order past key =
-    (silent-owed order past (withdrew key) refl (λ k. refl), silent-answers order past (withdrew key) refl (λ k. refl))
+returns-clause-withdrew c order past by key =
+    (silent-owed order past (withdrew by key) refl (λ k. refl), silent-answers order past (withdrew by key) refl (λ k. refl))
 
 pub returns-clause-ended : goal.returns-clause-ended
 returns-clause-ended c order past close =

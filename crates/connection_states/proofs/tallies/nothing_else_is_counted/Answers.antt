@@ -13,7 +13,7 @@ pub returns-clause-noticed : goal.returns-clause-noticed
 returns-clause-noticed c order past outgoing = tally-silent order past (noticed outgoing) refl (λ k. refl) refl
 
 pub returns-clause-withdrew : goal.returns-clause-withdrew
-returns-clause-withdrew c order past key = tally-silent order past (withdrew key) refl (λ k. refl) refl
+returns-clause-withdrew c order past by key = tally-silent order past (withdrew by key) refl (λ k. refl) refl
 
 pub returns-clause-ended : goal.returns-clause-ended
 returns-clause-ended c order past close = tally-silent order past (ended close) refl (λ k. refl) refl
