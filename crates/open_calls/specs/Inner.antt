@@ -1,5 +1,5 @@
 -- What the indexes hold.
-use Rattle.std.specs.Prelude.{ℕ, suc, ◌≡◌, ◌==◌, ◌&&◌, ◌||◌, Bool, true, false, if◌then◌else◌, List, Option, Some, None}
+use Rattle.std.specs.Prelude.{ℕ, suc, ◌≡◌, ◌==◌, ◌&&◌, ◌||◌, Bool, true, false, if◌then◌else◌, List, [], ◌∷◌, Option, Some, None}
 use Rattle.std.specs.Ordering.{nat_cmp, ordering_then}
 use Rattle.std.specs.Option.{option_map_or}
 use Rattle.std.specs.declared.cmp.Ordering.{Ordering}
@@ -14,7 +14,7 @@ use Rattle.open_calls.specs.declared.numbers.Numbers.{Numbers}
 use Rattle.open_calls.specs.declared.numbers.Numbers.TheVariants.{One, Several}
 use Rattle.open_calls.specs.declared.numbers_by_id.NumbersById.{NumbersById}
 use Rattle.open_calls.specs.declared.other_numbers.OtherNumbers.{OtherNumbers}
-use Rattle.open_calls.specs.declared.row.Row.{Row}
+use Rattle.open_calls.specs.declared.number_rows.NumberRows.{NumberRows}
 use Rattle.open_calls.specs.Rows.{IsRow, row_entries}
 use Rattle.open_calls.specs.Numbered.{at, Above, Below, Ascending}
 use Rattle.open_calls.specs.Owed.{OwedUnit}
@@ -68,12 +68,12 @@ pub record IsOwn (made : ℕ) (waiting : List (ℕ × OwnCall)) (all kept : Keys
   pub by_caller : IsKeyIndex all is_of waiting
   pub wanted : IsKeyIndex kept is_wanted_by waiting
 
-pub record IsTheirs (came : ℕ) (calls : Row TheirCall) (index : NumbersById) : Type 0 where
+pub record IsTheirs (came : ℕ) (calls : NumberRows TheirCall) (index : NumbersById) : Type 0 where
   pub row : IsRow calls
   pub numbered : Below (suc came) (row_entries calls)
   pub by_id : IsNumberIndex index (row_entries calls)
 
-pub record IsOwed (places : ℕ) (owed : Row OwedUnit) : Type 0 where
+pub record IsOwed (places : ℕ) (owed : NumberRows OwedUnit) : Type 0 where
   pub row : IsRow owed
   pub numbered : Below places (row_entries owed)
 
@@ -84,3 +84,15 @@ IsWithNumber now was id number = (q : Id) (k : ℕ) → is_listed now q k ≡ (i
 -- the index without this number of a request
 abbrev pub IsWithoutNumber : NumbersById → NumbersById → Option Id → ℕ → Type 0
 IsWithoutNumber now was id number = (q : Id) (k : ℕ) → is_listed now q k ≡ (if has_id q id && (number == k) then false else is_listed was q k)
+
+-- ---- the text of a batch
+
+-- an answer behind this mark, where there is one
+abbrev pub behind : ℕ → List ℕ → List ℕ
+behind mark [] = []
+behind mark (b ∷ bs) = mark ∷ b ∷ bs
+
+-- the mark of the next answer: the first stands behind a bracket, the others behind a comma
+abbrev pub next_mark : ℕ → List ℕ → ℕ
+next_mark mark [] = mark
+next_mark mark (b ∷ bs) = 44

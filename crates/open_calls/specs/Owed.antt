@@ -1,10 +1,15 @@
 -- The answers that aren't out yet.
-use Rattle.std.specs.Prelude.{ℕ, ◌≡◌, ◌<◌, Bool, List, [], ◌∷◌, Option, Some, None, length, map, slice_get, slice_set, count_by, if◌then◌else◌}
-use Rattle.std.specs.Option.{is_none, option_map, unwrap_or}
-use Rattle.std.specs.Global.{Vec}
-use Rattle.connection_messages.specs.Texts.{batch_text}
+use Rattle.std.specs.Prelude.{ℕ, ◌+◌, Bool, true, false, List, [], ◌∷◌, ◌++◌, Option, Some, None, map, filter, slice_get, slice_set, count_by, if◌then◌else◌}
+use Rattle.std.specs.Option.{is_none, unwrap_or}
+use Rattle.message_ids.specs.declared.id.Id.TheVariants.{Null}
+use Rattle.message_ids.specs.declared.standard.Standard.TheVariants.{InvalidRequest}
+use Rattle.connection_messages.specs.Texts.{answer_text, batch_text}
+use Rattle.connection_messages.specs.declared.answer.Answer.TheVariants.{Standard}
+use Rattle.open_calls.specs.declared.slot.Slot.{Slot}
+use Rattle.open_calls.specs.declared.slot.Slot.TheVariants.{Lacking, Text, Invalid}
 
--- Of one unit, a slot for each entry that has an answer. The text stands there once it is given.
+-- Of one unit, a slot for each entry that may have an answer. The text stands there once it is given: an empty one where
+-- the entry has no answer after all.
 pub record OwedUnit : Type 0 where
   pub is_batch : Bool
   pub slots : List (Option (List ℕ))
@@ -14,11 +19,21 @@ pub record OwedState : Type 0 where
   pub places : ℕ
   pub owed : List (ℕ × OwedUnit)
 
--- a slot of a program, and all slots, as lists
-abbrev pub seen_slot : Option (Vec ℕ) → Option (List ℕ)
-seen_slot slot = option_map (λ text. text.items) slot
+-- the unit at the next place is owed its answers
+abbrev pub opened : OwedUnit → OwedState → OwedState
+opened unit s = record { places = s.places + 1; owed = s.owed ++ (s.places, unit) ∷ [] }
 
-abbrev pub seen_slots : List (Option (Vec ℕ)) → List (Option (List ℕ))
+-- the answer to an entry that is no request (JSON-RPC 2.0, section 5.1)
+abbrev pub invalid_text : List ℕ
+invalid_text = answer_text Null (Standard InvalidRequest)
+
+-- a slot of a program, and all slots, as lists
+abbrev pub seen_slot : Slot → Option (List ℕ)
+seen_slot Lacking = None
+seen_slot (Text text) = Some text.items
+seen_slot Invalid = Some invalid_text
+
+abbrev pub seen_slots : List Slot → List (Option (List ℕ))
 seen_slots slots = map seen_slot slots
 
 abbrev pub lacking_slots : List (Option (List ℕ)) → ℕ
@@ -27,11 +42,6 @@ lacking_slots slots = count_by is_none slots
 -- how many texts are still to be given
 abbrev pub lacking : OwedUnit → ℕ
 lacking unit = lacking_slots unit.slots
-
--- what is lacking where nothing may be owed
-abbrev pub lacking_in : Option OwedUnit → ℕ
-lacking_in None = 0
-lacking_in (Some unit) = lacking unit
 
 -- this slot's text is given
 abbrev pub given : ℕ → List ℕ → OwedUnit → OwedUnit
@@ -49,32 +59,53 @@ slot_at slot (Some unit) = slot_in slot unit.slots
 abbrev pub replaced : ℕ → Option (List ℕ) → OwedUnit → OwedUnit
 replaced slot text unit = record unit { slots = slice_set unit.slots slot text }
 
+-- ---- what is written
+
+-- No JSON text is empty: an empty text is no answer.
+abbrev pub is_answer : List ℕ → Bool
+is_answer [] = false
+is_answer (b ∷ bs) = true
+
 -- the text that stands in a slot
 abbrev pub slot_text : Option (List ℕ) → List ℕ
 slot_text slot = unwrap_or slot []
 
+-- the answers that stand in these slots
 abbrev pub slot_texts : List (Option (List ℕ)) → List (List ℕ)
-slot_texts slots = map slot_text slots
+slot_texts slots = filter is_answer (map slot_text slots)
 
 abbrev pub texts_of : OwedUnit → List (List ℕ)
 texts_of unit = slot_texts unit.slots
+
+-- of these answers the text of the unit: none where there are none; that of a single entry as it is, those of a batch as
+-- one array
+abbrev pub joined : Bool → List (List ℕ) → List (List ℕ)
+joined batch [] = []
+joined batch (t ∷ ts) = (if batch then batch_text (t ∷ ts) else t) ∷ []
+
+-- the text of the unit, where it has something to write
+abbrev pub unit_texts : OwedUnit → List (List ℕ)
+unit_texts unit = joined unit.is_batch (texts_of unit)
 
 abbrev pub first_or_none : List (List ℕ) → List ℕ
 first_or_none [] = []
 first_or_none (t ∷ ts) = t
 
--- the answer of the unit: that of a single entry as it is, those of a batch as one array
+-- that text, and an empty one where there is nothing to write
 abbrev pub unit_text : OwedUnit → List ℕ
-unit_text unit = if unit.is_batch then batch_text (texts_of unit) else first_or_none (texts_of unit)
+unit_text unit = first_or_none (unit_texts unit)
 
--- a unit that has something to answer, and all of it
-pub record IsComplete (unit : OwedUnit) : Type 0 where
-  pub some : 0 < length unit.slots
-  pub all : lacking unit ≡ 0
+-- whether there is something to write
+abbrev pub some_text : List (List ℕ) → Bool
+some_text [] = false
+some_text (t ∷ ts) = true
 
-abbrev pub IsCompleteUnit : Option OwedUnit → Type 0
-IsCompleteUnit None = ⊥
-IsCompleteUnit (Some unit) = IsComplete unit
+abbrev pub has_answer : OwedUnit → Bool
+has_answer unit = some_text (texts_of unit)
+
+abbrev pub has_answer_in : Option OwedUnit → Bool
+has_answer_in None = false
+has_answer_in (Some unit) = has_answer unit
 
 abbrev pub text_or_none : Option OwedUnit → List ℕ
 text_or_none None = []

@@ -4,9 +4,10 @@ use std::alloc::{AllocError, Global};
 use std::collections::BTreeSet;
 use std::ops::Bound;
 
-/// Keys of our calls, by the numbers on whose behalf they were made.
+/// An index of calls of ours: their keys, by the numbers on whose behalf they were made.
 #[derive(Drop)]
 pub struct KeysByCaller {
+    /// The caller first and then the key, so those of one caller stand together.
     pairs: BTreeSet<(u64, u64)>,
 }
 

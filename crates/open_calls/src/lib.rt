@@ -4,6 +4,7 @@
 #![tactic(auto)]
 
 mod keys_by_caller;
+mod number_rows;
 mod numbers;
 mod numbers_by_id;
 mod other_numbers;
@@ -11,7 +12,7 @@ mod owed;
 mod owed_answers;
 mod own_call;
 mod own_calls;
-mod row;
+mod slot;
 mod slots;
 mod their_call;
 mod their_calls;
@@ -20,6 +21,7 @@ pub use owed::Owed;
 pub use owed_answers::OwedAnswers;
 pub use own_call::OwnCall;
 pub use own_calls::OwnCalls;
+pub use slot::Slot;
 pub use their_call::TheirCall;
 pub use their_calls::TheirCalls;
 

@@ -5,7 +5,8 @@ ghost use Rattle.std.specs.Ordering.{nat_cmp};
 use std::alloc::{AllocError, Global};
 use std::collections::BTreeSet;
 
-/// The numbers of one id. Few ids are used twice at a time, so a number alone takes no memory of its own.
+/// The numbers of the open requests that have one id, and that no cancel has reached. Few ids are used twice at a time, so a
+/// number alone takes no memory of its own.
 #[derive(Drop)]
 pub enum Numbers {
     One(u64),

@@ -7,10 +7,13 @@ use crate::other_numbers::OtherNumbers;
 use message_ids::Id;
 use std::alloc::{AllocError, Global};
 
-/// Numbers of requests, by their ids. A request that is alone takes no place in the tree, which needs memory.
+/// The index by which a cancel finds its requests: of each id their numbers. A request that is alone takes no place in the
+/// tree, which needs memory.
 #[derive(Drop)]
 pub struct NumbersById {
+    /// One request, where there is any room for it here.
     alone: Option<(Id, u64)>,
+    /// All others.
     others: OtherNumbers,
 }
 

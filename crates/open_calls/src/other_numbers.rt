@@ -7,7 +7,7 @@ use message_ids::Id;
 use std::alloc::{AllocError, Global};
 use std::collections::BTreeMap;
 
-/// Numbers of requests, by their ids, in a tree.
+/// Of each id the numbers of its requests, in a tree.
 #[derive(Drop)]
 pub struct OtherNumbers {
     alloc: Global,

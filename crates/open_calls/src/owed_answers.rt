@@ -1,16 +1,19 @@
-ghost use Rattle.std.specs.Prelude.{◌≡◌, ◌+◌, ◌-◌, ◌<◌, ◌^◌, ◌++◌, ◌∷◌, [], false, length, OnOk, OnErr, option_copied};
+ghost use Rattle.std.specs.Prelude.{◌≡◌, ◌+◌, ◌-◌, ◌<◌, ◌^◌, ◌++◌, ◌∷◌, [], true, false, length, OnOk, OnErr, option_copied};
 ghost use Rattle.open_calls.specs.Numbered.{at, without, changed_at, first_number, next_number, Ascending};
 
+use crate::number_rows::NumberRows;
 use crate::owed::Owed;
-use crate::row::Row;
+use crate::slot::Slot;
 use std::alloc::{AllocError, Global};
 use std::marker::Model;
 
 /// The units whose answer isn't out, by their places 0, 1, .. in the order in which they came.
 #[derive(Drop)]
 pub struct OwedAnswers {
+    /// How many places there were. `IsOwed` holds: no unit that is owed an answer has this place or a greater one.
     places: u64,
-    owed: Row<Owed>,
+    /// Those that are owed an answer, by their places.
+    owed: NumberRows<Owed>,
 }
 
 impl Model for OwedAnswers {
@@ -27,14 +30,14 @@ impl Model for OwedAnswers {
 }
 
 impl OwedAnswers {
-    ghost use Rattle.open_calls.specs.Owed.{seen_slot, seen_slots, lacking_in, given, slot_at, replaced, IsCompleteUnit, text_or_none};
+    ghost use Rattle.open_calls.specs.Owed.{seen_slot, seen_slots, opened, slot_at, replaced, has_answer_in, text_or_none};
 
     pub fn new(alloc: Global) -> OwedAnswers
         ensures { result ≡ record { places = 0; owed = [] } }
     {
         OwedAnswers {
             places: 0,
-            owed: Row::new(alloc),
+            owed: NumberRows::new(alloc),
         }
     }
 
@@ -53,34 +56,19 @@ impl OwedAnswers {
         self.places
     }
 
-    /// The unit at the next place is owed these answers.
-    pub fn open_unit(
-        &mut self,
-        is_batch: bool,
-        slots: Vec<Option<Vec<u8>>>,
-    ) -> Result<(), AllocError>
+    /// The unit at the next place is a batch, and is owed these answers.
+    pub fn open_batch(&mut self, slots: Vec<Slot>) -> Result<(), AllocError>
         requires { self.old.places < 2 ^ 64 - 1 }
-        ensures ok { OnOk result (self.new ≡ record {
-          places = self.old.places + 1;
-          owed = self.old.owed ++ (
-            self.old.places,
-            record {
-              is_batch = is_batch;
-              slots = seen_slots slots.items;
-            },
-          ) ∷ [];
-        }) }
+        ensures ok { OnOk result (self.new ≡
+            opened (record { is_batch = true; slots = seen_slots slots.items }) self.old) }
         ensures err { OnErr result (self.new ≡ self.old) }
     {
-        self.open(Owed::new(is_batch, slots))
+        self.open(Owed::batch(slots))
     }
 
     fn open(&mut self, unit: Owed) -> Result<(), AllocError>
         requires { self.old.places < 2 ^ 64 - 1 }
-        ensures ok { OnOk result (self.new ≡ record {
-          places = self.old.places + 1;
-          owed = self.old.owed ++ (self.old.places, unit) ∷ [];
-        }) }
+        ensures ok { OnOk result (self.new ≡ opened unit self.old) }
         ensures err { OnErr result (self.new ≡ self.old) }
     {
         self.owed.make_room()?;
@@ -90,18 +78,10 @@ impl OwedAnswers {
     }
 
     /// The unit at the next place is no batch, and is owed this answer.
-    pub fn open_single(&mut self, slot: Option<Vec<u8>>) -> Result<(), AllocError>
+    pub fn open_single(&mut self, slot: Slot) -> Result<(), AllocError>
         requires { self.old.places < 2 ^ 64 - 1 }
-        ensures ok { OnOk result (self.new ≡ record {
-          places = self.old.places + 1;
-          owed = self.old.owed ++ (
-            self.old.places,
-            record {
-              is_batch = false;
-              slots = seen_slots (slot ∷ []);
-            },
-          ) ∷ [];
-        }) }
+        ensures ok { OnOk result (self.new ≡
+            opened (record { is_batch = false; slots = seen_slots (slot ∷ []) }) self.old) }
         ensures err { OnErr result (self.new ≡ self.old) }
     {
         self.open(Owed::single(slot))
@@ -128,46 +108,38 @@ impl OwedAnswers {
         self.places = place;
     }
 
-    /// How many texts the unit at this place lacks.
-    pub fn lacks(&self, place: u64) -> u64
-        ensures { result ≡ lacking_in (at place self.now.owed) }
-    {
-        match self.owed.get(place) {
-            Some(unit) => unit.lacking(),
-            None => 0,
-        }
-    }
-
-    /// Gives the text of this slot of the unit at this place, where there is one.
-    pub fn give(&mut self, place: u64, slot: u64, text: Vec<u8>)
-        ensures { self.new ≡ record self.old {
-          owed = changed_at place (given slot text.items) self.old.owed;
-        } }
-    {
-        drop(self.replace(place, slot, Some(text)));
-    }
-
     /// Puts a text, or none, into this slot of the unit at this place, and answers what stood there. Where there is no such
-    /// slot nothing changes. Takes no memory.
-    pub fn replace(&mut self, place: u64, slot: u64, text: Option<Vec<u8>>) -> Option<Vec<u8>>
+    /// slot nothing changes. Takes no memory. Places ascend, so no other unit has this one.
+    pub fn replace(&mut self, place: u64, slot: u64, text: Slot) -> Slot
         ensures was { seen_slot result ≡ slot_at slot (at place self.old.owed) }
         ensures state { self.new ≡ record self.old {
           owed = changed_at place (replaced slot (seen_slot text)) self.old.owed;
         } }
+        ensures ascending { Ascending self.old.owed }
     {
         self.owed.replace(place, slot, text)
     }
 
-    /// The unit at this place, where it is owed an answer.
+    /// The unit at this place, where it is owed an answer. Places ascend.
     pub fn get(&self, place: u64) -> Option<&Owed>
-        ensures { option_copied result ≡ at place self.now.owed }
+        ensures unit { option_copied result ≡ at place self.now.owed }
+        ensures ascending { Ascending self.now.owed }
     {
         self.owed.get(place)
     }
 
-    /// Puts the answer of the unit at this place behind these bytes.
+    /// Whether the unit at this place has something to write: an answer that isn't empty.
+    pub fn has_answer(&self, place: u64) -> bool
+        ensures { result ≡ has_answer_in (at place self.now.owed) }
+    {
+        match self.owed.get(place) {
+            Some(unit) => unit.has_answer(),
+            None => false,
+        }
+    }
+
+    /// Puts the answer of the unit at this place behind these bytes, where there is something to write.
     pub fn put_text(&self, place: u64, bytes: &mut Vec<u8>) -> Result<(), AllocError>
-        requires { IsCompleteUnit (at place self.now.owed) }
         ensures ok { OnOk result (bytes.new.items ≡
             bytes.old.items ++ text_or_none (at place self.now.owed)) }
         ensures err { OnErr result (bytes.new.items ≡ bytes.old.items) }
@@ -178,9 +150,10 @@ impl OwedAnswers {
         }
     }
 
-    /// The unit at this place is owed nothing any more.
+    /// The unit at this place is owed nothing any more. Places ascend, so no other unit has this one.
     pub fn remove(&mut self, place: u64)
-        ensures { self.new ≡ record self.old { owed = without place self.old.owed } }
+        ensures state { self.new ≡ record self.old { owed = without place self.old.owed } }
+        ensures ascending { Ascending self.old.owed }
     {
         drop(self.owed.remove(place));
     }
@@ -201,12 +174,12 @@ impl OwedAnswers {
     }
 }
 
-impl Row<Owed> {
+impl NumberRows<Owed> {
     ghost use Rattle.open_calls.specs.Rows.{row_entries, IsRow};
     ghost use Rattle.open_calls.specs.Owed.{seen_slot, slot_at, replaced};
 
     /// Puts a text, or none, into this slot of the unit with this number, and answers what stood there.
-    fn replace(&mut self, number: u64, slot: u64, text: Option<Vec<u8>>) -> Option<Vec<u8>>
+    fn replace(&mut self, number: u64, slot: u64, text: Slot) -> Slot
         requires { IsRow self.old }
         ensures was { seen_slot result ≡ slot_at slot (at number (row_entries self.old)) }
         ensures entries { row_entries self.new ≡
@@ -218,7 +191,7 @@ impl Row<Owed> {
         }
         match self.older.get_mut(&number) {
             Some(unit) => unit.replace(slot, text),
-            None => None,
+            None => Slot::Lacking,
         }
     }
 }

@@ -1,7 +1,7 @@
 ghost use Rattle.std.specs.Prelude.{◌≡◌, ℕ, ◌==◌, ◌&&◌, true, false, if◌then◌else◌, ◌+◌, ◌-◌, ◌<◌, ◌≤◌, ◌^◌, ◌++◌, ◌∷◌, [], length, OnOk, OnErr, IfOk, MatchOption, Option, Some, None};
 ghost use Rattle.open_calls.specs.Inner.{has_key};
 ghost use Rattle.open_calls.specs.declared.own_call.OwnCall.{OwnCall};
-ghost use Rattle.open_calls.specs.Numbered.{at, without, up_to, changed_at, next_number, Above, Ascending};
+ghost use Rattle.open_calls.specs.Numbered.{at, without, up_to, changed_at, Above, Ascending};
 
 use crate::keys_by_caller::KeysByCaller;
 use crate::own_call::OwnCall;
@@ -9,16 +9,17 @@ use std::alloc::{AllocError, Global};
 use std::collections::BTreeMap;
 use std::marker::Model;
 use std::mem;
-use std::ops::Bound;
 
 /// Our calls that wait for a reply. They have the keys 1, 2, .. in the order in which they were made.
 #[derive(Drop)]
 pub struct OwnCalls {
+    /// How many were made. `IsOwn` holds: no key is greater, and the indexes have just the keys that are said here.
     made: u64,
+    /// Those that wait, by their keys.
     waiting: BTreeMap<u64, OwnCall>,
     /// The keys of all that wait.
     by_caller: KeysByCaller,
-    /// The keys of those that aren't withdrawn.
+    /// The keys of those that wait and aren't withdrawn.
     wanted: KeysByCaller,
 }
 
@@ -211,17 +212,6 @@ impl OwnCalls {
         ensures ascending { Ascending self.now.waiting }
     {
         self.wanted.next(caller, after)
-    }
-
-    /// The least key above `after` of a call that waits.
-    pub fn next(&self, after: u64) -> Option<u64>
-        ensures { result ≡ next_number after self.now.waiting }
-    {
-        let above = (Bound::Excluded(after), Bound::Unbounded);
-        match self.waiting.range(above).next() {
-            Some((key, _)) => Some(*key),
-            None => None,
-        }
     }
 }
 

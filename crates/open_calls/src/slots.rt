@@ -1,18 +1,19 @@
 ghost use Rattle.std.specs.Prelude.{◌≡◌, ◌<◌, length, slice_index_or, slice_set};
 
+use crate::slot::Slot;
 use std::{mem, slice};
 
 /// The slots of a unit. A unit that is no batch has a single one, which takes no memory of its own.
 #[derive(Drop)]
 pub enum Slots {
-    One(Option<Vec<u8>>),
-    Several(Vec<Option<Vec<u8>>>),
+    One(Slot),
+    Several(Vec<Slot>),
 }
 
 impl Slots {
     ghost use Rattle.open_calls.specs.Slots.{slots_of};
 
-    pub fn as_slice(&self) -> &[Option<Vec<u8>>]
+    pub fn as_slice(&self) -> &[Slot]
         ensures { result.now ≡ slots_of self.now }
     {
         match self {
@@ -30,8 +31,8 @@ impl Slots {
         }
     }
 
-    /// Puts a text, or none, into this slot, and answers what stood there.
-    pub fn replace(&mut self, index: usize, text: Option<Vec<u8>>) -> Option<Vec<u8>>
+    /// Puts this into the slot, and answers what stood there.
+    pub fn replace(&mut self, index: usize, text: Slot) -> Slot
         requires { index < length (slots_of self.old) }
         ensures was { result ≡ slice_index_or (slots_of self.old) index result }
         ensures slots { slots_of self.new ≡ slice_set (slots_of self.old) index text }

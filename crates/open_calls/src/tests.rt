@@ -31,23 +31,27 @@ fn keeps_our_calls(rt: HostRuntime) -> Result<(), Fail> {
         (Some(2), Some(4), None)
     );
     assert_eq!(rt;
-        (calls.next(1), calls.next(2), calls.next(5)),
-        (Some(2), Some(3), None)
+        (
+            calls.get(1).is_some(),
+            calls.get(3).is_some(),
+            calls.get(6).is_some()
+        ),
+        (true, true, false)
     );
     calls.remove(2);
     assert_eq!(rt;
-        (calls.next_of(7, 0), calls.next(1), calls.len()),
-        (Some(4), Some(3), 4)
+        (calls.next_of(7, 0), calls.get(2).is_none(), calls.len()),
+        (Some(4), true, 4)
     );
     calls.end_caller(7);
     assert_eq!(rt;
-        (calls.next_of(7, 0), calls.next(1), calls.len()),
+        (calls.next_of(7, 0), calls.next_of(0, 1), calls.len()),
         (None, Some(5), 2)
     );
     assert_eq!(rt; (calls.made(), calls.make(0, 0)?), (5, 6));
     let taken = calls.take_waiting(rt.alloc());
     assert_eq!(rt;
-        (taken.len(), taken.next(1), calls.made(), calls.len()),
+        (taken.len(), taken.next_of(0, 1), calls.made(), calls.len()),
         (2, Some(5), 5, 0)
     );
     Ok(())
@@ -91,41 +95,65 @@ fn text_at(alloc: Global, owed: &OwedAnswers, place: u64) -> Result<Vec<u8>, All
         Some(unit) => unit,
         None => return Ok(bytes),
     };
-    if unit.len() > 0 && unit.lacking() == 0 {
+    if unit.lacking() == 0 {
         owed.put_text(place, &mut bytes)?;
     }
     Ok(bytes)
+}
+
+/// How many texts the unit at this place lacks.
+fn lacking(owed: &OwedAnswers, place: u64) -> u64 {
+    owed.get(place).map_or(0, |unit| unit.lacking())
+}
+
+fn give(owed: &mut OwedAnswers, place: u64, slot: u64, text: Vec<u8>) {
+    drop(owed.replace(place, slot, Slot::Text(text)));
 }
 
 #[test]
 fn keeps_owed_answers(rt: HostRuntime) -> Result<(), Fail> {
     let alloc = rt.alloc();
     let mut owed = OwedAnswers::new(alloc);
-    owed.open_unit(false, vec![in alloc; None]?)?;
+    owed.open_single(Slot::Lacking)?;
     owed.skip();
-    owed.open_unit(true, vec![in alloc; None, Some(b"1".to_vec(alloc)?), None]?)?;
+    owed.open_batch(vec![in alloc;
+        Slot::Lacking,
+        Slot::Text(b"1".to_vec(alloc)?),
+        Slot::Lacking,
+    ]?)?;
     assert_eq!(rt;
         (owed.len(), owed.first(), owed.next(0), owed.next(2)),
         (2, Some(0), Some(2), None)
     );
     assert_eq!(rt; owed.places(), 3);
-    assert_eq!(rt; (owed.lacks(0), owed.lacks(1), owed.lacks(2)), (1, 0, 2));
-    owed.give(0, 0, b"{}".to_vec(alloc)?);
-    owed.give(2, 2, b"3".to_vec(alloc)?);
-    owed.give(2, 9, b"4".to_vec(alloc)?);
-    assert_eq!(rt; (owed.lacks(0), owed.lacks(2)), (0, 1));
-    owed.give(2, 0, b"2".to_vec(alloc)?);
+    assert_eq!(rt;
+        (lacking(&owed, 0), lacking(&owed, 1), lacking(&owed, 2)),
+        (1, 0, 2)
+    );
+    give(&mut owed, 0, 0, b"{}".to_vec(alloc)?);
+    give(&mut owed, 2, 2, b"3".to_vec(alloc)?);
+    give(&mut owed, 2, 9, b"4".to_vec(alloc)?);
+    assert_eq!(rt; (lacking(&owed, 0), lacking(&owed, 2)), (0, 1));
+    give(&mut owed, 2, 0, b"2".to_vec(alloc)?);
     assert_eq!(rt; text_at(alloc, &owed, 0)?.as_slice(), b"{}".as_slice());
     assert_eq!(rt; text_at(alloc, &owed, 2)?.as_slice(), b"[2,1,3]".as_slice());
-    let was = owed.replace(2, 1, None);
-    assert_eq!(rt; (was.map(|text| text.len()), owed.lacks(2)), (Some(1), 1));
-    let was = owed.replace(2, 1, Some(b"5".to_vec(alloc)?));
-    assert_eq!(rt; was.is_none(), true);
+    let was = owed.replace(2, 1, Slot::Lacking);
+    assert_eq!(rt; (was.text(), lacking(&owed, 2)), (b"1".as_slice(), 1));
+    let was = owed.replace(2, 1, Slot::Text(b"5".to_vec(alloc)?));
+    assert_eq!(rt; was.is_lacking(), true);
     assert_eq!(rt; text_at(alloc, &owed, 2)?.as_slice(), b"[2,5,3]".as_slice());
     owed.remove(0);
     assert_eq!(rt; (owed.len(), owed.first()), (1, Some(2)));
+    Ok(())
+}
+
+#[test]
+fn takes_back_the_last_unit(rt: HostRuntime) -> Result<(), Fail> {
+    let mut owed = OwedAnswers::new(rt.alloc());
+    owed.skip();
+    owed.open_single(Slot::Lacking)?;
     owed.undo_unit();
-    assert_eq!(rt; (owed.len(), owed.first()), (0, None));
+    assert_eq!(rt; (owed.places(), owed.len(), owed.first()), (1, 0, None));
     Ok(())
 }
 
@@ -133,23 +161,57 @@ fn keeps_owed_answers(rt: HostRuntime) -> Result<(), Fail> {
 fn keeps_a_single_answer(rt: HostRuntime) -> Result<(), Fail> {
     let alloc = rt.alloc();
     let mut owed = OwedAnswers::new(alloc);
-    owed.open_single(None)?;
-    owed.open_single(Some(b"1".to_vec(alloc)?))?;
+    owed.open_single(Slot::Lacking)?;
+    owed.open_single(Slot::Text(b"1".to_vec(alloc)?))?;
     assert_eq!(rt; (owed.places(), owed.len()), (2, 2));
-    assert_eq!(rt; (owed.lacks(0), owed.lacks(1)), (1, 0));
+    assert_eq!(rt; (lacking(&owed, 0), lacking(&owed, 1)), (1, 0));
     assert_eq!(rt;
         owed.get(0).map(|unit| (unit.is_batch(), unit.len())),
         Some((false, 1))
     );
-    owed.give(0, 1, b"no".to_vec(alloc)?);
-    assert_eq!(rt; owed.lacks(0), 1);
-    owed.give(0, 0, b"{}".to_vec(alloc)?);
+    give(&mut owed, 0, 1, b"no".to_vec(alloc)?);
+    assert_eq!(rt; lacking(&owed, 0), 1);
+    give(&mut owed, 0, 0, b"{}".to_vec(alloc)?);
     assert_eq!(rt; text_at(alloc, &owed, 0)?.as_slice(), b"{}".as_slice());
     assert_eq!(rt; text_at(alloc, &owed, 1)?.as_slice(), b"1".as_slice());
-    let was = owed.replace(1, 0, None);
-    assert_eq!(rt; (was.map(|text| text.len()), owed.lacks(1)), (Some(1), 1));
+    let was = owed.replace(1, 0, Slot::Lacking);
+    assert_eq!(rt; (was.text(), lacking(&owed, 1)), (b"1".as_slice(), 1));
     owed.remove(0);
     assert_eq!(rt; (owed.len(), owed.first()), (1, Some(1)));
+    Ok(())
+}
+
+#[test]
+fn leaves_out_what_has_no_answer(rt: HostRuntime) -> Result<(), Fail> {
+    let invalid =
+        b"{\"error\":{\"code\":-32600,\"message\":\"Invalid Request\"},\"id\":null,\"jsonrpc\":\"2.0\"}";
+    let alloc = rt.alloc();
+    let mut owed = OwedAnswers::new(alloc);
+    owed.open_batch(vec![in alloc; Slot::Lacking, Slot::Lacking, Slot::Lacking]?)?;
+    owed.open_batch(vec![in alloc; Slot::Invalid, Slot::Lacking]?)?;
+    owed.open_single(Slot::Lacking)?;
+    assert_eq!(rt;
+        (owed.has_answer(0), owed.has_answer(1), owed.has_answer(3)),
+        (false, true, false)
+    );
+    give(&mut owed, 0, 0, Vec::new(alloc));
+    give(&mut owed, 0, 1, b"1".to_vec(alloc)?);
+    assert_eq!(rt; (lacking(&owed, 0), owed.has_answer(0)), (1, true));
+    give(&mut owed, 0, 2, Vec::new(alloc));
+    assert_eq!(rt; text_at(alloc, &owed, 0)?.as_slice(), b"[1]".as_slice());
+    give(&mut owed, 0, 1, Vec::new(alloc));
+    assert_eq!(rt; (lacking(&owed, 0), owed.has_answer(0)), (0, false));
+    assert_eq!(rt; text_at(alloc, &owed, 0)?.as_slice(), b"".as_slice());
+    give(&mut owed, 1, 1, b"2".to_vec(alloc)?);
+    let text = text_at(alloc, &owed, 1)?;
+    assert_eq!(rt; text.as_slice().starts_with(b"["), true);
+    assert_eq!(rt; text.as_slice().ends_with(b",2]"), true);
+    assert_eq!(rt; &text.as_slice()[1..text.len() - 3], invalid.as_slice());
+    give(&mut owed, 1, 1, Vec::new(alloc));
+    assert_eq!(rt; text_at(alloc, &owed, 1)?.len(), invalid.len() + 2);
+    give(&mut owed, 2, 0, Vec::new(alloc));
+    assert_eq!(rt; (lacking(&owed, 2), owed.has_answer(2)), (0, false));
+    assert_eq!(rt; text_at(alloc, &owed, 2)?.as_slice(), b"".as_slice());
     Ok(())
 }
 
@@ -158,7 +220,7 @@ fn owe(owed: &mut OwedAnswers) -> Result<(), AllocError> {
     if owed.places() == u64::MAX {
         return Err(AllocError);
     }
-    owed.open_single(None)
+    owed.open_single(Slot::Lacking)
 }
 
 /// Takes a request in.
@@ -186,9 +248,9 @@ fn owes_many_answers_in_any_order(rt: HostRuntime) -> Result<(), Fail> {
         assert_eq!(rt; (owed.len(), owed.first()), (5000, Some(0)));
         for index in 0..5000 {
             let place = in_steps(index, step);
-            assert_eq!(rt; owed.lacks(place), 1);
-            owed.give(place, 0, b"1".to_vec(rt.alloc())?);
-            assert_eq!(rt; owed.lacks(place), 0);
+            assert_eq!(rt; lacking(&owed, place), 1);
+            give(&mut owed, place, 0, b"1".to_vec(rt.alloc())?);
+            assert_eq!(rt; lacking(&owed, place), 0);
             owed.remove(place);
             assert_eq!(rt;
                 (owed.get(place).is_none(), owed.len()),

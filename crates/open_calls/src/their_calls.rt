@@ -3,8 +3,8 @@ ghost use Rattle.open_calls.specs.Inner.{is_listed, IsWithNumber, IsWithoutNumbe
 ghost use Rattle.message_ids.specs.declared.id.Id.{Id};
 ghost use Rattle.open_calls.specs.Numbered.{at, without, up_to, changed_at, Ascending};
 
+use crate::number_rows::NumberRows;
 use crate::numbers_by_id::NumbersById;
-use crate::row::Row;
 use crate::their_call::TheirCall;
 use message_ids::Id;
 use std::alloc::{AllocError, Global};
@@ -13,8 +13,10 @@ use std::marker::Model;
 /// The other side's calls that are open. They have the numbers 1, 2, .. in the order in which they came.
 #[derive(Drop)]
 pub struct TheirCalls {
+    /// How many came. `IsTheirs` holds: no number is greater, and the index has just the numbers that are said here.
     came: u64,
-    calls: Row<TheirCall>,
+    /// Those that are open, by their numbers.
+    calls: NumberRows<TheirCall>,
     /// The numbers of the requests that no cancel has reached.
     by_id: NumbersById,
 }
@@ -40,7 +42,7 @@ impl TheirCalls {
     {
         TheirCalls {
             came: 0,
-            calls: Row::new(alloc),
+            calls: NumberRows::new(alloc),
             by_id: NumbersById::new(alloc),
         }
     }
@@ -146,11 +148,13 @@ impl TheirCalls {
     }
 
     /// Cancels the first request with this id and at most this number that no cancel has reached, and answers its number.
+    /// Numbers ascend, so no other call has it.
     pub fn reach_up_to(&mut self, id: &Id, most: u64) -> Option<u64>
         ensures number { result ≡ reached id.now (up_to most self.old.calls) }
         ensures state { self.new ≡ record self.old {
           calls = cancelled_at (reached id.now (up_to most self.old.calls)) self.old.calls;
         } }
+        ensures ascending { Ascending self.old.calls }
     {
         match self.by_id.least(id) {
             Some(number) if number <= most => self.reach(id),
@@ -159,7 +163,7 @@ impl TheirCalls {
     }
 }
 
-impl Row<TheirCall> {
+impl NumberRows<TheirCall> {
     ghost use Rattle.open_calls.specs.Rows.{row_entries, IsRow};
     ghost use Rattle.open_calls.specs.Theirs.{cancelled};
 

@@ -12,7 +12,7 @@ invariant_of-self c = record {
       (below_filter c.self.inside.places (λ e. not (c.args.place == e.0)) (row_entries c.self.inside.owed) c.self.invariant.numbered);
 }
 
-pub returns : goal.returns
-returns c =
+pub returns-clause-state : goal.returns-clause-state
+returns-clause-state c =
     through (λ s. state_of s.places (without c.args.place s.owed)) _ _ c.args.self.now c.self.view_is
     (same_owed c.self.inside.places (row_entries c.remove.new.self) (without c.args.place (row_entries c.self.inside.owed)) c.remove.ensures.entries)
