@@ -1,30 +1,34 @@
 -- A connection that goes on.
-use Rattle.std.proofs.Common.{◌≡◌, ◌≤◌, ◌<◌, ℕ, ◌+◌, ◌-◌, Bool, false, cond, List, [], ◌∷◌, ◌++◌, map, take, length, Some, None, refl, ap, sym, ◌∙◌, subst, append-nil, length-append, arith}
+use Rattle.std.proofs.Common.{◌≡◌, ◌≤◌, ◌<◌, ℕ, ◌+◌, ◌-◌, Bool, false, cond, List, [], ◌∷◌, ◌++◌, map, take, length, Option, Some, None, refl, ap, sym, ◌∙◌, subst, append-nil, length-append, arith}
 use Rattle.std.proofs.lemmas.List.{map-append, take_more}
 use Rattle.std.specs.List.{slice_get}
-use Rattle.std.proofs.lemmas.Option.{slice_get_within, get_or_from_slice_get}
+use Rattle.std.proofs.lemmas.Option.{slice_get_within, get_or_from_slice_get, slice_get-map}
+use Rattle.std.specs.Prelude.{option_to_list, option_map}
 use Rattle.lsp_frames.specs.declared.frame.Frame.{Frame}
 use Rattle.connection_messages.specs.declared.unit.Unit.{Unit}
+use Rattle.connection_history.specs.declared.broken.Broken.{Broken}
 use Rattle.connection_history.specs.declared.close.Close.{Close}
 use Rattle.connection_history.specs.declared.close.Close.TheVariants as close
 use Rattle.connection_history.specs.declared.event.Event.{Event}
 use Rattle.connection_history.specs.declared.refused.Refused.TheVariants.{Over}
 use Rattle.connection_history.specs.Stream.{entries_in, entries_along, calls_in}
-use Rattle.connection_history.specs.History.{came, ended, History, units_of, stream, is_over}
-use Rattle.connection_history.specs.Events.{events_of, call_count}
+use Rattle.connection_history.specs.History.{Origin, came, ended, History, or_else, units_of, origins_of, stream, is_over, close_of as close_in}
+use Rattle.connection_history.specs.Events.{broken_in, events_of, call_count}
 use Rattle.connection_history.proofs.Histories.{stream-came}
 use Rattle.connection_history.proofs.Streams.{length-calls_in-append}
 use Rattle.content_streams.specs.declared.ending.StreamEnd.{StreamEnd}
-use Rattle.content_streams.specs.Streams.{Stream, contents, next_content, close_of as end_of_stream}
+use Rattle.content_streams.specs.Streams.{Stream, contents, placed_contents, next_content, next_placed, close_of as end_of_stream}
+use Rattle.content_streams.proofs.KeepingPlaces.{contents_alone}
 use Rattle.outbox.proofs.Left.{full_more}
 use Rattle.connection_states.specs.States.{State}
 use Rattle.connection_states.specs.Steps.{leaving, owed_with}
 use Rattle.connection_desk.specs.Desks.{Desk, after_unit, after_end, answer_texts}
 use Rattle.connection.specs.Settings.{Chosen}
-use Rattle.connection.specs.Connections.{Connection, IsStreamOf, StandsAfter, SamePieces, Step, comes, is_full, ends, GoesOn, stays, goes, IsStill, HasStepped, HasGoneOn, read, calls_of, close_of}
+use Rattle.connection.specs.Connections.{Connection, IsStreamOf, HasEnded, was_full, had_ended, StandsAfter, SamePieces, Step, comes, is_full, ends, GoesOn, stays, goes, IsStill, HasStepped, HasGoneOn, read, origin_of, content_came, calls_of, close_of}
 use Rattle.connection.specs.Inner.{IsNext, HasMoved, HasStayed, HasGone}
 use Rattle.connection.proofs.Moves.{desk_came, desk_ended}
-use Rattle.connection.proofs.Fed.{over_is, all_told}
+use Rattle.connection.proofs.Fed.{over_is, unclosed, all_told}
+use Rattle.connection.proofs.Stands.{still}
 
 -- ---- the next content
 
@@ -34,22 +38,36 @@ take_next xs n x is = take_more xs n x (slice_get_within xs n x is) ∙ ap (λ y
 came_is : (c : Connection) (history : History) (told : List Event) → StandsAfter c history told → c.desk.state.theirs.came ≡ call_count history
 came_is c history told stands = ap (λ (s : State). s.theirs.came) stands.desk.state
 
-counts : (past : History) (u : Unit) → call_count (came u ∷ past) ≡ call_count past + calls_of u
-counts past u = ap (λ es. length (calls_in es)) (stream-came past u) ∙ length-calls_in-append (stream past) (entries_in u)
+counts : (past : History) (from : Option Origin) (u : Unit) → call_count (came from u ∷ past) ≡ call_count past + calls_of u
+counts past from u = ap (λ es. length (calls_in es)) (stream-came past from u) ∙ length-calls_in-append (stream past) (entries_in u)
 
 may_come : (past : History) (b : Bool) → b ≡ false → cond b (Some Over) None ≡ None
 may_come past b going = ap (λ t. cond t (Some Over) None) going
 
-taken_stream : (settings : Chosen) (past : History) (s : Stream) (frame : Frame) → IsStreamOf settings past s → next_content s ≡ Some frame
-    → IsStreamOf settings (came (read settings.takes_cancels frame) ∷ past) (record s { taken = s.taken + 1 })
-taken_stream settings past s frame is next =
-    let u = read settings.takes_cancels frame in record {
+-- a content with its place is the content
+pub placed_frame : (s : Stream) (n : ℕ) (placed : ℕ × Frame) → slice_get (placed_contents s) n ≡ Some placed → slice_get (contents s) n ≡ Some placed.1
+placed_frame s n placed is =
+    ap (λ fs. slice_get fs n) (sym (contents_alone s.framing s.limit s.pieces s.ended))
+    ∙ slice_get-map (λ (p : ℕ × Frame). p.1) (placed_contents s) n ∙ ap (option_map (λ (p : ℕ × Frame). p.1)) is
+
+taken_stream : (settings : Chosen) (past : History) (s : Stream) (placed : ℕ × Frame) → IsStreamOf settings past s → next_placed s ≡ Some placed
+    → IsStreamOf settings (content_came settings placed ∷ past) (record s { taken = s.taken + 1 })
+taken_stream settings past s placed is next =
+    let frame = placed.1 in
+    let u = read settings.cancels frame in record {
       framing = is.framing;
       limit = is.limit;
       taken = ap (λ n. n + 1) is.taken ∙ sym (length-append (units_of past) (u ∷ []));
-      came = ap (λ us. us ++ u ∷ []) is.came ∙ sym (map-append (read settings.takes_cancels) (take s.taken (contents s)) (frame ∷ []))
-          ∙ ap (map (read settings.takes_cancels)) (sym (take_next (contents s) s.taken frame next));
+      came = ap (λ us. us ++ u ∷ []) is.came ∙ sym (map-append (read settings.cancels) (take s.taken (contents s)) (frame ∷ []))
+          ∙ ap (map (read settings.cancels)) (sym (take_next (contents s) s.taken frame (placed_frame s s.taken placed next)));
+      origins = ap (λ os. os ++ origin_of settings.tells_broken placed ∷ []) is.origins
+          ∙ sym (map-append (origin_of settings.tells_broken) (take s.taken (placed_contents s)) (placed ∷ []))
+          ∙ ap (map (origin_of settings.tells_broken)) (sym (take_next (placed_contents s) s.taken placed next));
     }
+
+next_placed_is : (c : Connection) (history : History) (told : List Event) → StandsAfter c history told
+    → slice_get (placed_contents c.stream) (length (units_of history)) ≡ next_placed c.stream
+next_placed_is c history told stands = ap (slice_get (placed_contents c.stream)) (sym stands.stream.taken)
 
 next_is : (c : Connection) (history : History) (told : List Event) → StandsAfter c history told → slice_get (contents c.stream) (length (units_of history)) ≡ next_content c.stream
 next_is c history told stands = ap (slice_get (contents c.stream)) (sym stands.stream.taken)
@@ -59,28 +77,32 @@ same_pieces s n = record { framing = refl; limit = refl; pieces = refl; ended = 
 
 -- ---- it comes
 
-abbrev with_unit : Connection → Unit → Connection
-with_unit c u = record { settings = c.settings; stream = record c.stream { taken = c.stream.taken + 1 }; desk = after_unit u c.desk }
+abbrev with_unit : Connection → Option Broken → Unit → Connection
+with_unit c broken u = record { settings = c.settings; stream = record c.stream { taken = c.stream.taken + 1 }; desk = after_unit broken u c.desk }
 
-frame_moves : (c : Connection) (frame : Frame) → c.desk.state.is_over ≡ false → next_content c.stream ≡ Some frame
-    → calls_of (read c.settings.takes_cancels frame) ≤ c.settings.calls - c.desk.state.theirs.came
-    → HasMoved c (with_unit c (read c.settings.takes_cancels frame))
-frame_moves c frame going next few =
-    let u = read c.settings.takes_cancels frame in
-    let within : c.stream.taken < length (contents c.stream) = slice_get_within (contents c.stream) c.stream.taken frame next in record {
+frame_moves : (c : Connection) (placed : ℕ × Frame) (broken : Option Broken) → c.desk.state.is_over ≡ false → next_placed c.stream ≡ Some placed
+    → option_to_list broken ≡ broken_in (origin_of c.settings.tells_broken placed) (read c.settings.cancels placed.1)
+    → calls_of (read c.settings.cancels placed.1) ≤ c.settings.calls - c.desk.state.theirs.came
+    → HasMoved c (with_unit c broken (read c.settings.cancels placed.1))
+frame_moves c placed broken going next defect few =
+    let frame = placed.1 in
+    let from = origin_of c.settings.tells_broken placed in
+    let u = read c.settings.cancels frame in
+    let within : c.stream.taken < length (contents c.stream) = slice_get_within (contents c.stream) c.stream.taken frame (placed_frame c.stream c.stream.taken placed next) in record {
       stepped = λ past told stands all.
           (let here : is_over past ≡ false = sym (over_is c past told stands) ∙ going in
           let number : c.desk.state.theirs.came ≡ call_count past = came_is c past told stands in
           let most : call_count past ≤ c.settings.calls = stands.calls in
           let fits : call_count past + calls_of u ≤ c.settings.calls = omega arith in
           let d = c.desk in record {
-            history = came u ∷ past;
-            step = comes frame all here (next_is c past told stands ∙ next) fits;
+            history = came from u ∷ past;
+            step = comes placed all here (next_placed_is c past told stands ∙ next) fits;
             stands = record {
               lawful = (may_come past (is_over past) here, stands.lawful);
-              calls = subst (λ n. n ≤ c.settings.calls) (sym (counts past u)) fits;
-              stream = taken_stream c.settings past c.stream frame stands.stream next;
-              desk = desk_came c.settings.takes_cancels c.settings past told u d stands.desk stands.lawful;
+              calls = subst (λ n. n ≤ c.settings.calls) (sym (counts past from u)) fits;
+              stream = taken_stream c.settings past c.stream placed stands.stream next;
+              ended = λ close closed. (let none : close_in past ≡ None = unclosed past here in absurd (cc));
+              desk = desk_came c.settings.cancels c.settings past told from u broken d defect stands.desk stands.lawful;
               taken = full_more d.out.framing d.out.written (answer_texts (leaving d.order (owed_with u d.state.owed))) d.out.taken stands.taken;
             };
             pieces = same_pieces c.stream (c.stream.taken + 1);
@@ -92,11 +114,12 @@ frame_moves c frame going next few =
       taken = refl;
     }
 
-pub unit_moves : (c : Connection) (u : Unit) → c.desk.state.is_over ≡ false → IsNext c u
-    → calls_of u ≤ c.settings.calls - c.desk.state.theirs.came → HasMoved c (with_unit c u)
-unit_moves c u going next few =
-    let P : Unit → Type 0 = λ v. calls_of v ≤ c.settings.calls - c.desk.state.theirs.came → HasMoved c (with_unit c v) in
-    subst P (sym next.read) (frame_moves c next.frame going next.next) few
+pub unit_moves : (c : Connection) (u : Unit) (broken : Option Broken) → c.desk.state.is_over ≡ false → IsNext c u broken
+    → calls_of u ≤ c.settings.calls - c.desk.state.theirs.came → HasMoved c (with_unit c broken u)
+unit_moves c u broken going next few =
+    let P : Unit → Type 0 =
+    λ v. option_to_list broken ≡ broken_in (origin_of c.settings.tells_broken next.placed) v → calls_of v ≤ c.settings.calls - c.desk.state.theirs.came → HasMoved c (with_unit c broken v) in
+    subst P (sym next.read) (frame_moves c next.placed broken going next.next) next.defect few
 
 -- ---- the input is over
 
@@ -109,25 +132,37 @@ ended_stream settings past s close is = record {
   limit = is.limit;
   taken = is.taken ∙ ap length (sym (append-nil (units_of past)));
   came = append-nil (units_of past) ∙ is.came;
+  origins = append-nil (origins_of past) ∙ is.origins;
 }
 
-ended_stands : (c : Connection) (past : History) (told : List Event) (close : Close) → c.desk.state.is_over ≡ false → StandsAfter c past told → StandsAfter (with_end c close) (ended close ∷ past) told
-ended_stands c past told close going stands = record {
+-- the one end is this
+ended_so : (settings : Chosen) (s : Stream) (past : History) (close : Close) → is_over past ≡ false → HasEnded settings s past close
+    → (other : Close) → close_in (ended close ∷ past) ≡ Some other → HasEnded settings s (ended close ∷ past) other
+ended_so settings s past close going so other is =
+    let only : close_in (ended close ∷ past) ≡ Some close = ap (λ o. or_else o (Some close)) (unclosed past going) in
+    let same : close ≡ other = cc in
+    subst (HasEnded settings s (ended close ∷ past)) same (still settings s past (ended close ∷ past) close (append-nil (units_of past)) so)
+
+ended_stands : (c : Connection) (past : History) (told : List Event) (close : Close) → c.desk.state.is_over ≡ false → HasEnded c.settings c.stream past close → StandsAfter c past told
+    → StandsAfter (with_end c close) (ended close ∷ past) told
+ended_stands c past told close going so stands = record {
   lawful = (may_come past (is_over past) (sym (over_is c past told stands) ∙ going), stands.lawful);
   calls = subst (λ us. length (calls_in (entries_along us)) ≤ c.settings.calls) (sym (append-nil (units_of past))) stands.calls;
   stream = ended_stream c.settings past c.stream close stands.stream;
+  ended = ended_so c.settings c.stream past close (sym (over_is c past told stands) ∙ going) so;
   desk = desk_ended c.settings past told close c.desk stands.desk;
   taken = stands.taken;
 }
 
 end_moves : (c : Connection) (close : Close) → c.desk.state.is_over ≡ false
-    → ((past : History) (told : List Event) → StandsAfter c past told → events_of past ≡ told → is_over past ≡ false → Step c told past (ended close ∷ past))
+    → ((past : History) (told : List Event) → StandsAfter c past told → events_of past ≡ told → is_over past ≡ false
+    → Step c told past (ended close ∷ past) × HasEnded c.settings c.stream past close)
     → HasMoved c (with_end c close)
 end_moves c close going step = record {
   stepped = λ past told stands all. record {
     history = ended close ∷ past;
-    step = step past told stands all (sym (over_is c past told stands) ∙ going);
-    stands = ended_stands c past told close going stands;
+    step = (step past told stands all (sym (over_is c past told stands) ∙ going)).0;
+    stands = ended_stands c past told close going (step past told stands all (sym (over_is c past told stands) ∙ going)).1 stands;
     pieces = same_pieces c.stream c.stream.taken;
     settings = refl;
   };
@@ -137,26 +172,28 @@ end_moves c close going step = record {
   taken = refl;
 }
 
-pub full_moves : (c : Connection) (u : Unit) → c.desk.state.is_over ≡ false → IsNext c u
+pub full_moves : (c : Connection) (u : Unit) (broken : Option Broken) → c.desk.state.is_over ≡ false → IsNext c u broken
     → c.settings.calls - c.desk.state.theirs.came < calls_of u → HasMoved c (with_end c close.Full)
-full_moves c u going next many = end_moves c close.Full going (λ past told stands all here.
+full_moves c u broken going next many = end_moves c close.Full going (λ past told stands all here.
     (let number : c.desk.state.theirs.came ≡ call_count past = came_is c past told stands in
     let most : call_count past ≤ c.settings.calls = stands.calls in
-    let here_many : c.settings.calls - c.desk.state.theirs.came < calls_of (read c.settings.takes_cancels next.frame) = subst (λ v. c.settings.calls - c.desk.state.theirs.came < calls_of v) next.read many in
-    is_full next.frame all here (next_is c past told stands ∙ next.next) (omega arith)))
+    let here_many : c.settings.calls - c.desk.state.theirs.came < calls_of (read c.settings.cancels next.placed.1) = subst (λ v. c.settings.calls - c.desk.state.theirs.came < calls_of v) next.read many in
+    let frame = placed_frame c.stream c.stream.taken next.placed next.next in
+    let over : c.settings.calls < call_count past + calls_of (read c.settings.cancels next.placed.1) = omega arith in
+    (is_full next.placed.1 all here (next_is c past told stands ∙ frame) over, was_full next.placed.1 (next_is c past told stands ∙ frame) over)))
 
 pub close_moves : (c : Connection) (end : StreamEnd) → c.desk.state.is_over ≡ false → next_content c.stream ≡ None → end_of_stream c.stream ≡ Some end
     → HasMoved c (with_end c (close_of end))
 close_moves c end going none is = end_moves c (close_of end) going (λ past told stands all here.
-    ends end all here (next_is c past told stands ∙ none) is)
+    (ends end all here (next_is c past told stands ∙ none) is, had_ended end (next_is c past told stands ∙ none) is))
 
 -- ---- the same at equal values
 
 pub moves_as : (c before now next : Connection) → c ≡ before → now ≡ next → HasMoved c now → HasMoved before next
 moves_as c before now next same to moved = subst (λ b. HasMoved b next) same (subst (λ n. HasMoved c n) to moved)
 
-pub next_as : (c before : Connection) (u : Unit) → before ≡ c → IsNext before u → IsNext c u
-next_as c before u same next = subst (λ b. IsNext b u) same next
+pub next_as : (c before : Connection) (u : Unit) (broken : Option Broken) → before ≡ c → IsNext before u broken → IsNext c u broken
+next_as c before u broken same next = subst (λ b. IsNext b u broken) same next
 
 -- ---- several steps
 
@@ -170,7 +207,7 @@ gone_none c = record {
 
 same_step : (c : Connection) (taken : ℕ) (desk : Desk) (told : List Event) (past now : History)
     → Step (record { settings = c.settings; stream = record c.stream { taken = taken }; desk = desk }) told past now → Step c told past now
-same_step c taken desk told past _ (comes frame all here next fits) = comes frame all here next fits
+same_step c taken desk told past _ (comes placed all here next fits) = comes placed all here next fits
 same_step c taken desk told past _ (is_full frame all here next many) = is_full frame all here next many
 same_step c taken desk told past _ (ends end all here next is) = ends end all here next is
 
@@ -228,3 +265,22 @@ stays_still before current next now history told gone same none stayed stands =
     let all : events_of g.history ≡ told = all_told current g.history told g.stands none in
     let still : IsStill next g.history told = stayed.still g.history told here all in
     (g.history, g.steps, subst (λ c. StandsAfter c g.history told) (sym stayed.same) here, subst (λ c. IsStill c g.history told) (sym stayed.same) still)
+
+-- ---- the next content, as it is read
+
+known : (o : Option (ℕ × Frame)) (frame : Frame) → option_map (λ (p : ℕ × Frame). p.1) o ≡ Some frame → (placed : ℕ × Frame) × (o ≡ Some placed) × (placed.1 ≡ frame)
+known None frame is = absurd (cc)
+known (Some placed) frame is = (placed, refl, cc)
+
+pub next_from : (c : Connection) (frame : Frame) (u : Unit) (broken : Option Broken) → next_content c.stream ≡ Some frame → u ≡ read c.settings.cancels frame
+    → ((placed : ℕ × Frame) → next_placed c.stream ≡ Some placed → option_to_list broken ≡ broken_in (origin_of c.settings.tells_broken placed) u) → IsNext c u broken
+next_from c frame u broken next is defect =
+    let s = c.stream in
+    let found = known (next_placed s) frame
+    (sym (slice_get-map (λ (p : ℕ × Frame). p.1) (placed_contents s) s.taken) ∙ ap (λ fs. slice_get fs s.taken) (contents_alone s.framing s.limit s.pieces s.ended) ∙ next) in
+    record {
+      placed = found.0;
+      next = found.1;
+      read = is ∙ ap (read c.settings.cancels) (sym found.2);
+      defect = defect found.0 found.1;
+    }

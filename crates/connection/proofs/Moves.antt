@@ -1,17 +1,21 @@
 -- What each happening makes of a desk is what the history makes of it.
-use Rattle.std.proofs.Common.{rules, ◌≡◌, ℕ, ◌+◌, Bool, List, [], ◌∷◌, ◌++◌, map, length, refl, ap, sym, ◌∙◌}
+use Rattle.std.specs.Prelude.{option_to_list}
+use Rattle.std.proofs.Common.{rules, ◌≡◌, ℕ, ◌+◌, Bool, Option, List, [], ◌∷◌, ◌++◌, map, length, refl, ap, sym, ◌∙◌}
 use Rattle.std.proofs.lemmas.List.{append_assoc, append-nil, map-append}
 use Rattle.connection_messages.specs.Texts.{call_text, calls_text, notice_text, withdrawal_text}
 use Rattle.connection_messages.specs.declared.answer.Answer.{Answer}
+use Rattle.connection_messages.specs.declared.cancels.Cancels.{Cancels}
 use Rattle.connection_messages.specs.declared.outgoing.Outgoing.{Outgoing}
 use Rattle.connection_messages.specs.declared.unit.Unit.{Unit}
 use Rattle.connection_history.specs.declared.close.Close.{Close}
+use Rattle.connection_history.specs.declared.broken.Broken.{Broken}
 use Rattle.connection_history.specs.declared.event.Event.{Event}
+use Rattle.connection_history.specs.declared.event.Event.TheVariants as event
 use Rattle.connection_history.specs.declared.order.Order.{Order}
 use Rattle.connection_history.specs.Stream.{entries_in}
-use Rattle.connection_history.specs.History.{Happening, key_count, came, called, called_all, noticed, withdrew, answered, ended, History, is_over}
-use Rattle.connection_history.specs.Refusals.{IsLawful}
-use Rattle.connection_history.specs.Events.{events_at}
+use Rattle.connection_history.specs.History.{Origin, Happening, key_count, came, called, called_all, noticed, withdrew, answered, ended, History, is_over}
+use Rattle.connection_history.specs.Refusals.{by_of, IsLawful}
+use Rattle.connection_history.specs.Events.{broken_in, events_at}
 use Rattle.connection_history.specs.Items.{items_of, items_at, said_at, answers_at, text_of}
 use Rattle.open_calls.specs.Numbered.{at}
 use Rattle.open_calls.specs.Own.{OwnState}
@@ -19,7 +23,7 @@ use Rattle.open_calls.specs.Theirs.{TheirState}
 use Rattle.open_calls.specs.Owed.{OwedState}
 use Rattle.outbox.specs.Output.{Output}
 use Rattle.connection_states.specs.States.{State, state_of, own_of}
-use Rattle.connection_states.specs.Steps.{after_came, after_called, after_withdrew, after_answered, after_ended, told_of_all, told_at_end, leaving, owed_with, owed_given}
+use Rattle.connection_states.specs.Steps.{after_came, after_called, after_withdrew, after_answered, after_ended, told_of_all, told_of_unit, told_at_end, leaving, owed_with, owed_given}
 use Rattle.connection_states.specs.Tallies.{tally_of, tally_in, answers_let_out}
 use Rattle.connection_states.proofs.Counted.{tally-silent, tally-came, tally-answered}
 use Rattle.connection_states.proofs.OwnFollows.{own_came, own_called, own_called_all, own_withdrew, own_answered, own_ended}
@@ -46,12 +50,12 @@ same_state o p t u w x b c own theirs owed over =
 
 -- ---- state after each happening
 
-pub state_called : (cancels : Bool) (order : Order) (past : History) (n : ℕ) (o : Outgoing) → IsLawful cancels (called n o ∷ past)
+pub state_called : (cancels : Option Cancels) (order : Order) (past : History) (n : ℕ) (o : Outgoing) → IsLawful cancels (called n o ∷ past)
     → state_of order (called n o ∷ past) ≡ after_called n 1 (state_of order past)
 state_called cancels order past n o lawful =
     same_state _ _ _ _ _ _ _ _ (own_called cancels past n o lawful) (after-called past n o) (silent-owed order past (called n o) refl (λ k. refl)) refl
 
-pub state_called_all : (cancels : Bool) (order : Order) (past : History) (n : ℕ) (os : List Outgoing) → IsLawful cancels (called_all n os ∷ past)
+pub state_called_all : (cancels : Option Cancels) (order : Order) (past : History) (n : ℕ) (os : List Outgoing) → IsLawful cancels (called_all n os ∷ past)
     → state_of order (called_all n os ∷ past) ≡ after_called n (length os) (state_of order past)
 state_called_all cancels order past n os lawful =
     same_state _ _ _ _ _ _ _ _ (own_called_all cancels past n os lawful) (after-called_all past n os) (silent-owed order past (called_all n os) refl (λ k. refl)) refl
@@ -63,12 +67,11 @@ pub state_noticed : (order : Order) (past : History) (o : Outgoing) → state_of
 state_noticed order past o =
     same_state _ _ _ _ _ _ _ _ (own_noticed past o) (after-noticed past o) (silent-owed order past (noticed o) refl (λ k. refl)) refl
 
-pub state_withdrew : (cancels : Bool) (order : Order) (past : History) (k : ℕ) → IsLawful cancels (withdrew k ∷ past)
-    → state_of order (withdrew k ∷ past) ≡ after_withdrew k (state_of order past)
-state_withdrew cancels order past k lawful =
-    same_state _ _ _ _ _ _ _ _ (own_withdrew cancels past k lawful) (after-withdrew past k) (silent-owed order past (withdrew k) refl (λ k. refl)) refl
+pub state_withdrew : (order : Order) (past : History) (by : Cancels) (k : ℕ) → state_of order (withdrew by k ∷ past) ≡ after_withdrew by k (state_of order past)
+state_withdrew order past by k =
+    same_state _ _ _ _ _ _ _ _ (own_withdrew past by k) (after-withdrew past by k) (silent-owed order past (withdrew by k) refl (λ k. refl)) refl
 
-pub state_answered : (cancels : Bool) (order : Order) (past : History) (n : ℕ) (a : Answer) → IsLawful cancels (answered n a ∷ past)
+pub state_answered : (cancels : Option Cancels) (order : Order) (past : History) (n : ℕ) (a : Option Answer) → IsLawful cancels (answered n a ∷ past)
     → state_of order (answered n a ∷ past) ≡ after_answered order n a (state_of order past)
 state_answered cancels order past n a lawful =
     same_state _ _ _ _ _ _ _ _ (own_answered cancels past n a lawful) (after-answered past n a) (answered-owed cancels order past n a lawful) refl
@@ -77,10 +80,10 @@ pub state_ended : (order : Order) (past : History) (close : Close) → state_of 
 state_ended order past close =
     same_state _ _ _ _ _ _ _ _ (own_ended past close) (after-ended past close) (silent-owed order past (ended close) refl (λ k. refl)) refl
 
-pub state_came : (cancels : Bool) (order : Order) (past : History) (u : Unit) → IsLawful cancels past
-    → state_of order (came u ∷ past) ≡ after_came order u (state_of order past)
-state_came cancels order past u lawful =
-    same_state _ _ _ _ _ _ _ _ (own_came cancels past u lawful) (theirs-came cancels past u lawful) (came-owed cancels order past u lawful) refl
+pub state_came : (cancels : Option Cancels) (order : Order) (past : History) (from : Option Origin) (u : Unit) → IsLawful cancels past
+    → state_of order (came from u ∷ past) ≡ after_came order u (state_of order past)
+state_came cancels order past from u lawful =
+    same_state _ _ _ _ _ _ _ _ (own_came cancels past from u lawful) (theirs-came cancels past from u lawful) (came-owed cancels order past from u lawful) refl
 
 -- ---- a desk after one more happening
 
@@ -114,7 +117,7 @@ said_only settings past told h texts d e is cancels order after untold events ou
 pub made_is : (settings : Chosen) (past : History) (told : List Event) (d : Desk) → IsDeskOf settings past told d → d.state.own.made ≡ key_count past
 made_is settings past told d is = ap (λ (s : State). s.own.made) is.state
 
-pub desk_called : (cancels : Bool) (settings : Chosen) (past : History) (told : List Event) (n : ℕ) (o : Outgoing) (d : Desk) → IsDeskOf settings past told d
+pub desk_called : (cancels : Option Cancels) (settings : Chosen) (past : History) (told : List Event) (n : ℕ) (o : Outgoing) (d : Desk) → IsDeskOf settings past told d
     → IsLawful cancels (called n o ∷ past) → IsDeskOf settings (called n o ∷ past) told (after_call n o d)
 desk_called cancels settings past told n o d is lawful =
     said_only settings past told (called n o) (call_text (d.state.own.made + 1) o ∷ []) d (after_call n o d) is refl refl
@@ -122,7 +125,7 @@ desk_called cancels settings past told n o d is lawful =
     (ap (λ k. call_text (k + 1) o ∷ []) (sym (made_is settings past told d is)))
     (silent-answers settings.order past (called n o) refl (λ k. refl)) refl (tally-silent settings.order past (called n o) refl (λ k. refl) refl)
 
-pub desk_called_all : (cancels : Bool) (settings : Chosen) (past : History) (told : List Event) (n : ℕ) (os : List Outgoing) (d : Desk) → IsDeskOf settings past told d
+pub desk_called_all : (cancels : Option Cancels) (settings : Chosen) (past : History) (told : List Event) (n : ℕ) (os : List Outgoing) (d : Desk) → IsDeskOf settings past told d
     → IsLawful cancels (called_all n os ∷ past) → IsDeskOf settings (called_all n os ∷ past) told (after_calls n os d)
 desk_called_all cancels settings past told n os d is lawful =
     said_only settings past told (called_all n os) (calls_text (d.state.own.made + 1) os ∷ []) d (after_calls n os d) is refl refl
@@ -137,18 +140,23 @@ desk_noticed settings past told o d is =
     (is.state ∙ sym (state_noticed settings.order past o)) refl refl refl refl
     (silent-answers settings.order past (noticed o) refl (λ k. refl)) refl (tally-silent settings.order past (noticed o) refl (λ k. refl) refl)
 
-pub desk_withdrew : (cancels : Bool) (settings : Chosen) (past : History) (told : List Event) (k : ℕ) (d : Desk) → IsDeskOf settings past told d
-    → IsLawful cancels (withdrew k ∷ past) → IsDeskOf settings (withdrew k ∷ past) told (after_withdrawal k d)
-desk_withdrew cancels settings past told k d is lawful =
-    said_only settings past told (withdrew k) (withdrawal_text k ∷ []) d (after_withdrawal k d) is refl refl
-    (ap (after_withdrew k) is.state ∙ sym (state_withdrew cancels settings.order past k lawful)) refl refl refl refl
-    (silent-answers settings.order past (withdrew k) refl (λ k. refl)) refl (tally-silent settings.order past (withdrew k) refl (λ k. refl) refl)
+desk_withdrew_by : (settings : Chosen) (past : History) (told : List Event) (by : Cancels) (k : ℕ) (d : Desk) → by_of d.cancels ≡ by → IsDeskOf settings past told d
+    → IsDeskOf settings (withdrew by k ∷ past) told (after_withdrawal k d)
+desk_withdrew_by settings past told by k d named is =
+    said_only settings past told (withdrew by k) (withdrawal_text (by_of d.cancels) k ∷ []) d (after_withdrawal k d) is refl refl
+    (ap (λ b. after_withdrew b k d.state) named ∙ ap (after_withdrew by k) is.state ∙ sym (state_withdrew settings.order past by k)) refl refl refl
+    (ap (λ b. withdrawal_text b k ∷ []) (sym named))
+    (silent-answers settings.order past (withdrew by k) refl (λ k. refl)) refl (tally-silent settings.order past (withdrew by k) refl (λ k. refl) refl)
+
+pub desk_withdrew : (settings : Chosen) (past : History) (told : List Event) (k : ℕ) (d : Desk) → IsDeskOf settings past told d
+    → IsDeskOf settings (withdrew (by_of settings.cancels) k ∷ past) told (after_withdrawal k d)
+desk_withdrew settings past told k d is = desk_withdrew_by settings past told (by_of settings.cancels) k d (ap by_of is.cancels) is
 
 -- the texts of the answers that an answered call lets out
-abbrev let_out : Order → ℕ → Answer → State → List (List ℕ)
+abbrev let_out : Order → ℕ → Option Answer → State → List (List ℕ)
 let_out order n a s = answer_texts (leaving order (owed_given (at n s.theirs.calls) a s.owed.owed))
 
-pub desk_answered : (cancels : Bool) (settings : Chosen) (past : History) (told : List Event) (n : ℕ) (a : Answer) (d : Desk) → IsDeskOf settings past told d
+pub desk_answered : (cancels : Option Cancels) (settings : Chosen) (past : History) (told : List Event) (n : ℕ) (a : Option Answer) (d : Desk) → IsDeskOf settings past told d
     → IsLawful cancels (answered n a ∷ past) → IsDeskOf settings (answered n a ∷ past) told (after_answer n a d)
 desk_answered cancels settings past told n a d is lawful =
     moved settings past told (answered n a) d (after_answer n a d) is refl refl
@@ -175,17 +183,19 @@ desk_ended settings past told close d is =
 abbrev come_out : Order → Unit → State → List (List ℕ)
 come_out order u s = answer_texts (leaving order (owed_with u s.owed))
 
-pub desk_came : (cancels : Bool) (settings : Chosen) (past : History) (told : List Event) (u : Unit) (d : Desk) → IsDeskOf settings past told d
-    → IsLawful cancels past → IsDeskOf settings (came u ∷ past) told (after_unit u d)
-desk_came cancels settings past told u d is lawful =
-    moved settings past told (came u) d (after_unit u d) is refl refl
-    (ap (λ order. after_came order u d.state) is.order ∙ ap (after_came settings.order u) is.state ∙ sym (state_came cancels settings.order past u lawful))
-    (ap (λ es. d.untold ++ es) (ap (λ (s : State). told_of_all s.own s.theirs (entries_in u)) is.state ∙ sym (told-came cancels past u lawful))) refl
+pub desk_came : (cancels : Option Cancels) (settings : Chosen) (past : History) (told : List Event) (from : Option Origin) (u : Unit) (broken : Option Broken) (d : Desk)
+    → option_to_list broken ≡ broken_in from u → IsDeskOf settings past told d → IsLawful cancels past → IsDeskOf settings (came from u ∷ past) told (after_unit broken u d)
+desk_came cancels settings past told from u broken d defect is lawful =
+    moved settings past told (came from u) d (after_unit broken u d) is refl refl
+    (ap (λ order. after_came order u d.state) is.order ∙ ap (after_came settings.order u) is.state ∙ sym (state_came cancels settings.order past from u lawful))
+    (ap (λ es. d.untold ++ es)
+    (ap (λ bs. map event.Broken bs ++ told_of_all d.state.own d.state.theirs (entries_in u)) defect
+    ∙ ap (λ (s : State). told_of_unit from s.own s.theirs u) is.state ∙ sym (told-came cancels past from u lawful))) refl
     (ap (λ ts. d.out.written ++ ts)
     (ap (λ order. come_out order u d.state) is.order ∙ ap (come_out settings.order u) is.state
-    ∙ ap (map text_of) (sym (came-answers cancels settings.order past u lawful))))
+    ∙ ap (map text_of) (sym (came-answers cancels settings.order past from u lawful))))
     (ap (λ order. with_counts (tally_in order u d.state) d.tally) is.order
     ∙ ap (λ s. with_counts (tally_in settings.order u s) d.tally) is.state
     ∙ ap (with_counts (tally_in settings.order u (state_of settings.order past))) is.tally
     ∙ counts_capped (tally_in settings.order u (state_of settings.order past)) (tally_of settings.order past)
-    ∙ ap capped_tally (sym (tally-came cancels settings.order past u lawful)))
+    ∙ ap capped_tally (sym (tally-came cancels settings.order past from u lawful)))

@@ -1,21 +1,25 @@
 -- A connection stands after what its host says.
-use Rattle.std.proofs.Common.{◌≡◌, ℕ, zero, suc, ◌+◌, ◌≤◌, ◌==◌, ◌&&◌, ◌||◌, not, nat_lt, Bool, true, false, cond, List, [], ◌∷◌, ◌++◌, length, Option, Some, None, Result, Ok, Err, refl, sym, ap, subst, ◌∙◌, arith}
+use Rattle.std.proofs.Common.{◌≡◌, ℕ, zero, suc, ◌+◌, ◌≤◌, ◌==◌, ◌&&◌, ◌||◌, not, nat_lt, Bool, true, false, cond, List, [], ◌∷◌, ◌++◌, length, Option, Some, None, Result, Ok, Err, ◌<◌, refl, sym, ap, subst, ◌∙◌, arith}
 use Rattle.std.proofs.lemmas.List.{append-nil, length-append}
 use Rattle.std.proofs.lemmas.Grind.{flat_map-append}
-use Rattle.std.specs.Prelude.{is_some, OnOk, IfErr}
+use Rattle.std.specs.Prelude.{is_some, slice_get, OnOk, IfErr}
 use Rattle.std.specs.Option.{option_map_or}
 use Rattle.connection_messages.specs.Texts.{call_text, calls_text, notice_text, withdrawal_text}
 use Rattle.connection_messages.specs.declared.answer.Answer.{Answer}
+use Rattle.connection_messages.specs.declared.cancels.Cancels.{Cancels}
+use Rattle.connection_messages.specs.declared.cancels.Cancels.TheVariants.{Lsp, Mcp}
 use Rattle.connection_messages.specs.declared.outgoing.Outgoing.{Outgoing}
+use Rattle.connection_history.specs.declared.close.Close.{Close}
 use Rattle.connection_history.specs.declared.event.Event.{Event}
 use Rattle.connection_history.specs.declared.order.Order.{Order}
 use Rattle.connection_history.specs.declared.refused.Refused.{Refused}
 use Rattle.connection_history.specs.declared.refused.Refused.TheVariants.{NotOpen, NotWaiting, Over, Empty, Full}
 use Rattle.connection_history.specs.Stream.{calls_in, entries_along}
-use Rattle.connection_history.specs.History.{Happening, called, called_all, noticed, withdrew, answered, History, units_of, units_at, is_open, is_over, is_waiting, is_withdrawn, key_count, numbers_to}
-use Rattle.connection_history.specs.Refusals.{refusal, call_refusal, first_of, most_keys}
+use Rattle.connection_history.specs.History.{Happening, called, called_all, noticed, withdrew, answered, History, or_else, units_of, units_at, origins_of, origins_at, close_at, close_of as close_in, is_open, is_over, is_waiting, is_withdrawn, key_count, numbers_to}
+use Rattle.connection_history.specs.Refusals.{refusal, by_of, has_cancels, call_refusal, first_of, most_keys}
 use Rattle.connection_history.specs.Events.{call_count}
-use Rattle.connection_history.proofs.Tests.{different, or-left, or-right}
+use Rattle.connection_history.proofs.Tests.{different, or-left, or-right, or_else-none}
+use Rattle.content_streams.specs.Streams.{Stream, contents}
 use Rattle.content_streams.specs.declared.framing.Framing.{Framing}
 use Rattle.content_streams.specs.declared.framing.Framing.TheVariants.{Frames, Lines, Contents}
 use Rattle.open_calls.specs.declared.own_call.OwnCall.{OwnCall}
@@ -26,7 +30,8 @@ use Rattle.connection_states.proofs.OwnEntries.{found as own-found}
 use Rattle.connection_states.proofs.TheirFound.{found, seen-at, is_among}
 use Rattle.connection_states.proofs.TheirSites.{sites_of, theirs-seen, all-numbers}
 use Rattle.connection_desk.specs.Desks.{Desk, with_texts, has_call, call_refused, isnt_withdrawn, withdraw_refused, answer_refused, after_call, after_calls, after_notice, after_withdrawal, after_answer}
-use Rattle.connection.specs.Connections.{Connection, IsDeskOf, StandsAfter, IsRefusal}
+use Rattle.connection.specs.Settings.{Chosen}
+use Rattle.connection.specs.Connections.{Connection, IsDeskOf, HasEnded, was_full, had_ended, StandsAfter, IsRefusal, read, calls_of, next_after}
 use Rattle.connection.proofs.Moves.{desk_called, desk_called_all, desk_noticed, desk_withdrew, desk_answered}
 
 abbrev pub with_desk : Connection → Desk → Connection
@@ -53,7 +58,8 @@ no_zero : (m : ℕ) → is_among zero (numbers_to m) ≡ false
 no_zero zero = refl
 no_zero (suc m) = among-none m m (numbers_to m) (no_zero m)
 
-none_at_zero : (past : History) → is_some (at zero (theirs_of past).calls) ≡ false
+-- nothing stands under 0
+pub none_at_zero : (past : History) → is_some (at zero (theirs_of past).calls) ≡ false
 none_at_zero past =
     ap (λ cs. is_some (at zero cs)) (theirs-seen past 0 1 (units_of past)) ∙ seen-at zero past (sites_of past)
     ∙ ap (is_among zero) (all-numbers past) ∙ no_zero (call_count past)
@@ -69,8 +75,13 @@ pub call_is : (order : Order) (past : History) (n count : ℕ) → call_refused 
 call_is order past n count =
     ap (λ b. first_of ((not b, NotOpen) ∷ (is_over past, Over) ∷ (count == 0, Empty) ∷ (nat_lt most_keys (key_count past + count), Full) ∷ [])) (has_open order past n)
 
-pub answer_is : (cancels : Bool) (order : Order) (past : History) (n : ℕ) (a : Answer) → answer_refused n (state_of order past) ≡ refusal cancels past (answered n a)
-answer_is cancels order past n a = ap (λ b. first_of ((b, NotOpen) ∷ [])) (closed_is order past n)
+-- nothing else refuses an answer that is given
+pub no_more : (b : Bool) → first_of ((b, NotOpen) ∷ []) ≡ first_of ((b, NotOpen) ∷ (false, Empty) ∷ [])
+no_more true = refl
+no_more false = refl
+
+pub answer_is : (cancels : Option Cancels) (order : Order) (past : History) (n : ℕ) (a : Answer) → answer_refused n (state_of order past) ≡ refusal cancels past (answered n (Some a))
+answer_is cancels order past n a = ap (λ b. first_of ((b, NotOpen) ∷ [])) (closed_is order past n) ∙ no_more ((n == 0) || not (is_open n past))
 
 wanted_if : (w : Bool) (call : OwnCall) → option_map_or isnt_withdrawn (cond w (Some call) None) false ≡ (w && not call.is_withdrawn)
 wanted_if true call = refl
@@ -80,12 +91,18 @@ all_three : (a b c : Bool) → (a && (b && c)) ≡ (a && b && c)
 all_three true b c = refl
 all_three false b c = refl
 
-pub withdraw_is : (cancels : Bool) (order : Order) (past : History) (k : ℕ) → withdraw_refused cancels k (state_of order past) ≡ refusal cancels past (withdrew k)
+named : (cancels : Option Cancels) → is_some cancels ≡ has_cancels (by_of cancels) cancels
+named None = refl
+named (Some Lsp) = refl
+named (Some Mcp) = refl
+
+pub withdraw_is : (cancels : Option Cancels) (order : Order) (past : History) (k : ℕ) → withdraw_refused cancels k (state_of order past) ≡ refusal cancels past (withdrew (by_of cancels) k)
 withdraw_is cancels order past k =
     ap (λ b. first_of ((not b, NotWaiting) ∷ []))
-    (ap (λ o. cancels && option_map_or isnt_withdrawn o false) (own-found past k)
-    ∙ ap (λ b. cancels && b) (wanted_if (is_waiting k past) (own_call k past))
-    ∙ all_three cancels (is_waiting k past) (not (is_withdrawn k past)))
+    (ap (λ o. is_some cancels && option_map_or isnt_withdrawn o false) (own-found past k)
+    ∙ ap (λ b. is_some cancels && b) (wanted_if (is_waiting k past) (own_call k past))
+    ∙ all_three (is_some cancels) (is_waiting k past) (not (is_withdrawn k past))
+    ∙ ap (λ b. b && is_waiting k past && not (is_withdrawn k past)) (named cancels))
 
 -- ---- more texts are written
 
@@ -101,11 +118,35 @@ IsWithin o = o.taken ≤ full_count o.framing o.written
 
 -- ---- a connection after the host has said something
 
+-- neither a content nor the end
+pub record IsSaid (h : Happening) : Type 0 where
+  pub unit : units_at h ≡ []
+  pub origin : origins_at h ≡ []
+  pub close : close_at h ≡ None
+
+count_of : (now past : History) → units_of now ≡ units_of past → call_count now ≡ call_count past
+count_of now past units = ap (λ us. length (calls_in (entries_along us))) units
+
+next_of : (s : Stream) (now past : History) → units_of now ≡ units_of past → next_after s now ≡ next_after s past
+next_of s now past units = ap (λ us. slice_get (contents s) (length us)) units
+
+-- the same where the same units came
+pub still : (settings : Chosen) (s : Stream) (past now : History) (close : Close) → units_of now ≡ units_of past → HasEnded settings s past close → HasEnded settings s now close
+still settings s past now _ units (was_full frame next many) =
+    was_full frame (next_of s now past units ∙ next) (subst (λ n. settings.calls < n + calls_of (read settings.cancels frame)) (sym (count_of now past units)) many)
+still settings s past now _ units (had_ended end next is) = had_ended end (next_of s now past units ∙ next) is
+
+-- how the input ended rests on its stream and on the units that came
+pub ended_still : (settings : Chosen) (s : Stream) (past now : History) → units_of now ≡ units_of past → close_in now ≡ close_in past
+    → ((close : Close) → close_in past ≡ Some close → HasEnded settings s past close) → (close : Close) → close_in now ≡ Some close → HasEnded settings s now close
+ended_still settings s past now units closes ended close is = still settings s past now close units (ended close (sym closes ∙ is))
+
 pub stands_said : (c : Connection) (history : History) (told : List Event) (h : Happening) (texts : List (List ℕ)) (d : Desk) → StandsAfter c history told
-    → refusal c.settings.takes_cancels history h ≡ None → units_at h ≡ [] → IsDeskOf c.settings (h ∷ history) told d → d.out ≡ with_texts texts c.desk.out
+    → refusal c.settings.cancels history h ≡ None → IsSaid h → IsDeskOf c.settings (h ∷ history) told d → d.out ≡ with_texts texts c.desk.out
     → StandsAfter (with_desk c d) (h ∷ history) told
-stands_said c history told h texts d stands allowed none desk out =
-    let same : units_of (h ∷ history) ≡ units_of history = ap (λ us. units_of history ++ us) none ∙ append-nil (units_of history) in
+stands_said c history told h texts d stands allowed said desk out =
+    let same : units_of (h ∷ history) ≡ units_of history = ap (λ us. units_of history ++ us) said.unit ∙ append-nil (units_of history) in
+    let closes : close_in (h ∷ history) ≡ close_in history = ap (or_else (close_in history)) said.close ∙ or_else-none (close_in history) in
     record {
       lawful = (allowed, stands.lawful);
       calls = subst (λ us. length (calls_in (entries_along us)) ≤ c.settings.calls) (sym same) stands.calls;
@@ -114,39 +155,41 @@ stands_said c history told h texts d stands allowed none desk out =
         limit = stands.stream.limit;
         taken = stands.stream.taken ∙ ap length (sym same);
         came = same ∙ stands.stream.came;
+        origins = ap (λ os. origins_of history ++ os) said.origin ∙ append-nil (origins_of history) ∙ stands.stream.origins;
       };
+      ended = ended_still c.settings c.stream history (h ∷ history) same closes stands.ended;
       desk = desk;
       taken = subst IsWithin (sym out) (full_more c.desk.out.framing c.desk.out.written texts c.desk.out.taken stands.taken);
     }
 
-pub stands_called : (c : Connection) (history : History) (told : List Event) (n : ℕ) (o : Outgoing) → StandsAfter c history told → refusal c.settings.takes_cancels history (called n o) ≡ None
+pub stands_called : (c : Connection) (history : History) (told : List Event) (n : ℕ) (o : Outgoing) → StandsAfter c history told → refusal c.settings.cancels history (called n o) ≡ None
     → StandsAfter (with_desk c (after_call n o c.desk)) (called n o ∷ history) told
 stands_called c history told n o stands allowed =
-    stands_said c history told (called n o) (call_text (c.desk.state.own.made + 1) o ∷ []) (after_call n o c.desk) stands allowed refl
-    (desk_called c.settings.takes_cancels c.settings history told n o c.desk stands.desk (allowed, stands.lawful)) refl
+    stands_said c history told (called n o) (call_text (c.desk.state.own.made + 1) o ∷ []) (after_call n o c.desk) stands allowed (record { unit = refl; origin = refl; close = refl })
+    (desk_called c.settings.cancels c.settings history told n o c.desk stands.desk (allowed, stands.lawful)) refl
 
-pub stands_called_all : (c : Connection) (history : History) (told : List Event) (n : ℕ) (os : List Outgoing) → StandsAfter c history told → refusal c.settings.takes_cancels history (called_all n os) ≡ None
+pub stands_called_all : (c : Connection) (history : History) (told : List Event) (n : ℕ) (os : List Outgoing) → StandsAfter c history told → refusal c.settings.cancels history (called_all n os) ≡ None
     → StandsAfter (with_desk c (after_calls n os c.desk)) (called_all n os ∷ history) told
 stands_called_all c history told n os stands allowed =
-    stands_said c history told (called_all n os) (calls_text (c.desk.state.own.made + 1) os ∷ []) (after_calls n os c.desk) stands allowed refl
-    (desk_called_all c.settings.takes_cancels c.settings history told n os c.desk stands.desk (allowed, stands.lawful)) refl
+    stands_said c history told (called_all n os) (calls_text (c.desk.state.own.made + 1) os ∷ []) (after_calls n os c.desk) stands allowed (record { unit = refl; origin = refl; close = refl })
+    (desk_called_all c.settings.cancels c.settings history told n os c.desk stands.desk (allowed, stands.lawful)) refl
 
 pub stands_noticed : (c : Connection) (history : History) (told : List Event) (o : Outgoing) → StandsAfter c history told
     → StandsAfter (with_desk c (after_notice o c.desk)) (noticed o ∷ history) told
 stands_noticed c history told o stands =
-    stands_said c history told (noticed o) (notice_text o ∷ []) (after_notice o c.desk) stands refl refl (desk_noticed c.settings history told o c.desk stands.desk) refl
+    stands_said c history told (noticed o) (notice_text o ∷ []) (after_notice o c.desk) stands refl (record { unit = refl; origin = refl; close = refl }) (desk_noticed c.settings history told o c.desk stands.desk) refl
 
-pub stands_withdrew : (c : Connection) (history : History) (told : List Event) (k : ℕ) → StandsAfter c history told → refusal c.settings.takes_cancels history (withdrew k) ≡ None
-    → StandsAfter (with_desk c (after_withdrawal k c.desk)) (withdrew k ∷ history) told
+pub stands_withdrew : (c : Connection) (history : History) (told : List Event) (k : ℕ) → StandsAfter c history told → refusal c.settings.cancels history (withdrew (by_of c.settings.cancels) k) ≡ None
+    → StandsAfter (with_desk c (after_withdrawal k c.desk)) (withdrew (by_of c.settings.cancels) k ∷ history) told
 stands_withdrew c history told k stands allowed =
-    stands_said c history told (withdrew k) (withdrawal_text k ∷ []) (after_withdrawal k c.desk) stands allowed refl
-    (desk_withdrew c.settings.takes_cancels c.settings history told k c.desk stands.desk (allowed, stands.lawful)) refl
+    stands_said c history told (withdrew (by_of c.settings.cancels) k) (withdrawal_text (by_of c.desk.cancels) k ∷ []) (after_withdrawal k c.desk) stands allowed (record { unit = refl; origin = refl; close = refl })
+    (desk_withdrew c.settings history told k c.desk stands.desk) refl
 
-pub stands_answered : (c : Connection) (history : History) (told : List Event) (n : ℕ) (a : Answer) → StandsAfter c history told → refusal c.settings.takes_cancels history (answered n a) ≡ None
+pub stands_answered : (c : Connection) (history : History) (told : List Event) (n : ℕ) (a : Option Answer) → StandsAfter c history told → refusal c.settings.cancels history (answered n a) ≡ None
     → StandsAfter (with_desk c (after_answer n a c.desk)) (answered n a ∷ history) told
 stands_answered c history told n a stands allowed =
-    stands_said c history told (answered n a) _ (after_answer n a c.desk) stands allowed refl
-    (desk_answered c.settings.takes_cancels c.settings history told n a c.desk stands.desk (allowed, stands.lawful)) refl
+    stands_said c history told (answered n a) _ (after_answer n a c.desk) stands allowed (record { unit = refl; origin = refl; close = refl })
+    (desk_answered c.settings.cancels c.settings history told n a c.desk stands.desk (allowed, stands.lawful)) refl
 
 -- ---- what the calls promise
 
@@ -163,11 +206,11 @@ refused_as why p q is refused = subst (λ o. IsRefusal why o) is refused
 
 -- a call of the desk that succeeded is the happening
 pub says_ok : {T : Type 0} (c : Connection) (d after : Desk) (h : Happening) (refused : Option Refused) (r : Result T Refused)
-    → ((history : History) (told : List Event) → StandsAfter c history told → refused ≡ refusal c.settings.takes_cancels history h)
-    → ((history : History) (told : List Event) → StandsAfter c history told → refusal c.settings.takes_cancels history h ≡ None → StandsAfter (with_desk c after) (h ∷ history) told)
+    → ((history : History) (told : List Event) → StandsAfter c history told → refused ≡ refusal c.settings.cancels history h)
+    → ((history : History) (told : List Event) → StandsAfter c history told → refusal c.settings.cancels history h ≡ None → StandsAfter (with_desk c after) (h ∷ history) told)
     → OnOk r ((refused ≡ None) × (d ≡ after))
     → (history : History) (told : List Event) → StandsAfter c history told
-    → OnOk r ((refusal c.settings.takes_cancels history h ≡ None) × StandsAfter (with_desk c d) (h ∷ history) told)
+    → OnOk r ((refusal c.settings.cancels history h ≡ None) × StandsAfter (with_desk c d) (h ∷ history) told)
 says_ok c d after h refused r same follows ok history told stands =
     on_ok r _ _
     (λ said.
@@ -176,9 +219,9 @@ says_ok c d after h refused r same follows ok history told stands =
 
 -- a call of the desk that was refused leaves everything as it was
 pub says_err : {T : Type 0} (c : Connection) (d : Desk) (h : Happening) (refused : Option Refused) (r : Result T Refused)
-    → ((history : History) (told : List Event) → StandsAfter c history told → refused ≡ refusal c.settings.takes_cancels history h)
+    → ((history : History) (told : List Event) → StandsAfter c history told → refused ≡ refusal c.settings.cancels history h)
     → IfErr r (λ why. (d ≡ c.desk) × IsRefusal why refused)
-    → IfErr r (λ why. (with_desk c d ≡ c) × ((history : History) (told : List Event) → StandsAfter c history told → IsRefusal why (refusal c.settings.takes_cancels history h)))
+    → IfErr r (λ why. (with_desk c d ≡ c) × ((history : History) (told : List Event) → StandsAfter c history told → IsRefusal why (refusal c.settings.cancels history h)))
 says_err c d h refused r same err =
     if_err r _ _ (λ why said. (ap (with_desk c) said.0, (λ history told stands. refused_as why refused _ (same history told stands) said.1))) err
 
@@ -188,11 +231,11 @@ pub call_same : (c : Connection) (n count : ℕ) (history : History) (told : Lis
 call_same c n count history told stands = ap (call_refused n count) stands.desk.state ∙ call_is c.settings.order history n count
 
 pub withdraw_same : (c : Connection) (k : ℕ) (history : History) (told : List Event) → StandsAfter c history told
-    → withdraw_refused c.desk.cancels k c.desk.state ≡ refusal c.settings.takes_cancels history (withdrew k)
+    → withdraw_refused c.desk.cancels k c.desk.state ≡ refusal c.settings.cancels history (withdrew (by_of c.settings.cancels) k)
 withdraw_same c k history told stands =
-    ap (λ b. withdraw_refused b k c.desk.state) stands.desk.cancels ∙ ap (withdraw_refused c.settings.takes_cancels k) stands.desk.state
-    ∙ withdraw_is c.settings.takes_cancels c.settings.order history k
+    ap (λ b. withdraw_refused b k c.desk.state) stands.desk.cancels ∙ ap (withdraw_refused c.settings.cancels k) stands.desk.state
+    ∙ withdraw_is c.settings.cancels c.settings.order history k
 
 pub answer_same : (c : Connection) (n : ℕ) (a : Answer) (history : History) (told : List Event) → StandsAfter c history told
-    → answer_refused n c.desk.state ≡ refusal c.settings.takes_cancels history (answered n a)
-answer_same c n a history told stands = ap (answer_refused n) stands.desk.state ∙ answer_is c.settings.takes_cancels c.settings.order history n a
+    → answer_refused n c.desk.state ≡ refusal c.settings.cancels history (answered n (Some a))
+answer_same c n a history told stands = ap (answer_refused n) stands.desk.state ∙ answer_is c.settings.cancels c.settings.order history n a

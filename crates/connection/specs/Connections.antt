@@ -1,7 +1,8 @@
 -- A connection, and what holds of it after a history: what came, what the host was told, and what is written.
-use Rattle.std.specs.Prelude.{◌≡◌, ◌≤◌, ◌<◌, ◌⊎◌, ℕ, ◌+◌, List, [], ◌∷◌, ◌++◌, Bool, true, false, map, length, take, slice_get, Option, Some, None}
+use Rattle.std.specs.Prelude.{◌≡◌, ◌≤◌, ◌<◌, ◌⊎◌, ℕ, ◌+◌, List, ◌∷◌, ◌++◌, Bool, true, false, map, length, take, slice_get, Option, Some, None}
 use Rattle.lsp_frames.specs.declared.frame.Frame.{Frame}
 use Rattle.connection_messages.specs.Reading.{unit_of}
+use Rattle.connection_messages.specs.declared.cancels.Cancels.{Cancels}
 use Rattle.connection_messages.specs.declared.unit.Unit.{Unit}
 use Rattle.connection_history.specs.declared.close.Close.{Close}
 use Rattle.connection_history.specs.declared.close.Close.TheVariants as close
@@ -9,7 +10,7 @@ use Rattle.connection_history.specs.declared.event.Event.{Event}
 use Rattle.connection_history.specs.declared.refused.Refused.{Refused}
 use Rattle.connection_history.specs.declared.refused.Refused.TheVariants.{Memory}
 use Rattle.connection_history.specs.Stream.{entries_in, calls_in}
-use Rattle.connection_history.specs.History.{came, ended, History, units_of, is_over}
+use Rattle.connection_history.specs.History.{Origin, Happening, came, ended, History, units_of, origins_of, is_over, is_open, close_of as close_in}
 use Rattle.connection_history.specs.Refusals.{IsLawful}
 use Rattle.connection_history.specs.Events.{events_of, call_count}
 use Rattle.connection_history.specs.Items.{items_of, text_of}
@@ -18,7 +19,7 @@ use Rattle.content_streams.specs.declared.ending.StreamEnd.TheVariants as stream
 use Rattle.content_streams.specs.Streams as streams
 use Rattle.content_streams.specs.Streams.{Stream}
 use Rattle.outbox.specs.Output.{full_count, IsAllTaken}
-use Rattle.connection_states.specs.States.{state_of, theirs_of}
+use Rattle.connection_states.specs.States.{state_of}
 use Rattle.connection_states.specs.Tallies.{tally_of}
 use Rattle.connection_desk.specs.Desks.{Desk, capped_tally}
 use Rattle.connection.specs.Settings.{Chosen}
@@ -36,16 +37,39 @@ pub record Connection : Type 0 where
 abbrev pub contents : Connection → List Frame
 contents c = streams.contents c.stream
 
+-- each content with the offset of its first byte
+abbrev pub placed_contents : Connection → List (ℕ × Frame)
+placed_contents c = streams.placed_contents c.stream
+
 abbrev pub stream_end : Connection → Option StreamEnd
 stream_end c = streams.close_of c.stream
 
 -- what a content is read as
-abbrev pub read : Bool → Frame → Unit
+abbrev pub read : Option Cancels → Frame → Unit
 read cancels frame = unit_of cancels frame.foreign frame.content
 
+-- of a broken content so many bytes are told
+abbrev pub most_shown : ℕ
+most_shown = 64
+
+-- Where a content stands and with what it begins, where broken input is told.
+abbrev pub origin_of : Bool → ℕ × Frame → Option Origin
+origin_of false placed = None
+origin_of true placed = Some (record { place = streams.capped placed.0; start = take most_shown placed.1.content })
+
+-- what happens when a content comes
+abbrev pub content_came : Chosen → ℕ × Frame → Happening
+content_came settings placed = came (origin_of settings.tells_broken placed) (read settings.cancels placed.1)
+
 -- the next content that hasn't come
+abbrev pub next_after : Stream → History → Option Frame
+next_after stream history = slice_get (streams.contents stream) (length (units_of history))
+
 abbrev pub next_content : Connection → History → Option Frame
-next_content c history = slice_get (contents c) (length (units_of history))
+next_content c history = next_after c.stream history
+
+abbrev pub next_placed : Connection → History → Option (ℕ × Frame)
+next_placed c history = slice_get (placed_contents c) (length (units_of history))
 
 abbrev pub calls_of : Unit → ℕ
 calls_of u = length (calls_in (entries_in u))
@@ -60,7 +84,7 @@ close_of stream.ReadFailed = close.ReadFailed
 -- The desk is what the history makes of it. What was told, and then what isn't told yet, are the events of the history. All
 -- that was written are the texts of its items, in their order.
 pub record IsDeskOf (settings : Chosen) (history : History) (told : List Event) (desk : Desk) : Type 0 where
-  pub cancels : desk.cancels ≡ settings.takes_cancels
+  pub cancels : desk.cancels ≡ settings.cancels
   pub order : desk.order ≡ settings.order
   pub state : desk.state ≡ state_of settings.order history
   pub events : events_of history ≡ told ++ desk.untold
@@ -68,20 +92,30 @@ pub record IsDeskOf (settings : Chosen) (history : History) (told : List Event) 
   pub written : desk.out.written ≡ map text_of (items_of settings.order history)
   pub tally : desk.tally ≡ capped_tally (tally_of settings.order history)
 
--- The units that came are those of the first contents, as many as were taken.
+-- The units that came are those of the first contents, as many as were taken; and so are their origins.
 pub record IsStreamOf (settings : Chosen) (history : History) (stream : Stream) : Type 0 where
   pub framing : stream.framing ≡ settings.framing
   pub limit : stream.limit ≡ settings.content
   pub taken : stream.taken ≡ length (units_of history)
-  pub came : units_of history ≡ map (read settings.takes_cancels) (take stream.taken (streams.contents stream))
+  pub came : units_of history ≡ map (read settings.cancels) (take stream.taken (streams.contents stream))
+  pub origins : origins_of history ≡ map (origin_of settings.tells_broken) (take stream.taken (streams.placed_contents stream))
+
+-- How the input ended: a content came that would have brought too many calls; or all contents came, and the stream has
+-- ended so.
+pub data HasEnded (settings : Chosen) (stream : Stream) (history : History) : Close → Type 0 where
+  was_full : (frame : Frame) → next_after stream history ≡ Some frame → settings.calls < call_count history + calls_of (read settings.cancels frame)
+      → HasEnded settings stream history close.Full
+  had_ended : (end : StreamEnd) → next_after stream history ≡ None → streams.close_of stream ≡ Some end → HasEnded settings stream history (close_of end)
 
 -- The connection stands after this history, latest first, and its host was told these events.
 pub record StandsAfter (c : Connection) (history : History) (told : List Event) : Type 0 where
   -- nothing in the history was refused
-  pub lawful : IsLawful c.settings.takes_cancels history
+  pub lawful : IsLawful c.settings.cancels history
   -- no more calls came than the settings say
   pub calls : call_count history ≤ c.settings.calls
   pub stream : IsStreamOf c.settings history c.stream
+  -- where the input is over, it is so by its stream
+  pub ended : (close : Close) → close_in history ≡ Some close → HasEnded c.settings c.stream history close
   pub desk : IsDeskOf c.settings history told c.desk
   -- no more was taken than is written
   pub taken : c.desk.out.taken ≤ full_count c.desk.out.framing c.desk.out.written
@@ -98,11 +132,11 @@ pub record SamePieces (before now : Stream) : Type 0 where
 -- Once all is told, and while the input isn't over, the next content comes; or it would bring too many calls; or there is
 -- none, and the stream has ended.
 pub data Step (c : Connection) (told : List Event) (past : History) : History → Type 0 where
-  comes : (frame : Frame) → events_of past ≡ told → is_over past ≡ false → next_content c past ≡ Some frame
-      → call_count past + calls_of (read c.settings.takes_cancels frame) ≤ c.settings.calls
-      → Step c told past (came (read c.settings.takes_cancels frame) ∷ past)
+  comes : (placed : ℕ × Frame) → events_of past ≡ told → is_over past ≡ false → next_placed c past ≡ Some placed
+      → call_count past + calls_of (read c.settings.cancels placed.1) ≤ c.settings.calls
+      → Step c told past (content_came c.settings placed ∷ past)
   is_full : (frame : Frame) → events_of past ≡ told → is_over past ≡ false → next_content c past ≡ Some frame
-      → c.settings.calls < call_count past + calls_of (read c.settings.takes_cancels frame)
+      → c.settings.calls < call_count past + calls_of (read c.settings.cancels frame)
       → Step c told past (ended close.Full ∷ past)
   ends : (end : StreamEnd) → events_of past ≡ told → is_over past ≡ false → next_content c past ≡ None → stream_end c ≡ Some end
       → Step c told past (ended (close_of end) ∷ past)
@@ -142,5 +176,5 @@ pub record IsDone (c : Connection) (history : History) (told : List Event) : Typ
   pub over : is_over history ≡ true
   pub all_told : events_of history ≡ told
   -- no call is open
-  pub answered : (theirs_of history).calls ≡ []
+  pub answered : (number : ℕ) → 0 < number → is_open number history ≡ false
   pub taken : IsAllTaken c.desk.out

@@ -1,22 +1,24 @@
 -- What going on does to a connection, whatever its history.
-use Rattle.std.specs.Prelude.{◌≡◌, ◌<◌, ℕ, ◌+◌, ◌-◌, List, length, Some, if◌then◌else◌}
+use Rattle.std.specs.Prelude.{◌≡◌, ◌<◌, ℕ, ◌+◌, ◌-◌, List, length, Option, Some, option_to_list, if◌then◌else◌}
 use Rattle.lsp_frames.specs.declared.frame.Frame.{Frame}
 use Rattle.connection_messages.specs.declared.unit.Unit.{Unit}
 use Rattle.connection_history.specs.declared.event.Event.{Event}
 use Rattle.connection_history.specs.History.{History}
-use Rattle.connection_history.specs.Events.{events_of}
+use Rattle.connection_history.specs.declared.broken.Broken.{Broken}
+use Rattle.connection_history.specs.Events.{broken_in, events_of}
 use Rattle.content_streams.specs.Streams as streams
-use Rattle.connection.specs.Connections.{Connection, contents, read, StandsAfter, IsStill, HasStepped, HasGoneOn, SamePieces}
+use Rattle.connection.specs.Connections.{Connection, contents, read, origin_of, StandsAfter, IsStill, HasStepped, HasGoneOn, SamePieces}
 
 -- how often the connection can go on before more is fed: each content that wasn't taken, and the end
 abbrev pub left : Connection → ℕ
 left c = (length (contents c) - c.stream.taken) + (if c.desk.state.is_over then 0 else 1)
 
--- The unit is what the next content is read as.
-pub record IsNext (c : Connection) (u : Unit) : Type 0 where
-  pub frame : Frame
-  pub next : streams.next_content c.stream ≡ Some frame
-  pub read : u ≡ read c.settings.takes_cancels frame
+-- The unit is what the next content is read as, and this is what is broken of it, where that is told.
+pub record IsNext (c : Connection) (u : Unit) (broken : Option Broken) : Type 0 where
+  pub placed : ℕ × Frame
+  pub next : streams.next_placed c.stream ≡ Some placed
+  pub read : u ≡ read c.settings.cancels placed.1
+  pub defect : option_to_list broken ≡ broken_in (origin_of c.settings.tells_broken placed) u
 
 -- the connection has gone on by a step, where all was told
 pub record HasMoved (before now : Connection) : Type 0 where

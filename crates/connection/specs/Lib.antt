@@ -1,4 +1,5 @@
 pub mod Connections
+pub mod Conversations
 pub mod Inner
 pub mod Reports
 pub mod Settings

@@ -7,8 +7,9 @@ ghost use Rattle.connection.specs.Connections.{calls_of, close_of as close_as};
 ghost use Rattle.connection_history.specs.declared.event.Event.{Event as Told};
 ghost use Rattle.connection_history.specs.History.{History};
 
+use crate::broken::broken_of;
 use crate::connection::Connection;
-use connection_history::{Close, Event};
+use connection_history::{Broken, Close, Event};
 use connection_messages::{Entry, Unit};
 use content_streams::StreamEnd;
 use std::alloc::AllocError;
@@ -68,14 +69,20 @@ impl Connection {
             return Ok(self.end_if_closed());
         };
         let unit = self.reader.read(frame)?;
-        self.take_in(unit)?;
+        let broken = broken_of(
+            self.alloc,
+            self.settings.tells_broken(),
+            &self.stream,
+            &unit,
+        )?;
+        self.take_in(unit, broken)?;
         Ok(true)
     }
 
     /// Takes in the unit of the next content, or ends the input where it has too many calls.
-    fn take_in(&mut self, unit: Unit) -> Result<(), AllocError>
+    fn take_in(&mut self, unit: Unit, broken: Option<Broken>) -> Result<(), AllocError>
         requires over { self.old.desk.state.is_over ≡ false }
-        requires next { IsNext self.old unit }
+        requires next { IsNext self.old unit broken }
         ensures moved { OnOk result (HasMoved self.old self.new) }
         ensures err { OnErr result (self.new ≡ self.old) }
     {
@@ -83,7 +90,7 @@ impl Connection {
             self.desk.end(Close::Full);
             return Ok(());
         }
-        self.desk.take_in(unit)?;
+        self.desk.take_in(unit, broken)?;
         self.stream.pop();
         Ok(())
     }

@@ -10,6 +10,7 @@ use std::marker::Model;
 /// One end of a JSON-RPC conversation.
 #[derive(Drop)]
 pub struct Connection {
+    pub(crate) alloc: Global,
     pub(crate) settings: Settings,
     pub(crate) stream: ContentStream,
     pub(crate) reader: UnitReader,
@@ -24,7 +25,7 @@ impl Model for Connection {
 
     ghost view = { λ c. record { settings = c.settings; stream = c.stream; desk = c.desk } };
 
-    ghost invariant = { λ c. c.reader ≡ c.settings.takes_cancels };
+    ghost invariant = { λ c. c.reader ≡ c.settings.cancels };
 }
 
 impl Connection {
@@ -37,8 +38,9 @@ impl Connection {
         ensures ended { result.stream.ended ≡ None }
         ensures stands { StandsAfter result [] [] }
     {
-        let cancels = settings.takes_cancels();
+        let cancels = settings.cancels();
         Connection {
+            alloc,
             stream: ContentStream::new(alloc, settings.framing(), settings.content()),
             reader: UnitReader::new(alloc, cancels),
             desk: Desk::new(alloc, settings.framing(), settings.order(), cancels),

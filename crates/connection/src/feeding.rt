@@ -1,6 +1,6 @@
 //! What is read goes in.
 
-ghost use Rattle.std.specs.Prelude.{◌≡◌, ◌≢◌, ◌⊎◌, ◌++◌, ◌∷◌, [], List, Some, None, OnOk, IfErr, if◌then◌else◌};
+ghost use Rattle.std.specs.Prelude.{◌≡◌, ◌≢◌, ◌⊎◌, ◌++◌, ◌∷◌, [], List, Some, None, OnOk, IfErr, option_map, if◌then◌else◌};
 ghost use Rattle.connection_history.specs.declared.event.Event.{Event};
 ghost use Rattle.connection_history.specs.declared.refused.Refused.TheVariants.{Memory, Over};
 ghost use Rattle.connection_history.specs.History.{History};
@@ -11,6 +11,7 @@ use content_streams::HowEnded;
 
 impl Connection {
     ghost use Rattle.connection.specs.Connections.{StandsAfter};
+    ghost use Rattle.content_streams.specs.Streams.{capped, fault_place};
 
     /// Feeds bytes that were read. Once the input is over, they are ignored.
     pub fn feed(&mut self, piece: &[u8]) -> Result<(), Refused>
@@ -47,5 +48,14 @@ impl Connection {
         }
         self.stream.end(how);
         Ok(())
+    }
+
+    /// Where the bytes that were fed are at fault: how many stand before the frame or line at fault, in Contents before the
+    /// content that is too large. An input that was closed inside a frame is at fault where that frame begins. The number
+    /// stays at its greatest once it is there. There is none where nothing is at fault.
+    pub fn fault_place(&self) -> Option<u64>
+        ensures { result ≡ option_map capped (fault_place self.now.stream) }
+    {
+        self.stream.fault_place()
     }
 }

@@ -3,16 +3,21 @@
 #![tactic(auto)]
 
 mod asking;
+mod broken;
 mod connection;
 mod feeding;
+mod law;
 mod report;
 mod saying;
 mod settings;
 mod taking;
 
 pub use connection::Connection;
-pub use connection_history::{Close, Event, Order, Refused};
-pub use connection_messages::{Answer, AnswerError, Call, Outgoing, Params, Reply, ReplyError};
+pub use connection_history::{Broken, Close, Defect, Event, Order, Refused};
+pub use connection_messages::{
+    Answer, AnswerError, Call, Cancels, Outgoing, OutgoingParams, Reply, ReplyError,
+};
 pub use content_streams::{Framing, HowEnded};
+pub use law::a_connection_has_a_conversation;
 pub use report::Report;
 pub use settings::{MOST_CONTENT, Settings};

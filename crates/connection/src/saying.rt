@@ -1,12 +1,10 @@
 //! What the host says.
 
-ghost use Rattle.std.specs.Prelude.{◌≡◌, ◌+◌, ◌∷◌, List, None, is_some, option_map, IfOk, IfErr, OnOk, OnErr};
-ghost use Rattle.message_ids.specs.declared.standard.Standard.TheVariants.{Cancelled};
-ghost use Rattle.connection_messages.specs.declared.answer.Answer.TheVariants.{Standard};
+ghost use Rattle.std.specs.Prelude.{◌≡◌, ◌+◌, ◌∷◌, List, Some, None, is_some, option_map, IfOk, IfErr, OnOk, OnErr};
 ghost use Rattle.connection_history.specs.declared.event.Event.{Event};
 ghost use Rattle.connection_history.specs.History.{History, called, called_all, noticed, withdrew, answered, key_count};
 ghost use Rattle.open_calls.specs.Numbered.{at};
-ghost use Rattle.connection_history.specs.Refusals.{refusal, after, cancel_of};
+ghost use Rattle.connection_history.specs.Refusals.{refusal, after, by_of, cancel_answer, cancel_of};
 
 use crate::connection::Connection;
 use connection_history::Refused;
@@ -23,11 +21,11 @@ impl Connection {
             StandsAfter self.old history told → IfOk result (λ key. key ≡ key_count history + 1) }
         ensures ok { (history : History) (told : List Event) →
             StandsAfter self.old history told → OnOk result
-            ((refusal self.old.settings.takes_cancels history (called number outgoing.now) ≡ None) ×
+            ((refusal self.old.settings.cancels history (called number outgoing.now) ≡ None) ×
             StandsAfter self.new (called number outgoing.now ∷ history) told) }
         ensures err { IfErr result (λ why. (self.new ≡ self.old) ×
             ((history : History) (told : List Event) → StandsAfter self.old history told →
-            IsRefusal why (refusal self.old.settings.takes_cancels history (called number outgoing.now)))) }
+            IsRefusal why (refusal self.old.settings.cancels history (called number outgoing.now)))) }
         ensures settings { self.new.settings ≡ self.old.settings }
         ensures stream { self.new.stream ≡ self.old.stream }
         ensures taken { self.new.desk.out.taken ≡ self.old.desk.out.taken }
@@ -41,11 +39,11 @@ impl Connection {
             StandsAfter self.old history told → IfOk result (λ key. key ≡ key_count history + 1) }
         ensures ok { (history : History) (told : List Event) →
             StandsAfter self.old history told → OnOk result
-            ((refusal self.old.settings.takes_cancels history (called_all number outgoings.now) ≡ None) ×
+            ((refusal self.old.settings.cancels history (called_all number outgoings.now) ≡ None) ×
             StandsAfter self.new (called_all number outgoings.now ∷ history) told) }
         ensures err { IfErr result (λ why. (self.new ≡ self.old) ×
             ((history : History) (told : List Event) → StandsAfter self.old history told →
-            IsRefusal why (refusal self.old.settings.takes_cancels history (called_all number outgoings.now)))) }
+            IsRefusal why (refusal self.old.settings.cancels history (called_all number outgoings.now)))) }
         ensures settings { self.new.settings ≡ self.old.settings }
         ensures stream { self.new.stream ≡ self.old.stream }
         ensures taken { self.new.desk.out.taken ≡ self.old.desk.out.taken }
@@ -65,15 +63,16 @@ impl Connection {
         self.desk.notify(outgoing)
     }
 
-    /// Withdraws our call with this key. It still waits for its reply.
+    /// Withdraws our call with this key. By LSP's cancel it still waits for its reply; by MCP's it waits no longer, and a reply
+    /// that still comes is ignored.
     pub fn withdraw(&mut self, key: u64) -> Result<(), Refused>
         ensures ok { (history : History) (told : List Event) →
             StandsAfter self.old history told → OnOk result
-            ((refusal self.old.settings.takes_cancels history (withdrew key) ≡ None) ×
-            StandsAfter self.new (withdrew key ∷ history) told) }
+            ((refusal self.old.settings.cancels history (withdrew (by_of self.old.settings.cancels) key) ≡ None) ×
+            StandsAfter self.new (withdrew (by_of self.old.settings.cancels) key ∷ history) told) }
         ensures err { IfErr result (λ why. (self.new ≡ self.old) ×
             ((history : History) (told : List Event) → StandsAfter self.old history told →
-            IsRefusal why (refusal self.old.settings.takes_cancels history (withdrew key)))) }
+            IsRefusal why (refusal self.old.settings.cancels history (withdrew (by_of self.old.settings.cancels) key)))) }
         ensures settings { self.new.settings ≡ self.old.settings }
         ensures stream { self.new.stream ≡ self.old.stream }
         ensures taken { self.new.desk.out.taken ≡ self.old.desk.out.taken }
@@ -86,11 +85,11 @@ impl Connection {
     pub fn answer(&mut self, number: u64, answer: &Answer) -> Result<(), Refused>
         ensures ok { (history : History) (told : List Event) →
             StandsAfter self.old history told → OnOk result
-            ((refusal self.old.settings.takes_cancels history (answered number answer.now) ≡ None) ×
-            StandsAfter self.new (answered number answer.now ∷ history) told) }
+            ((refusal self.old.settings.cancels history (answered number (Some answer.now)) ≡ None) ×
+            StandsAfter self.new (answered number (Some answer.now) ∷ history) told) }
         ensures err { IfErr result (λ why. (self.new ≡ self.old) ×
             ((history : History) (told : List Event) → StandsAfter self.old history told →
-            IsRefusal why (refusal self.old.settings.takes_cancels history (answered number answer.now)))) }
+            IsRefusal why (refusal self.old.settings.cancels history (answered number (Some answer.now))))) }
         ensures settings { self.new.settings ≡ self.old.settings }
         ensures stream { self.new.stream ≡ self.old.stream }
         ensures taken { self.new.desk.out.taken ≡ self.old.desk.out.taken }
@@ -99,15 +98,15 @@ impl Connection {
     }
 
     /// Withdraws the calls of the open call with this number that wait, and answers it with the error `Request cancelled`;
-    /// all or nothing.
+    /// all or nothing. With MCP's cancels a request whose cancel came is closed without an answer.
     pub fn cancel(&mut self, number: u64) -> Result<(), Refused>
         ensures ok { (history : History) (told : List Event) →
             StandsAfter self.old history told → OnOk result
-            ((refusal self.old.settings.takes_cancels history (answered number (Standard Cancelled)) ≡ None) ×
-            StandsAfter self.new (after history (cancel_of self.old.settings.takes_cancels number history)) told) }
+            ((refusal self.old.settings.cancels history (answered number (cancel_answer self.old.settings.cancels number history)) ≡ None) ×
+            StandsAfter self.new (after history (cancel_of self.old.settings.cancels number history)) told) }
         ensures err { IfErr result (λ why. (self.new ≡ self.old) ×
             ((history : History) (told : List Event) → StandsAfter self.old history told →
-            IsRefusal why (refusal self.old.settings.takes_cancels history (answered number (Standard Cancelled))))) }
+            IsRefusal why (refusal self.old.settings.cancels history (answered number (cancel_answer self.old.settings.cancels number history))))) }
         ensures settings { self.new.settings ≡ self.old.settings }
         ensures stream { self.new.stream ≡ self.old.stream }
         ensures taken { self.new.desk.out.taken ≡ self.old.desk.out.taken }

@@ -1,7 +1,8 @@
-ghost use Rattle.std.specs.Prelude.{◌≡◌, ◌≤◌, ◌&&◌, nat_le, Some, None, if◌then◌else◌};
+ghost use Rattle.std.specs.Prelude.{◌≡◌, ◌≤◌, ◌&&◌, nat_le, Some, None, true, false, if◌then◌else◌};
 ghost use Rattle.connection.specs.Settings.{are_possible};
 
 use connection_history::Order;
+use connection_messages::Cancels;
 use content_streams::Framing;
 use lsp_frames::LARGEST_CONTENT;
 use std::marker::Model;
@@ -14,7 +15,8 @@ pub const MOST_CONTENT: u32 = LARGEST_CONTENT;
 pub struct Settings {
     framing: Framing,
     order: Order,
-    takes_cancels: bool,
+    cancels: Option<Cancels>,
+    tells_broken: bool,
     content: u32,
     calls: u64,
 }
@@ -28,7 +30,8 @@ impl Model for Settings {
     ghost view = { λ s. record {
       framing = s.framing;
       order = s.order;
-      takes_cancels = s.takes_cancels;
+      cancels = s.cancels;
+      tells_broken = s.tells_broken;
       content = s.content;
       calls = s.calls;
     } };
@@ -38,27 +41,29 @@ impl Model for Settings {
     ghost inverse = { λ c. record {
       framing = c.framing;
       order = c.order;
-      takes_cancels = c.takes_cancels;
+      cancels = c.cancels;
+      tells_broken = c.tells_broken;
       content = c.content;
       calls = c.calls;
     } };
 }
 
 impl Settings {
-    /// These settings: how contents follow one another, when a unit's answer goes out, whether the protocol has
-    /// `$/cancelRequest`, how many bytes a content may have (1 to 16,777,216), and how many calls may come (1 or more).
-    /// There are none where a number is outside of its range.
+    /// These settings: how contents follow one another, when a unit's answer goes out, whose cancels the protocol has, if
+    /// any, how many bytes a content may have (1 to 16,777,216), and how many calls may come (1 or more). Broken input isn't
+    /// told. There are none where a number is outside of its range.
     pub fn new(
         framing: Framing,
         order: Order,
-        takes_cancels: bool,
+        cancels: Option<Cancels>,
         content: u32,
         calls: u64,
     ) -> Option<Settings>
         ensures { result ≡ (if are_possible content calls then Some (record {
           framing = framing;
           order = order;
-          takes_cancels = takes_cancels;
+          cancels = cancels;
+          tells_broken = false;
           content = content;
           calls = calls;
         }) else None) }
@@ -69,10 +74,21 @@ impl Settings {
         Some(Settings {
             framing,
             order,
-            takes_cancels,
+            cancels,
+            tells_broken: false,
             content,
             calls,
         })
+    }
+
+    /// The same settings, where broken input is told.
+    pub fn telling_broken(self) -> Settings
+        ensures { result ≡ record self { tells_broken = true } }
+    {
+        Settings {
+            tells_broken: true,
+            ..self
+        }
     }
 
     pub fn framing(&self) -> Framing
@@ -87,10 +103,18 @@ impl Settings {
         self.order
     }
 
-    pub fn takes_cancels(&self) -> bool
-        ensures { result ≡ self.now.takes_cancels }
+    /// Whose cancels are told apart from calls, and withdraw ours.
+    pub fn cancels(&self) -> Option<Cancels>
+        ensures { result ≡ self.now.cancels }
     {
-        self.takes_cancels
+        self.cancels
+    }
+
+    /// Whether broken input is told.
+    pub fn tells_broken(&self) -> bool
+        ensures { result ≡ self.now.tells_broken }
+    {
+        self.tells_broken
     }
 
     /// How many bytes a content may have.

@@ -1,20 +1,18 @@
 -- An answer that goes out by itself.
 use Rattle.std.proofs.Common.{◌≡◌, ℕ, ◌==◌, not, Bool, true, false, cond, List, [], ◌∷◌, length, set, eq-eqb, Option, Some, None, refl, sym, ap, subst, ◌∙◌, arith}
-use Rattle.std.proofs.lemmas.List.{length-map}
-use Rattle.connection_history.specs.Items.{text_of}
-use Rattle.connection_messages.specs.Texts.{batch_text}
+use Rattle.std.specs.Global.{Vec}
 use Rattle.connection_history.specs.declared.order.Order.{Order}
 use Rattle.connection_history.specs.declared.order.Order.TheVariants.{AsAnswered}
-use Rattle.connection_states.specs.Steps.{is_complete, leaving, staying, answers_of}
+use Rattle.connection_states.specs.Steps.{is_complete, leaving, staying}
 use Rattle.open_calls.specs.Numbered.{at, without, changed_at, Above, Ascending}
-use Rattle.open_calls.specs.Owed.{OwedUnit, given, lacking_slots, slot_texts, first_or_none, unit_text}
+use Rattle.open_calls.specs.Owed.{OwedUnit, given, is_answer, joined, lacking_slots, slot_texts, unit_texts}
 use Rattle.open_calls.proofs.Rows.{at_changed}
-use Rattle.connection_desk.specs.Desks.{answer_texts}
+use Rattle.connection_desk.specs.Desks.{answer_count, answer_texts}
 use Rattle.connection_desk.specs.declared.events.Events.{Events}
 use Rattle.connection_desk.specs.Alone.{IsAlone, HasOne, GoesAlone}
 use Rattle.connection_desk.specs.Inner.{IsDesk, OnlyAt, complete_in, complete_at, complete_text_in}
-use Rattle.connection_desk.proofs.GivenSlots.{desk_stays, only_changed, slots_replaced}
-use Rattle.connection_desk.proofs.OwedLists.{Units, only_text, only_rest}
+use Rattle.connection_desk.proofs.GivenSlots.{desk_stays, only_changed}
+use Rattle.connection_desk.proofs.OwedLists.{Units, count_texts, only_text, only_rest}
 
 -- ---- the unit
 
@@ -23,18 +21,17 @@ one_complete [] text one = absurd (omega (arith, one))
 one_complete (s ∷ []) text one = refl
 one_complete (s ∷ t ∷ ts) text one = absurd (omega (arith, one))
 
-one_text : (slots : List (Option (List ℕ))) (text : List ℕ) → length slots ≡ 1 → first_or_none (slot_texts (set slots 0 (Some text))) ≡ text
-one_text [] text one = absurd (omega (arith, one))
-one_text (s ∷ []) text one = refl
-one_text (s ∷ t ∷ ts) text one = absurd (omega (arith, one))
+one_text : (slots : List (Option (List ℕ))) (text : List ℕ) → length slots ≡ 1 → is_answer text ≡ true → slot_texts (set slots 0 (Some text)) ≡ text ∷ []
+one_text [] text one some = absurd (omega (arith, one))
+one_text (s ∷ []) text one some = ap (λ b. cond b (text ∷ []) []) some
+one_text (s ∷ t ∷ ts) text one some = absurd (omega (arith, one))
 
 alone_complete : (unit : OwedUnit) (text : List ℕ) → IsAlone unit → is_complete (given 0 text unit) ≡ true
 alone_complete unit text alone = one_complete unit.slots text alone.one
 
-alone_text : (unit : OwedUnit) (text : List ℕ) → IsAlone unit → unit_text (given 0 text unit) ≡ text
-alone_text unit text alone =
-    ap (λ b. cond b (batch_text (slot_texts (set unit.slots 0 (Some text)))) (first_or_none (slot_texts (set unit.slots 0 (Some text))))) alone.no_batch
-    ∙ one_text unit.slots text alone.one
+alone_texts : (unit : OwedUnit) (text : List ℕ) → IsAlone unit → is_answer text ≡ true → unit_texts (given 0 text unit) ≡ text ∷ []
+alone_texts unit text alone some =
+    ap (λ b. joined b (slot_texts (set unit.slots 0 (Some text)))) alone.no_batch ∙ ap (joined false) (one_text unit.slots text alone.one some)
 
 -- ---- the units, once it is complete
 
@@ -62,16 +59,16 @@ at_here_changed place f unit owed is =
 -- its text goes out, and all others stay
 pub record IsGivenAlone (order : Order) (place : ℕ) (text : List ℕ) (owed : Units) : Type 0 where
   pub texts : answer_texts (leaving order (changed_at place (given 0 text) owed)) ≡ text ∷ []
-  pub count : length (leaving order (changed_at place (given 0 text) owed)) ≡ 1
+  pub count : answer_count (leaving order (changed_at place (given 0 text) owed)) ≡ 1
   pub rest : staying order (changed_at place (given 0 text) owed) ≡ without place owed
 
-count_of : (owed : Units) (text : List ℕ) → answer_texts owed ≡ text ∷ [] → length owed ≡ 1
-count_of owed text is = sym (length-map (answers_of owed) text_of ∙ length-map owed _) ∙ ap length is
+count_of : (owed : Units) (text : List ℕ) → answer_texts owed ≡ text ∷ [] → answer_count owed ≡ 1
+count_of owed text is = count_texts owed ∙ ap length is
 
-given_in : (place : ℕ) (text : List ℕ) (owed : Units) (o : Option OwedUnit) → at place owed ≡ o → HasOne o → Ascending owed → leaving AsAnswered owed ≡ []
+given_in : (place : ℕ) (text : List ℕ) (owed : Units) (o : Option OwedUnit) → at place owed ≡ o → HasOne o → is_answer text ≡ true → Ascending owed → leaving AsAnswered owed ≡ []
     → IsGivenAlone AsAnswered place text owed
-given_in place text owed None is one order none = absurd one
-given_in place text owed (Some unit) is one order none =
+given_in place text owed None is one some order none = absurd one
+given_in place text owed (Some unit) is one some order none =
     let now = changed_at place (given 0 text) owed in
     let there : at place now ≡ Some (given 0 text unit) = at_here_changed place (given 0 text) unit owed is in
     let whole : is_complete (given 0 text unit) ≡ true = alone_complete unit text one in
@@ -81,24 +78,23 @@ given_in place text owed (Some unit) is one order none =
     let texts : answer_texts (leaving AsAnswered now) ≡ text ∷ [] =
     sym (only_text place now ascends only)
     ∙ ap complete_text_in there
-    ∙ ap (λ b. cond b (unit_text (given 0 text unit) ∷ []) []) whole
-    ∙ ap (λ t. t ∷ []) (alone_text unit text one) in
+    ∙ ap (λ b. cond b (unit_texts (given 0 text unit)) []) whole
+    ∙ alone_texts unit text one some in
     record {
       texts = texts;
       count = count_of (leaving AsAnswered now) text texts;
       rest = sym (only_rest place now ascends only) ∙ ap (λ b. cond b (without place now) now) done ∙ without_changed place (given 0 text) owed;
     }
 
-pub given_alone : (order : Order) (place : ℕ) (text : List ℕ) (owed : Units) → GoesAlone order place 0 owed → Ascending owed → leaving order owed ≡ []
+pub given_alone : (order : Order) (place : ℕ) (text : List ℕ) (owed : Units) → GoesAlone order place 0 owed → is_answer text ≡ true → Ascending owed → leaving order owed ≡ []
     → IsGivenAlone order place text owed
-given_alone order place text owed goes ascends none =
+given_alone order place text owed goes some ascends none =
     subst (λ o. IsGivenAlone o place text owed) (sym goes.at_once)
-    (given_in place text owed (at place owed) refl goes.alone ascends (subst (λ o. leaving o owed ≡ []) goes.at_once none))
+    (given_in place text owed (at place owed) refl goes.alone some ascends (subst (λ o. leaving o owed ≡ []) goes.at_once none))
 
 -- ---- what a desk keeps
 
-pub desk_alone : (order : Order) (place : ℕ) (text : List ℕ) (owed : Units) (is_over : Bool) (events : Events) → IsGivenAlone order place text owed → IsDesk order owed is_over events
-    → IsDesk order (without place owed) is_over events
-desk_alone order place text owed is_over events given_one desk =
-    desk_stays order (changed_at place (given 0 text) owed) (without place owed) is_over events
-    (slots_replaced place 0 (Some text) owed desk.have_slots) desk.open_ended (sym given_one.rest)
+pub desk_alone : (order : Order) (place : ℕ) (text : List ℕ) (owed : Units) (is_over : Bool) (events : Events) (room : Vec ℕ) → IsGivenAlone order place text owed → IsDesk order owed is_over events room
+    → IsDesk order (without place owed) is_over events room
+desk_alone order place text owed is_over events room given_one desk =
+    desk_stays order (changed_at place (given 0 text) owed) (without place owed) is_over events room desk.open_ended desk.kept (sym given_one.rest)

@@ -8,8 +8,8 @@ use Rattle.connection_messages.specs.declared.entry.Entry.TheVariants.{Call, Can
 use Rattle.connection_messages.specs.declared.unit.Unit.{Unit}
 use Rattle.connection_messages.specs.declared.unit.Unit.TheVariants.{Unreadable, Single, Batch}
 use Rattle.connection_history.specs.declared.event.Event.{Event}
-use Rattle.connection_history.specs.Stream.{call_in, calls_in, entries_in}
-use Rattle.connection_history.specs.Counts.{capped, is_invalid, is_unreadable, if_none}
+use Rattle.connection_history.specs.Stream.{call_in, calls_in, entries_in, is_invalid}
+use Rattle.connection_history.specs.Counts.{capped, is_unreadable, if_none}
 use Rattle.open_calls.specs.declared.their_call.TheirCall.{TheirCall}
 use Rattle.open_calls.specs.Own.{OwnState}
 use Rattle.connection_states.specs.Steps.{own_after}
@@ -25,6 +25,9 @@ tally requests answers unreadable invalid ignored =
 
 -- ---- one count
 
+more_capped : (n k : ℕ) → capped (n + capped k) ≡ capped (n + k)
+more_capped n k = omega arith
+
 -- nothing more
 pub none_more : (n : ℕ) → n < 2 ^ 64 → capped (n + 0) ≡ n
 none_more n few = omega arith
@@ -32,6 +35,9 @@ none_more n few = omega arith
 -- some, and then more
 pub twice_more : (n k m : ℕ) → capped (capped (n + k) + m) ≡ capped (n + (k + m))
 twice_more n k m = omega arith
+
+pub answers_capped : (n : ℕ) (t : Tally) → with_answers (capped n) t ≡ with_answers n t
+answers_capped n t = ap (λ m. tally t.requests m t.unreadable t.invalid t.ignored) (more_capped t.answers n)
 
 pub capped_few : (n : ℕ) → capped n < 2 ^ 64
 capped_few n = omega arith

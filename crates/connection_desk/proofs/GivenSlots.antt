@@ -1,8 +1,10 @@
 -- A slot of an owed answer is given its text, or has it taken back.
-use Rattle.std.proofs.Common.{◌≡◌, ℕ, ◌<◌, ◌==◌, not, Bool, true, false, cond, List, [], ◌∷◌, Option, Some, None, refl, sym, ap, subst, ◌∙◌, arith, length, set}
+use Rattle.std.proofs.Common.{◌≡◌, ℕ, ◌<◌, ◌≤◌, ◌==◌, not, Bool, true, false, cond, List, [], ◌∷◌, Option, Some, None, refl, sym, ap, subst, ◌∙◌, arith, length, set}
 use Rattle.std.proofs.lemmas.Bool.{eqb-true, ne_eqb}
 use Rattle.std.proofs.lemmas.List.{length-set, set-set, set-get_or}
 use Rattle.std.proofs.lemmas.Option.{unwrap_or-slice_get}
+use Rattle.std.specs.Global.{Vec}
+use Rattle.std.specs.Vec.{vec_capacity}
 use Rattle.connection_history.specs.declared.order.Order.{Order}
 use Rattle.connection_history.specs.declared.order.Order.TheVariants.{AsAnswered, AsCame}
 use Rattle.connection_states.specs.Steps.{is_complete, complete_front, incomplete_rest, leaving, staying}
@@ -10,7 +12,7 @@ use Rattle.open_calls.specs.Numbered.{at, without, changed_at, Above, Ascending}
 use Rattle.open_calls.specs.Owed.{OwedUnit, slot_in, slot_at, replaced}
 use Rattle.open_calls.proofs.OwedLemmas.{unit_of}
 use Rattle.connection_desk.specs.declared.events.Events.{Events}
-use Rattle.connection_desk.specs.Inner.{HaveSlots, OnlyAt, IsDesk, IsOpenEnded}
+use Rattle.connection_desk.specs.Inner.{OnlyAt, IsDesk, IsOpenEnded}
 use Rattle.connection_desk.proofs.OwedLists.{Units, all_stay, none_first}
 
 -- ---- what a desk keeps
@@ -29,26 +31,12 @@ none_leaves AsAnswered (e ∷ es) = filter_none (is_complete e.1) e (staying AsA
 none_leaves AsCame [] = refl
 none_leaves AsCame (e ∷ es) = front_none (is_complete e.1) e es (incomplete_rest es) refl (none_leaves AsCame es)
 
-slots_step : (b : Bool) (e : ℕ × OwedUnit) (es : Units) → 0 < length e.1.slots → HaveSlots es → HaveSlots (cond b (e ∷ es) es)
-slots_step true e es some slots = (some, slots)
-slots_step false e es some slots = slots
-
-front_step : (b : Bool) (es rest : Units) → HaveSlots es → HaveSlots rest → HaveSlots (cond b rest es)
-front_step true es rest slots more = more
-front_step false es rest slots more = slots
-
-slots_stay : (order : Order) (owed : Units) → HaveSlots owed → HaveSlots (staying order owed)
-slots_stay AsAnswered [] slots = tt
-slots_stay AsAnswered (e ∷ es) slots = slots_step (not (is_complete e.1)) e (staying AsAnswered es) slots.0 (slots_stay AsAnswered es slots.1)
-slots_stay AsCame [] slots = tt
-slots_stay AsCame (e ∷ es) slots = front_step (is_complete e.1) (e ∷ es) (incomplete_rest es) slots (slots_stay AsCame es slots.1)
-
-pub desk_stays : (order : Order) (owed now : Units) (is_over : Bool) (events : Events) → HaveSlots owed → (is_over ≡ false → IsOpenEnded events) → now ≡ staying order owed
-    → IsDesk order now is_over events
-desk_stays order owed now is_over events slots open_ended is = record {
+pub desk_stays : (order : Order) (owed now : Units) (is_over : Bool) (events : Events) (room : Vec ℕ) → (is_over ≡ false → IsOpenEnded events) → vec_capacity room ≤ 65536 → now ≡ staying order owed
+    → IsDesk order now is_over events room
+desk_stays order owed now is_over events room open_ended few is = record {
   settled = ap (leaving order) is ∙ none_leaves order owed;
-  have_slots = subst HaveSlots (sym is) (slots_stay order owed slots);
   open_ended = open_ended;
+  kept = few;
 }
 
 front_stays : (b : Bool) (e : ℕ × OwedUnit) (es front rest : Units) → cond b (e ∷ front) [] ≡ [] → cond b rest (e ∷ es) ≡ e ∷ es
@@ -62,17 +50,6 @@ all_stays AsCame [] none = refl
 all_stays AsCame (e ∷ es) none = front_stays (is_complete e.1) e es (complete_front es) (incomplete_rest es) none
 
 -- ---- a slot is changed
-
-some_step : (b : Bool) (f : OwedUnit → OwedUnit) (unit : OwedUnit) → length (f unit).slots ≡ length unit.slots → 0 < length unit.slots → 0 < length (cond b (f unit) unit).slots
-some_step true f unit same some = subst (λ n. 0 < n) (sym same) some
-some_step false f unit same some = some
-
-slots_changed : (place : ℕ) (f : OwedUnit → OwedUnit) (owed : Units) → ((unit : OwedUnit) → length (f unit).slots ≡ length unit.slots) → HaveSlots owed → HaveSlots (changed_at place f owed)
-slots_changed place f [] same slots = tt
-slots_changed place f (e ∷ es) same slots = (some_step (place == e.0) f e.1 (same e.1) slots.0, slots_changed place f es same slots.1)
-
-pub slots_replaced : (place slot : ℕ) (text : Option (List ℕ)) (owed : Units) → HaveSlots owed → HaveSlots (changed_at place (replaced slot text) owed)
-slots_replaced place slot text owed slots = slots_changed place (replaced slot text) owed (λ unit. length-set unit.slots slot text) slots
 
 only_step : (b : Bool) (f : OwedUnit → OwedUnit) (e : ℕ × OwedUnit) (rest : Units) → is_complete e.1 ≡ false → leaving AsAnswered rest ≡ []
     → leaving AsAnswered (cond (not b) ((e.0, cond b (f e.1) e.1) ∷ rest) rest) ≡ []

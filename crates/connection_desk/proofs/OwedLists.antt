@@ -1,35 +1,25 @@
 -- Lists of owed units, and which of them are complete.
-use Rattle.std.proofs.Common.{◌≡◌, ℕ, suc, ◌+◌, ◌<◌, ◌==◌, not, Result, Ok, Err, OnOk, Bool, true, false, cond, List, [], ◌∷◌, ◌++◌, Option, Some, None, refl, sym, ap, subst, ◌∙◌, arith, length, take, drop, eq-eqb, append_assoc}
+use Rattle.std.proofs.Common.{◌≡◌, ℕ, suc, ◌+◌, ◌<◌, ◌==◌, not, Result, Ok, Err, OnOk, Bool, true, false, cond, List, [], ◌∷◌, ◌++◌, Option, Some, None, refl, sym, ap, subst, ◌∙◌, arith, length, map, take, drop, eq-eqb, append_assoc, length-append, ◌≤◌}
 use Rattle.std.proofs.lemmas.Bool.{eqb-true}
-use Rattle.std.proofs.lemmas.List.{append-nil, take_at, take-append-drop}
+use Rattle.std.proofs.lemmas.List.{append-nil, length-map, map-append, take_at, take-append-drop}
 use Rattle.connection_history.specs.declared.order.Order.{Order}
 use Rattle.connection_history.specs.declared.order.Order.TheVariants.{AsAnswered, AsCame}
-use Rattle.connection_states.specs.Steps.{is_complete, complete_front, incomplete_rest, leaving, staying}
+use Rattle.connection_history.specs.Counts.{capped}
+use Rattle.connection_history.specs.Items.{answer, text_of}
+use Rattle.connection_states.specs.Steps.{answers_of, is_complete, complete_front, incomplete_rest, leaving, staying}
 use Rattle.open_calls.specs.Numbered.{at, without, first_number, next_number, Above, Ascending}
-use Rattle.open_calls.specs.Owed.{OwedUnit, OwedState, IsComplete, IsCompleteUnit, text_or_none, unit_text}
+use Rattle.open_calls.specs.Owed.{OwedUnit, OwedState, some_text, first_or_none, joined, texts_of, unit_texts, has_answer, has_answer_in, text_or_none}
 use Rattle.open_calls.proofs.Numbered.{without_above, shorter}
 use Rattle.open_calls.proofs.OwedLemmas.{state_of}
 use Rattle.connection_desk.proofs.Rests.{at_here, rest_from, rest_of, rest_step_from}
 use Rattle.outbox.specs.Output.{Output, OnlyPutSince}
-use Rattle.connection_desk.specs.Desks.{answer_texts, with_texts}
-use Rattle.connection_desk.specs.Inner.{HaveSlots, OnlyAt, complete_in, complete_at, complete_text_in, complete_text_at}
+use Rattle.connection_desk.specs.Desks.{answer_count, answer_texts, with_texts}
+use Rattle.connection_desk.specs.Inner.{OnlyAt, complete_in, complete_at, complete_text_in, complete_text_at}
 
 abbrev pub Units : Type 0
 Units = List (ℕ × OwedUnit)
 
 -- ---- the unit at a place
-
-complete_unit : (unit : OwedUnit) → 0 < length unit.slots → is_complete unit ≡ true → IsComplete unit
-complete_unit unit some is = record { some = some; all = eqb-true _ 0 is }
-
-complete_step : (b : Bool) (unit : OwedUnit) (o : Option OwedUnit) → 0 < length unit.slots → (complete_in o ≡ true → IsCompleteUnit o)
-    → complete_in (cond b (Some unit) o) ≡ true → IsCompleteUnit (cond b (Some unit) o)
-complete_step true unit o some there is = complete_unit unit some is
-complete_step false unit o some there is = there is
-
-pub complete_here : (place : ℕ) (owed : Units) → HaveSlots owed → complete_at place owed ≡ true → IsCompleteUnit (at place owed)
-complete_here place [] slots is = absurd (cc)
-complete_here place (e ∷ es) slots is = complete_step (place == e.0) e.1 (at place es) slots.0 (complete_here place es slots.1) is
 
 pub some_complete : (o : Option OwedUnit) → complete_in o ≡ true → (unit : OwedUnit) × (o ≡ Some unit) × (is_complete unit ≡ true)
 some_complete None is = absurd (cc)
@@ -67,13 +57,43 @@ more_since ts before middle now since is =
       taken = ap (λ (o : Output). o.taken) is ∙ since.taken;
     }
 
-pub complete_text : (o : Option OwedUnit) → complete_in o ≡ true → complete_text_in o ≡ text_or_none o ∷ []
-complete_text None is = absurd (cc)
-complete_text (Some unit) is = ap (λ b. cond b (unit_text unit ∷ []) []) is
+-- ---- the answer of a unit
+
+joined_some : (batch : Bool) (texts : List (List ℕ)) → some_text texts ≡ true → joined batch texts ≡ first_or_none (joined batch texts) ∷ []
+joined_some batch [] some = absurd (cc)
+joined_some batch (t ∷ ts) some = refl
+
+joined_none : (batch : Bool) (texts : List (List ℕ)) → some_text texts ≡ false → joined batch texts ≡ []
+joined_none batch [] none = refl
+joined_none batch (t ∷ ts) none = absurd (cc)
+
+pub complete_text : (o : Option OwedUnit) → complete_in o ≡ true → has_answer_in o ≡ true → complete_text_in o ≡ text_or_none o ∷ []
+complete_text None is some = absurd (cc)
+complete_text (Some unit) is some = ap (λ b. cond b (unit_texts unit) []) is ∙ joined_some unit.is_batch (texts_of unit) some
+
+nothing_either : (b : Bool) → cond b (let r : List (List ℕ) = [] in r) [] ≡ []
+nothing_either true = refl
+nothing_either false = refl
+
+pub complete_nothing : (o : Option OwedUnit) → has_answer_in o ≡ false → complete_text_in o ≡ []
+complete_nothing None none = refl
+complete_nothing (Some unit) none = ap (λ ts. cond (is_complete unit) ts []) (joined_none unit.is_batch (texts_of unit) none) ∙ nothing_either (is_complete unit)
 
 pub incomplete_text : (o : Option OwedUnit) → complete_in o ≡ false → complete_text_in o ≡ []
 incomplete_text None is = refl
-incomplete_text (Some unit) is = ap (λ b. cond b (unit_text unit ∷ []) []) is
+incomplete_text (Some unit) is = ap (λ b. cond b (unit_texts unit) []) is
+
+answered_texts : (place : ℕ) (ts : List (List ℕ)) → map text_of (map (answer place) ts) ≡ ts
+answered_texts place [] = refl
+answered_texts place (t ∷ ts) = ap (λ us. t ∷ us) (answered_texts place ts)
+
+-- the texts of a unit stand before those of the others
+pub texts_more : (e : ℕ × OwedUnit) (es : Units) → answer_texts (e ∷ es) ≡ unit_texts e.1 ++ answer_texts es
+texts_more e es = map-append text_of (map (answer e.0) (unit_texts e.1)) (answers_of es) ∙ ap (λ ts. ts ++ answer_texts es) (answered_texts e.0 (unit_texts e.1))
+
+-- how many answers there are, by their texts
+pub count_texts : (es : Units) → answer_count es ≡ length (answer_texts es)
+count_texts es = sym (length-map (answers_of es) text_of)
 
 -- ---- as answered: none but the one at this place can go out
 
@@ -81,8 +101,8 @@ pub none_first : (b : Bool) (e : ℕ × OwedUnit) (fs : Units) → cond b (e ∷
 none_first true e fs is = absurd (cc)
 none_first false e fs is = (refl, is)
 
-first_text : (b : Bool) (e : ℕ × OwedUnit) (fs : Units) → fs ≡ [] → cond b (unit_text e.1 ∷ []) [] ≡ answer_texts (cond b (e ∷ fs) fs)
-first_text true e fs none = ap (λ gs. unit_text e.1 ∷ answer_texts gs) (sym none)
+first_text : (b : Bool) (e : ℕ × OwedUnit) (fs : Units) → fs ≡ [] → cond b (unit_texts e.1) [] ≡ answer_texts (cond b (e ∷ fs) fs)
+first_text true e fs none = sym (texts_more e fs ∙ ap (λ gs. unit_texts e.1 ++ answer_texts gs) none ∙ append-nil (unit_texts e.1))
 first_text false e fs none = ap answer_texts (sym none)
 
 text_step : (b : Bool) (e : ℕ × OwedUnit) (o : Option OwedUnit) (rest es : Units) → (b ≡ true → rest ≡ es)
@@ -145,7 +165,8 @@ front_more n owed order is =
     let rest = rest_of (next_number n owed) owed in
     ap (λ es. answer_texts (complete_front es)) (rest_step_from n found.0 owed order found.1)
     ∙ ap (λ b. answer_texts (cond b ((n, found.0) ∷ complete_front rest) [])) found.2
-    ∙ sym (ap (λ ts. ts ++ answer_texts (complete_front rest)) (ap complete_text_in found.1 ∙ ap (λ b. cond b (unit_text found.0 ∷ []) []) found.2))
+    ∙ texts_more (n, found.0) (complete_front rest)
+    ∙ sym (ap (λ ts. ts ++ answer_texts (complete_front rest)) (ap complete_text_in found.1 ∙ ap (λ b. cond b (unit_texts found.0) []) found.2))
 
 pub rest_shorter : (n : ℕ) (owed : Units) → Ascending owed → complete_at n owed ≡ true → length (rest_of (next_number n owed) owed) < length (rest_from n owed)
 rest_shorter n owed order is =
@@ -194,22 +215,61 @@ pub none_stays : (owed : Units) → first_number owed ≡ None → incomplete_re
 none_stays [] none = refl
 none_stays (e ∷ es) none = absurd (cc)
 
+pub gone_here : (place : ℕ) (owed : Units) → complete_at place owed ≡ true → cond (complete_at place owed) (without place owed) owed ≡ without place owed
+gone_here place owed is = ap (λ b. cond b (without place owed) owed) is
+
+-- none is in front
+pub no_front : (place : ℕ) (owed : Units) → first_number owed ≡ Some place → complete_at place owed ≡ false → complete_front owed ≡ []
+no_front place [] first is = refl
+no_front place (e ∷ es) first is =
+    let here : place ≡ e.0 = cc in
+    let open_yet : is_complete e.1 ≡ false = sym (ap complete_in (at_here e es)) ∙ ap (λ n. complete_at n (e ∷ es)) (sym here) ∙ is in
+    ap (λ b. cond b (e ∷ complete_front es) []) open_yet
+
+pub no_front_none : (owed : Units) → first_number owed ≡ None → complete_front owed ≡ []
+no_front_none [] none = refl
+no_front_none (e ∷ es) none = absurd (cc)
+
 -- ---- how many go out
 
-all_step : (b : Bool) (e : ℕ × OwedUnit) (fs gs es : Units) → length fs + length gs ≡ length es → length (cond b (e ∷ fs) fs) + length (cond (not b) (e ∷ gs) gs) ≡ suc (length es)
-all_step true e fs gs es is = omega arith
-all_step false e fs gs es is = omega arith
+-- as came: the answer of the first, and then those behind it
+pub front_count : (place : ℕ) (owed : Units) → Ascending owed → first_number owed ≡ Some place → complete_at place owed ≡ true
+    → answer_count (complete_front owed) ≡ length (complete_text_at place owed) + answer_count (complete_front (without place owed))
+front_count place [] order first is = absurd (cc)
+front_count place (e ∷ es) order first is =
+    let here : place ≡ e.0 = cc in
+    let gone : without e.0 (e ∷ es) ≡ es = ap (λ b. cond (not b) (e ∷ without e.0 es) (without e.0 es)) (eq-eqb e.0 e.0 refl) ∙ without_above e.0 es order.0 in
+    let done : is_complete e.1 ≡ true = sym (ap complete_in (at_here e es)) ∙ ap (λ n. complete_at n (e ∷ es)) (sym here) ∙ is in
+    let texts : complete_text_at place (e ∷ es) ≡ unit_texts e.1 =
+    ap (λ n. complete_text_at n (e ∷ es)) here ∙ ap complete_text_in (at_here e es) ∙ ap (λ b. cond b (unit_texts e.1) []) done in
+    let front : complete_front (e ∷ es) ≡ e ∷ complete_front es = ap (λ b. cond b (e ∷ complete_front es) []) done in
+    let rest : complete_front (without place (e ∷ es)) ≡ complete_front es = ap (λ n. complete_front (without n (e ∷ es))) here ∙ ap complete_front gone in
+    ap answer_count front
+    ∙ count_texts (e ∷ complete_front es)
+    ∙ ap length (texts_more e (complete_front es))
+    ∙ length-append (unit_texts e.1) (answer_texts (complete_front es))
+    ∙ ap (λ n. length (unit_texts e.1) + n) (sym (count_texts (complete_front es)))
+    ∙ ap (λ ts. length ts + answer_count (complete_front es)) (sym texts)
+    ∙ ap (λ fs. length (complete_text_at place (e ∷ es)) + answer_count fs) (sym rest)
 
-front_step : (b : Bool) (e : ℕ × OwedUnit) (fs gs es : Units) → length fs + length gs ≡ length es → length (cond b (e ∷ fs) []) + length (cond b gs (e ∷ es)) ≡ suc (length es)
-front_step true e fs gs es is = omega arith
-front_step false e fs gs es is = omega arith
+-- no unit has more than one
+joined_few : (batch : Bool) (texts : List (List ℕ)) → length (joined batch texts) ≤ 1
+joined_few batch [] = omega arith
+joined_few batch (t ∷ ts) = omega arith
 
--- those that go out and those that stay are all
-pub all_of : (order : Order) (owed : Units) → length (leaving order owed) + length (staying order owed) ≡ length owed
-all_of AsAnswered [] = refl
-all_of AsAnswered (e ∷ es) = all_step (is_complete e.1) e (leaving AsAnswered es) (staying AsAnswered es) es (all_of AsAnswered es)
-all_of AsCame [] = refl
-all_of AsCame (e ∷ es) = front_step (is_complete e.1) e (complete_front es) (incomplete_rest es) es (all_of AsCame es)
+few_either : (b : Bool) (unit : OwedUnit) → length (cond b (unit_texts unit) []) ≤ 1
+few_either true unit = joined_few unit.is_batch (texts_of unit)
+few_either false unit = omega arith
+
+texts_few : (o : Option OwedUnit) → length (complete_text_in o) ≤ 1
+texts_few None = omega arith
+texts_few (Some unit) = few_either (is_complete unit) unit
+
+pub only_count : (place : ℕ) (owed : Units) → Ascending owed → OnlyAt AsAnswered place owed → length (complete_text_at place owed) ≡ capped (answer_count (leaving AsAnswered owed))
+only_count place owed order only =
+    let same : length (complete_text_at place owed) ≡ answer_count (leaving AsAnswered owed) = ap length (only_text place owed order only) ∙ sym (count_texts (leaving AsAnswered owed)) in
+    let few : length (complete_text_at place owed) ≤ 1 = texts_few (at place owed) in
+    omega (arith, same, few)
 
 -- ---- results
 

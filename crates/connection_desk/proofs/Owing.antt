@@ -7,40 +7,9 @@ use Rattle.connection_history.specs.declared.order.Order.TheVariants.{AsAnswered
 use Rattle.open_calls.specs.Owed.{OwedUnit, OwedState}
 use Rattle.connection_states.specs.States.{owed_slots}
 use Rattle.connection_states.specs.Steps.{is_complete, complete_front, incomplete_rest, leaving, staying}
-use Rattle.connection_desk.specs.Inner.{HaveSlots}
 
 abbrev pub state_of : ℕ → List (ℕ × OwedUnit) → OwedState
 state_of places owed = record { places = places; owed = owed }
-
--- ---- each has slots
-
-pub have-append : (es fs : List (ℕ × OwedUnit)) → HaveSlots es → HaveSlots fs → HaveSlots (es ++ fs)
-have-append [] fs here there = there
-have-append (e ∷ es) fs here there = (here.0, have-append es fs here.1 there)
-
-have_step : (b : Bool) (e : ℕ × OwedUnit) (fs : List (ℕ × OwedUnit)) → 0 < length e.1.slots → HaveSlots fs → HaveSlots (cond b (e ∷ fs) fs)
-have_step true e fs some there = (some, there)
-have_step false e fs some there = there
-
-have_filter : (p : ℕ × OwedUnit → Bool) (es : List (ℕ × OwedUnit)) → HaveSlots es → HaveSlots (filter p es)
-have_filter p [] have = tt
-have_filter p (e ∷ es) have = have_step (p e) e (filter p es) have.0 (have_filter p es have.1)
-
-rest_step : (b : Bool) (e : ℕ × OwedUnit) (es fs : List (ℕ × OwedUnit)) → HaveSlots (e ∷ es) → HaveSlots fs → HaveSlots (cond b fs (e ∷ es))
-rest_step true e es fs all rest = rest
-rest_step false e es fs all rest = all
-
-have_rest : (es : List (ℕ × OwedUnit)) → HaveSlots es → HaveSlots (incomplete_rest es)
-have_rest [] have = tt
-have_rest (e ∷ es) have = rest_step (is_complete e.1) e es (incomplete_rest es) have (have_rest es have.1)
-
-pub have-staying : (order : Order) (es : List (ℕ × OwedUnit)) → HaveSlots es → HaveSlots (staying order es)
-have-staying AsAnswered es have = have_filter (λ e. not (is_complete e.1)) es have
-have-staying AsCame es have = have_rest es have
-
-pub have-owed : (place : ℕ) (batch : Bool) (slots : List (Option (List ℕ))) → HaveSlots (owed_slots place batch slots)
-have-owed place batch [] = tt
-have-owed place batch (s ∷ ss) = (omega arith, tt)
 
 -- ---- where nothing goes out, all stays
 

@@ -3,6 +3,7 @@ use Rattle.std.proofs.Common.{◌≡◌, ℕ, ◌<◌, ◌&&◌, Bool, true, fal
 use Rattle.std.specs.Option.{option_map, IfSome}
 use Rattle.std.specs.List.{find}
 use Rattle.connection_messages.specs.Texts.{withdrawal_text}
+use Rattle.connection_messages.specs.declared.cancels.Cancels.{Cancels}
 use Rattle.open_calls.specs.declared.own_call.OwnCall.{OwnCall}
 use Rattle.open_calls.specs.Numbered.{next_number, Above, Ascending}
 use Rattle.open_calls.specs.Own.{is_wanted_by, next_wanted}
@@ -19,8 +20,8 @@ Calls = List (ℕ × OwnCall)
 abbrev pub wanted : ℕ → Calls → Calls
 wanted n waiting = filter (λ e. is_wanted_by n e.1) waiting
 
-abbrev pub withdrawals : Calls → List (List ℕ)
-withdrawals calls = map withdrawal_text (map (λ e. e.0) calls)
+abbrev pub withdrawals : Cancels → Calls → List (List ℕ)
+withdrawals by calls = map (withdrawal_text by) (map (λ e. e.0) calls)
 
 keeps_order : {X : Type 0} (b : Bool) (e : ℕ × X) (es : List (ℕ × X)) → Above e.0 es → Ascending es → Ascending (cond b (e ∷ es) es)
 keeps_order true e es above order = (above, order)
@@ -91,14 +92,14 @@ more_withdrawn ts before middle now since is = record {
 
 -- ---- the withdrawals that are left
 
-pub said_one : (n key : ℕ) (waiting : Calls) (next : Option ℕ) (middle now : Desk) → Ascending waiting → IsThere (wanted n waiting) key → next ≡ next_wanted n key waiting
-    → now ≡ after_saying (withdrawal_text key ∷ []) middle
-    → after_saying (withdrawals (rest_of next (wanted n waiting))) now ≡ after_saying (withdrawals (rest_of (Some key) (wanted n waiting))) middle
-said_one n key waiting next middle now order there is said =
+pub said_one : (by : Cancels) (n key : ℕ) (waiting : Calls) (next : Option ℕ) (middle now : Desk) → Ascending waiting → IsThere (wanted n waiting) key → next ≡ next_wanted n key waiting
+    → now ≡ after_saying (withdrawal_text by key ∷ []) middle
+    → after_saying (withdrawals by (rest_of next (wanted n waiting))) now ≡ after_saying (withdrawals by (rest_of (Some key) (wanted n waiting))) middle
+said_one by n key waiting next middle now order there is said =
     let more = rest_more n key waiting next order there is in
-    let rest = withdrawals (rest_of next (wanted n waiting)) in
-    ap (after_saying rest) said ∙ say_more (withdrawal_text key ∷ []) rest middle
-    ∙ ap (λ es. after_saying (withdrawals es) middle) (sym more.1)
+    let rest = withdrawals by (rest_of next (wanted n waiting)) in
+    ap (after_saying rest) said ∙ say_more (withdrawal_text by key ∷ []) rest middle
+    ∙ ap (λ es. after_saying (withdrawals by es) middle) (sym more.1)
 
 pub fewer_left : (n key : ℕ) (waiting : Calls) (next : Option ℕ) → Ascending waiting → IsThere (wanted n waiting) key → next ≡ next_wanted n key waiting
     → length (rest_of next (wanted n waiting)) < length (rest_of (Some key) (wanted n waiting))

@@ -1,18 +1,22 @@
 -- A desk: what stands open, what isn't told yet, what was written, and what is counted.
-use Rattle.std.specs.Prelude.{ℕ, ◌+◌, ◌≡◌, ◌⊎◌, ◌==◌, ◌&&◌, ◌||◌, not, nat_lt, List, [], ◌∷◌, ◌++◌, Bool, true, false, map, length, Option, Some, is_some, if◌then◌else◌}
+use Rattle.std.specs.Prelude.{ℕ, ◌+◌, ◌≡◌, ◌⊎◌, ◌==◌, ◌&&◌, ◌||◌, not, nat_lt, List, [], ◌∷◌, ◌++◌, Bool, true, false, filter, map, length, Option, Some, None, is_some, option_to_list, if◌then◌else◌}
 use Rattle.std.specs.Option.{option_map_or}
 use Rattle.message_ids.specs.declared.standard.Standard.TheVariants.{Cancelled}
 use Rattle.connection_messages.specs.Texts.{call_text, calls_text, notice_text, withdrawal_text}
 use Rattle.connection_messages.specs.declared.answer.Answer.{Answer}
 use Rattle.connection_messages.specs.declared.answer.Answer.TheVariants.{Standard}
+use Rattle.connection_messages.specs.declared.cancels.Cancels.{Cancels}
+use Rattle.connection_messages.specs.declared.cancels.Cancels.TheVariants.{Mcp}
 use Rattle.connection_messages.specs.declared.outgoing.Outgoing.{Outgoing}
 use Rattle.connection_messages.specs.declared.unit.Unit.{Unit}
+use Rattle.connection_history.specs.declared.broken.Broken.{Broken}
 use Rattle.connection_history.specs.declared.close.Close.{Close}
 use Rattle.connection_history.specs.declared.event.Event.{Event}
+use Rattle.connection_history.specs.declared.event.Event.TheVariants as event
 use Rattle.connection_history.specs.declared.order.Order.{Order}
 use Rattle.connection_history.specs.declared.refused.Refused.{Refused}
 use Rattle.connection_history.specs.declared.refused.Refused.TheVariants.{Memory, NotOpen, NotWaiting, Over, Empty, Full}
-use Rattle.connection_history.specs.Refusals.{first_of, most_keys}
+use Rattle.connection_history.specs.Refusals.{by_of, first_of, has_cancels, most_keys}
 use Rattle.connection_history.specs.Stream.{entries_in}
 use Rattle.connection_history.specs.Counts.{capped}
 use Rattle.connection_history.specs.Items.{text_of}
@@ -20,17 +24,17 @@ use Rattle.open_calls.specs.declared.own_call.OwnCall.{OwnCall}
 use Rattle.open_calls.specs.Numbered.{at, changed_at}
 use Rattle.open_calls.specs.Own.{is_wanted_by}
 use Rattle.open_calls.specs.Owed.{OwedUnit, given}
+use Rattle.open_calls.specs.declared.their_call.TheirCall.{TheirCall}
 use Rattle.outbox.specs.Output.{Output, IsAllTaken}
 use Rattle.connection_states.specs.States.{State}
 use Rattle.connection_states.specs.Steps.{after_came, after_called, after_withdrew, after_answered, after_ended, answers_of, leaving, staying, owed_with, owed_given, told_of_all, told_at_end}
 use Rattle.connection_states.specs.Tallies as exact
 use Rattle.connection_states.specs.Tallies.{tally_in, answers_let_out}
 use Rattle.connection_desk.specs.declared.tally.Tally.{Tally}
-use Rattle.std.specs.Prelude.{filter}
 
 pub record Desk : Type 0 where
-  -- whether cancels are told apart from calls, and calls can be withdrawn
-  pub cancels : Bool
+  -- whose cancels are told apart from calls, if any, and withdraw our calls
+  pub cancels : Option Cancels
   pub order : Order
   pub state : State
   -- what the host hasn't been told yet, in its order
@@ -54,6 +58,10 @@ with_texts texts o = record { framing = o.framing; written = o.written ++ texts;
 -- the texts of the answers of these units
 abbrev pub answer_texts : List (ℕ × OwedUnit) → List (List ℕ)
 answer_texts owed = map text_of (answers_of owed)
+
+-- how many of these units have an answer
+abbrev pub answer_count : List (ℕ × OwedUnit) → ℕ
+answer_count owed = length (answers_of owed)
 
 -- ---- what is counted
 
@@ -95,10 +103,10 @@ call_refused n count s =
 abbrev pub isnt_withdrawn : OwnCall → Bool
 isnt_withdrawn call = not call.is_withdrawn
 
-abbrev pub can_withdraw : Bool → ℕ → State → Bool
-can_withdraw cancels k s = cancels && option_map_or isnt_withdrawn (at k s.own.waiting) false
+abbrev pub can_withdraw : Option Cancels → ℕ → State → Bool
+can_withdraw cancels k s = is_some cancels && option_map_or isnt_withdrawn (at k s.own.waiting) false
 
-abbrev pub withdraw_refused : Bool → ℕ → State → Option Refused
+abbrev pub withdraw_refused : Option Cancels → ℕ → State → Option Refused
 withdraw_refused cancels k s = first_of ((not (can_withdraw cancels k s), NotWaiting) ∷ [])
 
 abbrev pub answer_refused : ℕ → State → Option Refused
@@ -110,12 +118,13 @@ IsRefusal why refusal = (why ≡ Memory) ⊎ (refusal ≡ Some why)
 
 -- ---- what happens
 
-abbrev pub after_unit : Unit → Desk → Desk
-after_unit u d = record {
+-- a unit, of which this is broken, where that is told
+abbrev pub after_unit : Option Broken → Unit → Desk → Desk
+after_unit broken u d = record {
   cancels = d.cancels;
   order = d.order;
   state = after_came d.order u d.state;
-  untold = d.untold ++ told_of_all d.state.own d.state.theirs (entries_in u);
+  untold = d.untold ++ (map event.Broken (option_to_list broken) ++ told_of_all d.state.own d.state.theirs (entries_in u));
   out = with_texts (answer_texts (leaving d.order (owed_with u d.state.owed))) d.out;
   tally = with_counts (tally_in d.order u d.state) d.tally;
 }
@@ -144,9 +153,11 @@ abbrev pub after_notice : Outgoing → Desk → Desk
 after_notice o d = after_saying (notice_text o ∷ []) d
 
 abbrev pub after_withdrawal : ℕ → Desk → Desk
-after_withdrawal k d = after_saying (withdrawal_text k ∷ []) (record d { state = after_withdrew k d.state })
+after_withdrawal k d =
+    after_saying (withdrawal_text (by_of d.cancels) k ∷ []) (record d { state = after_withdrew (by_of d.cancels) k d.state })
 
-abbrev pub after_answer : ℕ → Answer → Desk → Desk
+-- call n is answered, or closed without an answer
+abbrev pub after_answer : ℕ → Option Answer → Desk → Desk
 after_answer n a d = record {
   cancels = d.cancels;
   order = d.order;
@@ -164,7 +175,7 @@ after_given place slot text d = record {
   state = record d.state { owed = record d.state.owed { owed = staying d.order (changed_at place (given slot text) d.state.owed.owed) } };
   untold = d.untold;
   out = with_texts (answer_texts (leaving d.order (changed_at place (given slot text) d.state.owed.owed))) d.out;
-  tally = with_answers (length (leaving d.order (changed_at place (given slot text) d.state.owed.owed))) d.tally;
+  tally = with_answers (answer_count (leaving d.order (changed_at place (given slot text) d.state.owed.owed))) d.tally;
 }
 
 -- Some texts were said since, and nothing else happened.
@@ -176,8 +187,24 @@ pub record HasWithdrawn (before now : Desk) : Type 0 where
 abbrev pub wanted_keys : ℕ → State → List ℕ
 wanted_keys n s = map (λ e. e.0) (filter (λ e. is_wanted_by n e.1) s.own.waiting)
 
--- with cancels the calls of n are withdrawn; then n is answered
+-- whether the cancel of this call came, where it is open
+abbrev pub is_cancelled : Option TheirCall → Bool
+is_cancelled None = false
+is_cancelled (Some call) = call.is_cancelled
+
+-- MCP 2025-06-18, "Cancellation": a request whose cancel came needs no answer.
+abbrev pub may_leave : Option Cancels → ℕ → State → Bool
+may_leave cancels n s = has_cancels Mcp cancels && is_cancelled (at n s.theirs.calls)
+
+-- the answer of a call that the host cancels, where it needs any
+abbrev pub cancel_answer_in : Option Cancels → ℕ → State → Option Answer
+cancel_answer_in cancels n s = if may_leave cancels n s then None else Some (Standard Cancelled)
+
+-- the notifications that withdraw the calls of n
+abbrev pub withdrawals_in : Option Cancels → ℕ → State → List (List ℕ)
+withdrawals_in None n s = []
+withdrawals_in (Some by) n s = map (withdrawal_text by) (wanted_keys n s)
+
+-- with cancels the calls of n are withdrawn; then n is answered, or closed without an answer
 abbrev pub after_cancel : ℕ → Desk → Desk
-after_cancel n d =
-    after_answer n (Standard Cancelled)
-    (after_saying (if d.cancels then map withdrawal_text (wanted_keys n d.state) else []) d)
+after_cancel n d = after_answer n (cancel_answer_in d.cancels n d.state) (after_saying (withdrawals_in d.cancels n d.state) d)

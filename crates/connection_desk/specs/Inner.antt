@@ -1,13 +1,15 @@
 -- What a desk keeps.
-use Rattle.std.specs.Prelude.{◌≡◌, ℕ, ◌<◌, ◌≤◌, ◌+◌, ◌-◌, ◌&&◌, nat_le, List, [], ◌∷◌, ◌++◌, Bool, true, false, map, length, Option, Some, None, is_some, if◌then◌else◌}
+use Rattle.std.specs.Prelude.{◌≡◌, ℕ, ◌≤◌, ◌+◌, ◌-◌, ◌&&◌, nat_le, List, [], ◌∷◌, ◌++◌, Bool, true, false, filter, map, length, Option, Some, None, is_some, if◌then◌else◌}
 use Rattle.std.specs.List.{list_any}
+use Rattle.std.specs.Global.{Vec}
+use Rattle.std.specs.Vec.{vec_capacity}
 use Rattle.std.specs.VecDeque.{deque_capacity, deque_len}
 use Rattle.message_ids.specs.declared.id.Id.{Id}
 use Rattle.connection_messages.specs.declared.entry.Entry.{Entry}
 use Rattle.connection_messages.specs.declared.entry.Entry.TheVariants.{Call, Cancel, Reply, Stray, Invalid}
 use Rattle.connection_messages.specs.declared.unit.Unit as units
 use Rattle.connection_messages.specs.declared.unit.Unit.TheVariants.{Unreadable, Single, Batch}
-use Rattle.connection_history.specs.Stream.{call_in}
+use Rattle.connection_history.specs.Stream.{call_in, calls_in, entries_in}
 use Rattle.connection_history.specs.Counts.{capped}
 use Rattle.connection_history.specs.declared.close.Close.{Close}
 use Rattle.connection_history.specs.declared.event.Event.{Event}
@@ -17,10 +19,10 @@ use Rattle.open_calls.specs.declared.their_call.TheirCall.{TheirCall}
 use Rattle.open_calls.specs.Own.{OwnState}
 use Rattle.open_calls.specs.Theirs.{TheirState, new_call, is_reached, cancelled}
 use Rattle.open_calls.specs.Numbered.{at, up_to, without}
-use Rattle.open_calls.specs.Owed.{OwedUnit, seen_slot, seen_slots, unit_text}
+use Rattle.open_calls.specs.Owed.{OwedUnit, seen_slot, seen_slots, unit_texts}
 use Rattle.connection_history.specs.declared.order.Order.TheVariants.{AsAnswered, AsCame}
-use Rattle.connection_states.specs.States.{owed_slots, slot_count}
-use Rattle.connection_states.specs.Steps.{leaving, is_complete, reached_numbers, own_after}
+use Rattle.connection_states.specs.States.{is_batch, owed_slots, slot_count}
+use Rattle.connection_states.specs.Steps.{leaving, is_complete, new_unit_slots, reached_numbers, own_after}
 use Rattle.connection_desk.specs.declared.events.Events.{Events}
 use Rattle.connection_desk.specs.declared.tally.Tally.{Tally}
 use Rattle.connection_desk.specs.declared.unit_slots.UnitSlots.{UnitSlots}
@@ -55,10 +57,10 @@ complete_in (Some unit) = is_complete unit
 abbrev pub complete_at : ℕ → List (ℕ × OwedUnit) → Bool
 complete_at place owed = complete_in (at place owed)
 
--- the answer of that unit, where it has all
+-- the answer of that unit, where all are given and it has one
 abbrev pub complete_text_in : Option OwedUnit → List (List ℕ)
 complete_text_in None = []
-complete_text_in (Some unit) = if is_complete unit then unit_text unit ∷ [] else []
+complete_text_in (Some unit) = if is_complete unit then unit_texts unit else []
 
 abbrev pub complete_text_at : ℕ → List (ℕ × OwedUnit) → List (List ℕ)
 complete_text_at place owed = complete_text_in (at place owed)
@@ -68,16 +70,12 @@ abbrev pub OnlyAt : Order → ℕ → List (ℕ × OwedUnit) → Type 0
 OnlyAt AsAnswered place owed = leaving AsAnswered (without place owed) ≡ []
 OnlyAt AsCame place owed = Unit {0}
 
--- each of these units has something to answer
-abbrev pub HaveSlots : List (ℕ × OwedUnit) → Type 0
-HaveSlots [] = Unit {0}
-HaveSlots (e ∷ es) = (0 < length e.1.slots) × HaveSlots es
-
-pub record IsDesk (order : Order) (owed : List (ℕ × OwedUnit)) (is_over : Bool) (events : Events) : Type 0 where
+pub record IsDesk (order : Order) (owed : List (ℕ × OwedUnit)) (is_over : Bool) (events : Events) (room : Vec ℕ) : Type 0 where
   -- what can go out is out
   pub settled : leaving order owed ≡ []
-  pub have_slots : HaveSlots owed
   pub open_ended : is_over ≡ false → IsOpenEnded events
+  -- so much room for texts at most is kept
+  pub kept : vec_capacity room ≤ 65536
 
 -- ---- the answers of a unit that comes
 
@@ -112,6 +110,15 @@ added_calls place slot came [] = []
 added_calls place slot came (e ∷ es) =
     added_call place slot came e ++ added_calls place (slot + slot_count e) (came + length (call_in e)) es
 
+-- The calls of the unit at this place are open, and these are the slots of its answer.
+pub record IsAdmitted (place : ℕ) (unit : units.Unit) (was : TheirState) (slots : UnitSlots) (now : TheirState) : Type 0 where
+  pub slots_are : slots_in slots ≡ new_unit_slots unit
+  pub batch : are_several slots ≡ is_batch unit
+  pub theirs : now ≡ record {
+    came = was.came + length (calls_in (entries_in unit));
+    calls = was.calls ++ added_calls place 0 was.came (entries_in unit);
+  }
+
 -- Calls were added behind the others, and nothing else happened to them.
 pub record IsLonger (was now : TheirState) : Type 0 where
   pub more : was.came ≤ now.came
@@ -127,9 +134,17 @@ is_cancel Invalid = false
 abbrev pub has_cancel : List Entry → Bool
 has_cancel es = list_any is_cancel es
 
+-- whether an event of its own may come with an entry: with a call one does, and with a reply where our call waits
+abbrev pub is_telling : Entry → Bool
+is_telling (Call c) = true
+is_telling (Cancel id) = false
+is_telling (Reply k r) = true
+is_telling Stray = false
+is_telling Invalid = false
+
 -- at most so many events come with these entries, where so many calls are open then
 abbrev pub most_events : ℕ → List Entry → ℕ
-most_events count es = length es + (if has_cancel es then count else 0)
+most_events count es = length (filter is_telling es) + (if has_cancel es then count else 0)
 
 -- ---- what entries do then: a cancel reaches the calls that came before it alone
 

@@ -1,33 +1,34 @@
 //! Calls of the other side are answered.
 
-ghost use Rattle.std.specs.Prelude.{◌≡◌, ◌++◌, ◌∷◌, [], true, map, None, IfOk, IfErr, OnOk, OnErr};
+ghost use Rattle.std.specs.Vec.{vec_capacity};
+ghost use Rattle.std.specs.Prelude.{◌≡◌, ◌≤◌, ◌++◌, ◌∷◌, [], true, map, None, Some, IfOk, IfErr, OnOk, OnErr};
+ghost use Rattle.connection_messages.specs.Texts.{withdrawal_text};
+ghost use Rattle.open_calls.specs.Owed.{is_answer};
 ghost use Rattle.connection_desk.specs.Alone.{GoesAlone, IsAlone};
+ghost use Rattle.connection_desk.specs.Desks.{IsRefusal, after_answer, after_cancel, after_given, after_saying, answer_refused, cancel_answer_in, may_leave, wanted_keys, HasWithdrawn};
 
 use crate::desk::Desk;
 use crate::leaving::{let_out, write_leaving};
 use connection_history::{Order, Refused};
-use connection_messages::{Answer, write_answer, write_withdrawal};
+use connection_messages::{Answer, Cancels, write_answer, write_withdrawal};
 use message_ids::Standard;
-use open_calls::{Owed, OwedAnswers};
+use open_calls::{Owed, OwedAnswers, Slot};
 use std::alloc::{AllocError, Global};
 use std::mem;
 
-/// Room for the text of an answer, which most fit in.
+/// Room for the text of an answer that waits in its slot. Most fit in: an id, and a result of some 90 bytes.
 const ANSWER_ROOM: usize = 128;
 
 impl Desk {
-    ghost use Rattle.connection_desk.specs.Desks.{IsRefusal, after_answer, after_cancel, after_given, after_saying, answer_refused, wanted_keys, HasWithdrawn};
-    ghost use Rattle.connection_messages.specs.Texts.{withdrawal_text};
-
     /// Answers the open call with this number. For a notification it says that the host is done with it, and nothing is
     /// written.
     pub fn answer(&mut self, number: u64, answer: &Answer) -> Result<(), Refused>
         ensures ok { OnOk result ((answer_refused number self.old.state ≡ None) ×
-            (self.new ≡ after_answer number answer.now self.old)) }
+            (self.new ≡ after_answer number (Some answer.now) self.old)) }
         ensures err { IfErr result (λ why. (self.new ≡ self.old) ×
             IsRefusal why (answer_refused number self.old.state)) }
     {
-        // It ensures that the count is of 64 bits.
+        // The prover has the range of a count once it is read.
         let _answers = self.tally.answers;
         let Some(call) = self.theirs.get(number) else {
             return Err(Refused::NotOpen);
@@ -44,8 +45,29 @@ impl Desk {
         Ok(())
     }
 
+    /// Closes the open call with this number without an answer. Needs memory only where answers behind it can go out then.
+    fn leave(&mut self, number: u64) -> Result<(), Refused>
+        ensures ok { OnOk result ((answer_refused number self.old.state ≡ None) ×
+            (self.new ≡ after_answer number None self.old)) }
+        ensures err { IfErr result (λ why. (self.new ≡ self.old) ×
+            IsRefusal why (answer_refused number self.old.state)) }
+    {
+        // The prover has the range of a count once it is read.
+        let _answers = self.tally.answers;
+        let Some(call) = self.theirs.get(number) else {
+            return Err(Refused::NotOpen);
+        };
+        if call.id.is_some() {
+            let (place, slot) = (call.place, call.slot);
+            self.give_slot(place, slot, Vec::new(self.alloc))?;
+        }
+        drop(self.theirs.close(number));
+        self.own.end_caller(number);
+        Ok(())
+    }
+
     /// Withdraws the calls of the open call with this number, and answers it with the error `RequestCancelled`; all or
-    /// nothing.
+    /// nothing. With MCP's cancels, a request whose cancel came is closed without an answer.
     pub fn cancel(&mut self, number: u64) -> Result<(), Refused>
         ensures ok { OnOk result ((answer_refused number self.old.state ≡ None) ×
             (self.new ≡ after_cancel number self.old)) }
@@ -72,21 +94,45 @@ impl Desk {
         ensures err { IfErr result (λ why. HasWithdrawn self.old self.new ×
             IsRefusal why (answer_refused number self.old.state)) }
     {
-        if self.cancels {
-            self.write_withdrawals(number)?;
+        if let Some(by) = self.cancels {
+            self.write_withdrawals(by, number)?;
         }
-        self.answer(number, &Answer::Standard(Standard::Cancelled))
+        self.answer_or_leave(number)
     }
 
-    fn write_withdrawals(&mut self, number: u64) -> Result<(), AllocError>
+    /// Answers the call with the error `RequestCancelled`, or closes it without an answer where none is wanted.
+    fn answer_or_leave(&mut self, number: u64) -> Result<(), Refused>
+        ensures ok { OnOk result ((answer_refused number self.old.state ≡ None) ×
+            (self.new ≡ after_answer number (cancel_answer_in self.old.cancels number self.old.state) self.old)) }
+        ensures err { IfErr result (λ why. (self.new ≡ self.old) ×
+            IsRefusal why (answer_refused number self.old.state)) }
+    {
+        if self.may_be_left(number) {
+            self.leave(number)
+        } else {
+            self.answer(number, &Answer::Standard(Standard::Cancelled))
+        }
+    }
+
+    /// Whether the call is a request that wants no answer: its cancel came, and the cancels are MCP's.
+    fn may_be_left(&self, number: u64) -> bool
+        ensures { result ≡ may_leave self.now.cancels number self.now.state }
+    {
+        match (self.cancels, self.theirs.get(number)) {
+            (Some(Cancels::Mcp), Some(call)) => call.is_cancelled,
+            _ => false,
+        }
+    }
+
+    fn write_withdrawals(&mut self, by: Cancels, number: u64) -> Result<(), AllocError>
         ensures ok { OnOk result (self.new ≡
-            after_saying (map withdrawal_text (wanted_keys number self.old.state)) self.old) }
+            after_saying (map (withdrawal_text by) (wanted_keys number self.old.state)) self.old) }
         ensures err { OnErr result (HasWithdrawn self.old self.new) }
     {
         let mut next = self.own.next_of(number, 0);
         while let Some(key) = next {
             let mut text = self.take_room();
-            write_withdrawal(&mut text, key)?;
+            write_withdrawal(&mut text, by, key)?;
             self.write(text)?;
             next = self.own.next_of(number, key);
         }
@@ -101,8 +147,9 @@ impl Desk {
         goes_alone: bool,
         text: Vec<u8>,
     ) -> Result<(), AllocError>
-        requires { goes_alone ≡ true →
+        requires alone { goes_alone ≡ true →
             GoesAlone self.old.order place slot self.old.state.owed.owed }
+        requires some { is_answer text.items ≡ true }
         ensures ok { OnOk result (self.new ≡ after_given place slot text.items self.old) }
         ensures err { OnErr result (self.new ≡ self.old) }
     {
@@ -113,14 +160,13 @@ impl Desk {
         }
     }
 
-    /// Writes an answer that goes out by itself, and keeps its room. `first` says that the places ascend, so no other unit
-    /// has this one.
+    /// Writes an answer that goes out by itself, and keeps its room.
     fn give_alone(&mut self, place: u64, text: Vec<u8>) -> Result<(), AllocError>
-        requires { GoesAlone self.old.order place 0 self.old.state.owed.owed }
+        requires alone { GoesAlone self.old.order place 0 self.old.state.owed.owed }
+        requires some { is_answer text.items ≡ true }
         ensures ok { OnOk result (self.new ≡ after_given place 0 text.items self.old) }
         ensures err { OnErr result (self.new ≡ self.old) }
     {
-        let _first = self.owed.first();
         self.outbox.put(text.as_slice())?;
         self.owed.remove(place);
         self.tally.add_answers(1);
@@ -128,15 +174,13 @@ impl Desk {
         Ok(())
     }
 
-    /// Puts the text into its slot, and writes what can go out then. `first` says that the places ascend, so what stood in
-    /// the slot can be put back.
+    /// Puts the text into its slot, and writes what can go out then. Where that is refused, what stood in the slot is put back.
     fn give_slot(&mut self, place: u64, slot: u64, text: Vec<u8>) -> Result<(), AllocError>
         ensures ok { OnOk result (self.new ≡ after_given place slot text.items self.old) }
         ensures err { OnErr result (self.new ≡ self.old) }
     {
         let mut room = self.take_room();
-        let _first = self.owed.first();
-        let was = self.owed.replace(place, slot, Some(text));
+        let was = self.owed.replace(place, slot, Slot::Text(text));
         match write_leaving(self.order, &self.owed, place, &mut self.outbox, &mut room) {
             Ok(()) => {
                 drop(was);
@@ -174,7 +218,8 @@ fn is_alone(unit: &Owed) -> bool
 
 /// Room for the text of an answer. One that goes out by itself is copied at once, so the desk's own room serves.
 fn answer_room(alloc: Global, room: &mut Vec<u8>, goes_alone: bool) -> Result<Vec<u8>, AllocError>
-    ensures { IfOk result (λ text. text.items ≡ []) }
+    ensures text { IfOk result (λ text. text.items ≡ []) }
+    ensures kept { vec_capacity room.old ≤ 65536 → vec_capacity room.new ≤ 65536 }
 {
     if !goes_alone {
         return Vec::with_capacity(alloc, ANSWER_ROOM);

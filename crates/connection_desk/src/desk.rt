@@ -3,6 +3,7 @@ ghost use Rattle.std.specs.Prelude.{◌≡◌, ◌++◌, ◌∷◌, [], ℕ, Boo
 use crate::events::Events;
 use crate::tally::Tally;
 use connection_history::{Event, Order};
+use connection_messages::Cancels;
 use content_streams::Framing;
 use open_calls::{OwedAnswers, OwnCalls, TheirCalls};
 use outbox::Outbox;
@@ -10,23 +11,33 @@ use std::alloc::{AllocError, Global};
 use std::marker::Model;
 use std::mem;
 
-/// The room of a text that was written is kept for the next, where it is at most this large.
+/// The room of a text that was written is kept for the next, where it is at most this large: most texts fit in, and a
+/// connection that has written a large one isn't large for ever.
 const KEPT_ROOM: usize = 65_536;
 
 /// What stands open between a connection and its host, what the host hasn't been told yet, and what it hasn't taken yet.
 #[derive(Drop)]
 pub struct Desk {
     pub(crate) alloc: Global,
-    pub(crate) cancels: bool,
+    /// Whose cancels withdraw our calls, if any.
+    pub(crate) cancels: Option<Cancels>,
+    /// When a unit's answer goes out.
     pub(crate) order: Order,
+    /// Our calls that wait for a reply.
     pub(crate) own: OwnCalls,
+    /// The other side's calls that are open.
     pub(crate) theirs: TheirCalls,
+    /// The answers that aren't out. `IsDesk` holds at each call: what can go out is out.
     pub(crate) owed: OwedAnswers,
+    /// Whether the input is over. Until then, as `IsDesk` says, the events have no end.
     pub(crate) is_over: bool,
+    /// What the host hasn't been told yet.
     pub(crate) events: Events,
+    /// What was written, and the host hasn't taken yet.
     pub(crate) outbox: Outbox,
+    /// How often some things have happened.
     pub(crate) tally: Tally,
-    /// Room for the next text.
+    /// Room for the next text, at most `KEPT_ROOM` as `IsDesk` says. What is in it has no meaning.
     pub(crate) room: Vec<u8>,
 }
 
@@ -45,7 +56,7 @@ impl Model for Desk {
       tally = d.tally;
     } };
 
-    ghost invariant = { λ d. IsDesk d.order d.owed.owed d.is_over d.events };
+    ghost invariant = { λ d. IsDesk d.order d.owed.owed d.is_over d.events d.room };
 }
 
 impl Desk {
@@ -56,8 +67,8 @@ impl Desk {
     ghost use Rattle.outbox.specs.Output.{after_take, given_of, next_of, IsAllTaken};
     ghost use Rattle.std.specs.Prelude.{drop, IsTrue, ◌↔◌};
 
-    /// A desk where nothing has happened. With `cancels`, calls can be withdrawn. Takes no memory.
-    pub fn new(alloc: Global, framing: Framing, order: Order, cancels: bool) -> Desk
+    /// A desk where nothing has happened. Calls can be withdrawn by these cancels, where there are any. Takes no memory.
+    pub fn new(alloc: Global, framing: Framing, order: Order, cancels: Option<Cancels>) -> Desk
         ensures { result ≡ record {
           cancels = cancels;
           order = order;

@@ -1,4 +1,5 @@
 ghost use Rattle.std.specs.Prelude.{◌≡◌, ◌≤◌, ◌<◌, ◌+◌, ◌++◌, ◌∷◌, [], Option, Some, None, option_to_list, OnOk, IsTrue, ◌↔◌};
+ghost use Rattle.std.specs.VecDeque.{deque_capacity};
 ghost use Rattle.connection_history.specs.declared.event.Event.TheVariants.{Over as over_told};
 ghost use Rattle.connection_desk.specs.Inner.{untold_of, room_of, unanswered_events, IsOpenEnded};
 
@@ -8,13 +9,14 @@ use std::alloc::{AllocError, Global};
 use std::collections::VecDeque;
 use std::mem;
 
-/// Room for so many events is kept for those to come.
+/// Room for so many events is kept for those to come, some 28 KB. A batch may bring millions.
 const MOST_KEPT: usize = 256;
 
 /// What the host hasn't been told yet. The calls that wait when the input ends aren't turned into events before they are told.
 #[derive(Drop)]
 pub struct Events {
     alloc: Global,
+    /// All but what is told at the end.
     pub(crate) items: VecDeque<Event>,
     /// The calls that waited when the input ended.
     pub(crate) unanswered: OwnCalls,
@@ -83,6 +85,7 @@ impl Events {
         ensures untold { untold_of self.old ≡ option_to_list result ++ untold_of self.new }
         ensures none { result ≡ None → untold_of self.new ≡ [] }
         ensures open { IsOpenEnded self.old → IsOpenEnded self.new }
+        ensures kept { self.new.items.items ≡ [] → deque_capacity self.new.items ≤ 256 }
     {
         if let Some(event) = self.items.pop_front() {
             self.let_go_of_room();
@@ -103,9 +106,12 @@ impl Events {
         ensures items { self.new.items.items ≡ self.old.items.items }
         ensures unanswered { self.new.unanswered ≡ self.old.unanswered }
         ensures over { self.new.over ≡ self.old.over }
+        ensures kept { self.new.items.items ≡ [] → deque_capacity self.new.items ≤ 256 }
     {
         if self.items.is_empty() && self.items.capacity() > MOST_KEPT {
-            drop(mem::replace(&mut self.items, VecDeque::new(self.alloc)));
+            // Of a queue that is made from a `Vec` it is said that it has no room.
+            let none = VecDeque::from_vec(Vec::new(self.alloc));
+            drop(mem::replace(&mut self.items, none));
         }
     }
 }

@@ -1,17 +1,19 @@
 //! Units that come. What needs memory is done first, for the whole unit; what its entries do is settled then, in their
 //! order.
 
-ghost use Rattle.std.specs.Prelude.{◌≡◌, ◌≤◌, ◌<◌, ◌+◌, ◌-◌, ◌^◌, ◌++◌, ◌∷◌, [], length, flat_map, false, IfOk, OnOk, OnErr};
+ghost use Rattle.std.specs.Prelude.{◌≡◌, ◌≤◌, ◌<◌, ◌+◌, ◌-◌, ◌^◌, ◌++◌, ◌∷◌, [], length, filter, flat_map, map, false, option_to_list, IfOk, OnOk, OnErr};
 ghost use Rattle.message_ids.specs.declared.id.Id.TheVariants.{Null};
+ghost use Rattle.message_ids.specs.declared.standard.Standard.TheVariants.{ParseError};
 ghost use Rattle.connection_messages.specs.declared.answer.Answer.TheVariants.{Standard as standard_answer};
 ghost use Rattle.connection_messages.specs.Texts.{answer_text};
 ghost use Rattle.connection_history.specs.Stream.{call_in, calls_in, entries_in};
+ghost use Rattle.connection_history.specs.declared.event.Event.TheVariants.{Broken as broken_told};
 ghost use Rattle.open_calls.specs.Owed.{seen_slots};
 ghost use Rattle.open_calls.specs.Theirs.{new_call};
 ghost use Rattle.connection_states.specs.States.{is_batch};
 ghost use Rattle.connection_states.specs.Steps.{leaving, staying, new_call_slots, new_slots, new_unit_slots};
-ghost use Rattle.connection_desk.specs.Desks.{answer_texts, with_answers, with_texts};
-ghost use Rattle.connection_desk.specs.Inner.{HaveSlots, IsLonger, IsOpenEnded, added_call, added_calls, are_several, has_cancel as has_cancel_in, most_events as most_events_in, owed_in, room_of, slots_in, untold_of};
+ghost use Rattle.connection_desk.specs.Desks.{answer_count, answer_texts, with_answers, with_texts};
+ghost use Rattle.connection_desk.specs.Inner.{IsAdmitted, IsLonger, IsOpenEnded, added_call, added_calls, are_several, has_cancel as has_cancel_in, is_telling as is_telling_entry, most_events as most_events_in, owed_in, room_of, slots_in, untold_of};
 
 use crate::desk::Desk;
 use crate::events::Events;
@@ -19,35 +21,38 @@ use crate::leaving::{let_out, write_leaving};
 use crate::settling::settle;
 use crate::tally::Tally;
 use crate::unit_slots::UnitSlots;
-use connection_history::Order;
+use connection_history::{Broken, Event, Order};
 use connection_messages::{Answer, Entry, Unit, write_answer};
 use message_ids::{Id, Standard};
-use open_calls::{OwedAnswers, TheirCalls};
+use open_calls::{OwedAnswers, Slot, TheirCalls};
 use outbox::Outbox;
 use std::alloc::{AllocError, Global};
-
-/// The room for the text of an error with the id null, which takes 78 bytes at most here. A batch may have millions of them.
-const ERROR_ROOM: usize = 80;
-
-/// The slots of a batch.
-type Slots = Vec<Option<Vec<u8>>>;
 
 impl Desk {
     ghost use Rattle.connection_desk.specs.Desks.{after_unit};
 
-    /// A unit comes. Where it is refused, it hasn't come.
-    pub fn take_in(&mut self, unit: Unit) -> Result<(), AllocError>
+    /// A unit comes. What is broken in it, where that is given, is told in front of its other events. Where it is refused, it
+    /// hasn't come.
+    pub fn take_in(&mut self, unit: Unit, broken: Option<Broken>) -> Result<(), AllocError>
         requires over { self.old.state.is_over ≡ false }
         requires calls { self.old.state.theirs.came + length (calls_in (entries_in unit)) < 2 ^ 64 }
-        ensures ok { OnOk result (self.new ≡ after_unit unit self.old) }
+        ensures ok { OnOk result (self.new ≡ after_unit broken unit self.old) }
         ensures err { OnErr result (self.new ≡ self.old) }
     {
         let mut room = self.take_room();
-        // It ensures that these counts are of 64 bits.
+        // The prover has the range of each count once it is read.
         let _tally = self.tally;
         let came = self.theirs.came();
         let place = self.owed.places();
-        let slots = admit(self.alloc, &mut self.theirs, &mut self.events, place, &unit)?;
+        let first = broken.is_some() as usize;
+        let slots = admit(
+            self.alloc,
+            &mut self.theirs,
+            &mut self.events,
+            place,
+            &unit,
+            first,
+        )?;
         if let Err(refused) = owe(
             self.order,
             &mut self.owed,
@@ -59,6 +64,7 @@ impl Desk {
             self.theirs.take_back(came);
             return Err(refused);
         }
+        tell_broken(&mut self.events, broken);
         settle(
             &mut self.own,
             &mut self.theirs,
@@ -81,8 +87,7 @@ fn owe(
     tally: &mut Tally,
     slots: UnitSlots,
 ) -> Result<(), AllocError>
-    requires settled { leaving order owed.old.owed ≡ [] }
-    requires slots { HaveSlots owed.old.owed }
+    requires { leaving order owed.old.owed ≡ [] }
     ensures owed { OnOk result (owed.new ≡ record {
       places = owed.old.places + 1;
       owed = staying order
@@ -93,7 +98,7 @@ fn owe(
         (owed.old.owed ++ owed_in owed.old.places slots)))
         outbox.old) }
     ensures tally { OnOk result (tally.new ≡ with_answers
-        (length (leaving order
+        (answer_count (leaving order
         (owed.old.owed ++ owed_in owed.old.places slots)))
         tally.old) }
     ensures owed_err { OnErr result (owed.new ≡ owed.old) }
@@ -105,7 +110,7 @@ fn owe(
         return Err(AllocError);
     }
     if slots.is_empty() {
-        // It ensures that the count is of 64 bits.
+        // The prover has the range of a count once it is read.
         let _answers = tally.answers;
         owed.skip();
         return Ok(());
@@ -113,7 +118,7 @@ fn owe(
     let is_lacking = slots.is_lacking();
     open(owed, slots)?;
     if is_lacking {
-        // It ensures that the count is of 64 bits.
+        // The prover has the range of a count once it is read.
         let _answers = tally.answers;
         return Ok(());
     }
@@ -142,35 +147,32 @@ fn open(owed: &mut OwedAnswers, slots: UnitSlots) -> Result<(), AllocError>
     match slots {
         UnitSlots::Nothing => Ok(()),
         UnitSlots::One(slot) => owed.open_single(slot),
-        UnitSlots::Several(slots) => owed.open_unit(true, slots),
+        UnitSlots::Several(slots) => owed.open_batch(slots),
     }
 }
 
-/// All else of a unit that needs memory: its calls are open, and there is room for its events. Answers the slots of its
-/// answer.
+/// All else of a unit that needs memory: its calls are open, and there is room for its events and for so many that come
+/// first. Answers the slots of its answer.
 fn admit(
     alloc: Global,
     theirs: &mut TheirCalls,
     events: &mut Events,
     place: u64,
     unit: &Unit,
+    first: usize,
 ) -> Result<UnitSlots, AllocError>
     requires { theirs.old.came + length (calls_in (entries_in unit.now)) < 2 ^ 64 }
-    ensures slots { IfOk result (λ slots. slots_in slots ≡ new_unit_slots unit.now) }
-    ensures batch { IfOk result (λ slots. are_several slots ≡ is_batch unit.now) }
-    ensures theirs { OnOk result (theirs.new ≡ record {
-      came = theirs.old.came + length (calls_in (entries_in unit.now));
-      calls = theirs.old.calls ++ added_calls place 0 theirs.old.came (entries_in unit.now);
-    }) }
+    ensures ok { IfOk result (λ slots. IsAdmitted place unit.now theirs.old slots theirs.new) }
     ensures room { OnOk result
-        (most_events_in (length theirs.new.calls) (entries_in unit.now) ≤ room_of events.new) }
+        (first + most_events_in (length theirs.new.calls) (entries_in unit.now) ≤
+        room_of events.new) }
     ensures longer { IsLonger theirs.old theirs.new }
     ensures err { OnErr result (theirs.new ≡ theirs.old) }
     ensures untold { untold_of events.new ≡ untold_of events.old }
     ensures open { IsOpenEnded events.old → IsOpenEnded events.new }
 {
     let came = theirs.came();
-    match admit_all(alloc, theirs, events, place, unit) {
+    match admit_all(alloc, theirs, events, place, unit, first) {
         Ok(slots) => Ok(slots),
         Err(refused) => {
             theirs.take_back(came);
@@ -186,48 +188,65 @@ fn admit_all(
     events: &mut Events,
     place: u64,
     unit: &Unit,
+    first: usize,
 ) -> Result<UnitSlots, AllocError>
     requires { theirs.old.came + length (calls_in (entries_in unit.now)) < 2 ^ 64 }
-    ensures slots { IfOk result (λ slots. slots_in slots ≡ new_unit_slots unit.now) }
-    ensures batch { IfOk result (λ slots. are_several slots ≡ is_batch unit.now) }
-    ensures theirs { OnOk result (theirs.new ≡ record {
-      came = theirs.old.came + length (calls_in (entries_in unit.now));
-      calls = theirs.old.calls ++ added_calls place 0 theirs.old.came (entries_in unit.now);
-    }) }
+    ensures ok { IfOk result (λ slots. IsAdmitted place unit.now theirs.old slots theirs.new) }
     ensures room { OnOk result
-        (most_events_in (length theirs.new.calls) (entries_in unit.now) ≤ room_of events.new) }
+        (first + most_events_in (length theirs.new.calls) (entries_in unit.now) ≤
+        room_of events.new) }
     ensures longer { IsLonger theirs.old theirs.new }
     ensures untold { untold_of events.new ≡ untold_of events.old }
     ensures open { IsOpenEnded events.old → IsOpenEnded events.new }
 {
     let slots = admit_unit(alloc, theirs, place, unit)?;
-    let count = most_events(unit, theirs.len())?;
+    let Some(count) = most_events(unit, theirs.len())?.checked_add(first) else {
+        return Err(AllocError);
+    };
     events.reserve(count)?;
     Ok(slots)
 }
 
-/// At most so many events come with a unit, where so many calls are open then.
+/// At most so many events come with a unit, where so many calls are open then. A place is counted for each call and each
+/// reply, and where a cancel came for each open call; an entry of which nothing is told takes none.
 fn most_events(unit: &Unit, count: u64) -> Result<usize, AllocError>
     ensures { IfOk result (λ most. most ≡ most_events_in count (entries_in unit.now)) }
 {
-    let entries = entry_count(unit);
+    let telling = telling_count(unit);
     if !has_cancel(unit) {
-        return Ok(entries);
+        return Ok(telling);
     }
-    match entries.checked_add(count as usize) {
+    match telling.checked_add(count as usize) {
         Some(most) => Ok(most),
         None => Err(AllocError),
     }
 }
 
-fn entry_count(unit: &Unit) -> usize
-    ensures { result ≡ length (entries_in unit.now) }
+/// How many entries are calls or replies.
+fn telling_count(unit: &Unit) -> usize
+    ensures { result ≡ length (filter is_telling_entry (entries_in unit.now)) }
 {
     match unit {
         Unit::Unreadable => 0,
-        Unit::Single(_) => 1,
-        Unit::Batch(entries) => entries.len(),
+        Unit::Single(entry) => is_telling(entry) as usize,
+        Unit::Batch(entries) => telling_among(entries.as_slice()),
     }
+}
+
+fn telling_among(entries: &[Entry]) -> usize
+    ensures { result ≡ length (filter is_telling_entry entries.now) }
+{
+    let mut count: usize = 0;
+    for entry in entries {
+        count += is_telling(entry) as usize;
+    }
+    count
+}
+
+fn is_telling(entry: &Entry) -> bool
+    ensures { result ≡ is_telling_entry entry.now }
+{
+    matches!(entry, Entry::Call(_) | Entry::Reply { .. })
 }
 
 fn has_cancel(unit: &Unit) -> bool
@@ -243,6 +262,20 @@ fn has_cancel(unit: &Unit) -> bool
     }
 }
 
+/// Tells what is broken, where that is given.
+fn tell_broken(events: &mut Events, broken: Option<Broken>)
+    requires open { IsOpenEnded events.old }
+    requires room { length (option_to_list broken) ≤ room_of events.old }
+    ensures untold { untold_of events.new ≡
+        untold_of events.old ++ map broken_told (option_to_list broken) }
+    ensures open { IsOpenEnded events.new }
+    ensures room { room_of events.new + length (option_to_list broken) ≡ room_of events.old }
+{
+    if let Some(broken) = broken {
+        events.push(Event::Broken(broken));
+    }
+}
+
 /// Opens the calls of the unit at this place, and answers its slots.
 fn admit_unit(
     alloc: Global,
@@ -251,20 +284,15 @@ fn admit_unit(
     unit: &Unit,
 ) -> Result<UnitSlots, AllocError>
     requires { theirs.old.came + length (calls_in (entries_in unit.now)) < 2 ^ 64 }
-    ensures slots { IfOk result (λ slots. slots_in slots ≡ new_unit_slots unit.now) }
-    ensures batch { IfOk result (λ slots. are_several slots ≡ is_batch unit.now) }
-    ensures theirs { OnOk result (theirs.new ≡ record {
-      came = theirs.old.came + length (calls_in (entries_in unit.now));
-      calls = theirs.old.calls ++ added_calls place 0 theirs.old.came (entries_in unit.now);
-    }) }
+    ensures ok { IfOk result (λ slots. IsAdmitted place unit.now theirs.old slots theirs.new) }
     ensures longer { IsLonger theirs.old theirs.new }
 {
     match unit {
         Unit::Unreadable => {
-            let text = error_text(alloc, Standard::ParseError)?;
-            Ok(UnitSlots::One(Some(text)))
+            let text = parse_error(alloc)?;
+            Ok(UnitSlots::One(Slot::Text(text)))
         }
-        Unit::Single(entry) => admit_single(alloc, theirs, place, entry),
+        Unit::Single(entry) => admit_single(theirs, place, entry),
         Unit::Batch(entries) => {
             let slots = admit_entries(alloc, theirs, place, entries.as_slice())?;
             Ok(UnitSlots::Several(slots))
@@ -273,12 +301,7 @@ fn admit_unit(
 }
 
 /// Opens the call of an entry that is a unit by itself, and answers its slots.
-fn admit_single(
-    alloc: Global,
-    theirs: &mut TheirCalls,
-    place: u64,
-    entry: &Entry,
-) -> Result<UnitSlots, AllocError>
+fn admit_single(theirs: &mut TheirCalls, place: u64, entry: &Entry) -> Result<UnitSlots, AllocError>
     requires { theirs.old.came + length (call_in entry.now) < 2 ^ 64 }
     ensures slots { IfOk result (λ slots. slots_in slots ≡ new_slots entry.now) }
     ensures batch { IfOk result (λ slots. are_several slots ≡ false) }
@@ -293,10 +316,7 @@ fn admit_single(
             theirs.add(call.id.clone()?, place, 0)?;
             Ok(call_slots(&call.id))
         }
-        Entry::Invalid => {
-            let text = error_text(alloc, Standard::InvalidRequest)?;
-            Ok(UnitSlots::One(Some(text)))
-        }
+        Entry::Invalid => Ok(UnitSlots::One(Slot::Invalid)),
         Entry::Cancel(_) | Entry::Reply { .. } | Entry::Stray => Ok(UnitSlots::Nothing),
     }
 }
@@ -307,7 +327,7 @@ fn call_slots(id: &Option<Id>) -> UnitSlots
     ensures batch { are_several result ≡ false }
 {
     match id {
-        Some(_) => UnitSlots::One(None),
+        Some(_) => UnitSlots::One(Slot::Lacking),
         None => UnitSlots::Nothing,
     }
 }
@@ -317,7 +337,7 @@ fn admit_entries(
     theirs: &mut TheirCalls,
     place: u64,
     entries: &[Entry],
-) -> Result<Slots, AllocError>
+) -> Result<Vec<Slot>, AllocError>
     requires { theirs.old.came + length (calls_in entries.now) < 2 ^ 64 }
     ensures slots { IfOk result (λ slots. seen_slots slots.items ≡ flat_map new_slots entries.now) }
     ensures theirs { OnOk result (theirs.new ≡ record {
@@ -326,19 +346,32 @@ fn admit_entries(
     }) }
     ensures longer { IsLonger theirs.old theirs.new }
 {
-    let mut slots = Vec::new(alloc);
+    let mut slots = Vec::with_capacity(alloc, slot_count(entries))?;
     for entry in entries {
-        admit_entry(alloc, theirs, place, entry, &mut slots)?;
+        admit_entry(theirs, place, entry, &mut slots)?;
     }
     Ok(slots)
 }
 
+/// How many slots the entries bring. Room for all of them at once is just that, where room that grows may be twice as
+/// large, and a batch may have millions.
+fn slot_count(entries: &[Entry]) -> usize {
+    entries.iter().filter(|entry| has_slot(entry)).count()
+}
+
+fn has_slot(entry: &Entry) -> bool {
+    match entry {
+        Entry::Call(call) => call.id.is_some(),
+        Entry::Invalid => true,
+        Entry::Cancel(_) | Entry::Reply { .. } | Entry::Stray => false,
+    }
+}
+
 fn admit_entry(
-    alloc: Global,
     theirs: &mut TheirCalls,
     place: u64,
     entry: &Entry,
-    slots: &mut Slots,
+    slots: &mut Vec<Slot>,
 ) -> Result<(), AllocError>
     requires { theirs.old.came + length (call_in entry.now) < 2 ^ 64 }
     ensures slots { OnOk result (seen_slots slots.new.items ≡
@@ -353,7 +386,7 @@ fn admit_entry(
     match entry {
         Entry::Call(call) => admit_call(theirs, place, &call.id, slots),
         Entry::Invalid => {
-            slots.push(Some(error_text(alloc, Standard::InvalidRequest)?))?;
+            slots.push(Slot::Invalid)?;
             Ok(())
         }
         Entry::Cancel(_) | Entry::Reply { .. } | Entry::Stray => Ok(()),
@@ -364,7 +397,7 @@ fn admit_call(
     theirs: &mut TheirCalls,
     place: u64,
     id: &Option<Id>,
-    slots: &mut Slots,
+    slots: &mut Vec<Slot>,
 ) -> Result<(), AllocError>
     requires { theirs.old.came + 1 < 2 ^ 64 }
     ensures slots { OnOk result (seen_slots slots.new.items ≡
@@ -379,16 +412,21 @@ fn admit_call(
     let slot = slots.len() as u64;
     theirs.add(id.clone()?, place, slot)?;
     if id.is_some() {
-        slots.push(None)?;
+        slots.push(Slot::Lacking)?;
     }
     Ok(())
 }
 
-/// The text of the response with this error and the id null.
-fn error_text(alloc: Global, standard: Standard) -> Result<Vec<u8>, AllocError>
-    ensures { IfOk result (λ text. text.items ≡ answer_text Null (standard_answer standard)) }
+/// The text of the answer to a content that is unreadable.
+fn parse_error(alloc: Global) -> Result<Vec<u8>, AllocError>
+    ensures { IfOk result (λ text. text.items ≡ answer_text Null (standard_answer ParseError)) }
 {
-    let mut text = Vec::with_capacity(alloc, ERROR_ROOM)?;
-    write_answer(alloc, &mut text, &Id::Null, &Answer::Standard(standard))?;
+    let mut text = Vec::new(alloc);
+    write_answer(
+        alloc,
+        &mut text,
+        &Id::Null,
+        &Answer::Standard(Standard::ParseError),
+    )?;
     Ok(text)
 }

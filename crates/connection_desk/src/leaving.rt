@@ -1,11 +1,12 @@
 //! The answers that can go out, and those that stay.
 
 ghost use Rattle.std.specs.Prelude.{◌≡◌, ◌++◌, ◌∷◌, [], ℕ, List, length, OnOk, OnErr, if◌then◌else◌};
+ghost use Rattle.connection_history.specs.Counts.{capped};
 ghost use Rattle.connection_states.specs.Steps.{complete_front, incomplete_rest, leaving, staying};
-ghost use Rattle.connection_desk.specs.Desks.{answer_texts, with_answers, with_texts};
-ghost use Rattle.connection_desk.specs.Inner.{HaveSlots, OnlyAt, complete_at, complete_text_at};
+ghost use Rattle.connection_desk.specs.Desks.{answer_count, answer_texts, with_answers, with_texts};
+ghost use Rattle.connection_desk.specs.Inner.{OnlyAt, complete_at, complete_text_at};
 ghost use Rattle.outbox.specs.Output.{OnlyPutSince};
-ghost use Rattle.open_calls.specs.Numbered.{without};
+ghost use Rattle.open_calls.specs.Numbered.{without, Ascending};
 
 use crate::tally::Tally;
 use connection_history::Order;
@@ -13,8 +14,7 @@ use open_calls::OwedAnswers;
 use outbox::Outbox;
 use std::alloc::AllocError;
 
-/// Writes the answers that can go out, where the one at this place may have become complete. Each call of `first` here
-/// says that the places ascend: no two units have the same.
+/// Writes the answers that can go out, where the one at this place may have become complete.
 pub(crate) fn write_leaving(
     order: Order,
     owed: &OwedAnswers,
@@ -22,24 +22,21 @@ pub(crate) fn write_leaving(
     outbox: &mut Outbox,
     room: &mut Vec<u8>,
 ) -> Result<(), AllocError>
-    requires slots { HaveSlots owed.now.owed }
-    requires only { OnlyAt order place owed.now.owed }
+    requires { OnlyAt order place owed.now.owed }
     ensures ok { OnOk result (outbox.new ≡
         with_texts (answer_texts (leaving order owed.now.owed)) outbox.old) }
     ensures err { OnErr result (outbox.new ≡ outbox.old) }
 {
     match order {
-        Order::AsAnswered => {
-            let _first = owed.first();
-            write_complete(owed, place, outbox, room)
-        }
+        Order::AsAnswered => write_complete(owed, place, outbox, room),
         Order::AsCame => write_front(owed, outbox, room),
     }
 }
 
-/// Whether the unit at this place has all of its answers.
+/// Whether the unit at this place has all of its answers. Places ascend, so no other unit has this one.
 fn is_complete(owed: &OwedAnswers, place: u64) -> bool
-    ensures { result ≡ complete_at place owed.now.owed }
+    ensures complete { result ≡ complete_at place owed.now.owed }
+    ensures ascending { Ascending owed.now.owed }
 {
     match owed.get(place) {
         Some(unit) => unit.lacking() == 0,
@@ -47,24 +44,24 @@ fn is_complete(owed: &OwedAnswers, place: u64) -> bool
     }
 }
 
-/// Writes the answer of the unit at this place, where it is complete.
+/// Writes the answer of the unit at this place, where it is complete and has one.
 fn write_complete(
     owed: &OwedAnswers,
     place: u64,
     outbox: &mut Outbox,
     room: &mut Vec<u8>,
 ) -> Result<(), AllocError>
-    requires slots { HaveSlots owed.now.owed }
     ensures ok { OnOk result (outbox.new ≡
         with_texts (complete_text_at place owed.now.owed) outbox.old) }
     ensures err { OnErr result (outbox.new ≡ outbox.old) }
+    ensures ascending { Ascending owed.now.owed }
 {
-    if !is_complete(owed, place) {
+    if !is_complete(owed, place) || !owed.has_answer(place) {
         return Ok(());
     }
     room.clear();
     owed.put_text(place, room)?;
-    outbox.put(room.as_slice())
+    outbox.put_from(room)
 }
 
 /// Writes the answers of the units in front that are complete, all or none.
@@ -73,7 +70,6 @@ fn write_front(
     outbox: &mut Outbox,
     room: &mut Vec<u8>,
 ) -> Result<(), AllocError>
-    requires slots { HaveSlots owed.now.owed }
     ensures ok { OnOk result (outbox.new ≡
         with_texts (answer_texts (complete_front owed.now.owed)) outbox.old) }
     ensures err { OnErr result (outbox.new ≡ outbox.old) }
@@ -94,7 +90,6 @@ fn write_each_in_front(
     outbox: &mut Outbox,
     room: &mut Vec<u8>,
 ) -> Result<(), AllocError>
-    requires slots { HaveSlots owed.now.owed }
     ensures ok { OnOk result (outbox.new ≡
         with_texts (answer_texts (complete_front owed.now.owed)) outbox.old) }
     ensures err { OnErr result (OnlyPutSince outbox.old outbox.new) }
@@ -110,40 +105,55 @@ fn write_each_in_front(
     Ok(())
 }
 
-/// The units whose answers can go out are owed nothing any more, and are counted.
+/// The units whose answers can go out are owed nothing any more, and their answers are counted.
 pub(crate) fn let_out(order: Order, owed: &mut OwedAnswers, place: u64, tally: &mut Tally)
     requires { OnlyAt order place owed.old.owed }
     ensures owed { owed.new ≡ record owed.old { owed = staying order owed.old.owed } }
-    ensures tally { tally.new ≡ with_answers (length (leaving order owed.old.owed)) tally.old }
+    ensures tally { tally.new ≡ with_answers (answer_count (leaving order owed.old.owed)) tally.old }
 {
-    let before = owed.len();
-    remove_leaving(order, owed, place);
-    tally.add_answers(before.saturating_sub(owed.len()));
+    let count = remove_leaving(order, owed, place);
+    tally.add_answers(count);
 }
 
-/// As in `write_leaving`, `first` says that the places ascend.
-fn remove_leaving(order: Order, owed: &mut OwedAnswers, place: u64)
+/// The units whose answers can go out are owed nothing any more. Says how many had an answer.
+fn remove_leaving(order: Order, owed: &mut OwedAnswers, place: u64) -> u64
     requires { OnlyAt order place owed.old.owed }
-    ensures { owed.new ≡ record owed.old { owed = staying order owed.old.owed } }
+    ensures owed { owed.new ≡ record owed.old { owed = staying order owed.old.owed } }
+    ensures count { result ≡ capped (answer_count (leaving order owed.old.owed)) }
 {
     match order {
-        Order::AsAnswered => {
-            let _first = owed.first();
-            if is_complete(owed, place) {
-                owed.remove(place);
-            }
-        }
+        Order::AsAnswered => remove_complete(owed, place),
         Order::AsCame => remove_front(owed),
     }
 }
 
-fn remove_front(owed: &mut OwedAnswers)
-    ensures { owed.new ≡ record owed.old { owed = incomplete_rest owed.old.owed } }
+/// The unit at this place is owed nothing any more, where it is complete. Says whether an answer went out, as 1 or 0.
+fn remove_complete(owed: &mut OwedAnswers, place: u64) -> u64
+    ensures owed { owed.new ≡ record owed.old {
+      owed = if complete_at place owed.old.owed then without place owed.old.owed else owed.old.owed;
+    } }
+    ensures count { result ≡ length (complete_text_at place owed.old.owed) }
+    ensures ascending { Ascending owed.old.owed }
 {
+    if !is_complete(owed, place) {
+        return 0;
+    }
+    let count = owed.has_answer(place) as u64;
+    owed.remove(place);
+    count
+}
+
+/// The units in front that are complete are owed nothing any more. Says how many had an answer.
+fn remove_front(owed: &mut OwedAnswers) -> u64
+    ensures owed { owed.new ≡ record owed.old { owed = incomplete_rest owed.old.owed } }
+    ensures count { result ≡ capped (answer_count (complete_front owed.old.owed)) }
+{
+    let mut count: u64 = 0;
     while let Some(place) = owed.first() {
         if !is_complete(owed, place) {
             break;
         }
-        owed.remove(place);
+        count = count.saturating_add(remove_complete(owed, place));
     }
+    count
 }

@@ -2,10 +2,14 @@
 
 ghost use Rattle.std.specs.Prelude.{◌≡◌, ◌+◌, ◌≤◌, ◌∷◌, [], length, None, IfOk, IfErr, OnOk, OnErr};
 ghost use Rattle.connection_history.specs.declared.refused.Refused.TheVariants.{Memory};
+ghost use Rattle.connection_states.specs.Steps.{withdrawn_by};
 
 use crate::desk::Desk;
 use connection_history::Refused;
-use connection_messages::{Outgoing, write_call, write_calls, write_notice, write_withdrawal};
+use connection_messages::{
+    Cancels, Outgoing, write_call, write_calls, write_notice, write_withdrawal,
+};
+use open_calls::OwnCalls;
 use std::alloc::AllocError;
 
 /// The greatest key. It is exact in every reader that holds numbers as floats of 64 bits.
@@ -57,21 +61,21 @@ impl Desk {
         self.write(text)
     }
 
-    /// Withdraws our call with this key.
+    /// Withdraws our call with this key. By LSP's cancel it still waits for its reply, and by MCP's no longer.
     pub fn withdraw(&mut self, key: u64) -> Result<(), Refused>
         ensures ok { OnOk result ((withdraw_refused self.old.cancels key self.old.state ≡ None) ×
             (self.new ≡ after_withdrawal key self.old)) }
         ensures err { IfErr result (λ why. (self.new ≡ self.old) ×
             IsRefusal why (withdraw_refused self.old.cancels key self.old.state)) }
     {
-        match self.own.get(key) {
-            Some(call) if self.cancels && !call.is_withdrawn => {}
+        let by = match (self.cancels, self.own.get(key)) {
+            (Some(by), Some(call)) if !call.is_withdrawn => by,
             _ => return Err(Refused::NotWaiting),
-        }
+        };
         let mut text = self.take_room();
-        write_withdrawal(&mut text, key)?;
+        write_withdrawal(&mut text, by, key)?;
         self.write(text)?;
-        self.own.withdraw(key);
+        withdraw_by(&mut self.own, by, key);
         Ok(())
     }
 
@@ -112,5 +116,15 @@ impl Desk {
                 Err(refused.into())
             }
         }
+    }
+}
+
+/// Withdraws the call with this key by these cancels.
+fn withdraw_by(own: &mut OwnCalls, by: Cancels, key: u64)
+    ensures { own.new ≡ record own.old { waiting = withdrawn_by by key own.old.waiting } }
+{
+    match by {
+        Cancels::Lsp => own.withdraw(key),
+        Cancels::Mcp => own.remove(key),
     }
 }

@@ -177,8 +177,6 @@ fn reach_next(theirs: &mut TheirCalls, most: u64, id: &Id) -> Option<u64>
     ensures rest { result ≡ None → reached_to most id.now theirs.old.calls ≡ [] }
     ensures none { result ≡ None → cancelled_to most id.now theirs.new.calls ≡ theirs.new.calls }
 {
-    // It ensures that the numbers ascend, so that no other call is changed.
-    let _came = theirs.came();
     theirs.reach_up_to(id, most)
 }
 

@@ -1,13 +1,15 @@
 ghost use Rattle.std.specs.Prelude.{◌≡◌, ◌==◌, ◌∷◌, [], true, None, length};
 
+use open_calls::Slot;
+
 /// The slots of a unit's answer, each with its text where it is known already. Those of a unit that is no batch take no
 /// memory.
 #[derive(Drop)]
 pub enum UnitSlots {
     Nothing,
-    One(Option<Vec<u8>>),
+    One(Slot),
     /// Of a batch.
-    Several(Vec<Option<Vec<u8>>>),
+    Several(Vec<Slot>),
 }
 
 impl UnitSlots {
@@ -28,7 +30,7 @@ impl UnitSlots {
         ensures { result ≡ true → slots_in self.now ≡ None ∷ [] }
     {
         match self {
-            UnitSlots::One(slot) => slot.is_none(),
+            UnitSlots::One(slot) => slot.is_lacking(),
             UnitSlots::Nothing | UnitSlots::Several(_) => false,
         }
     }

@@ -20,7 +20,7 @@ pub loop-next-smaller : goal.loop-next-smaller
 loop-next-smaller c =
     let owed = c.args.owed.now.owed in
     let place = c.in-Some.place in
-    let done : complete_at place owed ≡ true = sym c.is_complete.ensures ∙ c.if-not-is_complete.false in
+    let done : complete_at place owed ≡ true = sym c.is_complete.ensures.complete ∙ c.if-not-is_complete.false in
     let less : length (rest_of (next_number place owed) owed) < length (rest_of (Some place) owed) =
     rest_shorter place owed c.first-next.ensures.ascending done in
     subst (λ o. length (rest_of o owed) < length (rest_of c.loop-next.next owed)) (sym c.next-next.ensures)
@@ -31,7 +31,7 @@ loop-next-preserved c =
     let owed = c.args.owed.now.owed in
     let place = c.in-Some.place in
     let now = c.loop-next.outbox in
-    let done : complete_at place owed ≡ true = sym c.is_complete.ensures ∙ c.if-not-is_complete.false in
+    let done : complete_at place owed ≡ true = sym c.is_complete.ensures.complete ∙ c.if-not-is_complete.false in
     let rest = answer_texts (complete_front (rest_of (next_number place owed) owed)) in
     let put : c.write_complete.new.outbox ≡ with_texts (complete_text_at place owed) now = c.in_ok-write_complete.ensures.ok in
     record {
@@ -50,5 +50,5 @@ returns-then-not-is_complete-clause-ok c =
     let now = c.loop-next.outbox in
     sym (no_texts now)
     ∙ ap (λ es. with_texts (answer_texts es) now)
-    (sym (ap (λ o. complete_front (rest_of o owed)) c.in-Some.is ∙ front_stops c.in-Some.place owed (sym c.is_complete.ensures ∙ c.if-not-is_complete.true)))
+    (sym (ap (λ o. complete_front (rest_of o owed)) c.in-Some.is ∙ front_stops c.in-Some.place owed (sym c.is_complete.ensures.complete ∙ c.if-not-is_complete.true)))
     ∙ c.loop-next.invariant.texts

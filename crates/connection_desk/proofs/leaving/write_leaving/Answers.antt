@@ -10,7 +10,7 @@ pub returns-in-AsAnswered-clause-ok : goal.returns-in-AsAnswered-clause-ok
 returns-in-AsAnswered-clause-ok c =
     let owed = c.args.owed.now.owed in
     let place = c.args.place in
-    let only : OnlyAt AsAnswered place owed = subst (λ o. OnlyAt o place owed) c.in-AsAnswered.is c.requires.only in
+    let only : OnlyAt AsAnswered place owed = subst (λ o. OnlyAt o place owed) c.in-AsAnswered.is c.requires in
     let same : complete_text_at place owed ≡ answer_texts (leaving c.args.order owed) =
-    only_text place owed c.first-first.ensures.ascending only ∙ ap (λ o. answer_texts (leaving o owed)) (sym c.in-AsAnswered.is) in
+    only_text place owed c.write_complete.ensures.ascending only ∙ ap (λ o. answer_texts (leaving o owed)) (sym c.in-AsAnswered.is) in
     ok_to c.write_complete.result _ _ _ (ap (λ ts. with_texts ts c.args.outbox.now) same) c.write_complete.ensures.ok

@@ -11,7 +11,7 @@ returns-clause-number c =
     let n = c.args.most in
     let id = c.args.id.now in
     let es = c.args.theirs.now.calls in
-    let steps = reaches n id es c.came-came.ensures.ascending in
+    let steps = reaches n id es c.reach_up_to.ensures.ascending in
     steps.number
     ∙ ap (λ r. option_to_list r ++ reached_to n id (cancelled_at (reached id (up_to n es)) es)) (sym c.reach_up_to.ensures.number)
     ∙ ap (λ (s : TheirState). option_to_list c.reach_up_to.result ++ reached_to n id s.calls) (sym c.reach_up_to.ensures.state)
@@ -21,16 +21,16 @@ returns-clause-calls c =
     let n = c.args.most in
     let id = c.args.id.now in
     ap (λ (s : TheirState). cancelled_to n id s.calls) c.reach_up_to.ensures.state
-    ∙ (reaches n id c.args.theirs.now.calls c.came-came.ensures.ascending).calls
+    ∙ (reaches n id c.args.theirs.now.calls c.reach_up_to.ensures.ascending).calls
 
 pub returns-clause-none : goal.returns-clause-none
 returns-clause-none c =
     let n = c.args.most in
     let id = c.args.id.now in
     λ is. ap (λ (s : TheirState). cancelled_to n id s.calls) c.reach_up_to.ensures.state
-    ∙ (reaches n id c.args.theirs.now.calls c.came-came.ensures.ascending).none (sym c.reach_up_to.ensures.number ∙ is)
+    ∙ (reaches n id c.args.theirs.now.calls c.reach_up_to.ensures.ascending).none (sym c.reach_up_to.ensures.number ∙ is)
     ∙ sym (ap (λ (s : TheirState). s.calls) c.reach_up_to.ensures.state)
 
 pub returns-clause-rest : goal.returns-clause-rest
 returns-clause-rest c =
-    λ is. (reaches c.args.most c.args.id.now c.args.theirs.now.calls c.came-came.ensures.ascending).rest (sym c.reach_up_to.ensures.number ∙ is)
+    λ is. (reaches c.args.most c.args.id.now c.args.theirs.now.calls c.reach_up_to.ensures.ascending).rest (sym c.reach_up_to.ensures.number ∙ is)

@@ -1,4 +1,4 @@
-use Rattle.std.proofs.Common.{◌≡◌, ◌∷◌, List, subst}
+use Rattle.std.proofs.Common.{◌≡◌, ◌∷◌, List, Some, subst}
 use Rattle.std.specs.Prelude.{OnOk, IfErr, None}
 use Rattle.connection_history.specs.declared.event.Event.{Event}
 use Rattle.connection_history.specs.History.{History, answered}
@@ -11,15 +11,15 @@ use Rattle.connection.proofs.connection.Connection.answer.Goals as goal
 pub returns-clause-ok : goal.returns-clause-ok
 returns-clause-ok c =
     let inside : Connection = record { settings = c.self.inside.settings; stream = c.self.inside.stream; desk = c.self.inside.desk } in
-    let h = answered c.args.number c.args.answer.now in
-    subst (λ (old : Connection). (history : History) (told : List Event) → StandsAfter old history told → OnOk c.answer.result ((refusal old.settings.takes_cancels history h ≡ None) × StandsAfter (with_desk inside c.answer.new.self) (h ∷ history) told))
+    let h = answered c.args.number (Some c.args.answer.now) in
+    subst (λ (old : Connection). (history : History) (told : List Event) → StandsAfter old history told → OnOk c.answer.result ((refusal old.settings.cancels history h ≡ None) × StandsAfter (with_desk inside c.answer.new.self) (h ∷ history) told))
     c.self.view_is
-    (says_ok inside c.answer.new.self (after_answer c.args.number c.args.answer.now inside.desk) h _ c.answer.result (answer_same inside c.args.number c.args.answer.now) (λ history told stands. stands_answered inside history told c.args.number c.args.answer.now stands) c.answer.ensures.ok)
+    (says_ok inside c.answer.new.self (after_answer c.args.number (Some c.args.answer.now) inside.desk) h _ c.answer.result (answer_same inside c.args.number c.args.answer.now) (λ history told stands. stands_answered inside history told c.args.number (Some c.args.answer.now) stands) c.answer.ensures.ok)
 
 pub returns-clause-err : goal.returns-clause-err
 returns-clause-err c =
     let inside : Connection = record { settings = c.self.inside.settings; stream = c.self.inside.stream; desk = c.self.inside.desk } in
-    let h = answered c.args.number c.args.answer.now in
-    subst (λ (old : Connection). IfErr c.answer.result (λ why. (with_desk inside c.answer.new.self ≡ old) × ((history : History) (told : List Event) → StandsAfter old history told → IsRefusal why (refusal old.settings.takes_cancels history h))))
+    let h = answered c.args.number (Some c.args.answer.now) in
+    subst (λ (old : Connection). IfErr c.answer.result (λ why. (with_desk inside c.answer.new.self ≡ old) × ((history : History) (told : List Event) → StandsAfter old history told → IsRefusal why (refusal old.settings.cancels history h))))
     c.self.view_is
     (says_err inside c.answer.new.self h _ c.answer.result (answer_same inside c.args.number c.args.answer.now) c.answer.ensures.err)

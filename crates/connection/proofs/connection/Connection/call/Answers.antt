@@ -12,7 +12,7 @@ pub returns-clause-ok : goal.returns-clause-ok
 returns-clause-ok c =
     let inside : Connection = record { settings = c.self.inside.settings; stream = c.self.inside.stream; desk = c.self.inside.desk } in
     let h = called c.args.number c.args.outgoing.now in
-    subst (λ (old : Connection). (history : History) (told : List Event) → StandsAfter old history told → OnOk c.call.result ((refusal old.settings.takes_cancels history h ≡ None) × StandsAfter (with_desk inside c.call.new.self) (h ∷ history) told))
+    subst (λ (old : Connection). (history : History) (told : List Event) → StandsAfter old history told → OnOk c.call.result ((refusal old.settings.cancels history h ≡ None) × StandsAfter (with_desk inside c.call.new.self) (h ∷ history) told))
     c.self.view_is
     (says_ok inside c.call.new.self (after_call c.args.number c.args.outgoing.now inside.desk) h _ c.call.result (call_same inside c.args.number 1) (λ history told stands. stands_called inside history told c.args.number c.args.outgoing.now stands) c.call.ensures.ok)
 
@@ -20,6 +20,6 @@ pub returns-clause-err : goal.returns-clause-err
 returns-clause-err c =
     let inside : Connection = record { settings = c.self.inside.settings; stream = c.self.inside.stream; desk = c.self.inside.desk } in
     let h = called c.args.number c.args.outgoing.now in
-    subst (λ (old : Connection). IfErr c.call.result (λ why. (with_desk inside c.call.new.self ≡ old) × ((history : History) (told : List Event) → StandsAfter old history told → IsRefusal why (refusal old.settings.takes_cancels history h))))
+    subst (λ (old : Connection). IfErr c.call.result (λ why. (with_desk inside c.call.new.self ≡ old) × ((history : History) (told : List Event) → StandsAfter old history told → IsRefusal why (refusal old.settings.cancels history h))))
     c.self.view_is
     (says_err inside c.call.new.self h _ c.call.result (call_same inside c.args.number 1) c.call.ensures.err)

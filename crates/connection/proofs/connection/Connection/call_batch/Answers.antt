@@ -12,7 +12,7 @@ pub returns-clause-ok : goal.returns-clause-ok
 returns-clause-ok c =
     let inside : Connection = record { settings = c.self.inside.settings; stream = c.self.inside.stream; desk = c.self.inside.desk } in
     let h = called_all c.args.number c.args.outgoings.now in
-    subst (λ (old : Connection). (history : History) (told : List Event) → StandsAfter old history told → OnOk c.call_batch.result ((refusal old.settings.takes_cancels history h ≡ None) × StandsAfter (with_desk inside c.call_batch.new.self) (h ∷ history) told))
+    subst (λ (old : Connection). (history : History) (told : List Event) → StandsAfter old history told → OnOk c.call_batch.result ((refusal old.settings.cancels history h ≡ None) × StandsAfter (with_desk inside c.call_batch.new.self) (h ∷ history) told))
     c.self.view_is
     (says_ok inside c.call_batch.new.self (after_calls c.args.number c.args.outgoings.now inside.desk) h _ c.call_batch.result (call_same inside c.args.number (length c.args.outgoings.now)) (λ history told stands. stands_called_all inside history told c.args.number c.args.outgoings.now stands) c.call_batch.ensures.ok)
 
@@ -20,6 +20,6 @@ pub returns-clause-err : goal.returns-clause-err
 returns-clause-err c =
     let inside : Connection = record { settings = c.self.inside.settings; stream = c.self.inside.stream; desk = c.self.inside.desk } in
     let h = called_all c.args.number c.args.outgoings.now in
-    subst (λ (old : Connection). IfErr c.call_batch.result (λ why. (with_desk inside c.call_batch.new.self ≡ old) × ((history : History) (told : List Event) → StandsAfter old history told → IsRefusal why (refusal old.settings.takes_cancels history h))))
+    subst (λ (old : Connection). IfErr c.call_batch.result (λ why. (with_desk inside c.call_batch.new.self ≡ old) × ((history : History) (told : List Event) → StandsAfter old history told → IsRefusal why (refusal old.settings.cancels history h))))
     c.self.view_is
     (says_err inside c.call_batch.new.self h _ c.call_batch.result (call_same inside c.args.number (length c.args.outgoings.now)) c.call_batch.ensures.err)

@@ -1,12 +1,10 @@
 use Rattle.std.proofs.Common.{◌≡◌, None, OnOk, subst, ap, ◌∙◌}
 use Rattle.std.proofs.lemmas.Result.{on_ok_weaker, IfErr-weaker}
-use Rattle.message_ids.specs.declared.standard.Standard.TheVariants.{Cancelled}
-use Rattle.connection_messages.specs.declared.answer.Answer.TheVariants.{Standard}
 use Rattle.connection_history.specs.History.{answered}
-use Rattle.connection_history.specs.Refusals.{refusal, after, cancel_of}
+use Rattle.connection_history.specs.Refusals.{refusal, after, cancel_answer, cancel_of}
 use Rattle.connection_desk.specs.Desks.{answer_refused}
 use Rattle.connection.specs.Connections.{Connection, IsRefusal, StandsAfter}
-use Rattle.connection.proofs.Cancelled.{answer_refused_alike, cancelled}
+use Rattle.connection.proofs.Cancelled.{cancel_refused, cancelled}
 use Rattle.connection.proofs.connection.Connection.cancel.Goals as goal
 
 pub returns-clause-ok : goal.returns-clause-ok
@@ -16,8 +14,8 @@ returns-clause-ok c =
     let seen : Connection = record { settings = c.self.inside.settings; stream = c.self.inside.stream; desk = c.self.inside.desk } in
     let after_it : Connection = record { settings = c.self.inside.settings; stream = c.self.inside.stream; desk = c.cancel.new.self } in
     subst (λ (s : Connection). StandsAfter s history told → OnOk c.cancel.result
-    ((refusal s.settings.takes_cancels history (answered n (Standard Cancelled)) ≡ None)
-    × StandsAfter after_it (after history (cancel_of s.settings.takes_cancels n history)) told))
+    ((refusal s.settings.cancels history (answered n (cancel_answer s.settings.cancels n history)) ≡ None)
+    × StandsAfter after_it (after history (cancel_of s.settings.cancels n history)) told))
     c.self.view_is
     (λ stands. on_ok_weaker c.cancel.result (λ done. cancelled seen history told n c.cancel.new.self stands done) c.cancel.ensures.ok)
 
@@ -31,8 +29,8 @@ returns-clause-err c =
     (λ why refused. (
       ap (λ d. let s : Connection = record { settings = c.self.inside.settings; stream = c.self.inside.stream; desk = d } in s) refused.0 ∙ c.self.view_is,
       λ history told.
-          subst (λ (s : Connection). StandsAfter s history told → IsRefusal why (refusal s.settings.takes_cancels history (answered n (Standard Cancelled))))
+          subst (λ (s : Connection). StandsAfter s history told → IsRefusal why (refusal s.settings.cancels history (answered n (cancel_answer s.settings.cancels n history))))
           c.self.view_is
-          (λ stands. subst (IsRefusal why) (answer_refused_alike seen.settings history told n (Standard Cancelled) seen.desk stands.desk) refused.1),
+          (λ stands. subst (IsRefusal why) (cancel_refused seen.settings history told n seen.desk stands.desk) refused.1),
     ))
     c.cancel.ensures.err

@@ -6,5 +6,5 @@ use Rattle.connection.proofs.connection.Connection.feed.Goals as goal
 pub returns-clause-stands : goal.returns-clause-stands
 returns-clause-stands c = λ history told stands.
     let before : Connection = record { settings = c.self.inside.settings; stream = c.self.inside.stream; desk = c.self.inside.desk } in
-    fed_stands before history told c.args.piece.now c.feed.new.self (not_ended c.self.inside.stream.ended (search rules)) c.in_ok-feed.ensures.ok
+    fed_stands before history told c.args.piece.now c.feed.new.self (not_ended c.self.inside.stream.ended (search rules)) (search rules) c.in_ok-feed.ensures.ok
     (stands_as before c.args.self.now history told (sym c.self.view_is) stands)

@@ -1,5 +1,7 @@
-use Rattle.std.proofs.Common.{◌≡◌, ◌+◌, ◌++◌, [], suc, length, List, Bool, ap, sym, subst, ◌∙◌, le_trans, arith}
+use Rattle.std.proofs.Common.{◌≡◌, ◌+◌, ◌++◌, [], suc, length, map, List, Bool, Option, option_to_list, append_assoc, ap, sym, subst, ◌∙◌, le_trans, arith}
+use Rattle.connection_messages.specs.declared.cancels.Cancels.{Cancels}
 use Rattle.connection_history.specs.declared.event.Event.{Event}
+use Rattle.connection_history.specs.declared.event.Event.TheVariants as event
 use Rattle.connection_history.specs.declared.order.Order.{Order}
 use Rattle.connection_history.specs.Stream.{entries_in, calls_in}
 use Rattle.open_calls.specs.Numbered.{Below}
@@ -10,20 +12,23 @@ use Rattle.open_calls.proofs.Theirs.{state_of}
 use Rattle.outbox.specs.Output.{Output}
 use Rattle.connection_states.specs.States.{State, is_batch, owed_slots}
 use Rattle.connection_states.specs.Steps.{leaving, staying, theirs_after_all, told_of_all, new_unit_slots, own_after_all}
-use Rattle.connection_desk.specs.Desks.{Desk, after_unit, with_texts, answer_texts, with_answers, with_counts}
+use Rattle.connection_desk.specs.Desks.{Desk, after_unit, with_texts, answer_count, answer_texts, with_answers, with_counts}
 use Rattle.connection_states.specs.Tallies.{tally_in}
 use Rattle.connection_desk.specs.declared.tally.Tally.{Tally}
-use Rattle.connection_desk.specs.Inner.{HaveSlots, added_calls, are_several, calls_along, told_along, untold_of, counted_in, owed_in, slots_in}
+use Rattle.connection_desk.specs.Inner.{added_calls, are_several, calls_along, told_along, untold_of, counted_in, owed_in, slots_in}
 use Rattle.connection_desk.proofs.Admitted.{below_of, theirs_along, told_same, unit_counted}
 use Rattle.connection_desk.proofs.Counting.{IsFew}
-use Rattle.connection_desk.proofs.Owing.{have-append, have-owed, have-staying, none-leaving}
+use Rattle.connection_desk.proofs.Owing.{none-leaving}
 use Rattle.connection_desk.proofs.Owing.{state_of as owed_state}
-use Rattle.connection_desk.proofs.Room.{told_most}
+use mir.Val.{bool_byte}
+use Rattle.connection_desk.proofs.Room.{broken_count, told_most}
 use Rattle.connection_desk.proofs.desk.Desk.take_in.Goals as goal
 
 pub settle-requires-clause-room : goal.settle-requires-clause-room
 settle-requires-clause-room c =
-    le_trans (told_most c.came-came.result c.self.inside.own c.admit.new.theirs.calls (entries_in c.args.unit)) c.in_ok-slots.ensures.room
+    let first : bool_byte c.is_some-first.result ≡ length (option_to_list c.args.broken) = broken_count c.args.broken c.is_some-first.result c.is_some-first.ensures in
+    let most = told_most c.came-came.result c.self.inside.own c.admit.new.theirs.calls (entries_in c.args.unit) in
+    omega (arith, first, most, c.in_ok-slots.ensures.room, c.tell_broken.ensures.room)
 
 pub invariant_of-self-2 : goal.invariant_of-self-2
 invariant_of-self-2 c =
@@ -33,16 +38,14 @@ invariant_of-self-2 c =
     let new = owed_in was.places slots in
     record {
       settled = subst (λ (s : OwedState). leaving order s.owed ≡ []) (sym c.in_default.ensures.owed) (none-leaving order (was.owed ++ new));
-      have_slots = subst (λ (s : OwedState). HaveSlots s.owed) (sym c.in_default.ensures.owed)
-          (have-staying order (was.owed ++ new)
-          (have-append was.owed new c.self.invariant.have_slots (have-owed was.places (are_several slots) (slots_in slots))));
       open_ended = λ _. c.settle.ensures.open;
+      kept = c.self.invariant.kept;
     }
 
 abbrev state : OwnState → TheirState → OwedState → Bool → State
 state own theirs owed is_over = record { own = own; theirs = theirs; owed = owed; is_over = is_over }
 
-abbrev desk_of : Bool → Order → Bool → OwnState → TheirState → OwedState → List Event → Output → Tally → Desk
+abbrev desk_of : Option Cancels → Order → Bool → OwnState → TheirState → OwedState → List Event → Output → Tally → Desk
 desk_of cancels order is_over own theirs owed untold out tally = record {
   cancels = cancels;
   order = order;
@@ -52,7 +55,7 @@ desk_of cancels order is_over own theirs owed untold out tally = record {
   tally = tally;
 }
 
-same-desk : (cancels : Bool) (order : Order) (is_over : Bool) (own1 own2 : OwnState) (theirs1 theirs2 : TheirState) (owed1 owed2 : OwedState) (untold1 untold2 : List Event) (out1 out2 : Output) (tally1 tally2 : Tally)
+same-desk : (cancels : Option Cancels) (order : Order) (is_over : Bool) (own1 own2 : OwnState) (theirs1 theirs2 : TheirState) (owed1 owed2 : OwedState) (untold1 untold2 : List Event) (out1 out2 : Output) (tally1 tally2 : Tally)
     → own1 ≡ own2 → theirs1 ≡ theirs2 → owed1 ≡ owed2 → untold1 ≡ untold2 → out1 ≡ out2 → tally1 ≡ tally2
     → desk_of cancels order is_over own1 theirs1 owed1 untold1 out1 tally1 ≡ desk_of cancels order is_over own2 theirs2 owed2 untold2 out2 tally2
 same-desk cancels order is_over own1 own2 theirs1 theirs2 owed1 owed2 untold1 untold2 out1 out2 tally1 tally2 a b d e f g =
@@ -68,10 +71,11 @@ returns-clause-ok c =
     let d = c.self.inside in
     let unit = c.args.unit in
     let es = entries_in unit in
+    let front = map event.Broken (option_to_list c.args.broken) in
     let n = d.theirs.came in
     let under : Below (suc n) d.theirs.calls = below_of n d.theirs.calls c.came-came.ensures.numbers in
     let admitted : c.admit.new.theirs ≡ state_of (n + length (calls_in es)) (d.theirs.calls ++ added_calls d.owed.places 0 n es) =
-    c.in_ok-slots.ensures.theirs
+    c.in_ok-slots.ensures.ok.theirs
     ∙ ap (λ p. state_of (n + length (calls_in es)) (d.theirs.calls ++ added_calls p 0 n es)) c.places-place.ensures.places in
     let theirs : c.settle.new.theirs ≡ theirs_after_all d.owed.places 0 es d.theirs =
     c.settle.ensures.theirs
@@ -84,27 +88,28 @@ returns-clause-ok c =
     ∙ told_same d.owed.places n d.own d.theirs.calls es under in
     let slots = c.in_ok-slots.slots in
     let owing : d.owed.owed ++ owed_in d.owed.places slots ≡ d.owed.owed ++ owed_slots d.owed.places (is_batch unit) (new_unit_slots unit) =
-    ap (λ b. d.owed.owed ++ owed_slots d.owed.places b (slots_in slots)) c.in_ok-slots.ensures.batch
-    ∙ ap (λ ss. d.owed.owed ++ owed_slots d.owed.places (is_batch unit) ss) c.in_ok-slots.ensures.slots in
-    let answers = length (leaving d.order (d.owed.owed ++ owed_slots d.owed.places (is_batch unit) (new_unit_slots unit))) in
+    ap (λ b. d.owed.owed ++ owed_slots d.owed.places b (slots_in slots)) c.in_ok-slots.ensures.ok.batch
+    ∙ ap (λ ss. d.owed.owed ++ owed_slots d.owed.places (is_batch unit) ss) c.in_ok-slots.ensures.ok.slots_are in
+    let answers = answer_count (leaving d.order (d.owed.owed ++ owed_slots d.owed.places (is_batch unit) (new_unit_slots unit))) in
     let few : IsFew d.tally = record { requests = omega arith; invalid = omega arith; ignored = omega arith } in
     let counted : c.settle.new.tally ≡ with_counts (tally_in d.order unit (state d.own d.theirs d.owed d.is_over)) d.tally =
     c.settle.ensures.tally
     ∙ ap (λ (s : TheirState). counted_in unit c.came-came.result d.own s.calls c.owe.new.tally) admitted
     ∙ ap (λ m. counted_in unit m d.own (d.theirs.calls ++ added_calls d.owed.places 0 n es) c.owe.new.tally) c.came-came.ensures.came
     ∙ ap (counted_in unit n d.own (d.theirs.calls ++ added_calls d.owed.places 0 n es))
-    (c.in_default.ensures.tally ∙ ap (λ owed. with_answers (length (leaving d.order owed)) d.tally) owing)
+    (c.in_default.ensures.tally ∙ ap (λ owed. with_answers (answer_count (leaving d.order owed)) d.tally) owing)
     ∙ unit_counted d.owed.places n d.own d.theirs.calls unit answers d.tally under few (omega arith) in
     c.keep_room.ensures
     ∙ same-desk d.cancels d.order d.is_over c.settle.new.own (own_after_all es d.own) c.settle.new.theirs (theirs_after_all d.owed.places 0 es d.theirs)
     c.owe.new.owed (owed_state (d.owed.places + 1) (staying d.order (d.owed.owed ++ owed_slots d.owed.places (is_batch unit) (new_unit_slots unit))))
-    (untold_of c.settle.new.events) (untold_of d.events ++ told_of_all d.own d.theirs es)
+    (untold_of c.settle.new.events) (untold_of d.events ++ (front ++ told_of_all d.own d.theirs es))
     c.owe.new.outbox (with_texts (answer_texts (leaving d.order (d.owed.owed ++ owed_slots d.owed.places (is_batch unit) (new_unit_slots unit)))) d.outbox)
     c.settle.new.tally (with_counts (tally_in d.order unit (state d.own d.theirs d.owed d.is_over)) d.tally)
     c.settle.ensures.own
     theirs
     (c.in_default.ensures.owed ∙ ap (λ owed. owed_state (d.owed.places + 1) (staying d.order owed)) owing)
-    (c.settle.ensures.untold ∙ ap (λ xs. xs ++ told_along c.came-came.result d.own c.admit.new.theirs.calls es) c.admit.ensures.untold ∙ ap (λ xs. untold_of d.events ++ xs) told)
+    (c.settle.ensures.untold ∙ ap (λ xs. xs ++ told_along c.came-came.result d.own c.admit.new.theirs.calls es) (c.tell_broken.ensures.untold ∙ ap (λ xs. xs ++ front) c.admit.ensures.untold)
+    ∙ append_assoc (untold_of d.events) front _ ∙ ap (λ xs. untold_of d.events ++ (front ++ xs)) told)
     (c.in_default.ensures.outbox ∙ ap (λ owed. with_texts (answer_texts (leaving d.order owed)) d.outbox) owing)
     counted
-    ∙ ap (λ x. after_unit unit x) (c.self.view_is ∙ c.take_room-room.ensures.state)
+    ∙ ap (λ x. after_unit c.args.broken unit x) (c.self.view_is ∙ c.take_room-room.ensures.state)

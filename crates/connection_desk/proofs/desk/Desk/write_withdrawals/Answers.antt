@@ -17,7 +17,7 @@ loop-next-init c =
     let order : Ascending waiting = subst (λ es. Ascending es) seen c.next_of-next.ensures.ascending in
     let next : c.next_of-next.result ≡ next_wanted c.args.number 0 waiting = c.next_of-next.ensures.key ∙ ap (next_wanted c.args.number 0) seen in
     record {
-      said = ap (λ es. after_saying (withdrawals es) now) (first_rest c.args.number waiting c.next_of-next.result positive next);
+      said = ap (λ es. after_saying (withdrawals c.args.by es) now) (first_rest c.args.number waiting c.next_of-next.result positive next);
       since = nothing_withdrawn now;
       there = next_is_there c.args.number 0 waiting c.next_of-next.result order next;
     }
@@ -45,19 +45,19 @@ loop-next-preserved c =
     let calls = wanted c.args.number waiting in
     let before : c.self.inside.own.waiting ≡ waiting = ap (λ (d : Desk). d.state.own.waiting) c.self.view_is in
     let order : Ascending waiting = subst (λ es. Ascending es) before c.next_of-next.ensures.ascending in
-    let text : c.write_withdrawal.new.bytes.items ≡ withdrawal_text key =
-    c.in_ok-write_withdrawal.ensures ∙ ap (λ t. t ++ withdrawal_text key) c.take_room-text.ensures.room in
-    let said : c.write.new.self ≡ after_saying (withdrawal_text key ∷ []) c.loop-next.self =
+    let text : c.write_withdrawal.new.bytes.items ≡ withdrawal_text c.args.by key =
+    c.in_ok-write_withdrawal.ensures ∙ ap (λ t. t ++ withdrawal_text c.args.by key) c.take_room-text.ensures.room in
+    let said : c.write.new.self ≡ after_saying (withdrawal_text c.args.by key ∷ []) c.loop-next.self =
     c.in_ok-write.ensures.ok ∙ ap (λ t. after_saying (t ∷ []) c.take_room-text.new.self) text
-    ∙ ap (after_saying (withdrawal_text key ∷ [])) c.take_room-text.ensures.state in
+    ∙ ap (after_saying (withdrawal_text c.args.by key ∷ [])) c.take_room-text.ensures.state in
     let seen : c.self-in-Some.inside.own.waiting ≡ waiting =
-    ap (λ (d : Desk). d.state.own.waiting) (c.self-in-Some.view_is ∙ said ∙ ap (after_saying (withdrawal_text key ∷ [])) c.loop-next.invariant.since.is) in
+    ap (λ (d : Desk). d.state.own.waiting) (c.self-in-Some.view_is ∙ said ∙ ap (after_saying (withdrawal_text c.args.by key ∷ [])) c.loop-next.invariant.since.is) in
     let next : c.next_of-next-in-Some.result ≡ next_wanted c.args.number key waiting = c.next_of-next-in-Some.ensures.key ∙ ap (next_wanted c.args.number key) seen in
     let there : IsThere calls key = subst (λ o. IfSome o (IsThere calls)) c.in-Some.is c.loop-next.invariant.there in
     record {
-      said = said_one c.args.number key waiting c.next_of-next-in-Some.result c.loop-next.self c.write.new.self order there next said
-          ∙ ap (λ o. after_saying (withdrawals (rest_of o calls)) c.loop-next.self) (sym c.in-Some.is)
+      said = said_one c.args.by c.args.number key waiting c.next_of-next-in-Some.result c.loop-next.self c.write.new.self order there next said
+          ∙ ap (λ o. after_saying (withdrawals c.args.by (rest_of o calls)) c.loop-next.self) (sym c.in-Some.is)
           ∙ c.loop-next.invariant.said;
-      since = more_withdrawn (withdrawal_text key ∷ []) begun c.loop-next.self c.write.new.self c.loop-next.invariant.since said;
+      since = more_withdrawn (withdrawal_text c.args.by key ∷ []) begun c.loop-next.self c.write.new.self c.loop-next.invariant.since said;
       there = next_is_there c.args.number key waiting c.next_of-next-in-Some.result order next;
     }

@@ -7,8 +7,8 @@ use Rattle.connection_desk.proofs.desk.Desk.write_withdrawals.Given as goal
 
 abbrev pub invariant-loop-next : goal.invariant-loop-next
 invariant-loop-next l = record {
-  said : after_saying (withdrawals (rest_of l.next (wanted l.number l.initial.self.state.own.waiting))) l.self
-      ≡ after_saying (withdrawals (wanted l.number l.initial.self.state.own.waiting)) l.initial.self;
+  said : after_saying (withdrawals l.by (rest_of l.next (wanted l.number l.initial.self.state.own.waiting))) l.self
+      ≡ after_saying (withdrawals l.by (wanted l.number l.initial.self.state.own.waiting)) l.initial.self;
   since : HasWithdrawn l.initial.self l.self;
   there : IfSome l.next (IsThere (wanted l.number l.initial.self.state.own.waiting));
 }

@@ -1,0 +1,14 @@
+use Rattle.std.proofs.Common.{ap, sym, ◌∙◌}
+use Rattle.connection_messages.specs.Reading.{unit_of}
+use Rattle.connection_history.specs.Events.{broken_in}
+use Rattle.connection.specs.Connections.{Connection, origin_of}
+use Rattle.connection.proofs.Asked.{next_from}
+use Rattle.connection.proofs.connection.Connection.go_on.Goals as goal
+
+pub take_in-requires-clause-next : goal.take_in-requires-clause-next
+take_in-requires-clause-next c =
+    let before : Connection = record { settings = c.self.inside.settings; stream = c.self.inside.stream; desk = c.self.inside.desk } in
+    let frame = c.in-Some.frame.now in
+    next_from before frame c.in_ok-unit.unit c.in_ok-broken.broken (sym c.in-Some.ensures)
+    (c.in_ok-unit.ensures.unit ∙ ap (λ cancels. unit_of cancels frame.foreign frame.content) c.self.invariant)
+    (λ placed next. c.in_ok-broken.ensures placed next ∙ ap (λ tells. broken_in (origin_of tells placed) c.in_ok-unit.unit) c.tells_broken.ensures)
