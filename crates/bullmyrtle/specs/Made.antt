@@ -1,5 +1,7 @@
 -- What it answers to make a new one.
-use Rattle.std.specs.Prelude.{◌≡◌, ◌⊎◌, ℕ, ◌==◌, ◌&&◌, nat_le, ℤ, pos, negsuc, zero, suc, [], Option, Some, None, option_and_then, if◌then◌else◌, ⊤}
+use Rattle.std.specs.Prelude.{◌≡◌, ◌⊎◌, ℕ, ◌==◌, ◌&&◌, nat_le, ℤ, pos, negsuc, zero, suc, [], Bool, true, false, Option, Some, None, option_and_then, if◌then◌else◌, ⊤}
+use Rattle.connection_messages.specs.declared.cancels.Cancels.{Cancels}
+use Rattle.connection_messages.specs.declared.cancels.Cancels.TheVariants.{Lsp, Mcp}
 use Rattle.connection_history.specs.declared.order.Order.{Order}
 use Rattle.connection_history.specs.declared.order.Order.TheVariants.{AsAnswered, AsCame}
 use Rattle.content_streams.specs.declared.framing.Framing.{Framing}
@@ -7,6 +9,7 @@ use Rattle.content_streams.specs.declared.framing.Framing.TheVariants.{Frames, L
 use Rattle.lsp_frames.specs.declared.limits.TheConstants.{LARGEST_CONTENT}
 use Rattle.connection.specs.Settings.{Chosen}
 use Rattle.connection.specs.Connections.{StandsAfter}
+use Rattle.bullmyrtle.specs.declared.settings.Options.{Options}
 use Rattle.bullmyrtle.specs.declared.settings.Settings.{Settings}
 use Rattle.host_calls.specs.declared.outlet.Outlet.{Outlet}
 use Rattle.bullmyrtle.specs.Held.{Held}
@@ -21,12 +24,15 @@ order_of n = if n == 0 then Some AsAnswered else (if n == 1 then Some AsCame els
 abbrev pub or_most : ℕ → ℕ → ℕ
 or_most most n = if n == 0 then most else n
 
+-- ---- what bm_new makes one with
+
 abbrev of_both : Settings → Framing → Order → Option Chosen
 of_both s framing order =
     if nat_le s.takes_cancels 1 && nat_le s.content LARGEST_CONTENT then Some (record {
       framing = framing;
       order = order;
-      takes_cancels = s.takes_cancels == 1;
+      cancels = if s.takes_cancels == 1 then Some Lsp else None;
+      tells_broken = false;
       content = or_most LARGEST_CONTENT s.content;
       calls = or_most 18446744073709551615 s.calls;
     }) else None
@@ -35,24 +41,57 @@ of_both s framing order =
 abbrev pub chosen : Settings → Option Chosen
 chosen s = option_and_then (λ framing. option_and_then (of_both s framing) (order_of s.order)) (framing_of s.framing)
 
+-- ---- what bm_open makes one with
+
+abbrev pub cancels_of : ℕ → Option (Option Cancels)
+cancels_of n = if n == 0 then Some None else (if n == 1 then Some (Some Lsp) else (if n == 2 then Some (Some Mcp) else None))
+
+abbrev pub flag_of : ℕ → Option Bool
+flag_of n = if n == 0 then Some false else (if n == 1 then Some true else None)
+
+abbrev of_all : Options → Framing → Order → Option Cancels → Bool → Option Chosen
+of_all o framing order cancels broken =
+    if nat_le o.content LARGEST_CONTENT then Some (record {
+      framing = framing;
+      order = order;
+      cancels = cancels;
+      tells_broken = broken;
+      content = or_most LARGEST_CONTENT o.content;
+      calls = or_most 18446744073709551615 o.calls;
+    }) else None
+
+abbrev of_framing : Options → Framing → Option Chosen
+of_framing o framing =
+    option_and_then (λ order. option_and_then (λ cancels. option_and_then (of_all o framing order cancels) (flag_of o.broken)) (cancels_of o.cancels)) (order_of o.order)
+
+-- the connection's settings, where there are such: a struct of another size says nothing
+abbrev pub chosen_by : Options → Option Chosen
+chosen_by o = if o.size == 32 then option_and_then (of_framing o) (framing_of o.framing) else None
+
+-- the options that say what these settings say
+abbrev pub options_of : Settings → Options
+options_of s = record { size = 32; framing = s.framing; order = s.order; cancels = s.takes_cancels; broken = 0; content = s.content; calls = s.calls }
+
+-- ---- what is answered
+
 -- nothing was fed, the input hasn't ended, and nothing has happened yet
-abbrev pub IsFresh : Settings → Outlet → Type 0
-IsFresh s o =
-    (chosen s ≡ Some o.connection.settings) × (o.next ≡ None) × (o.connection.stream.pieces ≡ []) × (o.connection.stream.ended ≡ None)
+abbrev pub IsFresh : Option Chosen → Outlet → Type 0
+IsFresh asked o =
+    (asked ≡ Some o.connection.settings) × (o.next ≡ None) × (o.connection.stream.pieces ≡ []) × (o.connection.stream.ended ≡ None)
     × StandsAfter o.connection [] []
 
 -- BM_SETTINGS where there are no such settings, and else BM_OK or BM_NO_MEMORY
-abbrev pub IsMade : Settings → ℤ → Type 0
-IsMade s code = ((c : Chosen) × (chosen s ≡ Some c) × ((code ≡ pos 0) ⊎ (code ≡ pos 1))) ⊎ ((chosen s ≡ None) × (code ≡ pos 8))
+abbrev pub IsMade : Option Chosen → ℤ → Type 0
+IsMade asked code = ((c : Chosen) × (asked ≡ Some c) × ((code ≡ pos 0) ⊎ (code ≡ pos 1))) ⊎ ((asked ≡ None) × (code ≡ pos 8))
 
 -- what there is after an answer: at BM_OK a fresh value
-abbrev pub IsGivenBy : Settings → ℤ → Option Held → Type 0
-IsGivenBy s (pos zero) None = ⊥
-IsGivenBy s (pos zero) (Some v) = IsFresh s v
-IsGivenBy s (pos (suc n)) None = ⊤
-IsGivenBy s (pos (suc n)) (Some v) = ⊥
-IsGivenBy s (negsuc n) None = ⊤
-IsGivenBy s (negsuc n) (Some v) = ⊥
+abbrev pub IsGivenBy : Option Chosen → ℤ → Option Held → Type 0
+IsGivenBy asked (pos zero) None = ⊥
+IsGivenBy asked (pos zero) (Some v) = IsFresh asked v
+IsGivenBy asked (pos (suc n)) None = ⊤
+IsGivenBy asked (pos (suc n)) (Some v) = ⊥
+IsGivenBy asked (negsuc n) None = ⊤
+IsGivenBy asked (negsuc n) (Some v) = ⊥
 
-abbrev pub Given : Settings → ℤ → Type 0
-Given s code = (m : Option Held) × IsGivenBy s code m
+abbrev pub Given : Option Chosen → ℤ → Type 0
+Given asked code = (m : Option Held) × IsGivenBy asked code m

@@ -2,7 +2,7 @@
 //! about them.
 #![tactic(auto)]
 
-ghost use Rattle.std.specs.Prelude.{◌≡◌, ◌==◌, ◌++◌, ◌↔◌, [], List, None, length, drop, IsTrue};
+ghost use Rattle.std.specs.Prelude.{◌≡◌, ◌==◌, ◌||◌, ◌++◌, ◌↔◌, [], List, None, length, drop, IsTrue};
 ghost use Rattle.std.specs.Borrow.{sem};
 ghost use Rattle.std.specs.Ptr.{room_at};
 ghost use base.Fml.{fex};
@@ -14,10 +14,10 @@ ghost use Rattle.bullmyrtle.specs.Counts.{as_c};
 ghost use Rattle.outbox.specs.Output.{given_of, next_of, after_take};
 ghost use Rattle.bullmyrtle.specs.Places.{held_at};
 ghost use Rattle.bullmyrtle.specs.contracts.handle.Handle.{the_row as handle_row};
-ghost use Rattle.bullmyrtle.specs.Made.{IsMade, Given, IsGivenBy};
+ghost use Rattle.bullmyrtle.specs.Made.{chosen, chosen_by, IsMade, Given, IsGivenBy};
 ghost use Rattle.bullmyrtle.specs.Values.{value_of};
 ghost use Rattle.host_calls.specs.Codes.{Said, code_of_said, code_of_got};
-ghost use Rattle.host_calls.specs.Feeding.{HasFed, HasTakenSome, taken};
+ghost use Rattle.host_calls.specs.Feeding.{HasFed, HasFaultAt, HasTakenSome, taken};
 ghost use Rattle.host_calls.specs.Saying.{HasEnded, HasCalled, HasCalledAll, HasNotified, HasWithdrawn, HasAnswered, HasFailed, HasCancelled};
 ghost use Rattle.host_calls.specs.Outlets.{Asked, AskedAll};
 ghost use Rattle.host_calls.specs.Sayings.{HasSaidAll};
@@ -35,7 +35,7 @@ use handle::Handle;
 use host_calls::{AllSaid, Outlet, Saying, Told, code_of, code_of_got};
 use place::Place;
 use report::Report;
-use settings::Settings;
+use settings::{Options, Settings};
 use std::alloc::Global;
 
 /// As in the header.
@@ -52,34 +52,67 @@ pub extern "C" fn bm_interface() -> u32
 /// The addition that has the calls which do several things at once.
 const TOGETHER: u32 = 1;
 
+/// The addition that has `bm_open` and what it brings.
+const OPEN: u32 = 2;
+
 /// Whether the library has this addition.
 #[unsafe(no_mangle)]
 pub extern "C" fn bm_has(addition: u32) -> bool
-    ensures { result ≡ (addition == TOGETHER) }
+    ensures { result ≡ (addition == TOGETHER || addition == OPEN) }
 {
-    addition == TOGETHER
+    addition == TOGETHER || addition == OPEN
 }
 
 /// Makes a new one. Its handle lies at `at` then, or where the answer isn't `BM_OK`, room for one as before.
 #[unsafe(no_mangle)]
 pub unsafe extern "C" fn bm_new(alloc: Global, settings: &Settings, at: *mut Handle) -> i32
     requires* { sem 𝓛 (room_at handle_row at) }
-    ensures* handed { sem 𝓛 (fex (Given settings.now result) (λ given. held_at at given.0)) }
-    ensures code { IsMade settings.now result }
+    ensures* handed { sem 𝓛 (fex (Given (chosen settings.now) result) (λ given. held_at at given.0)) }
+    ensures code { IsMade (chosen settings.now) result }
 {
     let (code, place) = made(alloc, settings, Place { at });
     let Place { at: _ } = place;
     code
 }
 
-/// Makes a new one and puts its handle into this place, where there are such settings and memory.
+/// Makes a new one by options. Its handle lies at `at` then, or where the answer isn't `BM_OK`, room for one as before.
+#[unsafe(no_mangle)]
+pub unsafe extern "C" fn bm_open(alloc: Global, options: &Options, at: *mut Handle) -> i32
+    requires* { sem 𝓛 (room_at handle_row at) }
+    ensures* handed { sem 𝓛 (fex (Given (chosen_by options.now) result) (λ given. held_at at given.0)) }
+    ensures code { IsMade (chosen_by options.now) result }
+{
+    let (code, place) = opened(alloc, options, Place { at });
+    let Place { at: _ } = place;
+    code
+}
+
 fn made(alloc: Global, settings: &Settings, place: Place) -> (i32, Place)
     requires { place.held ≡ None }
-    ensures code { IsMade settings.now result.0 }
+    ensures code { IsMade (chosen settings.now) result.0 }
     ensures place { result.1.at ≡ place.at }
-    ensures held { IsGivenBy settings.now result.0 result.1.held }
+    ensures held { IsGivenBy (chosen settings.now) result.0 result.1.held }
 {
-    let Some(chosen) = settings.chosen() else {
+    put_new(alloc, settings.chosen(), place)
+}
+
+fn opened(alloc: Global, options: &Options, place: Place) -> (i32, Place)
+    requires { place.held ≡ None }
+    ensures code { IsMade (chosen_by options.now) result.0 }
+    ensures place { result.1.at ≡ place.at }
+    ensures held { IsGivenBy (chosen_by options.now) result.0 result.1.held }
+{
+    put_new(alloc, options.chosen(), place)
+}
+
+/// Makes a new one and puts its handle into this place, where there are such settings and memory.
+fn put_new(alloc: Global, asked: Option<connection::Settings>, place: Place) -> (i32, Place)
+    requires { place.held ≡ None }
+    ensures code { IsMade asked result.0 }
+    ensures place { result.1.at ≡ place.at }
+    ensures held { IsGivenBy asked result.0 result.1.held }
+{
+    let Some(chosen) = asked else {
         return (8, place);
     };
     match Box::new(alloc, Outlet::new(alloc, chosen)) {
@@ -110,6 +143,15 @@ pub extern "C" fn bm_end(handle: &mut Handle, how: u32) -> i32
         HasEnded (value_of handle.old) (value_of handle.new) how said }
 {
     code_of(handle.as_mut().end(how))
+}
+
+/// Whether the input is at fault, and where.
+#[unsafe(no_mangle)]
+pub extern "C" fn bm_fault_at(handle: &mut Handle, place: &mut u64) -> bool
+    ensures fault { HasFaultAt (value_of handle.old) place.old place.new result }
+    ensures same { value_of handle.new ≡ value_of handle.old }
+{
+    handle.as_mut().fault_at(place)
 }
 
 /// Tells the next event.

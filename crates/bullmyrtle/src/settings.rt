@@ -1,9 +1,11 @@
-ghost use Rattle.std.specs.Prelude.{◌≡◌};
-ghost use Rattle.bullmyrtle.specs.Made.{framing_of, order_of, chosen};
+//! What a new one is made with.
 
-use connection::{Framing, MOST_CONTENT, Order};
+ghost use Rattle.std.specs.Prelude.{◌≡◌, nat_le, true, if◌then◌else◌, ◌==◌};
+ghost use Rattle.bullmyrtle.specs.Made.{framing_of, order_of, cancels_of, flag_of, or_most, chosen, chosen_by, options_of};
 
-/// What a new one is made with, as C has it.
+use connection::{Cancels, Framing, MOST_CONTENT, Order};
+
+/// What `bm_new` makes one with, as C has it.
 #[repr(C)]
 #[derive(Clone, Copy)]
 pub struct Settings {
@@ -14,16 +16,63 @@ pub struct Settings {
     pub calls: u64,
 }
 
+/// What `bm_open` makes one with, as C has it.
+#[repr(C)]
+#[derive(Clone, Copy)]
+pub struct Options {
+    /// How many bytes the host takes the struct for. A later library may have a longer one.
+    pub size: u32,
+    pub framing: u32,
+    pub order: u32,
+    pub cancels: u32,
+    pub broken: u32,
+    pub content: u32,
+    pub calls: u64,
+}
+
+/// How many bytes the options have.
+const OPTIONS_SIZE: u32 = 32;
+
 impl Settings {
-    /// The connection's own settings, where there are such. A limit of 0 is the greatest.
+    /// The connection's own settings, where there are such.
     pub(crate) fn chosen(&self) -> Option<connection::Settings>
         ensures { result ≡ chosen self.now }
     {
-        let framing = framing_of(self.framing)?;
-        let order = order_of(self.order)?;
         if self.takes_cancels > 1 {
             return None;
         }
+        self.options().chosen()
+    }
+
+    /// The options that say the same.
+    fn options(&self) -> Options
+        ensures options { result ≡ options_of self.now }
+        ensures same { nat_le self.now.takes_cancels 1 ≡ true → chosen_by result ≡ chosen self.now }
+    {
+        Options {
+            size: OPTIONS_SIZE,
+            framing: self.framing,
+            order: self.order,
+            cancels: self.takes_cancels,
+            broken: 0,
+            content: self.content,
+            calls: self.calls,
+        }
+    }
+}
+
+impl Options {
+    /// The connection's own settings, where there are such. A limit of 0 is the greatest.
+    pub(crate) fn chosen(&self) -> Option<connection::Settings>
+        ensures { result ≡ chosen_by self.now }
+    {
+        if self.size != OPTIONS_SIZE {
+            return None;
+        }
+        let framing = framing_of(self.framing)?;
+        let order = order_of(self.order)?;
+        let cancels = cancels_of(self.cancels)?;
+        let tells_broken = flag_of(self.broken)?;
         let content = if self.content == 0 {
             MOST_CONTENT
         } else {
@@ -34,7 +83,12 @@ impl Settings {
         } else {
             self.calls
         };
-        connection::Settings::new(framing, order, self.takes_cancels == 1, content, calls)
+        let settings = connection::Settings::new(framing, order, cancels, content, calls)?;
+        Some(if tells_broken {
+            settings.telling_broken()
+        } else {
+            settings
+        })
     }
 }
 
@@ -55,6 +109,27 @@ fn order_of(order: u32) -> Option<Order>
     match order {
         0 => Some(Order::AsAnswered),
         1 => Some(Order::AsCame),
+        _ => None,
+    }
+}
+
+fn cancels_of(cancels: u32) -> Option<Option<Cancels>>
+    ensures { result ≡ cancels_of cancels }
+{
+    match cancels {
+        0 => Some(None),
+        1 => Some(Some(Cancels::Lsp)),
+        2 => Some(Some(Cancels::Mcp)),
+        _ => None,
+    }
+}
+
+fn flag_of(flag: u32) -> Option<bool>
+    ensures { result ≡ flag_of flag }
+{
+    match flag {
+        0 => Some(false),
+        1 => Some(true),
         _ => None,
     }
 }

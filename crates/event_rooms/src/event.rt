@@ -1,11 +1,11 @@
 //! An event's head and texts.
 
 ghost use Rattle.std.specs.Prelude.{◌≡◌, length};
-ghost use Rattle.event_rooms.specs.Events.{head_with, name_of, text_of, flag_of, replied_with};
+ghost use Rattle.event_rooms.specs.Events.{head_with, name_of, text_of, flag_of, replied_with, broken_with, count_of};
 
 use crate::head::{EventHead, NO_HEAD};
 use crate::room::EventTexts;
-use connection_history::{Close, Event};
+use connection_history::{Close, Defect, Event};
 use connection_messages::Reply;
 use lsp_frames::FrameFault;
 
@@ -42,6 +42,7 @@ pub(crate) fn head_of(event: &Event, texts: &EventTexts<'_>) -> EventHead
             flags: flag_of(*close),
             ..head
         },
+        Event::Broken(broken) => broken_head(broken.place, broken.defect, head),
     }
 }
 
@@ -62,6 +63,33 @@ fn replied(key: u64, reply: &Reply, head: EventHead) -> EventHead
             ..head
         },
     }
+}
+
+/// A content that stands at this place has this defect.
+fn broken_head(place: u64, defect: Defect, head: EventHead) -> EventHead
+    ensures { result ≡ broken_with head place defect }
+{
+    match defect {
+        Defect::Unreadable => EventHead {
+            kind: 6,
+            number: place,
+            ..head
+        },
+        Defect::Invalid { first, count } => EventHead {
+            kind: 6,
+            flags: 1,
+            number: place,
+            key: first,
+            code: count_of(count),
+            ..head
+        },
+    }
+}
+
+fn count_of(count: u64) -> i64
+    ensures { result ≡ count_of count }
+{
+    count.min(i64::MAX as u64) as i64
 }
 
 /// Why the input is over, as a number.
@@ -125,6 +153,7 @@ fn text_of(event: &Event) -> &[u8]
                 None => &[],
             },
         },
+        Event::Broken(broken) => broken.start.as_slice(),
         _ => &[],
     }
 }

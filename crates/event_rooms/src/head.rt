@@ -2,11 +2,17 @@
 #[repr(C)]
 #[derive(Clone, Copy)]
 pub struct EventHead {
+    /// What it tells, from 1 on.
     pub kind: u32,
+    /// A mark of this kind: a request, an error, why the input is over, or what is broken.
     pub flags: u32,
+    /// The number of a call, or the place of a broken content.
     pub number: u64,
+    /// The key of a call of ours, or the first invalid entry.
     pub key: u64,
+    /// The code of an error, or how many entries are invalid.
     pub code: i64,
+    /// How many bytes its texts have.
     pub name_len: usize,
     pub text_len: usize,
     pub id_len: usize,

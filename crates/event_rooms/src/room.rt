@@ -4,7 +4,8 @@ ghost use Rattle.event_rooms.specs.Rooms.{written, texts, event_bytes, aligned};
 use crate::head::EventHead;
 use crate::put::{HEAD, put_head, put_text};
 
-/// An event's texts: a method or a message, params, a result or data, and an id. What an event hasn't is empty.
+/// An event's texts: a method or a message; params, a result, data or the start of a broken content; and an id. What an event
+/// hasn't is empty.
 #[derive(Clone, Copy)]
 pub struct EventTexts<'a> {
     pub name: &'a [u8],

@@ -1,7 +1,9 @@
 -- What goes in, and what comes out.
-use Rattle.std.specs.Prelude.{◌≡◌, ◌≢◌, ◌⊎◌, ℕ, List, [], ◌∷◌, ◌++◌, None, Ok, Err, if◌then◌else◌, ◌<◌, length, drop}
+use Rattle.std.specs.Prelude.{◌≡◌, ◌≢◌, ◌⊎◌, ℕ, List, [], ◌∷◌, ◌++◌, Bool, None, Ok, Err, is_some, if◌then◌else◌, ◌<◌, length, drop}
+use Rattle.std.specs.Option.{option_map_or}
 use Rattle.connection_history.specs.declared.refused.Refused.TheVariants.{Over}
 use Rattle.connection_history.specs.declared.refused.Refused.TheVariants as refused
+use Rattle.content_streams.specs.Streams.{capped, fault_place}
 use Rattle.outbox.specs.Output.{after_take, given_of, next_of}
 use Rattle.connection.specs.Connections.{Connection}
 use Rattle.host_calls.specs.declared.code.Why.TheVariants.{Refused}
@@ -17,6 +19,10 @@ fed c bytes = if c.desk.state.is_over then c else record c { stream = record c.s
 abbrev pub HasFed : Outlet → Outlet → List ℕ → Said → Type 0
 HasFed a b bytes (Ok _) = (a.connection.stream.ended ≡ None) × (b ≡ record a { connection = fed a.connection bytes })
 HasFed a b bytes (Err why) = (b ≡ a) × ((why ≡ Refused refused.Memory) ⊎ ((why ≡ Refused Over) × (a.connection.stream.ended ≢ None)))
+
+-- Where the bytes that were fed are at fault, its place is written, and else nothing is.
+abbrev pub HasFaultAt : Outlet → ℕ → ℕ → Bool → Type 0
+HasFaultAt a old new at_fault = (at_fault ≡ is_some (fault_place a.connection.stream)) × (new ≡ option_map_or capped (fault_place a.connection.stream) old)
 
 -- without what a room of so many bytes takes
 abbrev pub taken : Outlet → ℕ → Outlet

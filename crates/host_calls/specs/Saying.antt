@@ -2,15 +2,15 @@
 use Rattle.std.specs.Prelude.{◌≡◌, ◌≢◌, ◌⊎◌, ℕ, ℤ, ◌+◌, ◌==◌, List, [], ◌∷◌, Bool, true, false, Option, Some, None, Ok, Err, is_some, option_map, if◌then◌else◌}
 use Rattle.content_streams.specs.declared.ending.HowEnded.{HowEnded}
 use Rattle.content_streams.specs.declared.ending.HowEnded.TheVariants.{Closed, ReadFailed}
-use Rattle.message_ids.specs.declared.standard.Standard.TheVariants.{Cancelled}
 use Rattle.connection_messages.specs.declared.answer.Answer.{Answer}
 use Rattle.connection_messages.specs.declared.answer.Answer.TheVariants.{Result, Error, Standard}
+use Rattle.connection_messages.specs.declared.cancels.Cancels.{Cancels}
 use Rattle.connection_messages.specs.declared.outgoing.Outgoing.{Outgoing}
 use Rattle.connection_history.specs.declared.event.Event.{Event}
 use Rattle.connection_history.specs.declared.refused.Refused.{Refused}
 use Rattle.connection_history.specs.declared.refused.Refused.TheVariants.{NotOpen, Over}
 use Rattle.connection_history.specs.History.{Happening, History, called, called_all, noticed, withdrew, answered, key_count}
-use Rattle.connection_history.specs.Refusals.{refusal, after, cancel_of}
+use Rattle.connection_history.specs.Refusals.{refusal, after, by_of, cancel_answer, cancel_of}
 use Rattle.open_calls.specs.Numbered.{at}
 use Rattle.connection_desk.specs.Desks.{has_call}
 use Rattle.connection.specs.Connections.{Connection, StandsAfter, IsRefusal}
@@ -31,12 +31,12 @@ Keeps a b = (b.connection ≡ a.connection) × (b.next ≡ a.next)
 -- This happens, and nothing else: it isn't refused, and comes behind all that has happened.
 abbrev pub Happens : Connection → Connection → Happening → Type 0
 Happens c d it = Retains c d × ((history : History) (told : List Event) → StandsAfter c history told →
-    (refusal c.settings.takes_cancels history it ≡ None) × StandsAfter d (it ∷ history) told)
+    (refusal c.settings.cancels history it ≡ None) × StandsAfter d (it ∷ history) told)
 
 -- The connection itself refuses it.
 abbrev pub Refuses : Connection → Happening → Why → Type 0
 Refuses c it why = (r : Refused) × (why ≡ By r) ×
-    ((history : History) (told : List Event) → StandsAfter c history told → IsRefusal r (refusal c.settings.takes_cancels history it))
+    ((history : History) (told : List Event) → StandsAfter c history told → IsRefusal r (refusal c.settings.cancels history it))
 
 -- the next key
 abbrev pub IsKey : Connection → ℕ → Type 0
@@ -97,8 +97,8 @@ HasNotified a b method params (Ok _) = (b.next ≡ a.next) × Retains a.connecti
 HasNotified a b method params (Err why) = Keeps a b × (IsMemory why ⊎ IsNoOutgoing method params why)
 
 abbrev pub HasWithdrawn : Outlet → Outlet → ℕ → Said → Type 0
-HasWithdrawn a b key (Ok _) = (b.next ≡ a.next) × Happens a.connection b.connection (withdrew key)
-HasWithdrawn a b key (Err why) = (b ≡ a) × Refuses a.connection (withdrew key) why
+HasWithdrawn a b key (Ok _) = (b.next ≡ a.next) × Happens a.connection b.connection (withdrew (by_of a.connection.settings.cancels) key)
+HasWithdrawn a b key (Err why) = (b ≡ a) × Refuses a.connection (withdrew (by_of a.connection.settings.cancels) key) why
 
 -- ---- answers
 
@@ -119,18 +119,22 @@ abbrev pub IsNoAnswer : Connection → ℕ → List ℕ → Why → Type 0
 IsNoAnswer c n bytes why = IsntOpen c n why ⊎ (IsRead c n bytes × IsntJson bytes why)
 
 abbrev pub HasAnswered : Outlet → Outlet → ℕ → List ℕ → Said → Type 0
-HasAnswered a b n bytes (Ok _) = (b.next ≡ a.next) × ((it : Answer) × IsAnswer a.connection n bytes it × Happens a.connection b.connection (answered n it))
+HasAnswered a b n bytes (Ok _) = (b.next ≡ a.next) × ((it : Answer) × IsAnswer a.connection n bytes it × Happens a.connection b.connection (answered n (Some it)))
 HasAnswered a b n bytes (Err why) = Keeps a b ×
-    (IsNoAnswer a.connection n bytes why ⊎ ((it : Answer) × IsAnswer a.connection n bytes it × Refuses a.connection (answered n it) why))
+    (IsNoAnswer a.connection n bytes why ⊎ ((it : Answer) × IsAnswer a.connection n bytes it × Refuses a.connection (answered n (Some it)) why))
 
 abbrev pub HasFailed : Outlet → Outlet → ℕ → ℤ → List ℕ → List ℕ → Said → Type 0
 HasFailed a b n code message bytes (Ok _) = (b.next ≡ a.next) ×
-    ((it : Answer) × IsFailure code message bytes it × Happens a.connection b.connection (answered n it))
+    ((it : Answer) × IsFailure code message bytes it × Happens a.connection b.connection (answered n (Some it)))
 HasFailed a b n code message bytes (Err why) = Keeps a b ×
-    (IsntOpen a.connection n why ⊎ ((is_asked a.connection n ≢ None) × IsNoFailure message bytes why) ⊎ ((it : Answer) × IsFailure code message bytes it × Refuses a.connection (answered n it) why))
+    (IsntOpen a.connection n why ⊎ ((is_asked a.connection n ≢ None) × IsNoFailure message bytes why) ⊎ ((it : Answer) × IsFailure code message bytes it × Refuses a.connection (answered n (Some it)) why))
+
+-- why this call can't be cancelled after a history, where it can't
+abbrev pub cancel_refusal : Option Cancels → ℕ → History → Option Refused
+cancel_refusal cancels n history = refusal cancels history (answered n (cancel_answer cancels n history))
 
 abbrev pub HasCancelled : Outlet → Outlet → ℕ → Said → Type 0
 HasCancelled a b n (Ok _) = (b.next ≡ a.next) × Retains a.connection b.connection × ((history : History) (told : List Event) → StandsAfter a.connection history told →
-    (refusal a.connection.settings.takes_cancels history (answered n (Standard Cancelled)) ≡ None) ×
-    StandsAfter b.connection (after history (cancel_of a.connection.settings.takes_cancels n history)) told)
-HasCancelled a b n (Err why) = (b ≡ a) × Refuses a.connection (answered n (Standard Cancelled)) why
+    (cancel_refusal a.connection.settings.cancels n history ≡ None) × StandsAfter b.connection (after history (cancel_of a.connection.settings.cancels n history)) told)
+HasCancelled a b n (Err why) = (b ≡ a) × ((r : Refused) × (why ≡ By r) ×
+    ((history : History) (told : List Event) → StandsAfter a.connection history told → IsRefusal r (cancel_refusal a.connection.settings.cancels n history)))

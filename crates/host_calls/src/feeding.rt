@@ -5,7 +5,7 @@ ghost use Rattle.connection_history.specs.declared.event.Event.{Event};
 ghost use Rattle.connection_history.specs.History.{History};
 ghost use Rattle.connection.specs.Connections.{IsDone, StandsAfter};
 ghost use Rattle.outbox.specs.Output.{given_of};
-ghost use Rattle.host_calls.specs.Feeding.{HasFed, HasTakenSome, taken};
+ghost use Rattle.host_calls.specs.Feeding.{HasFed, HasFaultAt, HasTakenSome, taken};
 
 use crate::asking::Got;
 use crate::code::Why;
@@ -18,6 +18,19 @@ impl Outlet {
     {
         self.connection.feed(bytes)?;
         Ok(())
+    }
+
+    /// Whether the input is at fault. Then it writes where its frame or line begins.
+    pub fn fault_at(&self, place: &mut u64) -> bool
+        ensures { HasFaultAt self.now place.old place.new result }
+    {
+        match self.connection.fault_place() {
+            Some(at) => {
+                *place = at;
+                true
+            }
+            None => false,
+        }
     }
 
     /// Moves the first of the bytes that are to be written.

@@ -9,8 +9,10 @@ use std::alloc::Global;
 /// A connection, and the event that it has told and that the host hasn't got yet.
 #[derive(Drop)]
 pub struct Outlet {
+    /// Where events' ids and what the host passes are made.
     pub alloc: Global,
     pub connection: Connection,
+    /// An event that the connection has told and that the host hasn't got yet.
     pub next: Option<Event>,
     /// The room in which the host's texts are read.
     pub reader: TextReader,

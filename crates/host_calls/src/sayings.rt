@@ -14,12 +14,17 @@ use std::alloc::{AllocError, Global};
 #[repr(C)]
 #[derive(Clone, Copy)]
 pub struct Saying {
+    /// What is said, by `kind_of`.
     pub kind: u32,
     /// The code that it got.
     pub said: i32,
+    /// The call that came to which it belongs, or 0.
     pub number: u64,
+    /// The call of ours that is withdrawn; or, written, the key that a call got.
     pub key: u64,
+    /// That of an error.
     pub code: i64,
+    /// How many bytes its name and its text have.
     pub name_len: usize,
     pub text_len: usize,
     /// How many of those behind it are the calls of this batch.
@@ -30,8 +35,11 @@ pub struct Saying {
 #[repr(C)]
 #[derive(Clone, Copy)]
 pub struct AllSaid {
+    /// How many got another code than 0.
     pub refused: usize,
+    /// How many bytes were taken.
     pub taken: usize,
+    /// How many are still to be written.
     pub pending: usize,
 }
 

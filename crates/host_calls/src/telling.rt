@@ -12,9 +12,13 @@ use crate::outlet::Outlet;
 #[derive(Clone, Copy)]
 pub struct Told {
     pub count: u32,
+    /// Why no more: 0 where there is none, and else by `stop_of`.
     pub stopped: u32,
+    /// Where the last one ends in the room.
     pub used: usize,
+    /// The room that the next one needs by itself, where it didn't fit.
     pub needed: usize,
+    /// How many bytes are to be written.
     pub pending: usize,
 }
 

@@ -4,7 +4,7 @@ ghost use Rattle.std.specs.Prelude.{◌≡◌, IfOk, IfErr};
 ghost use Rattle.host_calls.specs.Passed.{IsText, IsntText, IsJson, IsntJson, IsData, IsntData, IsParams, AreNoParams, IsOutgoing, IsNoOutgoing, IsFailure, IsNoFailure};
 
 use crate::code::Why;
-use connection::{Answer, AnswerError, Outgoing, Params};
+use connection::{Answer, AnswerError, Outgoing, OutgoingParams};
 use json_texts::{JsonText, TextReader};
 use json_values::Text;
 use std::alloc::Global;
@@ -42,14 +42,14 @@ fn data_of(reader: &mut TextReader, bytes: &[u8]) -> Result<Option<JsonText>, Wh
     Ok(Some(json_of(reader, bytes)?))
 }
 
-fn params_of(reader: &mut TextReader, bytes: &[u8]) -> Result<Option<Params>, Why>
+fn params_of(reader: &mut TextReader, bytes: &[u8]) -> Result<Option<OutgoingParams>, Why>
     ensures ok { IfOk result (λ params. IsParams bytes.now params) }
     ensures err { IfErr result (λ why. AreNoParams bytes.now why) }
 {
     if bytes.is_empty() {
         return Ok(None);
     }
-    match Params::new(json_of(reader, bytes)?) {
+    match OutgoingParams::new(json_of(reader, bytes)?) {
         Some(params) => Ok(Some(params)),
         None => Err(Why::NotJson),
     }

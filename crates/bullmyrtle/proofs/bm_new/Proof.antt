@@ -16,7 +16,7 @@ use denote.RattleType.{Valss}
 use denote.RawPtr.{Ptr, ptr_val, rawptr_vals, rawptr_Tells, rawptr_Lawful}
 use denote.Signature.{Slot, plain}
 use denote.Ref.{ShrRef, shr_vals, shr_Tells}
-use Rattle.bullmyrtle.specs.Made.{IsMade, Given, IsGivenBy}
+use Rattle.bullmyrtle.specs.Made.{chosen, IsMade, Given, IsGivenBy}
 use Rattle.bullmyrtle.specs.contracts.settings.Settings.{the_row as S}
 use denote.Steps.{nothing, only, heard}
 use denote.Struct.Struct.{within}
@@ -74,13 +74,13 @@ bm_new_spec 𝓤 𝓛 𝓜 𝓡 wired =
     use0 𝓛 (raw (fact 𝓤 (p.held ≡ None))) (fact_i 𝓤 (p.held ≡ None) (emp 𝓤) refl) $ move ! (1 ∷ 0 ∷ []) $ join ! $ use1 𝓛 (raw (G.pre z)) (id⊢ 𝓤 _) $
     calls_at ! (framed 𝓤 𝓛.H 𝓜 (tables 𝓤 𝓛.H 𝓜 𝓡 𝓡.env)) G (met 𝓤 𝓛 𝓜 𝓡 (code.calls-bullmyrtle::made 𝓡.env wired)) z (and_then ! (get ! refl) (and_then ! (get ! refl) (and_then ! (get ! refl) (no_more !)))) (λ u.
     use1 𝓛 (later (some (λ (r : ℤ × Place). (toks ⊛ ‵ ((Tuple (i32 ∷ P ∷ [])).own_val r (u ∷ []))) ⊛ some (λ (ws : Lasts callee.ended κs z.0.3). ‵ (lasts callee.ended κs z.0.3 ws) ⊛
-    raw (fact 𝓤 (IsMade asked.now r.0)) ⊛ raw (fact 𝓤 (r.1.at ≡ at)) ⊛ raw (fact 𝓤 (IsGivenBy asked.now r.0 r.1.held)))))) (id⊢ 𝓤 (G.post z u)) $
+    raw (fact 𝓤 (IsMade (chosen asked.now) r.0)) ⊛ raw (fact 𝓤 (r.1.at ≡ at)) ⊛ raw (fact 𝓤 (IsGivenBy (chosen asked.now) r.0 r.1.held)))))) (id⊢ 𝓤 (G.post z u)) $
     await ! tt $ pick ! (λ r. split ! $ move ! (1 ∷ []) $ pick ! (λ ws. split ! $ drop ! $ split3 ! $ heard ! _ (λ answered. heard ! _ (λ same. heard ! _ (λ held. split ! $ move ! (1 ∷ []) $
     two_out i32 P r.0 r.1 ! refl refl (sint_Lawful 𝓛 w32) (place.the_row_laws.lawful 𝓛) (u ∷ []) (λ v w v_fits w_fits is.
     lands_as ! (ap only is) refl (both_tt _ _ v_fits.0 w_fits.0, (v_fits.1, (w_fits.1, tt))) $
     sets ! (of_opd ! (get_in ! (fld ! refl (stop !)) (sub ! 0 refl (whole !)))) refl v_fits $ sets ! (of_opd ! (get_in ! (fld ! refl (stop !)) (sub ! 1 refl (whole !)))) refl w_fits $
     sets ! (of_opd ! (get ! refl)) refl v_fits $ returns ! (look_at ! 0 refl) $ free_all ! refl $
     -- [the code; the place; the token]
-    move ! (1 ∷ []) $ fsplit ! $ drop ! $ rewrite ! 0 (λ (q : Ptr). ‵ (held_at q r.1.held)) same refl $ fpack ! (Given asked.now r.0) (λ given. held_at at given.0) (r.1.held, held) $ keep ! (1 ∷ 0 ∷ 2 ∷ []) $
+    move ! (1 ∷ []) $ fsplit ! $ drop ! $ rewrite ! 0 (λ (q : Ptr). ‵ (held_at q r.1.held)) same refl $ fpack ! (Given (chosen asked.now) r.0) (λ given. held_at at given.0) (r.1.held, held) $ keep ! (1 ∷ 0 ∷ 2 ∷ []) $
     suffices ! _ (ends_at 𝓛 f.ended stayed c y v r.0 (rest (Z.exit yes) alloc, (rest (Ref.exit yes) asked, (rest (RawPtr.exit yes) at, tt))) (tt, (tt, (tt, tt)))) $
     nothing ! $ nothing ! $ fjoin ! $ nothing ! $ fjoin ! $ nothing ! $ fjoin ! $ join ! $ move ! (2 ∷ 0 ∷ []) $ join ! $ frame ! $ says ! answered $ done !)))))))))

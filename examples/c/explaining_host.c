@@ -1,0 +1,102 @@
+/* The host of host.c for a protocol with the cancels of MCP, which says on the standard error what is broken in its
+ * input, and where. The library answers it all the same. */
+#include "bullmyrtle.h"
+
+#include <ctype.h>
+#include <stdio.h>
+#include <stdlib.h>
+#include <unistd.h>
+
+static bm_connection connection;
+
+/* What can't go on ends the program: there is no memory, or the output is gone. */
+static void check(int32_t code)
+{
+    if (code != BM_OK) {
+        fprintf(stderr, "host: %s\n", bm_code_text(code));
+        exit(1);
+    }
+}
+
+static void handle(const bm_event *event, const uint8_t *room)
+{
+    const uint8_t *params = room + event->name_len + 1;
+    if (!(event->flags & BM_REQUEST))
+        check(bm_close_call(&connection, event->number)); /* done with the notification */
+    else if (event->text_len)
+        check(bm_answer(&connection, event->number, params, event->text_len));
+    else
+        check(bm_answer(&connection, event->number, (const uint8_t *)"null", 4));
+}
+
+static void explain(const bm_event *event, const uint8_t *start)
+{
+    fprintf(stderr, "byte %llu: ", (unsigned long long)event->number);
+    if (event->flags == BM_INVALID)
+        fprintf(stderr, "%lld invalid, the first is entry %llu: ", (long long)event->code,
+                (unsigned long long)event->key);
+    else
+        fprintf(stderr, "unreadable: ");
+    for (size_t i = 0; i < event->text_len; i++)
+        putc(isprint(start[i]) ? start[i] : '?', stderr); /* (they may be any bytes) */
+    putc('\n', stderr);
+}
+
+static void end(const bm_event *event)
+{
+    uint64_t offset;
+    if (bm_fault_at(&connection, &offset))
+        fprintf(stderr, "byte %llu: %s\n", (unsigned long long)offset, bm_over_text(event->flags));
+}
+
+static void hear(void)
+{
+    static uint8_t room[1 << 20]; /* a content has at most as many bytes, so each event fits */
+    bm_event event;
+    for (;;) {
+        check(bm_next(&connection, &event, room, sizeof room));
+        switch (event.kind) {
+        case BM_NONE:
+            return;
+        case BM_CALL:
+            handle(&event, room);
+            break;
+        case BM_BROKEN:
+            explain(&event, room + event.name_len + 1);
+            break;
+        case BM_INPUT_OVER:
+            end(&event);
+            break;
+        }
+    }
+}
+
+static void put(void)
+{
+    uint8_t bytes[4096];
+    size_t count;
+    while ((count = bm_take(&connection, bytes, sizeof bytes)))
+        if (fwrite(bytes, 1, count, stdout) != count)
+            exit(1);
+    if (fflush(stdout))
+        exit(1);
+}
+
+int main(void)
+{
+    bm_options options = {
+        .size = sizeof options, .framing = BM_LINES, .cancels = BM_CANCELS_MCP, .broken = 1, .content = 100000};
+    uint8_t bytes[4096];
+    check(bm_open(&options, &connection.at));
+    while (!bm_is_done(&connection)) {
+        ssize_t count = read(STDIN_FILENO, bytes, sizeof bytes);
+        if (count > 0)
+            check(bm_feed(&connection, bytes, (size_t)count));
+        else
+            check(bm_end(&connection, count ? BM_READ_FAILED : BM_CLOSED));
+        hear();
+        put();
+    }
+    bm_free(connection);
+    return 0;
+}
