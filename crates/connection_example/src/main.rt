@@ -8,7 +8,7 @@ use std::alloc::{AllocError, Global};
 use std::io::{self, ErrorKind, Read, Write};
 
 fn main(rt: HostRuntime) -> io::Result<()> {
-    let settings = Settings::new(Framing::Lines, Order::AsAnswered, false, 100_000, u64::MAX);
+    let settings = Settings::new(Framing::Lines, Order::AsAnswered, None, 100_000, u64::MAX);
     let Some(settings) = settings else {
         return Err(ErrorKind::InvalidInput.into());
     };

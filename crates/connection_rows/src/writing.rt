@@ -4,8 +4,8 @@ mod rows;
 
 use crate::rows::each_row;
 use connection_messages::{
-    Answer, AnswerError, Outgoing, Params, write_answer, write_call, write_calls, write_notice,
-    write_withdrawal,
+    Answer, AnswerError, Cancels, Outgoing, OutgoingParams, write_answer, write_call, write_calls,
+    write_notice, write_withdrawal,
 };
 use json_texts::JsonText;
 use json_values::{Negative, Text};
@@ -26,8 +26,8 @@ enum Said {
     /// A batch of calls, from this key on.
     Calls(u64, &'static [Message]),
     Notice(Message),
-    /// The withdrawal of our call with this key.
-    Withdrawal(u64),
+    /// The withdrawal of our call with this key, as these cancels have it.
+    Withdrawal(Cancels, u64),
 }
 
 /// The id of a request.
@@ -67,9 +67,9 @@ fn id(alloc: Global, name: &Name) -> Result<Id, Fail> {
     }
 }
 
-fn params(alloc: Global, text: Option<&str>) -> Result<Option<Params>, Fail> {
+fn params(alloc: Global, text: Option<&str>) -> Result<Option<OutgoingParams>, Fail> {
     match optional_json(alloc, text)? {
-        Some(text) => match Params::new(text) {
+        Some(text) => match OutgoingParams::new(text) {
             Some(params) => Ok(Some(params)),
             None => Err("no params".into()),
         },
@@ -152,7 +152,7 @@ fn write(alloc: Global, bytes: &mut Vec<u8>, said: &Said) -> Result<(), Fail> {
         Said::Call(key, message) => call(alloc, bytes, *key, message),
         Said::Calls(first, messages) => calls(alloc, bytes, *first, messages),
         Said::Notice(message) => notice(alloc, bytes, message),
-        Said::Withdrawal(key) => Ok(write_withdrawal(bytes, *key)?),
+        Said::Withdrawal(by, key) => Ok(write_withdrawal(bytes, *by, *key)?),
     }
 }
 
@@ -181,7 +181,7 @@ const PARAMS: &[(&str, bool)] = &[
 ];
 
 fn are_params(alloc: Global, text: &str, want: &bool) -> Result<bool, Fail> {
-    let params = Params::new(json(alloc, text)?);
+    let params = OutgoingParams::new(json(alloc, text)?);
     let are_params = params.is_some();
     drop(params);
     Ok(are_params == *want)

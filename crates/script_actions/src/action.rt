@@ -1,5 +1,6 @@
 //! What the host of a connection does, as a script says it.
 use connection_history::Order;
+use connection_messages::Cancels;
 use content_streams::{Framing, HowEnded};
 
 /// An action of the host. What it gives the connection needn't be text or JSON.
@@ -39,6 +40,7 @@ pub enum Action {
     },
     Pending,
     IsDone,
+    FaultPlace,
     Report,
 }
 
@@ -47,9 +49,11 @@ pub enum Action {
 pub struct SaidSettings {
     pub framing: Framing,
     pub order: Order,
-    pub takes_cancels: bool,
+    /// Whose cancels the conversation has, if any.
+    pub cancels: Option<Cancels>,
     pub content: u64,
     pub calls: u64,
+    pub tells_broken: bool,
 }
 
 /// A call or a notification.

@@ -3,6 +3,7 @@ use crate::action::{Action, SaidCall, SaidError, SaidSettings};
 use crate::fault::LineFault;
 use crate::words::{bytes, bytes_or_none, code, number};
 use connection_history::Order;
+use connection_messages::Cancels;
 use content_streams::{Framing, HowEnded};
 use std::alloc::Global;
 
@@ -23,17 +24,18 @@ pub fn one<'a>(words: &[&'a str]) -> Result<&'a str, LineFault> {
     }
 }
 
-/// `FRAMING ORDER CANCELS CONTENT CALLS`
+/// `FRAMING ORDER CANCELS CONTENT CALLS`, and `broken` or nothing behind them
 pub fn settings(words: &[&str]) -> Result<SaidSettings, LineFault> {
-    let [framing, order, cancels, content, calls] = words else {
+    let [framing, order, cancels, content, calls, told @ ..] = words else {
         return Err(LineFault::Unreadable);
     };
     Ok(SaidSettings {
         framing: framing_of(framing)?,
         order: order_of(order)?,
-        takes_cancels: takes_cancels(cancels)?,
+        cancels: cancels_of(cancels)?,
         content: number(content)?,
         calls: number(calls)?,
+        tells_broken: tells_broken(told)?,
     })
 }
 
@@ -54,10 +56,19 @@ fn order_of(word: &str) -> Result<Order, LineFault> {
     }
 }
 
-fn takes_cancels(word: &str) -> Result<bool, LineFault> {
+fn cancels_of(word: &str) -> Result<Option<Cancels>, LineFault> {
     match word {
-        "cancels" => Ok(true),
-        "no-cancels" => Ok(false),
+        "cancels" => Ok(Some(Cancels::Lsp)),
+        "mcp" => Ok(Some(Cancels::Mcp)),
+        "no-cancels" => Ok(None),
+        _ => Err(LineFault::Unreadable),
+    }
+}
+
+fn tells_broken(words: &[&str]) -> Result<bool, LineFault> {
+    match words {
+        [] => Ok(false),
+        ["broken"] => Ok(true),
         _ => Err(LineFault::Unreadable),
     }
 }

@@ -3,7 +3,8 @@
 //! none; where `HEX|-` stands, `-` says that there is nothing.
 //!
 //! ```text
-//! settings FRAMING ORDER CANCELS CONTENT CALLS
+//! settings FRAMING ORDER cancels|mcp|no-cancels CONTENT CALLS
+//! settings FRAMING ORDER cancels|mcp|no-cancels CONTENT CALLS broken
 //! feed HEX
 //! end closed|failed
 //! next
@@ -17,6 +18,7 @@
 //! take ROOM
 //! pending
 //! is_done
+//! fault_place
 //! report
 //! ```
 #![tactic(auto)]

@@ -63,6 +63,7 @@ fn read_asking(name: &str, words: &[&str]) -> Result<Action, LineFault> {
         "next" => Ok(Action::Next),
         "pending" => Ok(Action::Pending),
         "is_done" => Ok(Action::IsDone),
+        "fault_place" => Ok(Action::FaultPlace),
         "report" => Ok(Action::Report),
         _ => Err(LineFault::Unreadable),
     }

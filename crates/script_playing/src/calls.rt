@@ -62,6 +62,10 @@ pub fn is_done(connection: &Connection) -> bool {
     connection.is_done()
 }
 
+pub fn fault_place(connection: &Connection) -> Option<u64> {
+    connection.fault_place()
+}
+
 pub fn report(connection: &Connection) -> Report {
     connection.report()
 }

@@ -1,7 +1,7 @@
 //! The lines of events, and of what else actions give.
 use crate::put::{put_close, put_hex, put_hex_or_none, put_number};
 use crate::said::Said;
-use connection::{Call, Event, Reply, ReplyError, Report};
+use connection::{Broken, Call, Defect, Event, Reply, ReplyError, Report};
 use itoa::{Buffer, Integer};
 use json::Writer;
 use json_values::Text;
@@ -18,6 +18,8 @@ pub fn put_said(alloc: Global, line: &mut Vec<u8>, said: &Said) -> Result<(), Al
         Said::Pending(count) => put_named(line, b"pending", *count as u64),
         Said::Truth(true) => line.extend_from_slice(b"true"),
         Said::Truth(false) => line.extend_from_slice(b"false"),
+        Said::Place(Some(place)) => put_named(line, b"place", *place),
+        Said::Place(None) => line.extend_from_slice(b"none"),
         Said::Counts(report) => put_report(line, report),
     }
 }
@@ -69,7 +71,23 @@ fn put_event(alloc: Global, line: &mut Vec<u8>, event: &Event) -> Result<(), All
             line.extend_from_slice(b"over")?;
             put_close(line, *close)
         }
+        Event::Broken(broken) => put_broken(line, broken),
     }
+}
+
+fn put_broken(line: &mut Vec<u8>, broken: &Broken) -> Result<(), AllocError> {
+    put_named(line, b"broken", broken.place)?;
+    match broken.defect {
+        Defect::Unreadable => line.extend_from_slice(b" unreadable")?,
+        Defect::Invalid { first, count } => put_invalid(line, first, count)?,
+    }
+    put_hex(line, broken.start.as_slice())
+}
+
+fn put_invalid(line: &mut Vec<u8>, first: u64, count: u64) -> Result<(), AllocError> {
+    line.extend_from_slice(b" invalid")?;
+    put_number(line, first)?;
+    put_number(line, count)
 }
 
 fn put_call(alloc: Global, line: &mut Vec<u8>, number: u64, call: &Call) -> Result<(), AllocError> {

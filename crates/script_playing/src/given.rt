@@ -1,6 +1,6 @@
 //! What a script gives a connection, as texts and JSON.
 use crate::why::Why;
-use connection::{Answer, AnswerError, Outgoing, Params};
+use connection::{Answer, AnswerError, Outgoing, OutgoingParams};
 use json_texts::{JsonText, TextReader};
 use json_values::Text;
 use script_actions::{SaidCall, SaidError};
@@ -68,7 +68,7 @@ impl Givens {
         }
     }
 
-    fn params(&mut self, bytes: &Option<Vec<u8>>) -> Result<Option<Params>, Why> {
+    fn params(&mut self, bytes: &Option<Vec<u8>>) -> Result<Option<OutgoingParams>, Why> {
         match self.json_or_none(bytes)? {
             Some(text) => Ok(Some(params_of(text)?)),
             None => Ok(None),
@@ -99,6 +99,6 @@ fn read(reader: &mut TextReader, bytes: &[u8]) -> Result<Option<JsonText>, Alloc
     reader.read(bytes)
 }
 
-fn params_of(text: JsonText) -> Result<Params, Why> {
-    Params::new(text).ok_or(Why::NotJson)
+fn params_of(text: JsonText) -> Result<OutgoingParams, Why> {
+    OutgoingParams::new(text).ok_or(Why::NotJson)
 }

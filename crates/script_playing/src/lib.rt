@@ -10,9 +10,12 @@
 //! take                            bytes HEX
 //! pending                         pending COUNT
 //! is_done                         true | false
+//! fault_place                     none | place OFFSET
 //! report                          report CALLS REQUESTS OPEN WAITING OWN_CALLS ANSWERS UNREADABLE INVALID IGNORED
 //!
 //! EVENT
+//! broken OFFSET unreadable START
+//! broken OFFSET invalid FIRST COUNT START
 //! call NUMBER METHOD PARAMS|- ID|-
 //! cancelled NUMBER
 //! replied KEY result RESULT

@@ -10,5 +10,7 @@ pub enum Said {
     Bytes(Vec<u8>),
     Pending(usize),
     Truth(bool),
+    /// Where the input is at fault, if it is.
+    Place(Option<u64>),
     Counts(Report),
 }

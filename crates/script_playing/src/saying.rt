@@ -16,13 +16,11 @@ pub fn begin(alloc: Global, said: SaidSettings) -> Result<Connection, Why> {
 
 fn settings_of(said: SaidSettings) -> Option<Settings> {
     let content = u32::try_from(said.content).ok()?;
-    Settings::new(
-        said.framing,
-        said.order,
-        said.takes_cancels,
-        content,
-        said.calls,
-    )
+    let settings = Settings::new(said.framing, said.order, said.cancels, content, said.calls)?;
+    if said.tells_broken {
+        return Some(settings.telling_broken());
+    }
+    Some(settings)
 }
 
 /// Does an action other than `settings`.
@@ -40,6 +38,7 @@ pub fn act(
         Action::Take { room } => take(alloc, connection, *room),
         Action::Pending => Ok(Said::Pending(calls::pending(connection))),
         Action::IsDone => Ok(Said::Truth(calls::is_done(connection))),
+        Action::FaultPlace => Ok(Said::Place(calls::fault_place(connection))),
         Action::Report => Ok(Said::Counts(calls::report(connection))),
         saying => say(connection, givens, saying),
     }

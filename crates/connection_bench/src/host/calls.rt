@@ -1,6 +1,6 @@
 //! The calls of a connection, each by itself: what is done with their results needs nothing of what they promise.
 use connection::{
-    Answer, Connection, Event, Framing, HowEnded, Order, Outgoing, Refused, Settings,
+    Answer, Cancels, Connection, Event, Framing, HowEnded, Order, Outgoing, Refused, Settings,
 };
 use std::alloc::{AllocError, Global};
 
@@ -8,9 +8,15 @@ pub fn new(alloc: Global, settings: Settings) -> Connection {
     Connection::new(alloc, settings)
 }
 
-/// With the greatest limits, with cancels, and with answers that go out as soon as they are given.
+/// With the greatest limits, with LSP's cancels, and with answers that go out as soon as they are given.
 pub fn settings(framing: Framing, content: u32) -> Option<Settings> {
-    Settings::new(framing, Order::AsAnswered, true, content, u64::MAX)
+    Settings::new(
+        framing,
+        Order::AsAnswered,
+        Some(Cancels::Lsp),
+        content,
+        u64::MAX,
+    )
 }
 
 pub fn feed(connection: &mut Connection, piece: &[u8]) -> Result<(), Refused> {

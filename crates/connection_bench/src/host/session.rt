@@ -4,7 +4,7 @@ use crate::host::calls;
 use crate::host::sum::sum_of;
 use crate::run_failure::RunFailure;
 use connection::{
-    Answer, AnswerError, Call, Close, Connection, Event, HowEnded, Outgoing, Params, Reply,
+    Answer, AnswerError, Call, Close, Connection, Event, HowEnded, Outgoing, OutgoingParams, Reply,
     ReplyError, Settings,
 };
 use itoa::Buffer;
@@ -62,7 +62,7 @@ impl Session {
             Event::Cancelled { number } => self.cancel(number),
             Event::Replied { key, reply } => self.finish(key, reply),
             Event::Unanswered { key } => self.give_up(key),
-            Event::Over(_) => Ok(()),
+            Event::Broken(_) | Event::Over(_) => Ok(()),
         }
     }
 
@@ -101,7 +101,7 @@ impl Session {
         }
     }
 
-    fn ask_with(&mut self, number: u64, params: Option<Params>) -> Result<(), RunFailure> {
+    fn ask_with(&mut self, number: u64, params: Option<OutgoingParams>) -> Result<(), RunFailure> {
         let method = copied(self.alloc, "confirm")?;
         let outgoing = Outgoing { method, params };
         let key = calls::call(&mut self.connection, number, &outgoing)?;
@@ -199,9 +199,9 @@ fn read(reader: &mut TextReader, text: &[u8]) -> Result<Option<JsonText>, AllocE
 }
 
 /// The same params. Those that nest too deep to be said give none.
-fn params_of(reader: &mut TextReader, params: &Text) -> Result<Option<Params>, AllocError> {
+fn params_of(reader: &mut TextReader, params: &Text) -> Result<Option<OutgoingParams>, AllocError> {
     match read(reader, params.as_bytes())? {
-        Some(text) => Ok(Params::new(text)),
+        Some(text) => Ok(OutgoingParams::new(text)),
         None => Ok(None),
     }
 }

@@ -2,7 +2,7 @@
 
 use super::shown_by;
 use crate::rows::each_line;
-use connection_messages::UnitReader;
+use connection_messages::{Cancels, UnitReader};
 use std::alloc::{AllocError, Global};
 use std::process::Abort;
 use std::test::Fail;
@@ -11,7 +11,7 @@ use std::test::Fail;
 /// parts before and after the ` => ` of a line stand there in the places of `@`.
 struct Group {
     name: &'static str,
-    cancels: bool,
+    cancels: Option<Cancels>,
     content: &'static str,
     unit: &'static str,
     lines: &'static str,
@@ -20,7 +20,7 @@ struct Group {
 const GROUPS: &[Group] = &[
     Group {
         name: "a call without id is a notification",
-        cancels: true,
+        cancels: Some(Cancels::Lsp),
         content: r#"{"jsonrpc":"2.0","method":"f",@}"#,
         unit: r#"Single(Call(Call { id: @, method: "f", params: None }))"#,
         lines: r#""more":[1.5] => None
@@ -38,7 +38,7 @@ const GROUPS: &[Group] = &[
     },
     Group {
         name: "params are told as compact JSON, numbers digit for digit",
-        cancels: true,
+        cancels: Some(Cancels::Lsp),
         content: r#"{"jsonrpc":"2.0","method":"f","params":@}"#,
         unit: r#"Single(Call(Call { id: None, method: "f", params: @ }))"#,
         lines: r#"null => None
@@ -53,7 +53,7 @@ const GROUPS: &[Group] = &[
     },
     Group {
         name: "names are the host's",
-        cancels: true,
+        cancels: Some(Cancels::Lsp),
         content: r#"{"jsonrpc":"2.0","method":@,"params":[0.5]}"#,
         unit: r#"Single(Call(Call { id: None, method: @, params: Some("[0.5]") }))"#,
         lines: r#""$/progress" => "$/progress"
@@ -63,7 +63,7 @@ const GROUPS: &[Group] = &[
     },
     Group {
         name: "a method with other parts amiss is invalid",
-        cancels: true,
+        cancels: Some(Cancels::Lsp),
         content: "@",
         unit: "Single(Invalid)",
         lines: r#"{"method":"f","id":1}
@@ -91,7 +91,7 @@ const GROUPS: &[Group] = &[
     },
     Group {
         name: "a reply has a result or an error",
-        cancels: true,
+        cancels: Some(Cancels::Lsp),
         content: r#"{"jsonrpc":"2.0","id":1,@}"#,
         unit: "Single(Reply { key: 1, reply: @ })",
         lines: r#""result":1.50 => Result("1.50")
@@ -108,7 +108,7 @@ const GROUPS: &[Group] = &[
     },
     Group {
         name: "a faulty reply is told as the error `Invalid reply`",
-        cancels: true,
+        cancels: Some(Cancels::Lsp),
         content: r#"{"jsonrpc":"2.0","id":1,@}"#,
         unit: r#"Single(Reply { key: 1, reply: Error(ReplyError { code: -32603, message: "Invalid reply", data: None }) })"#,
         lines: r#""error":null
@@ -130,7 +130,7 @@ const GROUPS: &[Group] = &[
     },
     Group {
         name: "a key is a whole number from 1 on",
-        cancels: true,
+        cancels: Some(Cancels::Lsp),
         content: r#"{"jsonrpc":"2.0","result":true,"id":@}"#,
         unit: "Single(@)",
         lines: r#"1 => Reply { key: 1, reply: Result("true") }
@@ -148,7 +148,7 @@ null => Stray
     },
     Group {
         name: "a reply without a key is stray, whatever else it has",
-        cancels: true,
+        cancels: Some(Cancels::Lsp),
         content: "@",
         unit: "Single(Stray)",
         lines: r#"{"jsonrpc":"2.0","result":1}
@@ -158,7 +158,7 @@ null => Stray
     },
     Group {
         name: "a value that is no message is invalid",
-        cancels: true,
+        cancels: Some(Cancels::Lsp),
         content: "@",
         unit: "Single(Invalid)",
         lines: r#"null
@@ -171,7 +171,7 @@ true
     },
     Group {
         name: "what is no JSON is unreadable",
-        cancels: true,
+        cancels: Some(Cancels::Lsp),
         content: "@",
         unit: "Unreadable",
         lines: r#"{
@@ -184,7 +184,7 @@ nul
     },
     Group {
         name: "a batch has its entries in order, and an empty array is one invalid entry",
-        cancels: true,
+        cancels: Some(Cancels::Lsp),
         content: "@",
         unit: "@",
         lines: r#"[] => Single(Invalid)
@@ -195,7 +195,7 @@ nul
     },
     Group {
         name: "a cancel names a string or a whole number",
-        cancels: true,
+        cancels: Some(Cancels::Lsp),
         content: r#"{"jsonrpc":"2.0","method":"$/cancelRequest",@}"#,
         unit: "Single(Cancel(@))",
         lines: r#""params":{"id":7} => Unsigned(7)
@@ -206,7 +206,7 @@ nul
     },
     Group {
         name: "any other cancel is a call",
-        cancels: true,
+        cancels: Some(Cancels::Lsp),
         content: r#"{"jsonrpc":"2.0","method":"$/cancelRequest",@}"#,
         unit: "Single(Call(Call { id: @ }))",
         lines: r#""params":{"id":7,"id":null} => None, method: "$/cancelRequest", params: Some("{\"id\":7,\"id\":null}")
@@ -223,11 +223,82 @@ nul
     },
     Group {
         name: "where cancels aren't told apart, they are calls",
-        cancels: false,
+        cancels: None,
         content: r#"{"jsonrpc":"2.0","method":"$/cancelRequest","params":@}"#,
         unit: r#"Single(Call(Call { id: None, method: "$/cancelRequest", params: Some(@) }))"#,
         lines: r#"{"id":7} => "{\"id\":7}"
 [] => "[]""#,
+    },
+    Group {
+        name: "a cancel as MCP has it names a string or a whole number by its requestId",
+        cancels: Some(Cancels::Mcp),
+        content: r#"{"jsonrpc":"2.0","method":"notifications/cancelled",@}"#,
+        unit: "Single(Cancel(@))",
+        lines: r#""params":{"requestId":7} => Unsigned(7)
+"params":{"requestId":-7} => Signed(Negative { number: -7 })
+"params":{"requestId":"123","reason":"User requested cancellation"} => Text("123")
+"params":{"reason":["\u0041"],"requestId":"\u0031","id":8} => Text("1")
+"params": { "requestId" : 0 , "id" : null } => Unsigned(0)
+"params":{"requestId":null,"requestId":7} => Unsigned(7)
+"params":{"\u0072equestId":7} => Unsigned(7)
+"params":[],"params":{"requestId":18446744073709551615} => Unsigned(18446744073709551615)"#,
+    },
+    Group {
+        name: "any other cancel as MCP has it is a call",
+        cancels: Some(Cancels::Mcp),
+        content: r#"{"jsonrpc":"2.0","method":"notifications/cancelled",@}"#,
+        unit: "Single(Call(Call { id: @ }))",
+        lines: r#""params":{"id":7} => None, method: "notifications/cancelled", params: Some("{\"id\":7}")
+"params":{"requestid":7} => None, method: "notifications/cancelled", params: Some("{\"requestid\":7}")
+"params":{"requestId":7,"requestId":null} => None, method: "notifications/cancelled", params: Some("{\"requestId\":7,\"requestId\":null}")
+"params":{"requestId":1.0} => None, method: "notifications/cancelled", params: Some("{\"requestId\":1.0}")
+"params":{"requestId":[7]} => None, method: "notifications/cancelled", params: Some("{\"requestId\":[7]}")
+"params":["requestId",7] => None, method: "notifications/cancelled", params: Some("[\"requestId\",7]")
+"params":null => None, method: "notifications/cancelled", params: None
+"requestId":7 => None, method: "notifications/cancelled", params: None
+"params":{"requestId":7},"id":8 => Some(Unsigned(8)), method: "notifications/cancelled", params: Some("{\"requestId\":7}")
+"params":{"requestId":7},"id":null => Some(Null), method: "notifications/cancelled", params: Some("{\"requestId\":7}")"#,
+    },
+    Group {
+        name: "a cancel as MCP has it is invalid where a call is",
+        cancels: Some(Cancels::Mcp),
+        content: "@",
+        unit: "Single(Invalid)",
+        lines: r#"{"jsonrpc":"2.0","method":"notifications/cancelled","params":7}
+{"method":"notifications/cancelled","params":{"requestId":7}}"#,
+    },
+    Group {
+        name: "a cancel as LSP has it is a call where cancels are MCP's",
+        cancels: Some(Cancels::Mcp),
+        content: r#"{"jsonrpc":"2.0","method":"$/cancelRequest","params":@}"#,
+        unit: r#"Single(Call(Call { id: None, method: "$/cancelRequest", params: Some(@) }))"#,
+        lines: r#"{"id":7} => "{\"id\":7}"
+{"requestId":7} => "{\"requestId\":7}"
+{"requestId":7,"id":7} => "{\"requestId\":7,\"id\":7}""#,
+    },
+    Group {
+        name: "a cancel as MCP has it is a call where cancels are LSP's",
+        cancels: Some(Cancels::Lsp),
+        content: r#"{"jsonrpc":"2.0","method":"notifications/cancelled","params":@}"#,
+        unit: r#"Single(Call(Call { id: None, method: "notifications/cancelled", params: Some(@) }))"#,
+        lines: r#"{"id":7} => "{\"id\":7}"
+{"requestId":7} => "{\"requestId\":7}"
+{ "id": 7 } => "{\"id\":7}""#,
+    },
+    Group {
+        name: "a cancel as LSP has it names nothing by requestId",
+        cancels: Some(Cancels::Lsp),
+        content: r#"{"jsonrpc":"2.0","method":"$/cancelRequest","params":@}"#,
+        unit: r#"Single(@)"#,
+        lines: r#"{"requestId":7} => Call(Call { id: None, method: "$/cancelRequest", params: Some("{\"requestId\":7}") })
+{"requestId":7,"id":8} => Cancel(Unsigned(8))"#,
+    },
+    Group {
+        name: "a batch may have cancels as MCP has them",
+        cancels: Some(Cancels::Mcp),
+        content: "@",
+        unit: "Batch(Items { items: [@] })",
+        lines: r#"[{"jsonrpc":"2.0","method":"notifications/cancelled","params":{"requestId":"a"}},{"jsonrpc":"2.0","method":"notifications/cancelled","params":{"id":"a"}}] => Cancel(Text("a")), Call(Call { id: None, method: "notifications/cancelled", params: Some("{\"id\":\"a\"}") })"#,
     },
 ];
 

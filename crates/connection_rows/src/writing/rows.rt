@@ -2,6 +2,7 @@
 
 use super::Name::{Null, Signed, Text, Unsigned};
 use super::Said::{self, Call, Calls, Error, Fixed, Notice, Result, Withdrawal};
+use connection_messages::Cancels;
 use message_ids::Standard;
 
 pub const ROWS: &[(&str, Said)] = &[
@@ -108,10 +109,18 @@ pub const ROWS: &[(&str, Said)] = &[
     ),
     (
         r#"{"jsonrpc":"2.0","method":"$/cancelRequest","params":{"id":1}}"#,
-        Withdrawal(1),
+        Withdrawal(Cancels::Lsp, 1),
     ),
     (
         r#"{"jsonrpc":"2.0","method":"$/cancelRequest","params":{"id":9007199254740991}}"#,
-        Withdrawal(9_007_199_254_740_991),
+        Withdrawal(Cancels::Lsp, 9_007_199_254_740_991),
+    ),
+    (
+        r#"{"jsonrpc":"2.0","method":"notifications/cancelled","params":{"requestId":1}}"#,
+        Withdrawal(Cancels::Mcp, 1),
+    ),
+    (
+        r#"{"jsonrpc":"2.0","method":"notifications/cancelled","params":{"requestId":9007199254740991}}"#,
+        Withdrawal(Cancels::Mcp, 9_007_199_254_740_991),
     ),
 ];
