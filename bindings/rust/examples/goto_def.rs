@@ -61,8 +61,8 @@ impl Server {
                 }
                 self.connection.close(number)
             }
-            // (each request is answered at once, so no cancel reaches one; and it makes no calls)
-            Event::Cancelled { .. } | Event::Replied { .. } | Event::Unanswered { .. } | Event::Over(_) => Ok(()),
+            // (each request is answered at once, so no cancel reaches one; it makes no calls, and isn't told of broken input)
+            _ => Ok(()),
         }
     }
 

@@ -50,7 +50,7 @@ pub struct Connection {
 // `Connection` isn't `Sync`.
 unsafe impl Send for Connection {}
 
-// SAFETY of the calls below: the handle is that of a connection which `bm_new` has made and only `drop` frees. Each
+// SAFETY of the calls below: the handle is that of a connection which `bm_open` has made and only `drop` frees. Each
 // pointer to bytes comes with their length, and isn't null, since slices have no null. What a call writes to is
 // borrowed for it alone. The library keeps no pointer.
 
@@ -67,9 +67,10 @@ impl Connection {
     pub fn new(settings: Settings) -> Result<Self, Refusal> {
         let found = unsafe { sys::bm_interface() };
         assert_eq!(found, sys::BM_INTERFACE, "the library has another interface");
-        assert!(unsafe { sys::bm_has(sys::BM_HAS_TOGETHER) }, "the library is older than this crate");
+        let has_all = unsafe { sys::bm_has(sys::BM_HAS_TOGETHER) && sys::bm_has(sys::BM_HAS_OPEN) };
+        assert!(has_all, "the library is older than this crate");
         let (given, mut at) = (settings.in_c()?, null_mut());
-        Refusal::check(unsafe { sys::bm_new(&given, &mut at) })?;
+        Refusal::check(unsafe { sys::bm_open(&given, &mut at) })?;
         Ok(Connection {
             handle: sys::bm_connection { at },
             has_contents: settings.has_contents(),
@@ -107,6 +108,25 @@ impl Connection {
             Ended::ReadFailed => sys::BM_READ_FAILED,
         };
         Refusal::check(unsafe { sys::bm_end(&mut self.handle, how) })
+    }
+
+    /// Where the bytes that were fed are at fault: how many stand before the frame or line at fault, or with
+    /// [`Framing::Contents`](crate::Framing::Contents) before the content that is too long. There is none where nothing is
+    /// at fault. Which fault it is tells [`Event::Over`] once what came before has been told.
+    ///
+    /// ```
+    /// use bullmyrtle::{Close, Connection, Event, Settings};
+    ///
+    /// let mut connection = Connection::new(Settings::new())?;
+    /// connection.feed(b"Content-Length: 2\r\n\r\n[]no head\r\n\r\n")?;
+    /// assert_eq!(connection.fault_place(), Some(23));
+    /// assert_eq!(connection.next_event()?, Some(Event::Over(Close::BadHead)));
+    /// # Ok::<(), bullmyrtle::Refusal>(())
+    /// ```
+    #[must_use]
+    pub fn fault_place(&self) -> Option<u64> {
+        let mut place = 0;
+        unsafe { sys::bm_fault_at(&mut self.handle(), &mut place) }.then_some(place)
     }
 
     /// The next event, where there is one now. Ask until there is none, after each [`feed`](Self::feed) and after

@@ -47,6 +47,30 @@ pub enum Event {
     },
     /// The input is over. It is the last event.
     Over(Close),
+    /// A content is broken. It is answered all the same: you have nothing to do. It is told before all else of its content,
+    /// and only where the [settings](crate::Settings::broken) say so.
+    Broken {
+        /// How many bytes were fed before the content's first.
+        place: u64,
+        /// The content's first bytes, at most 64. They may be any bytes.
+        start: Vec<u8>,
+        /// What is wrong with it.
+        defect: Defect,
+    },
+}
+
+/// What is wrong with a broken content.
+#[derive(Clone, Copy, Debug, PartialEq, Eq, Hash)]
+pub enum Defect {
+    /// It isn't JSON in UTF-8, or nests deeper than 127 levels, or is in another charset.
+    Unreadable,
+    /// It has entries that are neither a call nor a reply.
+    Invalid {
+        /// Which entry is the first such, from 0. It is 0 too where the content is a single one.
+        first: u64,
+        /// How many there are.
+        count: u64,
+    },
 }
 
 /// An [`Event`] whose texts lie in a [`Room`](crate::Room): nothing is copied. [`to_owned`](Self::to_owned) gives one
@@ -92,6 +116,15 @@ pub enum EventRef<'a> {
     },
     /// See [`Event::Over`].
     Over(Close),
+    /// See [`Event::Broken`].
+    Broken {
+        /// How many bytes were fed before the content's first.
+        place: u64,
+        /// The content's first bytes, at most 64.
+        start: &'a [u8],
+        /// What is wrong with it.
+        defect: Defect,
+    },
 }
 
 /// An [`ErrorObject`] whose texts lie in a [`Room`](crate::Room).
@@ -130,6 +163,7 @@ impl<'a> EventRef<'a> {
             }
             EventRef::Unanswered { key } => Event::Unanswered { key },
             EventRef::Over(close) => Event::Over(close),
+            EventRef::Broken { place, start, defect } => Event::Broken { place, start: start.into(), defect },
         }
     }
 
@@ -153,6 +187,7 @@ impl<'a> EventRef<'a> {
             sys::BM_REPLIED => EventRef::Replied { key, reply: Ok(text(given)) },
             sys::BM_UNANSWERED => EventRef::Unanswered { key },
             sys::BM_INPUT_OVER => EventRef::Over(Close::of(head.flags)),
+            sys::BM_BROKEN => EventRef::Broken { place: number, start: given, defect: Defect::of(head) },
             kind => unreachable!("the library told an event of the kind {kind}"),
         })
     }
@@ -269,12 +304,22 @@ impl Close {
     }
 }
 
+impl Defect {
+    fn of(head: &sys::bm_event) -> Self {
+        match head.flags {
+            sys::BM_UNREADABLE => Defect::Unreadable,
+            sys::BM_INVALID => Defect::Invalid { first: head.key, count: head.code as u64 },
+            _ => unreachable!("the library told a defect {}", head.flags),
+        }
+    }
+}
+
 /// How many bytes the texts of an event take, each with the zero byte behind it.
 pub(crate) fn texts_length(head: &sys::bm_event) -> usize {
     head.name_len + head.text_len + head.id_len + 3
 }
 
-/// (The library tells texts in UTF-8 alone.)
+/// (All texts that the library tells are UTF-8, but for the start of a broken content.)
 fn text(bytes: &[u8]) -> &str {
     std::str::from_utf8(bytes).expect("the library tells UTF-8")
 }

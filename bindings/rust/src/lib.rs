@@ -48,14 +48,15 @@ mod json;
 mod refusal;
 mod report;
 mod settings;
-#[allow(non_camel_case_types)]
+// (`bm_new` isn't called: `bm_open` does all that it does)
+#[allow(dead_code, non_camel_case_types)]
 mod sys;
 mod together;
 
 pub use connection::{Connection, Ended, NOBODY};
-pub use event::{Close, ErrorObject, ErrorRef, Event, EventRef, EventRefs, Events};
+pub use event::{Close, Defect, ErrorObject, ErrorRef, Event, EventRef, EventRefs, Events};
 pub use json::{Json, Outgoing};
 pub use refusal::Refusal;
 pub use report::Report;
-pub use settings::{Framing, Order, Settings};
+pub use settings::{Cancels, Framing, Order, Settings};
 pub use together::{Room, Sayings, Stop};

@@ -1,5 +1,6 @@
 use crate::sys;
 use crate::Refusal;
+use std::mem::size_of;
 
 /// How contents are framed.
 #[derive(Clone, Copy, Debug, Default, PartialEq, Eq, Hash)]
@@ -24,14 +25,39 @@ pub enum Order {
     AsCame,
 }
 
+/// Whose cancels the protocol has: which notification is read as a cancel, and which one withdraws a call of yours.
+#[derive(Clone, Copy, Debug, Default, PartialEq, Eq, Hash)]
+pub enum Cancels {
+    /// None: each notification is a call, and no call of yours can be withdrawn.
+    #[default]
+    None,
+    /// `$/cancelRequest`, as the Language Server Protocol has.
+    Lsp,
+    /// `notifications/cancelled`, as the Model Context Protocol has. A request whose cancel has come gets no answer where
+    /// you [`cancel`](crate::Connection::cancel) it, and a call that you [withdraw](crate::Connection::withdraw) waits no
+    /// longer.
+    Mcp,
+}
+
+/// `true` stands for [`Cancels::Lsp`], and `false` for none.
+impl From<bool> for Cancels {
+    fn from(has_cancels: bool) -> Self {
+        if has_cancels {
+            Cancels::Lsp
+        } else {
+            Cancels::None
+        }
+    }
+}
+
 /// What a connection is made with.
 ///
 /// The default has frames, sends answers as soon as they can go out, takes no cancels, and has the greatest limits.
 ///
 /// ```
-/// use bullmyrtle::{Connection, Framing, Settings};
+/// use bullmyrtle::{Cancels, Connection, Framing, Settings};
 ///
-/// let settings = Settings::new().framing(Framing::Lines).cancels(true).content(1 << 20);
+/// let settings = Settings::new().framing(Framing::Lines).cancels(Cancels::Mcp).content(1 << 20);
 /// let connection = Connection::new(settings)?;
 /// # assert_eq!(connection.pending(), 0);
 /// # Ok::<(), bullmyrtle::Refusal>(())
@@ -40,7 +66,8 @@ pub enum Order {
 pub struct Settings {
     framing: Framing,
     order: Order,
-    cancels: bool,
+    cancels: Cancels,
+    broken: bool,
     content: Option<u32>,
     calls: Option<u64>,
 }
@@ -64,10 +91,16 @@ impl Settings {
         Settings { order, ..self }
     }
 
-    /// Whether the protocol has `$/cancelRequest`, as the Language Server Protocol has.
+    /// Whose cancels the protocol has. `true` stands for those of the Language Server Protocol.
     #[must_use]
-    pub fn cancels(self, cancels: bool) -> Self {
-        Settings { cancels, ..self }
+    pub fn cancels(self, cancels: impl Into<Cancels>) -> Self {
+        Settings { cancels: cancels.into(), ..self }
+    }
+
+    /// Whether broken input is told, as [`Event::Broken`](crate::Event::Broken). It is answered in any case.
+    #[must_use]
+    pub fn broken(self, broken: bool) -> Self {
+        Settings { broken, ..self }
     }
 
     /// How many bytes a content may have: 1 to 16,777,216, which is also the default.
@@ -87,11 +120,12 @@ impl Settings {
     }
 
     /// (A limit of 0 stands for the greatest in C, and is refused here.)
-    pub(crate) fn in_c(self) -> Result<sys::bm_settings, Refusal> {
+    pub(crate) fn in_c(self) -> Result<sys::bm_options, Refusal> {
         if self.content == Some(0) || self.calls == Some(0) {
             return Err(Refusal::Settings);
         }
-        Ok(sys::bm_settings {
+        Ok(sys::bm_options {
+            size: size_of::<sys::bm_options>() as u32,
             framing: match self.framing {
                 Framing::Frames => sys::BM_FRAMES,
                 Framing::Lines => sys::BM_LINES,
@@ -101,7 +135,12 @@ impl Settings {
                 Order::AsAnswered => sys::BM_AS_ANSWERED,
                 Order::AsCame => sys::BM_AS_CAME,
             },
-            takes_cancels: self.cancels.into(),
+            cancels: match self.cancels {
+                Cancels::None => sys::BM_CANCELS_NONE,
+                Cancels::Lsp => sys::BM_CANCELS_LSP,
+                Cancels::Mcp => sys::BM_CANCELS_MCP,
+            },
+            broken: self.broken.into(),
             content: self.content.unwrap_or(0),
             calls: self.calls.unwrap_or(0),
         })

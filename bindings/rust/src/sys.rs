@@ -22,6 +22,10 @@ pub const BM_CONTENTS: u32 = 2;
 pub const BM_AS_ANSWERED: u32 = 0;
 pub const BM_AS_CAME: u32 = 1;
 
+pub const BM_CANCELS_NONE: u32 = 0;
+pub const BM_CANCELS_LSP: u32 = 1;
+pub const BM_CANCELS_MCP: u32 = 2;
+
 pub const BM_CLOSED: u32 = 0;
 pub const BM_READ_FAILED: u32 = 1;
 
@@ -31,9 +35,12 @@ pub const BM_CANCELLED: u32 = 2;
 pub const BM_REPLIED: u32 = 3;
 pub const BM_UNANSWERED: u32 = 4;
 pub const BM_INPUT_OVER: u32 = 5;
+pub const BM_BROKEN: u32 = 6;
 
 pub const BM_REQUEST: u32 = 1;
 pub const BM_ERROR: u32 = 1;
+pub const BM_UNREADABLE: u32 = 0;
+pub const BM_INVALID: u32 = 1;
 
 pub const BM_OVER_CLEAN: u32 = 0;
 pub const BM_OVER_BAD_HEAD: u32 = 1;
@@ -47,6 +54,7 @@ pub const BM_OVER_READ: u32 = 8;
 pub const BM_OVER_CALLS: u32 = 9;
 
 pub const BM_HAS_TOGETHER: u32 = 1;
+pub const BM_HAS_OPEN: u32 = 2;
 
 pub const BM_STOP_NONE: u32 = 0;
 pub const BM_STOP_ROOM: u32 = 1;
@@ -68,6 +76,18 @@ pub struct bm_settings {
     pub framing: u32,
     pub order: u32,
     pub takes_cancels: u32,
+    pub content: u32,
+    pub calls: u64,
+}
+
+#[repr(C)]
+#[derive(Clone, Copy, Debug, Default)]
+pub struct bm_options {
+    pub size: u32,
+    pub framing: u32,
+    pub order: u32,
+    pub cancels: u32,
+    pub broken: u32,
     pub content: u32,
     pub calls: u64,
 }
@@ -141,9 +161,11 @@ extern "C" {
     pub fn bm_interface() -> u32;
     pub fn bm_has(addition: u32) -> bool;
     pub fn bm_new(settings: *const bm_settings, at: *mut *mut c_void) -> i32;
+    pub fn bm_open(options: *const bm_options, at: *mut *mut c_void) -> i32;
     pub fn bm_free(connection: bm_connection);
     pub fn bm_feed(connection: *mut bm_connection, bytes: *const u8, length: usize) -> i32;
     pub fn bm_end(connection: *mut bm_connection, how: u32) -> i32;
+    pub fn bm_fault_at(connection: *mut bm_connection, offset: *mut u64) -> bool;
     pub fn bm_next(connection: *mut bm_connection, event: *mut bm_event, room: *mut u8, length: usize) -> i32;
     pub fn bm_next_all(
         connection: *mut bm_connection,

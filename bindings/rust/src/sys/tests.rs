@@ -74,6 +74,7 @@ macro_rules! assert_laid_out {
 #[test]
 fn structs_lie_as_in_the_header() {
     assert_laid_out!(bm_settings: framing order takes_cancels content calls);
+    assert_laid_out!(bm_options: size framing order cancels broken content calls);
     assert_laid_out!(bm_event: kind flags number key code name_len text_len id_len);
     assert_laid_out!(bm_report: calls requests open waiting own_calls answers_written unreadable invalid ignored);
     assert_laid_out!(bm_told: count stopped used needed pending);
@@ -94,12 +95,13 @@ fn constants_are_those_of_the_header() {
         BM_FULL
         BM_FRAMES BM_LINES BM_CONTENTS
         BM_AS_ANSWERED BM_AS_CAME
+        BM_CANCELS_NONE BM_CANCELS_LSP BM_CANCELS_MCP
         BM_CLOSED BM_READ_FAILED
-        BM_NONE BM_CALL BM_CANCELLED BM_REPLIED BM_UNANSWERED BM_INPUT_OVER
-        BM_REQUEST BM_ERROR
+        BM_NONE BM_CALL BM_CANCELLED BM_REPLIED BM_UNANSWERED BM_INPUT_OVER BM_BROKEN
+        BM_REQUEST BM_ERROR BM_UNREADABLE BM_INVALID
         BM_OVER_CLEAN BM_OVER_BAD_HEAD BM_OVER_BAD_LENGTH BM_OVER_TWO_LENGTHS BM_OVER_TOO_LARGE BM_OVER_NO_LENGTH
         BM_OVER_HEAD_TOO_LONG BM_OVER_TRUNCATED BM_OVER_READ BM_OVER_CALLS
-        BM_HAS_TOGETHER
+        BM_HAS_TOGETHER BM_HAS_OPEN
         BM_STOP_NONE BM_STOP_ROOM BM_STOP_MOST BM_STOP_NO_MEMORY
         BM_SAY_ANSWER BM_SAY_FAIL BM_SAY_CLOSE BM_SAY_CALL BM_SAY_BATCH BM_SAY_NOTIFY BM_SAY_WITHDRAW BM_SAY_CANCEL
     );
@@ -109,5 +111,5 @@ fn constants_are_those_of_the_header() {
 #[test]
 fn the_library_has_the_interface_of_the_header() {
     assert_eq!(unsafe { bm_interface() }, BM_INTERFACE);
-    assert!(unsafe { bm_has(BM_HAS_TOGETHER) });
+    assert!(unsafe { bm_has(BM_HAS_TOGETHER) && bm_has(BM_HAS_OPEN) });
 }

@@ -1,6 +1,6 @@
 //! Plays a script for a connection through the crate in Rust: an action a line on the standard input, what it gives on
 //! the standard output. The repository's `checks/support/connection_script.py` has the grammar.
-use bullmyrtle::{Connection, Ended, Event, Framing, Json, Order, Outgoing, Refusal, Settings};
+use bullmyrtle::{Cancels, Connection, Defect, Ended, Event, Framing, Json, Order, Outgoing, Refusal, Settings};
 use std::io::{self, BufRead, Write};
 use std::process::exit;
 
@@ -132,6 +132,12 @@ fn told(event: Event) -> String {
         }
         Event::Unanswered { key } => format!("unanswered {key}"),
         Event::Over(close) => format!("over {close:?}"),
+        Event::Broken { place, start, defect: Defect::Unreadable } => {
+            format!("broken {place} unreadable {}", hex(start))
+        }
+        Event::Broken { place, start, defect: Defect::Invalid { first, count } } => {
+            format!("broken {place} invalid {first} {count} {}", hex(start))
+        }
     }
 }
 
@@ -145,12 +151,17 @@ impl Player {
         let framing =
             words.one_of(&[("frames", Framing::Frames), ("lines", Framing::Lines), ("contents", Framing::Contents)]);
         let order = words.one_of(&[("as-answered", Order::AsAnswered), ("as-came", Order::AsCame)]);
-        let cancels = words.one_of(&[("no-cancels", false), ("cancels", true)]);
+        let cancels = words.one_of(&[("no-cancels", Cancels::None), ("cancels", Cancels::Lsp), ("mcp", Cancels::Mcp)]);
         let content = words.number().try_into().unwrap_or(u32::MAX);
         let calls = words.number();
-        words.end();
+        let broken = match words.rest()[..] {
+            [] => false,
+            ["broken"] => true,
+            _ => give_up(),
+        };
         self.has_begun = true;
-        let settings = Settings::new().framing(framing).order(order).cancels(cancels).content(content).calls(calls);
+        let settings = Settings::new().framing(framing).order(order).cancels(cancels).broken(broken);
+        let settings = settings.content(content).calls(calls);
         match Connection::new(settings) {
             Ok(made) => {
                 self.connection = Some(made);
@@ -224,6 +235,7 @@ fn act(connection: &mut Connection, action: &str, mut words: Words) -> String {
         }
         "pending" => format!("pending {}", connection.pending()),
         "is_done" => connection.is_done().to_string(),
+        "fault_place" => connection.fault_place().map_or_else(|| "none".into(), |it| format!("place {it}")),
         "report" => {
             let it = connection.report();
             let counts = [it.calls, it.requests, it.open, it.waiting, it.own_calls, it.answers_written];
