@@ -4,8 +4,12 @@ The library is the one that the variable BULLMYRTLE_LIBRARY names, that of the p
 of the repository. One that the variable names and that isn't the released one is told on standard error, and the
 version has a label with the first digits of its sum, as in 0.1.0+library.1a2b3c4d. The same files give the same wheel,
 byte for byte.
+
+A source distribution has no library, since that has sources of its own. It has the sum of the released one, so that a
+wheel of these sources and that library is the one that the repository gives.
 """
 import base64
+import gzip
 import hashlib
 import io
 import os
@@ -18,6 +22,8 @@ HERE = os.path.dirname(os.path.dirname(os.path.abspath(__file__)))
 NAME, LIBRARY = "bullmyrtle", "libbullmyrtle.so.1"
 TAG = "py3-none-manylinux2014_x86_64"
 VARIABLE = "BULLMYRTLE_LIBRARY"
+# What a source distribution has in place of the library, as sha256sum writes it.
+SUM = f"{LIBRARY}.sha256"
 STAMP = (1980, 1, 1, 0, 0, 0)
 SUMMARY = "A JSON-RPC 2.0 peer whose protocol is proved: language servers, tool servers and their clients"
 
@@ -27,12 +33,11 @@ def read(*place):
         return file.read()
 
 
-def released():
-    """The files that may lie here: the library of a source distribution, and that of the repository."""
-    return [
-        os.path.join(HERE, NAME, LIBRARY),
-        os.path.normpath(os.path.join(HERE, "..", "..", "release", LIBRARY)),
-    ]
+# Where the library may lie: where it was put beside the modules, and where the repository has the released one.
+PLACES = [
+    os.path.join(HERE, NAME, LIBRARY),
+    os.path.normpath(os.path.join(HERE, "..", "..", "release", LIBRARY)),
+]
 
 
 def bytes_of(place):
@@ -42,26 +47,31 @@ def bytes_of(place):
 
 def library():
     named = os.environ.get(VARIABLE)
-    places = [named] if named else released()
+    places = [named] if named else PLACES
     for place in places:
         if os.path.isfile(place):
             return bytes_of(place)
     raise SystemExit(
         f"{LIBRARY} isn't there: neither {' nor '.join(places)}; {VARIABLE} may name it, "
-        "as it has to for a pip before 21.3, which copies this folder elsewhere"
+        "as it has to for a source distribution, and for a pip before 21.3, which copies this folder elsewhere"
     )
+
+
+def sum_line(data):
+    return f"{hashlib.sha256(data).hexdigest()}  {LIBRARY}\n".encode()
+
+
+def released_sum():
+    """The line with the sum of the released library; nothing where neither it nor its sum lies here."""
+    if os.path.isfile(PLACES[1]):
+        return sum_line(bytes_of(PLACES[1]))
+    kept = os.path.join(HERE, SUM)
+    return bytes_of(kept) if os.path.isfile(kept) else b""
 
 
 def label(data):
     """What the version has behind it, where this library isn't the released one."""
-    if data not in [bytes_of(it) for it in released() if os.path.isfile(it)]:
-        return f"+library.{hashlib.sha256(data).hexdigest()[:8]}"
-    # (that of a source distribution may be such a one)
-    sources = os.path.join(HERE, "PKG-INFO")
-    found = (
-        re.search(rb"^Version: [^+\n]*([+].*)$", bytes_of(sources), re.M) if os.path.isfile(sources) else None
-    )
-    return found[1].decode() if found else ""
+    return "" if sum_line(data) == released_sum() else f"+library.{hashlib.sha256(data).hexdigest()[:8]}"
 
 
 def version():
@@ -138,19 +148,16 @@ def build_editable(wheel_directory, config_settings=None, metadata_directory=Non
 
 
 def build_sdist(sdist_directory, config_settings=None):
-    data = library()
-    of = version_with(data)
-    top = f"{NAME}-{of}"
-    files = {f"{top}/{name}": it for name, it in modules().items()}
-    files[f"{top}/{NAME}/{LIBRARY}"] = data
-    files[f"{top}/PKG-INFO"] = metadata(of)
+    top = f"{NAME}-{version()}"
+    files = {**modules(), SUM: released_sum(), "PKG-INFO": metadata(version())}
     for name in ("pyproject.toml", "README.md", "build_backend/wheels.py"):
-        files[f"{top}/{name}"] = read(name)
-    with tarfile.open(
-        os.path.join(sdist_directory, f"{top}.tar.gz"), "w:gz", format=tarfile.PAX_FORMAT
-    ) as archive:
+        files[name] = read(name)
+    packed = io.BytesIO()
+    with tarfile.open(fileobj=packed, mode="w", format=tarfile.PAX_FORMAT) as archive:
         for name, it in files.items():
-            about = tarfile.TarInfo(name)
+            about = tarfile.TarInfo(f"{top}/{name}")
             about.size, about.mode = len(it), 0o644
             archive.addfile(about, io.BytesIO(it))
+    with open(os.path.join(sdist_directory, f"{top}.tar.gz"), "wb") as file:
+        file.write(gzip.compress(packed.getvalue(), mtime=0))
     return f"{top}.tar.gz"

@@ -18,6 +18,7 @@ from ._threads import T, in_thread
 from .errors import (
     INTERNAL_ERROR,
     METHOD_NOT_FOUND,
+    REQUEST_CANCELLED,
     TOO_MANY_OPEN,
     Closed,
     Error,
@@ -104,7 +105,7 @@ class Answering(Asking):
     def _is_refused(self, event: events.Call) -> bool:
         """Refuses a call where none begins any more, or a request where too many are open."""
         if self._is_stopped:
-            self._connection.cancel(event.number)
+            self._say_cancelled(event.number, event.method)
             return True
         if event.id is None:
             return False
@@ -434,13 +435,23 @@ class Answering(Asking):
                 if key in self._replies:
                     self._say_tool_cancel(key)
         with contextlib.suppress(NotOpen):
-            self._connection.cancel(request.number)
+            self._say_cancelled(request.number, request.method)
         replies = [it for it in (self._replies.pop(key, None) for key in request.keys) if it is not None]
         self._closed(request)
         if request.task is not None:
             self._end_task(request.task)
         for reply in replies:
             self._refuse(reply, Closed(f"{request.method}: the request is cancelled"))
+
+    def _say_cancelled(self, number: int, method: str) -> None:
+        """Closes a request that is cancelled: with the answer that says so, or without one where its protocol has it so.
+
+        One that is never cancelled has its answer, though a cancel of it may have come.
+        """
+        if self._is_never_cancelled(method):
+            self._connection.fail(number, REQUEST_CANCELLED, "Request cancelled")
+        else:
+            self._connection.cancel(number)
 
     def _cancel_by_id(self, event: events.Call) -> None:
         """A tool server's cancel is a notification like others, which names the request by its id."""

@@ -91,14 +91,25 @@ class Asking:
         if self._aside is not None:
             return self._call_now([(method, text)], False, request, False)
         try:
-            key = self._connection.call(0 if request is None else request.number, method, text)
+            key = self._connection.call(self._behalf(request, method), method, text)
         except NotOpen:
             raise Closed("the request is over") from None
         except InputOver:
             raise Unanswered(self.watch.why()) from None
         self._said += AROUND + len(method) + (0 if text is None else len(text))
         self._flush_soon()
-        return self._reply_to(key, request)
+        return self._reply_to(key, method, request)
+
+    def _is_never_cancelled(self, method: str) -> bool:
+        """Whether no request of this method is ever cancelled, by either side."""
+        return self.protocol is not None and method in self.protocol.never_cancelled
+
+    def _behalf(self, request: Optional[Request], method: str) -> int:
+        """The number of the call that came, on whose behalf a call of this method is made; 0 is nobody's.
+
+        The end of that call withdraws the calls on its behalf.
+        """
+        return 0 if request is None or self._is_never_cancelled(method) else request.number
 
     def text_of(self, value: Any) -> bytes:
         """The JSON text of a value. Raises NotJson."""
@@ -123,23 +134,22 @@ class Asking:
     ) -> "asyncio.Future[Any]":
         if self._aside is None:
             first = self._said_calls(texts, is_batch, request)
-            replies = [self._reply_to(key, request) for key in range(first, first + len(texts))]
+            replies = [self._reply_to(key, method, request) for key, (method, _) in enumerate(texts, first)]
         else:
             self._check_that_it_can_be_put_off()
             if not texts:
                 raise Empty()
-            replies = [Reply(self, 0) for _ in texts]
+            replies = [Reply(self, 0, method) for method, _ in texts]
             self._put_off.append(functools.partial(self._call_later, texts, is_batch, request, replies))
         return asyncio.gather(*replies, return_exceptions=is_gathered) if is_batch else replies[0]
 
     def _said_calls(self, texts: Texts, is_batch: bool, request: Optional[Request]) -> int:
         """Says calls, and gives the first key."""
-        number = 0 if request is None else request.number
         try:
             if is_batch:
-                first = self._connection.call_batch(number, texts)
+                first = self._connection.call_batch(0 if request is None else request.number, texts)
             else:
-                first = self._connection.call(number, *texts[0])
+                first = self._connection.call(self._behalf(request, texts[0][0]), *texts[0])
         except NotOpen:
             raise Closed("the request is over") from None
         except InputOver:
@@ -165,10 +175,10 @@ class Asking:
         for key, reply in enumerate(replies, first):
             self._keep(reply, key, request)
             if reply.done():
-                self.withdraw(key)
+                self.withdraw(reply)
 
-    def _reply_to(self, key: int, request: Optional[Request]) -> Reply:
-        reply = Reply(self, key)
+    def _reply_to(self, key: int, method: str, request: Optional[Request]) -> Reply:
+        reply = Reply(self, key, method)
         self._keep(reply, key, request)
         return reply
 
@@ -249,14 +259,15 @@ class Asking:
         assert self._cancel_by is not None
         self._connection.notify(self._cancel_by, b'{"requestId":%d}' % key)
 
-    def withdraw(self, key: int) -> None:
-        """Tells the other side that a call of ours isn't wanted any more."""
-        if self._replies.pop(key, None) is None or self._is_closed:
+    def withdraw(self, reply: Reply) -> None:
+        """Tells the other side that a call of ours isn't wanted any more, if it is one that may be cancelled."""
+        was_there = self._replies.pop(reply.key, None) is not None
+        if not was_there or self._is_closed or self._is_never_cancelled(reply.method):
             return
         if self._aside is None:
-            self._withdraw_now(key)
+            self._withdraw_now(reply.key)
         else:
-            self._put_off.append(functools.partial(self._withdraw_now, key))
+            self._put_off.append(functools.partial(self._withdraw_now, reply.key))
 
     def _withdraw_now(self, key: int) -> None:
         if self._is_closed:

@@ -25,7 +25,7 @@ class End(NamedTuple):
     text: str  #: what was wrong, and what to do
     status: Optional[int] = None  #: what serving gave, or None where it was cancelled
     offset: Optional[int] = None  #: where the frame or line at fault begins, where that is known
-    first: Optional[bytes] = None  #: its first bytes, at most 64
+    first: Optional[bytes] = None  #: its first bytes, at most 64, where they are still known
     unanswered: int = 0  #: how many requests weren't answered in time
     exit_status: Optional[int] = None  #: of a client's server, where it is a process that has ended
     stderr: bytes = b""  #: the last of what that wrote to its standard error, at most 4,096 bytes
@@ -46,8 +46,10 @@ class Place(NamedTuple):
 
     @property
     def words(self) -> str:
-        if self.offset is not None:
+        if self.first is not None:
             return f", at byte {self.offset}: {self.first!r}"
+        if self.offset is not None:
+            return f", at byte {self.offset}"
         return f", in what was read from byte {self.piece_offset} on, {self.piece!r}"
 
     @property

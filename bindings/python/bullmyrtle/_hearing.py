@@ -15,6 +15,7 @@ from ._asking import AROUND, words_of_error
 from ._channels import Channel
 from ._params import Methods
 from ._talking import Talking
+from .connection import Notes
 from .errors import INTERNAL_ERROR, Error, InputOver, NoMemory, NotOpen, Unanswered
 from .events import Event
 
@@ -52,6 +53,8 @@ class Hearing(Talking):
     pending: int
     _is_broken: bool
     _flush: Callable[[], None]
+    #: What is told of broken input, with the session.
+    on_broken: Optional[Callable[[events.Broken, Any], Any]] = None
 
     def __init__(
         self,
@@ -59,13 +62,13 @@ class Hearing(Talking):
         json: _json.Json,
         workers: Optional[int],
         most: Optional[int],
-        cancels: List[int],
+        notes: Notes,
     ) -> None:
         super().__init__(methods, json, workers, most)
         self._events: Deque[Event] = deque()
         self._held: Deque[events.Call] = deque()  # calls that wait until what is said has been written
         self._is_going = False
-        self._cancels = cancels  # where the connection notes which requests are cancelled
+        self._cancels = notes.cancelled
         self._gone: Set[int] = set()  # of these, the ones whose turn hasn't come
         self._unread = 0
         self._to_read: Deque[bytes] = deque()
@@ -273,8 +276,7 @@ class Hearing(Talking):
                         self._happened(event)
                         continue
                     number, name, params, id_ = event
-                    if number in gone:
-                        self._never_begin(number)
+                    if number in gone and self._never_begins(number, name):
                         continue
                     method = methods.get(name)
                     if method is None or not method.is_quick or name == cancel_by or self._is_choosy:
@@ -339,12 +341,18 @@ class Hearing(Talking):
         else:
             self._resume("many")
 
-    def _never_begin(self, number: int) -> None:
-        """A request was cancelled before its turn."""
+    def _never_begins(self, number: int, method: str) -> bool:
+        """A request was cancelled before its turn: ends it, unless it is one that is never cancelled."""
         self._gone.discard(number)
+        if self._is_never_cancelled(method):
+            return False
+        self._end_unbegun(number, method)
+        return True
+
+    def _end_unbegun(self, number: int, method: str) -> None:
         self._said += AROUND
         with contextlib.suppress(NotOpen):
-            self._connection.cancel(number)
+            self._say_cancelled(number, method)
 
     def _went_wrong(self, event: Event, fault: BaseException) -> None:
         """The last resort for an event."""
@@ -373,15 +381,28 @@ class Hearing(Talking):
         elif isinstance(event, events.Cancelled):
             self._gone.discard(event.number)
             request = self._open.get(event.number)
-            if request is not None:
+            if request is not None and not self._is_never_cancelled(request.method):
                 self._cancel(request)
         elif isinstance(event, events.Unanswered):
             reply = self._replies.pop(event.key, None)
             if reply is not None:
                 self.watch.lost += not reply.done()
                 self._refuse(reply, Unanswered(self.watch.why()))
+        elif isinstance(event, events.Broken):
+            self._tell_broken(event)
         elif isinstance(event, events.Over) and not self._over.done():
             self._over.set_result(event.how)
+
+    def _tell_broken(self, broken: events.Broken) -> None:
+        """Tells whoever wants to know of broken input, and goes on whatever that does."""
+        if self.on_broken is None:
+            return
+        try:
+            self.on_broken(broken, self)
+        except (KeyboardInterrupt, SystemExit):
+            raise
+        except BaseException as error:
+            log_surely("on_broken raised %s", type(error).__name__, fault=error)
 
     def _data_of(self, event: events.Failed) -> Any:
         """The data of an error; their text, where they can't be read."""
@@ -407,7 +428,10 @@ class Hearing(Talking):
         """Calls wait until what is said has been written; all else is told on."""
         waiting = list(self._events)
         self._events.clear()
+        held = {it.number for it in self._held}
         for event in waiting:
+            if type(event) is events.Cancelled and event.number in held:
+                continue  # (it never begins, by what was noted as the cancel was read)
             if type(event) is not events.Call:
                 try:
                     self._happened(event)
@@ -419,6 +443,7 @@ class Hearing(Talking):
                 if self._takes_tool_cancels and event.method == self._cancel_by:
                     self._cancel_by_id(event)
                 self._held.append(event)
+                held.add(event.number)
 
     def _go_on_where_held(self) -> None:
         """What there was to write is written, and so calls that were held go on."""

@@ -15,8 +15,12 @@ VARIABLE = "BULLMYRTLE_LIBRARY"
 
 FRAMINGS = ("frames", "lines", "contents")
 ORDERS = ("as-answered", "as-came")
+#: Whose cancels there are.
+CANCELS = (None, "lsp", "mcp")
 CLOSED, READ_FAILED = 0, 1
-CALL, CANCELLED, REPLIED, UNANSWERED, INPUT_OVER = 1, 2, 3, 4, 5
+CALL, CANCELLED, REPLIED, UNANSWERED, INPUT_OVER, BROKEN = 1, 2, 3, 4, 5, 6
+# By the flags of BROKEN.
+DEFECTS = ("Unreadable", "Invalid")
 # By the flags of INPUT_OVER.
 HOWS = (
     "Clean",
@@ -37,6 +41,20 @@ class Settings(ctypes.Structure):
         ("framing", c_uint32),
         ("order", c_uint32),
         ("takes_cancels", c_uint32),
+        ("content", c_uint32),
+        ("calls", c_uint64),
+    ]
+
+
+class Options(ctypes.Structure):
+    """The settings of the addition OPEN."""
+
+    _fields_ = [
+        ("size", c_uint32),
+        ("framing", c_uint32),
+        ("order", c_uint32),
+        ("cancels", c_uint32),
+        ("broken", c_uint32),
         ("content", c_uint32),
         ("calls", c_uint64),
     ]
@@ -92,8 +110,8 @@ class Said(ctypes.Structure):
 
 # Why no more events are told.
 NO_EVENT, NO_ROOM, NO_MORE, NO_MEMORY_LEFT = range(4)
-# The addition that has bm_tell and bm_fed.
-TOGETHER = 1
+# The additions: bm_tell and bm_fed; and bm_open with MCP's cancels, broken input told, and where a fault lies.
+TOGETHER, OPEN = 1, 2
 
 
 class Counts(ctypes.Structure):
@@ -141,6 +159,11 @@ CALLS: Dict[str, Tuple[Any, List[Any]]] = {
     "bm_taken": (c_int32, [_AT, c_void_p, c_size_t, POINTER(c_size_t)]),
     "bm_is_done": (c_bool, [_AT]),
     "bm_counts": (None, [_AT, POINTER(Counts)]),
+}
+# The same of the addition OPEN, which a library may lack.
+CALLS_OF_OPEN: Dict[str, Tuple[Any, List[Any]]] = {
+    "bm_open": (c_int32, [POINTER(Options), POINTER(c_void_p)]),
+    "bm_fault_at": (c_bool, [_AT, POINTER(c_uint64)]),
 }
 
 _loaded: Any = None
@@ -191,19 +214,25 @@ def is_there() -> bool:
         return False
 
 
-def declare(library: Any) -> None:
-    """Tells ctypes of the calls, and refuses a library that isn't this package's."""
+def _declare(library: Any, calls: Dict[str, Tuple[Any, List[Any]]]) -> None:
     try:
-        for name, (result, parameters) in CALLS.items():
+        for name, (result, parameters) in calls.items():
             call = getattr(library, name)
             call.restype, call.argtypes = result, parameters
     except AttributeError as error:
         raise LibraryError(f"the library lacks a call: {error}") from None
+
+
+def declare(library: Any) -> None:
+    """Tells ctypes of the calls, and refuses a library that isn't this package's."""
+    _declare(library, CALLS)
     version = library.bm_interface()
     if version != INTERFACE:
         raise LibraryError(f"the library has the interface {version}, and this package is for {INTERFACE}")
     if not library.bm_has(TOGETHER):
         raise LibraryError("the library is older than this package")
+    if library.bm_has(OPEN):
+        _declare(library, CALLS_OF_OPEN)
 
 
 def library() -> Any:
@@ -222,6 +251,19 @@ def library() -> Any:
         declare(loaded)
         _loaded, loaded_by_name = loaded, by_name
     return _loaded
+
+
+def has_open() -> bool:
+    """Whether the library has the addition OPEN."""
+    return bool(library().bm_has(OPEN))
+
+
+def check_open(wanted: str) -> None:
+    """Refuses what needs the addition OPEN, where the library lacks it."""
+    if not has_open():
+        raise LibraryError(
+            f"{wanted} needs a library that has bm_open, as bullmyrtle 0.3.0 does, and the one that is loaded is older"
+        )
 
 
 def undeclared(library: Any, name: str) -> Any:

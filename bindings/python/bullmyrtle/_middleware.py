@@ -71,7 +71,7 @@ def _end(request: Request, seconds: float, late: Late) -> None:
         if (
             reply is not None
         ):  # (the other side is told that it isn't wanted any more, and a thread that it won't come)
-            session.withdraw(key)
+            session.withdraw(reply)
             session._refuse(reply, Closed(f"{request.method}: it took too long"))
     with contextlib.suppress(NotOpen):
         late(request, seconds)

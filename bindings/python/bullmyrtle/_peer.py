@@ -19,7 +19,7 @@ from typing import (
     overload,
 )
 
-from . import _settings
+from . import _library, _settings
 from ._channels import Channel
 from ._ends import End
 from ._json import DIGITS
@@ -32,8 +32,9 @@ from ._request import Reply, Said
 from ._session import LSP_CANCEL, TOOL_CANCEL, Session
 from ._trace import Trace, Traced
 from ._watch import Watch
-from .connection import Connection, Order
+from .connection import Cancels, Connection, Order
 from .errors import Closed
+from .events import Broken
 
 F = TypeVar("F", bound=Callable[..., Any])
 T = TypeVar("T")
@@ -41,6 +42,9 @@ M = TypeVar("M", bound=Callable[..., Any])
 
 CancelBy = Literal["$/cancelRequest", "notifications/cancelled", "by framing"]
 Framing = Literal["frames", "lines"]
+
+# What is told of broken input, with the session.
+OnBroken = Callable[[Broken, Session], Any]
 
 #: The cancel that belongs to the framing.
 BY_FRAMING: CancelBy = "by framing"
@@ -55,7 +59,7 @@ class Peer:
         self,
         *,
         protocol: Optional[ProtocolName] = None,
-        framing: Framing = "frames",
+        framing: Optional[Framing] = None,
         order: Order = "as-answered",
         cancel_by: Optional[CancelBy] = BY_FRAMING,
         content: Optional[int] = None,
@@ -65,12 +69,14 @@ class Peer:
         digits: int = DIGITS,
         open: Optional[int] = None,
         trace: Optional[Trace] = None,
+        on_broken: Optional[OnBroken] = None,
         **unknown: NoReturn,
     ) -> None:
         """Make one, without methods yet. Raises `BadSettings` where there are no such settings.
 
-        protocol -- "lsp": what the Language Server Protocol has, and nothing that its servers can't read; or None
-        framing -- "frames", as in LSP, or "lines", as in MCP
+        protocol -- "lsp" or "mcp": what the Language Server Protocol or the Model Context Protocol has, and nothing
+            that its other sides can't read; or None
+        framing -- "frames", as in LSP, or "lines", as in MCP; frames where nothing says otherwise
         order -- whether answers go out "as-answered", or in the order in which the requests came ("as-came")
         cancel_by -- the notification that cancels a request: "$/cancelRequest", as in LSP and the default with frames,
             "notifications/cancelled", as in MCP and the default with lines, or None
@@ -81,10 +87,15 @@ class Peer:
         digits -- how many digits a whole number may have, from 20 on
         open -- how many requests may be open at once; one more is answered with an error
         trace -- where a log of the messages goes: a file's name, a file, or a function that takes lines
+        on_broken -- a function that is told of each message that can't be read, or in which something is neither a call
+            nor a reply: it gets an `events.Broken` and the session, on the loop's thread, and what it raises is logged
+
+        Raises `LibraryError` where "mcp" or `on_broken` is asked for, and the library is one that has neither yet.
         """
         _settings.no_more(unknown, self._setting_names())
         _settings.one_of("protocol", protocol, (*PROTOCOLS, None))
-        _settings.one_of("framing", framing, ("frames", "lines"))
+        if framing is not None:
+            _settings.one_of("framing", framing, ("frames", "lines"))
         _settings.one_of("order", order, ORDERS)
         if cancel_by != BY_FRAMING:
             _settings.one_of("cancel_by", cancel_by, (LSP_CANCEL, TOOL_CANCEL, None))
@@ -95,21 +106,30 @@ class Peer:
         _settings.digits(digits)
         _settings.seconds("grace", grace)
         _settings.trace(trace)
-        if protocol is not None:
-            PROTOCOLS[protocol].check(framing, cancel_by, BY_FRAMING)
+        _settings.hook("on_broken", on_broken)
+        if on_broken is not None:
+            _library.check_open("on_broken")
+        known = None if protocol is None else PROTOCOLS[protocol]
+        if known is not None:
+            known.check(framing, cancel_by, BY_FRAMING)
+        used = framing or ("frames" if known is None else known.framing)
         self._protocol = protocol
         self._settings: Dict[str, Any] = {
-            "framing": framing,
+            "framing": used,
             "order": order,
             "content": content,
             "calls": calls,
         }
-        by_framing: CancelBy = "$/cancelRequest" if framing == "frames" else "notifications/cancelled"
+        by_framing: CancelBy = "$/cancelRequest" if used == "frames" else "notifications/cancelled"
         self._cancel_by: Optional[CancelBy] = by_framing if cancel_by == BY_FRAMING else cancel_by
+        # What the connection itself has. (Without a protocol, a request that is cancelled as in MCP is answered.)
+        lsp: Optional[Cancels] = "lsp" if self._cancel_by == LSP_CANCEL else None
+        self._cancels: Optional[Cancels] = "mcp" if protocol == "mcp" else lsp
         self._grace = grace
         self._workers = workers
         self._digits, self._most_open = digits, open
         self._trace = trace
+        self._on_broken = on_broken
         self._methods = Methods()
         self._middlewares: List[Middleware] = []
         self._sessions: Dict[Session, None] = {}
@@ -222,8 +242,9 @@ class Peer:
 
     def _session_over(self, channel: Channel, **other: Any) -> Session:
         """A new session; `other` settings take the place of the peer's."""
-        cancels = self._cancel_by == LSP_CANCEL
-        plain = Connection(cancels=cancels, **{**self._settings, **other})
+        cancels = self._cancels
+        tells_broken = _library.has_open()
+        plain = Connection(cancels=cancels, broken=tells_broken, **{**self._settings, **other})
         connection: Union[Connection, Traced] = plain
         if self._trace is not None:
             connection = Traced(plain, self._trace, cancels)
@@ -234,6 +255,7 @@ class Peer:
             channel,
             connection,
             self._cancel_by,
+            cancels,
             self._grace,
             self._workers,
             watch,
@@ -241,6 +263,7 @@ class Peer:
             self._most_open,
         )
         session.protocol = None if self._protocol is None else PROTOCOLS[self._protocol]
+        session.on_broken = self._on_broken
         self._sessions[session] = None
         self._served += 1
         self._last = session

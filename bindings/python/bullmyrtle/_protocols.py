@@ -1,11 +1,12 @@
 """Protocols over JSON-RPC: what each of them sets, and what its other side can't read."""
 from __future__ import annotations
 
-from typing import Any, Dict, Literal, NamedTuple
+from typing import Any, Dict, FrozenSet, Literal, NamedTuple, Optional
 
+from . import _library
 from .errors import BadSettings
 
-ProtocolName = Literal["lsp"]
+ProtocolName = Literal["lsp", "mcp"]
 
 
 class ProtocolSettings(NamedTuple):
@@ -14,11 +15,16 @@ class ProtocolSettings(NamedTuple):
     name: str
     framing: str
     cancel_by: str
-    has_batches: bool
+    #: Whether its other sides read a batch of calls.
+    has_batches: bool = False
+    #: The requests that are never cancelled: no cancel of them is said, and one that comes plays no part.
+    never_cancelled: FrozenSet[str] = frozenset()
 
-    def check(self, framing: str, cancel_by: Any, no_choice: str) -> None:
-        """Refuses what contradicts it; `no_choice` stands for a `cancel_by` that nobody chose."""
-        if framing != self.framing:
+    def check(self, framing: Optional[str], cancel_by: Any, no_choice: str) -> None:
+        """Refuses what contradicts it, and a library without it; `no_choice` is a `cancel_by` that nobody chose."""
+        if self.name == "mcp":
+            _library.check_open(f"protocol={self.name!r}")
+        if framing not in (None, self.framing):
             raise BadSettings(
                 f"framing={framing!r} contradicts: protocol={self.name!r} has framing={self.framing!r}"
             )
@@ -35,7 +41,14 @@ class ProtocolSettings(NamedTuple):
             )
 
 
-#: What each protocol sets. (LSP has no batches: clangd and gopls end the session at one, and pylsp doesn't answer.)
+#: What each protocol sets. (LSP has no batches: clangd and gopls end the session at one, and pylsp doesn't answer. MCP
+#: has had none since 2025-06-18.)
 PROTOCOLS: Dict[str, ProtocolSettings] = {
-    "lsp": ProtocolSettings("lsp", framing="frames", cancel_by="$/cancelRequest", has_batches=False),
+    "lsp": ProtocolSettings("lsp", framing="frames", cancel_by="$/cancelRequest"),
+    "mcp": ProtocolSettings(
+        "mcp",
+        framing="lines",
+        cancel_by="notifications/cancelled",
+        never_cancelled=frozenset({"initialize"}),
+    ),
 }

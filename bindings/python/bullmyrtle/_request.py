@@ -37,15 +37,16 @@ class Reply(asyncio.Future):  # type: ignore[type-arg]
     Its key is 0 as long as the call waits for what is just being read.
     """
 
-    def __init__(self, session: Asking, key: int) -> None:
+    def __init__(self, session: Asking, key: int, method: str) -> None:
         super().__init__(loop=session.loop)
         self._session = session
         self.key = key
+        self.method = method
 
     def cancel(self, *words: Any, **named: Any) -> bool:
         is_cancelled = super().cancel(*words, **named)
         if is_cancelled:
-            self._session.withdraw(self.key)
+            self._session.withdraw(self)
         return is_cancelled
 
 

@@ -16,7 +16,7 @@ from ._params import Methods
 from ._ends import End, Late
 from ._trace import Traced
 from ._watch import Watch
-from .connection import Connection
+from .connection import Cancels, Connection
 from .errors import Closed
 
 LSP_CANCEL, TOOL_CANCEL = "$/cancelRequest", "notifications/cancelled"
@@ -60,13 +60,15 @@ class Session(Hearing):
         channel: Channel,
         connection: Union[Connection, Traced],
         cancel_by: Optional[str],
+        cancels: Optional[Cancels],
         grace: float,
         workers: Optional[int],
         watch: Watch,
         digits: int = DIGITS,
         open: Optional[int] = None,
     ) -> None:
-        super().__init__(methods, with_digits(digits), workers, open, connection._notes_cancels())
+        notes = connection._noted()
+        super().__init__(methods, with_digits(digits), workers, open, notes)
         self.loop = asyncio.get_running_loop()
         self._soon: Callable[[Callable[[], None]], Any] = getattr(
             self.loop, "before_waiting", self.loop.call_soon
@@ -77,7 +79,8 @@ class Session(Hearing):
         self.take: Callable[[int], bytes] = connection.take
         self._answer_quickly = connection._answerer()
         self._cancel_by = cancel_by
-        self._takes_tool_cancels = cancel_by not in (None, LSP_CANCEL)
+        # (where the connection itself has none, they are found among the calls)
+        self._takes_tool_cancels = cancel_by is not None and cancels is None
         self._grace = grace
         self._has_begun = self._has_flush = self._is_closed = self._is_stopped = False
         self._is_broken = self._is_unheard = False
@@ -88,7 +91,7 @@ class Session(Hearing):
         #: How it ended, or None while it runs.
         self.ended: Optional[End] = None
         self.watch = watch
-        watch.begin(connection.counts, lambda: self.is_busy)
+        watch.begin(connection, notes, lambda: self.is_busy)
 
     # What goes out
 
@@ -223,7 +226,8 @@ class Session(Hearing):
                 "%d calls didn't begin in time, since what was said wasn't read: %s", len(self._held), names
             )
         while self._held:
-            self._do(functools.partial(self._never_begin, self._held.popleft().number))
+            call = self._held.popleft()
+            self._do(functools.partial(self._end_unbegun, call.number, call.method))
         for request in list(self._open.values()):
             log.error("%s: it didn't end in time, and is cancelled", request.method)
             self._do(functools.partial(self._cancel, request))

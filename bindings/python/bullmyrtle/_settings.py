@@ -2,6 +2,7 @@
 from __future__ import annotations
 
 import difflib
+import inspect
 import math
 import os
 from typing import Any, Iterable, NoReturn, Optional, Sequence
@@ -54,6 +55,12 @@ def trace(value: Any) -> None:
         value is None or isinstance(value, (str, os.PathLike)) or hasattr(value, "write") or callable(value)
     ):
         refuse("trace", value, "it is a file's name, a file, a function that takes lines, or None")
+
+
+def hook(name: str, value: Any) -> None:
+    """A plain function, or None."""
+    if value is not None and (not callable(value) or inspect.iscoroutinefunction(value)):
+        refuse(name, value, "it is a plain function, or None")
 
 
 def no_more(unknown: Iterable[str], known: Iterable[str]) -> None:

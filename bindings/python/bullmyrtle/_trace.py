@@ -8,10 +8,10 @@ import logging
 import os
 import threading
 import time
-from typing import Any, Callable, Dict, Iterable, List, Optional, TextIO, Tuple, Union, cast
+from typing import Any, Callable, Dict, Iterable, List, Optional, Set, TextIO, Tuple, Union, cast
 
 from . import _library, events
-from .connection import Connection, Json
+from .connection import Cancels, Connection, Json, Notes
 from .events import Event
 
 log = logging.getLogger("bullmyrtle")
@@ -92,12 +92,13 @@ class Traced:
     of its calls. What brings no event is counted in the last line.
     """
 
-    def __init__(self, connection: Connection, trace: Trace, cancels: bool = True) -> None:
+    def __init__(self, connection: Connection, trace: Trace, cancels: Optional[Cancels] = "lsp") -> None:
         self._connection = connection
         self._log = Log(trace)
         self._cancels = cancels
         self._lock = threading.RLock()  # (so that the lines stand in the order of the messages)
         self._ids: Dict[int, Optional[str]] = {}  # of the calls that are open
+        self._cancelled: Set[int] = set()  # of these, the ones that the other side has cancelled
         self._keys: Dict[int, Dict[int, bool]] = {}  # our calls on behalf of each: whether they are withdrawn
         self._numbers: Dict[int, int] = {}  # on whose behalf each call is that waits
         self._is_over = False
@@ -151,13 +152,24 @@ class Traced:
         elif isinstance(event, events.Cancelled):
             id_ = self._ids.get(event.number)
             # (where the request was answered meanwhile, its id isn't kept)
-            self._line("receive-notification", _call(None, "$/cancelRequest", f'{{"id":{id_ or "null"}}}'))
+            self._line("receive-notification", self._cancel_of(id_ or "null"))
+            if id_ is not None:
+                self._cancelled.add(event.number)
         elif isinstance(event, events.Replied):
             self._replied(event.key, _result(str(event.key), event.result))
         elif isinstance(event, events.Failed):
             self._replied(event.key, _error(str(event.key), event.code, event.message, event.data))
+        elif isinstance(event, events.Broken):
+            self._line("broken", json.dumps({"text": event.text}, separators=(",", ":")), is_message=False)
         elif isinstance(event, events.Over):
             self._is_over = True
+
+    def _cancel_of(self, id_: str) -> str:
+        """The notification that cancels the request of this id."""
+        method, member = (
+            ("notifications/cancelled", "requestId") if self._cancels == "mcp" else ("$/cancelRequest", "id")
+        )
+        return _call(None, method, f'{{"{member}":{id_}}}')
 
     def _replied(self, key: int, message: str) -> None:
         number = self._numbers.pop(key, None)
@@ -194,11 +206,14 @@ class Traced:
     def withdraw(self, key: int) -> None:
         with self._lock:
             self._connection.withdraw(key)
-            self._keys[self._numbers[key]][key] = True
             self._withdrew(key)
+            if self._cancels == "mcp":  # (it waits no longer)
+                self._keys[self._numbers.pop(key)].pop(key)
+            else:
+                self._keys[self._numbers[key]][key] = True
 
     def _withdrew(self, key: int) -> None:
-        self._line("send-notification", _call(None, "$/cancelRequest", f'{{"id":{key}}}'))
+        self._line("send-notification", self._cancel_of(str(key)))
 
     def answer(self, number: int, result: Optional[Json] = None) -> None:
         with self._lock:
@@ -210,8 +225,12 @@ class Traced:
     def _answerer(self) -> Callable[[int, bytes], None]:
         return self.answer
 
-    def _notes_cancels(self) -> List[int]:
-        return self._connection._notes_cancels()
+    def _noted(self) -> Notes:
+        return self._connection._noted()
+
+    @property
+    def fault_offset(self) -> Optional[int]:
+        return self._connection.fault_offset
 
     def fail(self, number: int, code: int, message: Json = "", data: Optional[Json] = None) -> None:
         with self._lock:
@@ -223,12 +242,13 @@ class Traced:
     def cancel(self, number: int) -> None:
         with self._lock:
             self._connection.cancel(number)
+            is_wanted = self._cancels != "mcp" or number not in self._cancelled
             id_, keys = self._closed(number)
             if self._cancels and not self._is_over:
                 for key, is_withdrawn in keys.items():
                     if not is_withdrawn:
                         self._withdrew(key)
-            if id_ is not None:
+            if id_ is not None and is_wanted:
                 self._line("send-response", _error(id_, -32800, "Request cancelled", None))
 
     def _closed(self, number: int) -> Tuple[Optional[str], Dict[int, bool]]:
@@ -236,4 +256,5 @@ class Traced:
         keys = self._keys.pop(number, {})
         for key in keys:
             del self._numbers[key]
+        self._cancelled.discard(number)
         return self._ids.pop(number, None), keys

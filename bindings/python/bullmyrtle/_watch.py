@@ -4,17 +4,20 @@ from __future__ import annotations
 import asyncio
 import contextlib
 import time
-from typing import Any, Callable, List, Mapping, Optional, Protocol, Sequence, Tuple
+from collections import deque
+from typing import Any, Callable, Deque, List, Mapping, Optional, Protocol, Sequence, Tuple, Union
 
-from . import _ends
+from . import _ends, _library
 from ._ends import SHOWN, End, Late, Place
 from ._log import log
 from ._settings import MOST_CONTENT
-from .connection import Connection, Counts
+from ._trace import Traced
+from .connection import Cancels, Connection, Counts, Notes
 from .errors import Closed, Refused
-from .events import Event, Over
+from .events import Broken, Event, Over
 
-# How much of the stream's beginning is kept, to find the frame at fault in; and how often a line of counts may come.
+# How much of the stream's beginning is kept, and of what was read last, for the first bytes of the frame at fault; and
+# how often a line of counts may come.
 _KEPT, _SECONDS = 8192, 1.0
 
 
@@ -64,19 +67,41 @@ class _Lines:
         return start, (first + data[at : at + SHOWN])[:SHOWN]
 
 
+class _Recent:
+    """What was read last, 8,192 bytes at least where there were so many."""
+
+    def __init__(self) -> None:
+        self._pieces: Deque[bytes] = deque()
+        self.size = 0
+
+    def add(self, data: bytes) -> None:
+        data = data[-_KEPT:]
+        self._pieces.append(data)
+        self.size += len(data)
+        while self.size - len(self._pieces[0]) >= _KEPT:
+            self.size -= len(self._pieces.popleft())
+
+    @property
+    def data(self) -> bytes:
+        return b"".join(self._pieces)
+
+
 class Watch:
     """Sees each piece of the input, and what was told of it."""
 
-    def __init__(self, settings: Mapping[str, Any], cancels: bool, is_client: bool) -> None:
+    def __init__(self, settings: Mapping[str, Any], cancels: Optional[Cancels], is_client: bool) -> None:
         self._settings, self._cancels, self._is_client = settings, cancels, is_client
-        self._counts: Optional[Callable[[], Counts]] = None
+        self._connection: Union[Connection, Traced, None] = None
+        self._notes = Notes()
         self._is_busy: Callable[[], bool] = lambda: False
         self._fed = 0
         self._kept = b""
+        self._recent = _Recent() if settings["framing"] == "frames" and _library.has_open() else None
         self._lines = _Lines() if settings["framing"] == "lines" else None
         self._how: Optional[str] = None
         self._place: Optional[Place] = None
         self._said = (0, 0)
+        self._seen: Optional[Broken] = None
         self._next = 0.0
         self._timer: Optional[asyncio.TimerHandle] = None
         #: The server's process, where a client has started one.
@@ -87,9 +112,9 @@ class Watch:
         self.is_finished = False
         self._is_meant = False  # (whether it had when the input was over)
 
-    def begin(self, counts: Callable[[], Counts], is_busy: Callable[[], bool]) -> None:
-        """Begins, with what gives the connection's counts, and what says whether it can't be asked just now."""
-        self._counts, self._is_busy = counts, is_busy
+    def begin(self, connection: Union[Connection, Traced], notes: Notes, is_busy: Callable[[], bool]) -> None:
+        """Begins, with the connection, what is noted of its events, and whether it can't be asked just now."""
+        self._connection, self._notes, self._is_busy = connection, notes, is_busy
 
     def read(self, data: bytes, told: Sequence[Event]) -> None:
         """A piece was read, and these events were told of it."""
@@ -102,10 +127,12 @@ class Watch:
             self._is_meant = self.is_finished
             if _ends.is_fault(self._how):
                 self._place = self._find(data)
-        elif not told or time.monotonic() >= self._next:
+        elif not told or self._notes.broken is not self._seen or time.monotonic() >= self._next:
             self._look()
         if self._lines is not None:
             self._lines.add(data)
+        elif self._recent is not None:
+            self._recent.add(data)
         self._fed += len(data)
 
     # The place of a fault
@@ -118,14 +145,30 @@ class Watch:
         if self._settings["framing"] == "contents":
             return Place(self._fed, data[:SHOWN], *piece)
         try:
-            offset = self._frame_at_fault(self._fed + len(data))
+            offset, first = self._frame(data)
         except (Refused, Closed):
-            offset = None
-        first = None if offset is None else self._kept[offset : offset + SHOWN]
+            offset = first = None
         return Place(offset, first, *piece)
 
+    def _frame(self, data: bytes) -> Tuple[Optional[int], Optional[bytes]]:
+        """Where the frame at fault begins, and its first bytes, as far as they are still known."""
+        assert self._connection is not None
+        if self._recent is None:
+            offset = self._frame_at_fault(self._fed + len(data))
+            return offset, None if offset is None else self._kept[offset : offset + SHOWN]
+        offset = self._connection.fault_offset
+        return offset, None if offset is None else self._bytes_at(offset, data)
+
+    def _bytes_at(self, offset: int, data: bytes) -> Optional[bytes]:
+        """The first bytes from an offset on, where they are in what is kept."""
+        assert self._recent is not None
+        start = self._fed - self._recent.size
+        if offset >= start:
+            return (self._recent.data + data)[offset - start :][:SHOWN]
+        return self._kept[offset:][:SHOWN] or None
+
     def _frame_at_fault(self, fed: int) -> Optional[int]:
-        """Where the frame at fault begins, if the stream's beginning, which is kept, reaches as far.
+        """Where the frame at fault begins, for a library that can't say it, if the beginning that is kept reaches as far.
 
         A connection like the session's is told again what came, up to each of a few places: one has read as many
         messages as there are just from the last one's end on.
@@ -154,14 +197,15 @@ class Watch:
 
     def _look(self, is_last: bool = False) -> None:
         """Says how many messages couldn't be read, where it has become more."""
-        assert self._counts is not None
+        assert self._connection is not None
+        self._seen = self._notes.broken
         now = time.monotonic()
         if self._is_busy():
             self._timer = (
                 None if is_last else asyncio.get_running_loop().call_later(_SECONDS, self._look_again)
             )
             return
-        counts = self._counts()
+        counts = self._connection.counts()
         found = counts.unreadable, counts.invalid
         if found != self._said and now < self._next and not is_last:
             if self._timer is None:
@@ -191,14 +235,17 @@ class Watch:
             if count:
                 noun = "" if parts else "message " if count == 1 else "messages "
                 parts.append(f"{count} {noun}{one if count == 1 else many}")
-        first = self._kept[:SHOWN]
+        first, last = self._kept[:SHOWN], self._notes.broken
+        where = f"the input began with {first!r}"
+        if last is not None:
+            where = f"the last one began at byte {last.offset} with {last.first!r}"
         hint = ""
         if self._lines is not None and first[:8].lower() == b"content-":
             side = "Client(.., " if self._is_client else "Server("
             hint = f': are these frames? {side}framing="frames")'
         return (
             f"{' and '.join(parts)} came so far, besides {counts.calls} call{'s' * (counts.calls != 1)}; "
-            f"the input began with {first!r}{hint}"
+            f"{where}{hint}"
         )
 
     # The end
@@ -244,7 +291,7 @@ class Watch:
         """How the session ended, told where it didn't end well."""
         if self._timer is not None:
             self._timer.cancel()
-        if self._counts is not None:
+        if self._connection is not None:
             with contextlib.suppress(Closed):
                 self._look(is_last=True)
         how = self._how or "Cancelled"

@@ -8,7 +8,7 @@ from typing import Any, List, Mapping, NoReturn, Optional, Sequence, Union
 
 from ._channels import Channel, Streams
 from ._json import DIGITS
-from ._peer import BY_FRAMING, CancelBy, Framing, Peer
+from ._peer import BY_FRAMING, CancelBy, Framing, OnBroken, Peer
 from ._process import ServerProcess, StandardError, check_standard_error
 from ._protocols import ProtocolName
 from ._trace import Trace
@@ -58,7 +58,7 @@ class Client(Peer):
         cwd: Optional[Word] = None,
         stderr: StandardError = "pass on",
         protocol: Optional[ProtocolName] = None,
-        framing: Framing = "frames",
+        framing: Optional[Framing] = None,
         order: Order = "as-answered",
         cancel_by: Optional[CancelBy] = BY_FRAMING,
         content: Optional[int] = None,
@@ -68,6 +68,7 @@ class Client(Peer):
         digits: int = DIGITS,
         open: Optional[int] = None,
         trace: Optional[Trace] = None,
+        on_broken: Optional[OnBroken] = None,
         **unknown: NoReturn,
     ) -> None:
         """Make a client of the server that a command starts; the other settings are those of a server.
@@ -90,6 +91,7 @@ class Client(Peer):
             digits=digits,
             open=open,
             trace=trace,
+            on_broken=on_broken,
             **unknown,
         )
         check_standard_error(stderr)

@@ -12,6 +12,7 @@ from .events import Event
 
 Framing = Literal["frames", "lines", "contents"]
 Order = Literal["as-answered", "as-came"]
+Cancels = Literal["lsp", "mcp"]
 Json = Union[bytes, str]
 
 _ROOM = 1 << 16
@@ -30,6 +31,16 @@ class Counts(NamedTuple):
     unreadable: int  # contents that couldn't be read
     invalid: int  # entries that were neither a call nor a reply
     ignored: int  # replies that nobody waited for, and cancels that reached no request
+
+
+class Notes:
+    """What a session looks for among the events: the requests that are cancelled, and what was broken last."""
+
+    __slots__ = ("cancelled", "broken")
+
+    def __init__(self) -> None:
+        self.cancelled: List[int] = []  # their numbers, which whoever looks takes out
+        self.broken: Optional[events.Broken] = None
 
 
 def _text(text: Json) -> bytes:
@@ -56,35 +67,35 @@ class Connection:
         self,
         framing: Framing = "frames",
         order: Order = "as-answered",
-        cancels: bool = True,
+        cancels: Union[Cancels, bool, None] = "lsp",
         content: Optional[int] = None,
         calls: Optional[int] = None,
+        broken: bool = False,
     ) -> None:
         """Make a connection.
 
         framing -- "frames" with a head, as in LSP; "lines", as in MCP; or "contents", one to each `feed` and `take`
         order -- whether answers go out "as-answered", or in the order in which the requests came ("as-came")
-        cancels -- whether the protocol has `$/cancelRequest`
+        cancels -- whose cancels the protocol has: "lsp", `$/cancelRequest`; "mcp", `notifications/cancelled`; or None
+            (True and False are "lsp" and None)
         content -- how many bytes a content may have, at most 16,777,216, which is also the default
         calls -- how many calls may come
+        broken -- whether broken input is told, by the event `Broken`
+
+        Raises LibraryError where "mcp" or `broken` is asked for, and the library is one that has neither yet.
         """
         self._at: Any = None
         self._lock = threading.Lock()
         self._library = library = _library.library()
         _settings.one_of("framing", framing, _library.FRAMINGS)
         _settings.one_of("order", order, _library.ORDERS)
+        if isinstance(cancels, bool):
+            cancels = "lsp" if cancels else None
+        _settings.one_of("cancels", cancels, _library.CANCELS)
         _settings.whole("content", content, _settings.MOST_CONTENT)
         _settings.whole("calls", calls, _settings.MOST_CALLS)
-        settings = _library.Settings(
-            _library.FRAMINGS.index(framing),
-            _library.ORDERS.index(order),
-            bool(cancels),
-            content or 0,
-            calls or 0,
-        )
-        at = c_void_p()
-        self._check(library.bm_new(byref(settings), byref(at)))
-        self._handle = _library.Handle(at.value)
+        ways = _library.FRAMINGS.index(framing), _library.ORDERS.index(order), _library.CANCELS.index(cancels)
+        self._handle = self._made(*ways, bool(broken), content or 0, calls or 0)
         self._at = byref(self._handle)
         self._framing = framing
         # What the calls below pass, once for all; whoever has the lock may change it.
@@ -97,8 +108,25 @@ class Connection:
         names = ("bm_feed", "bm_fed", "bm_tell", "bm_call", "bm_answer", "bm_take")
         quick = [_library.undeclared(library, it) for it in names]
         self._bm_feed, self._bm_fed, self._bm_tell, self._bm_call, self._bm_answer, self._bm_take = quick
-        # Where a session wants the numbers of the requests whose cancels are told.
-        self._cancelled: Optional[List[int]] = None
+        self._notes: Optional[Notes] = None  # where a session takes some
+
+    def _made(
+        self, framing: int, order: int, cancels: int, broken: bool, content: int, calls: int
+    ) -> _library.Handle:
+        """Makes the library's connection."""
+        at = c_void_p()
+        if _library.has_open():
+            size = ctypes.sizeof(_library.Options)
+            options = _library.Options(size, framing, order, cancels, broken, content, calls)
+            self._check(self._library.bm_open(byref(options), byref(at)))
+        else:
+            if _library.CANCELS[cancels] == "mcp":
+                _library.check_open('cancels="mcp"')
+            if broken:
+                _library.check_open("broken=True")
+            settings = _library.Settings(framing, order, cancels, content, calls)
+            self._check(self._library.bm_new(byref(settings), byref(at)))
+        return _library.Handle(at.value)
 
     # Its end
 
@@ -150,7 +178,7 @@ class Connection:
     # Events
 
     def events(self) -> List[Event]:
-        """All events that there are now. Broken input has no event, and is answered as it is gone past here."""
+        """All events that there are now. Broken input is answered as it is gone past here."""
         told: List[Event] = []
         with self._lock:
             at = self._at or self._open()
@@ -186,7 +214,7 @@ class Connection:
         it = self._told
         while True:
             if it.count:
-                _read(self._room_view[: it.used].tobytes(), it.count, told, self._cancelled)
+                _read(self._room_view[: it.used].tobytes(), it.count, told, self._notes)
             if it.stopped == _library.NO_EVENT:
                 break
             if it.stopped == _library.NO_MEMORY_LEFT:
@@ -215,7 +243,7 @@ class Connection:
                 return None
             size = event.name_len + event.text_len + event.id_len + 3
             told: List[Event] = []
-            _read(bytes(event) + string_at(room, size), 1, told, self._cancelled)
+            _read(bytes(event) + string_at(room, size), 1, told, self._notes)
             return told[0]
 
     # What is said
@@ -264,7 +292,10 @@ class Connection:
                 raise REFUSALS[code]()
 
     def withdraw(self, key: int) -> None:
-        """Tell the other side that this call isn't wanted any more. It still waits. Refused: `NotWaiting`."""
+        """Tell the other side that this call isn't wanted any more. Refused: `NotWaiting`.
+
+        With LSP's cancels it still waits for its reply. With MCP's it doesn't, and nothing more is told of it.
+        """
         if not 0 <= key < _MOST:
             raise NotWaiting()
         with self._lock:
@@ -281,10 +312,10 @@ class Connection:
         if code:
             raise REFUSALS[code]()
 
-    def _notes_cancels(self) -> List[int]:
-        """A list that gets the number of each request whose cancel is told; whoever asks for it empties it."""
-        self._cancelled = []
-        return self._cancelled
+    def _noted(self) -> Notes:
+        """What is noted of the events from now on."""
+        self._notes = Notes()
+        return self._notes
 
     def _answerer(self) -> Callable[[int, bytes], None]:
         """`answer` for a session, which gives numbers and texts as they have to be: it takes less time."""
@@ -310,7 +341,10 @@ class Connection:
             self._check(self._library.bm_fail(self._open(), number, code, text, len(text), given, len(given)))
 
     def cancel(self, number: int) -> None:
-        """Answer a request as cancelled (-32800), and withdraw the calls on its behalf first. Refused: `NotOpen`."""
+        """Answer a request as cancelled (-32800), and withdraw the calls on its behalf first. Refused: `NotOpen`.
+
+        With MCP's cancels a request that the other side has cancelled is closed without an answer.
+        """
         if not 0 <= number < _MOST:
             raise NotOpen()
         with self._lock:
@@ -358,6 +392,19 @@ class Connection:
         with self._lock:
             return bool(self._library.bm_is_done(self._open()))
 
+    @property
+    def fault_offset(self) -> Optional[int]:
+        """Where the frame or line at fault begins, counted from the first byte that was fed; None without a fault.
+
+        With "contents" it is the content at fault. Where the input is closed inside a frame, it is that frame. Raises
+        LibraryError where the library is one that can't tell it yet.
+        """
+        _library.check_open("fault_offset")
+        offset = c_uint64()
+        with self._lock:
+            is_at_fault = self._library.bm_fault_at(self._open(), byref(offset))
+        return offset.value if is_at_fault else None
+
     def counts(self) -> Counts:
         """What has happened so far."""
         counts = _library.Counts()
@@ -372,7 +419,7 @@ _CALL, _REPLIED = _library.CALL, _library.REPLIED
 _make = tuple.__new__
 
 
-def _read(data: bytes, count: int, told: List[Event], cancelled: Optional[List[int]]) -> None:
+def _read(data: bytes, count: int, told: List[Event], notes: Optional[Notes]) -> None:
     """Appends the events that lie in some bytes, as bm_tell packs them."""
     at = 0
     for _ in range(count):
@@ -389,10 +436,15 @@ def _read(data: bytes, count: int, told: List[Event], cancelled: Optional[List[i
             told.append(events.Failed(key, code, name, given) if flags else events.Replied(key, given or b""))
         elif kind == _library.CANCELLED:
             told.append(events.Cancelled(number))
-            if cancelled is not None:
-                cancelled.append(number)
+            if notes is not None:
+                notes.cancelled.append(number)
         elif kind == _library.UNANSWERED:
             told.append(events.Unanswered(key))
+        elif kind == _library.BROKEN:
+            broken = events.Broken(number, given or b"", _library.DEFECTS[flags], key, code)
+            told.append(broken)
+            if notes is not None:
+                notes.broken = broken
         else:
             told.append(events.Over(_library.HOWS[flags]))
         at = at + 8 & ~7  # (there is a zero byte behind the id, and what follows lies at a multiple of 8)

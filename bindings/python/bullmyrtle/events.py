@@ -45,10 +45,39 @@ class Unanswered(NamedTuple):
     key: int
 
 
+class Broken(NamedTuple):
+    """A content came that can't be read, or in which something is neither a call nor a reply. It is answered already.
+
+    It is told where it is asked for, before what else its content brings.
+    """
+
+    offset: int  # of its first byte, counted from the first one that was fed
+    first: bytes  # its first bytes, at most 64
+    what: str  # "Unreadable" or "Invalid"
+    entry: int  # the index of the first invalid entry of a batch, from 0; 0 where there is no batch
+    entries: int  # how many entries are invalid; 0 where nothing can be read
+
+    @property
+    def text(self) -> str:
+        """What is wrong, and where."""
+        return f"{self._wrong}, at byte {self.offset}: {self.first!r}"
+
+    @property
+    def _wrong(self) -> str:
+        if self.what == "Unreadable":
+            return "a message can't be read (-32700)"
+        if (self.entry, self.entries) == (0, 1):
+            return "a message, or the first entry of a batch, is neither a call nor a reply (-32600)"
+        many = "an entry that is" if self.entries == 1 else f"{self.entries} entries that are"
+        return (
+            f"a batch has {many} neither a call nor a reply (-32600), the first with the index {self.entry}"
+        )
+
+
 class Over(NamedTuple):
     """The input is over, and how it ended: "Clean", or the name of what was wrong. It is the last event."""
 
     how: str
 
 
-Event = Union[Call, Cancelled, Replied, Failed, Unanswered, Over]
+Event = Union[Call, Cancelled, Replied, Failed, Unanswered, Broken, Over]

@@ -30,6 +30,36 @@ if OVER == "standin":
 
     standin.install()
 
+#: Whether the library has bm_open, with MCP's cancels, broken input told, and where a fault lies.
+HAS_OPEN = _library.has_open()
+needs_open = unittest.skipUnless(
+    HAS_OPEN, "the library has no bm_open: no MCP's cancels, no broken input told"
+)
+
+
+class Older:
+    """The library as it was before bm_open."""
+
+    def __init__(self, library):
+        self._library = library
+
+    def bm_has(self, addition):
+        return addition == _library.TOGETHER
+
+    def __getattr__(self, name):
+        return getattr(self._library, name)
+
+
+@contextlib.contextmanager
+def over_an_older_library():
+    before = _library.library()
+    _library.use(Older(before))
+    try:
+        yield
+    finally:
+        _library.use(before)
+
+
 # How many of a thing to try: the model isn't made for thousands.
 MANY = 10_000 if OVER == "library" else 1_000
 SECONDS = 30
@@ -124,6 +154,7 @@ class Case(unittest.TestCase):
 
 
 __all__ = [
+    "HAS_OPEN",
     "HERE",
     "MANY",
     "OVER",
@@ -136,6 +167,8 @@ __all__ = [
     "joined",
     "logged",
     "messages",
+    "needs_open",
     "notice",
+    "over_an_older_library",
     "request",
 ]

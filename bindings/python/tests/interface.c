@@ -1,5 +1,6 @@
 /* The calls of the library, made so that they write down what they are given: for a test of what the package passes.
- * It is compiled with include/bullmyrtle.h, and test_interface.py reads what is written, by bm_take. */
+ * It is compiled with include/bullmyrtle.h, and test_interface.py reads what is written, by bm_take. With OPEN, which
+ * it is compiled with where the header has bm_open, it has that too. */
 #include "bullmyrtle.h"
 
 #include <stdarg.h>
@@ -36,24 +37,58 @@ uint32_t bm_interface(void)
     return BM_INTERFACE;
 }
 
-int32_t bm_new(const bm_settings *settings, void **at)
+static int32_t make(void **at, uint32_t done)
 {
     made *it = calloc(1, sizeof *it);
-    bm_connection connection = {it};
     if (it == NULL) {
         return BM_NO_MEMORY;
     }
-    it->done = settings->takes_cancels;
-    say(&connection, "new %u %u %u %u %llu\n", settings->framing, settings->order, settings->takes_cancels,
-        settings->content, U(settings->calls));
-    say(&connection, "sizes %zu %zu %zu %zu\n", sizeof(bm_settings), sizeof(bm_connection), sizeof(bm_event),
-        sizeof(bm_report));
-    say(&connection, "event %zu %zu %zu %zu %zu %zu %zu %zu\n", offsetof(bm_event, kind), offsetof(bm_event, flags),
-        offsetof(bm_event, number), offsetof(bm_event, key), offsetof(bm_event, code), offsetof(bm_event, name_len),
-        offsetof(bm_event, text_len), offsetof(bm_event, id_len));
+    it->done = done;
     *at = it;
     return BM_OK;
 }
+
+static void say_sizes(bm_connection *connection)
+{
+    say(connection, "sizes %zu %zu %zu %zu\n", sizeof(bm_settings), sizeof(bm_connection), sizeof(bm_event),
+        sizeof(bm_report));
+    say(connection, "event %zu %zu %zu %zu %zu %zu %zu %zu\n", offsetof(bm_event, kind), offsetof(bm_event, flags),
+        offsetof(bm_event, number), offsetof(bm_event, key), offsetof(bm_event, code), offsetof(bm_event, name_len),
+        offsetof(bm_event, text_len), offsetof(bm_event, id_len));
+}
+
+int32_t bm_new(const bm_settings *settings, void **at)
+{
+    int32_t code = make(at, settings->takes_cancels);
+    if (code == BM_OK) {
+        bm_connection connection = {*at};
+        say(&connection, "new %u %u %u %u %llu\n", settings->framing, settings->order, settings->takes_cancels,
+            settings->content, U(settings->calls));
+        say_sizes(&connection);
+    }
+    return code;
+}
+
+#ifdef OPEN
+int32_t bm_open(const bm_options *options, void **at)
+{
+    int32_t code = make(at, options->cancels);
+    if (code == BM_OK) {
+        bm_connection connection = {*at};
+        say(&connection, "open %u %u %u %u %u %u %llu\n", options->size == sizeof *options, options->framing,
+            options->order, options->cancels, options->broken, options->content, U(options->calls));
+        say_sizes(&connection);
+    }
+    return code;
+}
+
+bool bm_fault_at(bm_connection *connection, uint64_t *offset)
+{
+    say(connection, "fault_at\n");
+    *offset = UINT64_MAX;
+    return ((made *)connection->at)->done;
+}
+#endif
 
 void bm_free(bm_connection connection)
 {
@@ -127,7 +162,11 @@ int32_t bm_fed(bm_connection *connection, const uint8_t *bytes, size_t length, u
 
 bool bm_has(uint32_t addition)
 {
+#ifdef OPEN
+    return addition == BM_HAS_TOGETHER || addition == BM_HAS_OPEN;
+#else
     return addition == BM_HAS_TOGETHER;
+#endif
 }
 
 /* What the package doesn't call. */

@@ -71,9 +71,12 @@ def packed(event):
         text = event.data or ""
     elif isinstance(event, model.Unanswered):
         kind, key = _library.UNANSWERED, event.key
+    elif isinstance(event, model.Broken):
+        kind, flags = _library.BROKEN, _library.DEFECTS.index("Invalid" if event.count else "Unreadable")
+        number, key, code, text = event.place, event.first, event.count, event.start
     elif isinstance(event, model.Over):
         kind, flags = _library.INPUT_OVER, _library.HOWS.index(event.how)
-    parts = [it.encode() for it in (name, text, id_)]
+    parts = [it if isinstance(it, bytes) else it.encode() for it in (name, text, id_)]
     numbers = (kind, flags, number, key, code, *map(len, parts))
     return numbers, b"".join(it + b"\0" for it in parts)
 
@@ -109,14 +112,25 @@ class StandIn:
 
     def bm_new(self, settings, at):
         it = settings.contents
+        return self._make(at, it, it.takes_cancels, 1, 0)
+
+    def bm_open(self, options, at):
+        it = options.contents
+        if it.size != ctypes.sizeof(_library.Options):
+            return CODES["settings"]
+        return self._make(at, it, it.cancels, 2, it.broken)
+
+    def _make(self, at, it, cancels, most_cancels, broken):
         made = []
 
         def make():
-            if it.framing > 2 or it.order > 1 or it.takes_cancels > 1:
+            if it.framing > 2 or it.order > 1 or cancels > most_cancels or broken > 1:
                 raise model.Refused("settings")
             framing, order = _library.FRAMINGS[it.framing], _library.ORDERS[it.order]
             limits = it.content or model.MOST_CONTENT, it.calls or model.MOST_CALLS
-            made.append(Held(model.Settings(framing, order, bool(it.takes_cancels), *limits)))
+            made.append(
+                Held(model.Settings(framing, order, _library.CANCELS[cancels], *limits, bool(broken)))
+            )
 
         code = said(make)
         if not code:
@@ -124,6 +138,13 @@ class StandIn:
             at[0] = self._last
             self._held[self._last] = made[0]
         return code
+
+    def bm_fault_at(self, at, offset):
+        place = self._model(at).fault_place()
+        if place is None:
+            return False
+        offset[0] = place
+        return True
 
     def bm_free(self, handle):
         del self._held[handle.at]
@@ -145,7 +166,7 @@ class StandIn:
         return 0
 
     def bm_has(self, addition):
-        return addition == _library.TOGETHER
+        return addition in (_library.TOGETHER, _library.OPEN)
 
     def bm_next_all(self, at, room, length, used, count):
         told = _library.Told()
@@ -291,7 +312,7 @@ class StandIn:
 def through_ctypes(calls):
     """The same calls as C functions, declared as the package declares them."""
     found = types.SimpleNamespace()
-    for name, (result, parameters) in _library.CALLS.items():
+    for name, (result, parameters) in {**_library.CALLS, **_library.CALLS_OF_OPEN}.items():
         # (a callback gets bytes only up to a zero byte, and an address as it is)
         kinds = [ctypes.c_void_p if it is ctypes.c_char_p else it for it in parameters]
         inner = ctypes.PYFUNCTYPE(result, *kinds)(getattr(calls, name))

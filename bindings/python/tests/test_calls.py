@@ -6,7 +6,7 @@ import threading
 import unittest
 import warnings
 
-from helping import MANY, Case, frame, joined, logged, notice, request
+from helping import HAS_OPEN, MANY, Case, frame, joined, logged, needs_open, notice, request
 
 from bullmyrtle import LATER, Client, Closed, Empty, Error, Server, Unanswered
 from bullmyrtle._channels import Channel
@@ -253,18 +253,19 @@ class Back(Case):
 
 
 class Cancels(Case):
-    """Each state in which a request may be cancelled, in the way of both protocols."""
+    """Each state in which a request may be cancelled, in the way of each protocol."""
 
-    framing = "frames"
+    settings = {"framing": "frames"}
+    cancel_of = "$/cancelRequest", "id"
 
     def cancelled(self, register, state, after=None):
         """Cancels a request once its method is in a state; gives the server's log."""
 
         async def main():
-            server = Server(framing=self.framing)
+            server = Server(**self.settings)
             register(server)
             withdrawn = []
-            client = Client(framing=self.framing)
+            client = Client(**self.settings)
 
             @client.method("slow")
             async def slow(params):
@@ -292,14 +293,14 @@ class Cancels(Case):
     async def cancel(self, client, call):
         """Cancels a call of the client's as the protocol does, and waits for its answer."""
         # (a Reply that is cancelled would not tell of the answer)
-        name, member = {
-            "frames": ("$/cancelRequest", "id"),
-            "lines": ("notifications/cancelled", "requestId"),
-        }[self.framing]
-        client.notify(name, {member: call.key})
+        self.say_cancel(client, call.key)
         with self.assertRaises(Error) as caught:
             await call
         self.assertEqual((caught.exception.code, caught.exception.message), (-32800, "Request cancelled"))
+
+    def say_cancel(self, client, id_):
+        name, member = self.cancel_of
+        client.notify(name, {member: id_})
 
     @staticmethod
     def alive(server):
@@ -422,7 +423,7 @@ class Cancels(Case):
         seen, free = [], threading.Event()
 
         async def main():
-            server = Server(framing=self.framing, workers=1)
+            server = Server(**self.settings, workers=1)
             self.alive(server)
 
             @server.method("hold", thread=True)
@@ -433,7 +434,7 @@ class Cancels(Case):
             def x(params):
                 seen.append(1)
 
-            client = Client(framing=self.framing)
+            client = Client(**self.settings)
             async with joined(server, client):
                 first = client.call("hold")
                 await self.cancel(client, client.call("x"))
@@ -520,19 +521,15 @@ class Cancels(Case):
 
     def test_after_the_answer_and_of_what_isnt_there(self):
         async def main():
-            server = Server(framing=self.framing)
+            server = Server(**self.settings)
             self.alive(server)
-            client = Client(framing=self.framing)
-            name, member = {
-                "frames": ("$/cancelRequest", "id"),
-                "lines": ("notifications/cancelled", "requestId"),
-            }[self.framing]
+            client = Client(**self.settings)
             async with joined(server, client):
                 for id_ in (1, "1", None, 1.0, True, [1], 99):
                     self.assertTrue(await client.call("alive"))
-                    client.notify(name, {member: id_})
-                client.notify(name)
-                client.notify(name, [1])
+                    self.say_cancel(client, id_)
+                client.notify(self.cancel_of[0])
+                client.notify(self.cancel_of[0], [1])
                 self.assertTrue(await client.call("alive"))
 
         with logged() as log:
@@ -541,22 +538,18 @@ class Cancels(Case):
 
     def test_ids_are_compared_as_values(self):
         async def main():
-            server = Server(framing=self.framing)
+            server = Server(**self.settings)
             self.alive(server)
 
             @server.method("x")
             async def x(params, request):
                 await asyncio.sleep(20)
 
-            client = Client(framing=self.framing)
-            name, member = {
-                "frames": ("$/cancelRequest", "id"),
-                "lines": ("notifications/cancelled", "requestId"),
-            }[self.framing]
+            client = Client(**self.settings)
             async with joined(server, client):
                 call = client.call("x")
                 for other in ("1", 1.0, True, [1], None, 2):
-                    client.notify(name, {member: other})
+                    self.say_cancel(client, other)
                 self.assertTrue(await client.call("alive"))
                 self.assertFalse(call.done())
                 await self.cancel(client, call)
@@ -568,7 +561,7 @@ class Cancels(Case):
         seen = []
 
         async def main():
-            server = Server(framing=self.framing)
+            server = Server(**self.settings)
             self.alive(server)
 
             @server.method("x")
@@ -579,7 +572,7 @@ class Cancels(Case):
                     seen.append("cancelled")
                     raise
 
-            client = Client(framing=self.framing)
+            client = Client(**self.settings)
             async with joined(server, client):
                 with self.assertRaises(asyncio.TimeoutError):
                     await asyncio.wait_for(client.call("x"), 0.05)
@@ -590,7 +583,7 @@ class Cancels(Case):
 
     def test_a_notification_isnt_cancelled(self):
         async def main():
-            server, seen = Server(framing=self.framing), []
+            server, seen = Server(**self.settings), []
             self.alive(server)
 
             @server.method("x")
@@ -598,7 +591,7 @@ class Cancels(Case):
                 await asyncio.sleep(0.05)
                 seen.append(params)
 
-            client = Client(framing=self.framing)
+            client = Client(**self.settings)
             async with joined(server, client):
                 client.notify("x", [1])
                 for id_ in range(3):
@@ -611,7 +604,19 @@ class Cancels(Case):
 
 
 class ToolCancels(Cancels):
-    framing = "lines"
+    settings = {"framing": "lines"}
+    cancel_of = "notifications/cancelled", "requestId"
+
+
+@needs_open
+class McpCancels(ToolCancels):
+    settings = {"protocol": "mcp"}
+
+    async def cancel(self, client, call):
+        """The same: there is no answer."""
+        self.say_cancel(client, call.key)
+        self.assertTrue(await client.call("alive"))  # (an answer would have come before this one's)
+        self.assertFalse(call.done())
 
 
 class Kept(Channel):
@@ -632,11 +637,18 @@ class Kept(Channel):
 class BeforeItsTurn(Case):
     """A request whose cancel has been read before its turn never begins."""
 
-    def told(self, pieces, cancel_by, **more):
+    # Each way to cancel: a server's settings, the notification, its member, and the error that is answered.
+    WAYS = [
+        ({"framing": "lines", "cancel_by": "$/cancelRequest"}, "$/cancelRequest", "id", -32800),
+        ({"framing": "lines"}, "notifications/cancelled", "requestId", -32800),
+        *([({"protocol": "mcp"}, "notifications/cancelled", "requestId", None)] if HAS_OPEN else []),
+    ]
+
+    def told(self, pieces, settings):
         """What begins where pieces of lines are read, each in one turn of the loop, and what is answered by id."""
 
         async def main():
-            server, channel, began = Server(framing="lines", cancel_by=cancel_by, **more), Kept(), []
+            server, channel, began = Server(**settings), Kept(), []
 
             @server.method("plain")
             def plain(params):
@@ -678,39 +690,40 @@ class BeforeItsTurn(Case):
         return found
 
     def test_of_each_kind_and_by_each_protocol(self):
-        for name, member in (("$/cancelRequest", "id"), ("notifications/cancelled", "requestId")):
+        for settings, name, member, code in self.WAYS:
             for kind in ("plain", "two", "async", "thread"):
-                with self.subTest(name=name, kind=kind):
+                with self.subTest(settings=settings, kind=kind):
                     said = [request(it, kind, [it]) for it in range(12)]
                     cancels = [notice(name, {member: it}) for it in range(11)]
                     # (as an editor has it: each keystroke asks, and cancels what the one before it asked)
                     keys = [one for pair in zip(said, [*cancels, notice("nothing")]) for one in pair]
-                    codes = {it: -32800 for it in range(11)}
-                    self.assertEqual(self.told([keys], name), ([11], {**codes, 11: "done"}))
-                    self.assertEqual(self.told([[*said, *cancels]], name), ([11], {**codes, 11: "done"}))
+                    codes = {it: code for it in range(11) if code is not None}
+                    self.assertEqual(self.told([keys], settings), ([11], {**codes, 11: "done"}))
+                    self.assertEqual(self.told([[*said, *cancels]], settings), ([11], {**codes, 11: "done"}))
 
     def test_in_a_batch(self):
-        for name, member in (("$/cancelRequest", "id"), ("notifications/cancelled", "requestId")):
+        for settings, name, member, code in self.WAYS:
             for kind in ("plain", "async", "thread"):
                 batch = [request(1, kind, [1]), request("1", kind, [2]), notice(name, {member: 1})]
-                self.assertEqual(self.told([[batch]], name), ([2], {1: -32800, "1": "done"}))
+                codes = {} if code is None else {1: code}
+                self.assertEqual(self.told([[batch]], settings), ([2], {**codes, "1": "done"}))
 
     def test_a_cancel_that_comes_first_reaches_nothing(self):
-        for name, member in (("$/cancelRequest", "id"), ("notifications/cancelled", "requestId")):
+        for settings, name, member, _ in self.WAYS:
             said = [notice(name, {member: 1}), request(1, "plain", [1]), request(2, "async", [2])]
-            self.assertEqual(self.told([said], name), ([1, 2], {1: "done", 2: "done"}))
+            self.assertEqual(self.told([said], settings), ([1, 2], {1: "done", 2: "done"}))
 
     def test_an_id_that_comes_again(self):
-        for name, member in (("$/cancelRequest", "id"), ("notifications/cancelled", "requestId")):
+        for settings, name, member, _ in self.WAYS:
             said = [request(1, "plain", [1]), notice(name, {member: 1}), request(1, "plain", [2])]
-            self.assertEqual(self.told([said], name), ([2], {1: "done"}))
+            self.assertEqual(self.told([said], settings), ([2], {1: "done"}))
 
     def test_while_earlier_ones_begin(self):
         # (each async method has a turn of the loop for its first step, and the cancel is read meanwhile)
-        for name, member in (("$/cancelRequest", "id"), ("notifications/cancelled", "requestId")):
+        for settings, name, member, code in self.WAYS:
             said = [[request(it, "async", [it]) for it in range(9)], [notice(name, {member: 8})]]
-            began, answers = self.told(said, name)
-            self.assertEqual((began, answers[8]), (list(range(8)), -32800))
+            began, answers = self.told(said, settings)
+            self.assertEqual((began, answers.get(8)), (list(range(8)), code))
 
     def test_a_coroutine_that_never_begins_warns_nobody(self):
         async def main(kind):

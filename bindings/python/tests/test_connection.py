@@ -5,7 +5,7 @@ import re
 import threading
 import unittest
 
-from helping import OVER, TOP, Case, frame, notice, request
+from helping import HAS_OPEN, OVER, TOP, Case, frame, needs_open, notice, over_an_older_library, request
 
 import bullmyrtle
 from bullmyrtle import Connection, _library, errors, events
@@ -218,6 +218,266 @@ class Events(Case):
                     connection.feed(it)
 
 
+CANCEL = b'{"jsonrpc":"2.0","method":"notifications/cancelled","params":{"reason":"late","requestId":%s}}\n'
+CANCELLED = b'{"error":{"code":-32800,"message":"Request cancelled"},"id":7,"jsonrpc":"2.0"}\n'
+BUILD = b'{"jsonrpc":"2.0","method":"build","id":7}\n'
+
+
+@needs_open
+class ToolCancels(Case):
+    """Cancels as MCP has them."""
+
+    def connection(self, **more):
+        return lines(cancels="mcp", **more)
+
+    def test_a_cancelled_request_has_no_answer(self):
+        with self.connection() as it:
+            it.feed(BUILD)
+            it.events()
+            key = it.call(1, "ask")
+            it.take()
+            it.feed(CANCEL % b"7")
+            self.assertEqual(it.events(), [events.Cancelled(1)])
+            it.cancel(1)
+            said = b'{"jsonrpc":"2.0","method":"notifications/cancelled","params":{"requestId":%d}}\n' % key
+            self.assertEqual(it.take(), said)
+            counts = it.counts()
+            self.assertEqual((counts.open, counts.waiting, counts.answers_written), (0, 0, 0))
+            with self.assertRaises(bullmyrtle.NotOpen):
+                it.cancel(1)
+
+    def test_one_that_is_answered_has_its_answer(self):
+        for answer, said in (
+            (lambda it: it.answer(1, b"3"), b'{"id":7,"jsonrpc":"2.0","result":3}\n'),
+            (
+                lambda it: it.fail(1, 5, "no"),
+                b'{"error":{"code":5,"message":"no"},"id":7,"jsonrpc":"2.0"}\n',
+            ),
+        ):
+            with self.connection() as it:
+                it.feed(BUILD + CANCEL % b"7")
+                it.events()
+                answer(it)
+                self.assertEqual(it.take(), said)
+
+    def test_one_that_nobody_cancelled_is_answered(self):
+        with self.connection() as it:
+            it.feed(BUILD + CANCEL % b"8" + CANCEL % b'"7"')
+            it.events()
+            it.cancel(1)
+            self.assertEqual((it.take(), it.counts().ignored), (CANCELLED, 2))
+
+    def test_a_withdrawn_call_waits_no_longer(self):
+        with self.connection() as it:
+            keys = [it.call(0, "ask"), it.call(0, "ask")]
+            it.take()
+            it.withdraw(keys[0])
+            said = b'{"jsonrpc":"2.0","method":"notifications/cancelled","params":{"requestId":1}}\n'
+            self.assertEqual((it.take(), it.counts().waiting), (said, 1))
+            with self.assertRaises(bullmyrtle.NotWaiting):
+                it.withdraw(keys[0])
+            it.feed(b'{"jsonrpc":"2.0","id":1,"result":1}\n')
+            self.assertEqual((it.events(), it.counts().ignored), ([], 1))
+            it.end()
+            self.assertEqual(it.events(), [events.Unanswered(2), events.Over("Clean")])
+
+    def test_in_a_batch(self):
+        one, other = (b'{"jsonrpc":"2.0","method":"build","id":%d}' % id_ for id_ in (7, 8))
+        cancels = (CANCEL % b"7").strip()
+        with self.connection() as it:
+            it.feed(b"[%s,%s,%s]\n[%s,%s]\n" % (one, other, cancels, one, cancels))
+            told = it.events()
+            self.assertEqual([it.number for it in told], [1, 2, 1, 3, 3])
+            it.cancel(1)
+            it.answer(2, b"true")
+            self.assertEqual(it.take(), b'[{"id":8,"jsonrpc":"2.0","result":true}]\n')
+            it.cancel(3)
+            self.assertEqual((it.take(), it.counts().answers_written), (b"", 1))
+
+    def test_as_came_goes_past_it(self):
+        with self.connection(order="as-came") as it:
+            it.feed(BUILD + b'{"jsonrpc":"2.0","method":"build","id":8}\n' + CANCEL % b"7")
+            it.events()
+            it.answer(2, b"2")
+            self.assertEqual(it.take(), b"")
+            it.cancel(1)
+            self.assertEqual(it.take(), b'{"id":8,"jsonrpc":"2.0","result":2}\n')
+
+    def test_what_is_no_cancel(self):
+        with self.connection() as it:
+            it.feed(BUILD)
+            it.feed(b'{"jsonrpc":"2.0","method":"$/cancelRequest","params":{"id":7}}\n')
+            for bad in (b"null", b"7.5", b"true", b"[7]"):
+                it.feed(CANCEL % bad)
+            it.feed(b'{"jsonrpc":"2.0","method":"notifications/cancelled"}\n')
+            it.feed(CANCEL.replace(b'"params"', b'"id":1,"params"') % b"7")
+            names = ["build", "$/cancelRequest", *["notifications/cancelled"] * 6]
+            self.assertEqual([it.method for it in it.events()], names)
+        for cancels in ("lsp", None, True, False):
+            with lines(cancels=cancels) as it:
+                it.feed(BUILD + CANCEL % b"7")
+                self.assertEqual([it.method for it in it.events()], ["build", "notifications/cancelled"])
+
+
+@needs_open
+class BrokenInput(Case):
+    """Broken input is told, where that is asked for."""
+
+    def told(self, data, framing="lines", **more):
+        with Connection(framing, broken=True, **more) as it:
+            it.feed(data)
+            return it.events()
+
+    def test_of_lines(self):
+        before = b'{"jsonrpc":"2.0","method":"a"}\n'
+        call = b'{"jsonrpc":"2.0","method":"b","id":1}'
+        self.assertEqual(
+            self.told(before + b"nonsense\n" + b"[5,%s,%s,6]\n" % (call, call) + b"5\n[]\n\xff\0\n"),
+            [
+                events.Call(1, "a", None, None),
+                events.Broken(31, b"nonsense", "Unreadable", 0, 0),
+                events.Broken(40, (b"[5,%s,%s,6]" % (call, call))[:64], "Invalid", 0, 2),
+                events.Call(2, "b", None, b"1"),
+                events.Call(3, "b", None, b"1"),
+                events.Broken(122, b"5", "Invalid", 0, 1),
+                events.Broken(124, b"[]", "Invalid", 0, 1),
+                events.Broken(127, b"\xff\0", "Unreadable", 0, 0),
+            ],
+        )
+
+    def test_which_entry(self):
+        call = b'{"jsonrpc":"2.0","method":"b"}'
+        (broken, *_) = self.told(b"[%s,%s,7,%s,{}]\n" % (call, call, call))
+        self.assertEqual((broken.entry, broken.entries, len(broken.first)), (2, 2, 64))
+
+    def test_of_frames_and_contents(self):
+        head = b"Content-Length: 3\r\n\r\n"
+        self.assertEqual(
+            self.told(head + b"nix" + head + b"[1]", "frames"),
+            [
+                events.Broken(len(head), b"nix", "Unreadable", 0, 0),
+                events.Broken(2 * len(head) + 3, b"[1]", "Invalid", 0, 1),
+            ],
+        )
+        with Connection("contents", broken=True) as it:
+            it.feed(b"nix")
+            it.feed(b"")
+            it.feed(b"5")
+            self.assertEqual(
+                it.events(),
+                [
+                    events.Broken(0, b"nix", "Unreadable", 0, 0),
+                    events.Broken(3, b"", "Unreadable", 0, 0),
+                    events.Broken(3, b"5", "Invalid", 0, 1),
+                ],
+            )
+
+    def test_it_is_answered_and_counted_as_ever(self):
+        with lines(broken=True) as it, lines() as quiet:
+            for one in (it, quiet):
+                one.feed(b"nonsense\n[5,6]\n")
+            self.assertEqual([type(it) for it in it.events()], [events.Broken] * 2)
+            self.assertEqual(quiet.events(), [])
+            self.assertEqual(it.counts(), quiet.counts())
+            self.assertEqual(it.take(), quiet.take())
+
+    def test_one_by_one_and_cut_anyhow(self):
+        data = b'nonsense\n{"jsonrpc":"2.0","method":"a"}\n5\n'
+        whole = self.told(data)
+        with lines(broken=True) as it:
+            told = []
+            for at in range(len(data)):
+                it.feed(data[at : at + 1])
+                told += filter(None, [it.next_event()])
+        self.assertEqual((told, len(told)), (whole, 3))
+
+    def test_in_words(self):
+        for broken, words in (
+            (events.Broken(9, b"x", "Unreadable", 0, 0), "a message can't be read (-32700), at byte 9: b'x'"),
+            (events.Broken(0, b"5", "Invalid", 0, 1), "neither a call nor a reply (-32600), at byte 0: b'5'"),
+            (
+                events.Broken(0, b"[", "Invalid", 3, 1),
+                "a batch has an entry that is neither a call nor a reply",
+            ),
+            (events.Broken(0, b"[", "Invalid", 3, 2), "a batch has 2 entries that are neither a call nor a"),
+        ):
+            self.assertIn(words, broken.text)
+
+
+@needs_open
+class FaultPlaces(Case):
+    """Where the frame or line at fault begins."""
+
+    def test_of_each_fault_of_a_head(self):
+        before = 700 * frame(notice("x"))
+        for data, how in (
+            (b"nonsense\r\n\r\n", "BadHead"),
+            (b"Content-Length: x\r\n\r\n", "BadLength"),
+            (b"Content-Length: 1\r\nContent-Length: 1\r\n\r\n1", "TwoLengths"),
+            (b"Content-Length: 101\r\n\r\n", "TooLarge"),
+            (b"Content-Type: x\r\n\r\n", "NoLength"),
+            (b"A: " + b"x" * 5000, "HeadTooLong"),
+            (b"Content-Length: 5\r\n\r\n{}", "Truncated"),
+        ):
+            with self.subTest(how), Connection(content=100) as connection:
+                connection.feed(before)
+                connection.events()
+                self.assertIsNone(connection.fault_offset)
+                connection.feed(data)
+                connection.end()
+                self.assertEqual(connection.events()[-1], events.Over(how))
+                self.assertEqual(connection.fault_offset, len(before))
+
+    def test_of_lines_and_contents(self):
+        with lines(content=10) as connection:
+            connection.feed(b"5\n6\n" + b"x" * 11)
+            self.assertEqual((connection.events()[-1].how, connection.fault_offset), ("TooLarge", 4))
+        with Connection("contents", content=10) as connection:
+            for it in (b"5", b"1234567890", b"x" * 11):
+                connection.feed(it)
+            self.assertEqual((connection.events()[-1].how, connection.fault_offset), ("TooLarge", 11))
+
+    def test_without_a_fault(self):
+        for failed in (False, True):
+            with Connection() as connection:
+                connection.feed(frame(notice("x")))
+                connection.end(failed)
+                connection.events()
+                self.assertIsNone(connection.fault_offset)
+
+
+class OlderLibraries(Case):
+    """A library without bm_open does all that it did, and what needs it says which library that is."""
+
+    def test_what_it_lacks(self):
+        words = (
+            "needs a library that has bm_open, as bullmyrtle 0.3.0 does, and the one that is loaded is older"
+        )
+        with over_an_older_library():
+            for what, call in (
+                ('cancels="mcp"', lambda: lines(cancels="mcp")),
+                ("broken=True", lambda: lines(broken=True)),
+                ("fault_offset", lambda: lines().fault_offset),
+            ):
+                with self.assertRaises(bullmyrtle.LibraryError) as caught:
+                    call()
+                self.assertEqual(str(caught.exception), f"{what} {words}")
+
+    def test_what_it_has(self):
+        with over_an_older_library():
+            for cancels in ("lsp", True):
+                with lines(cancels=cancels) as connection:
+                    connection.feed(
+                        BUILD + b'{"jsonrpc":"2.0","method":"$/cancelRequest","params":{"id":7}}\n'
+                    )
+                    self.assertEqual(connection.events()[1:], [events.Cancelled(1)])
+                    connection.cancel(1)
+                    self.assertEqual(connection.take(), CANCELLED)
+            with lines(cancels=None) as connection:
+                connection.feed(b'{"jsonrpc":"2.0","method":"$/cancelRequest","params":{"id":7}}\nnonsense\n')
+                self.assertEqual([it.method for it in connection.events()], ["$/cancelRequest"])
+
+
 class Refusals(Case):
     def setUp(self):
         self.connection = lines()
@@ -405,8 +665,8 @@ class Threads(Case):
             "counts": (),
         }
         public = {it for it in dir(Connection) if it[0] != "_"}
-        self.assertEqual(public, {*calls, "close", "pending", "is_done"})
-        for name in public - {"close"}:
+        self.assertEqual(public, {*calls, "close", "pending", "is_done", "fault_offset"})
+        for name in public - {"close"} - (set() if HAS_OPEN else {"fault_offset"}):
             with self.subTest(name), self.assertRaises(bullmyrtle.Closed):
                 connection = Connection()
                 connection._lock = ClosesFirst(connection)
@@ -447,9 +707,10 @@ class Header(Case):
 
     def test_calls(self):
         found = re.findall(r"^(\w+) (bm_\w+)\(([^)]*)\);", self.text, re.M | re.S)
-        self.assertEqual({name for _, name, _ in found}, set(_library.CALLS))
+        ours = {**_library.CALLS, **(_library.CALLS_OF_OPEN if "bm_open" in self.text else {})}
+        self.assertEqual({name for _, name, _ in found}, set(ours))
         for result, name, words in found:
-            given, parameters = _library.CALLS[name]
+            given, parameters = ours[name]
             self.assertEqual(ctypes.sizeof(given) if given else None, WIDTHS.get(result), name)
             types = [] if words == "void" else [it.strip() for it in words.split(",")]
             self.assertEqual(len(types), len(parameters), name)
@@ -468,6 +729,7 @@ class Header(Case):
     def test_structs(self):
         structs = {
             "bm_settings": _library.Settings,
+            **({"bm_options": _library.Options} if "bm_open" in self.text else {}),
             "bm_connection": _library.Handle,
             "bm_event": _library.Event,
             "bm_report": _library.Counts,
@@ -495,9 +757,15 @@ class Header(Case):
         self.assertEqual([it[3:] for it in codes[1:]], codes_of_errors())
         self.assertEqual(len(next(it for it in lists if it[0] == "BM_OVER_CLEAN")), len(_library.HOWS))
         kinds = next(it for it in lists if it[0] == "BM_NONE")
-        self.assertEqual(
-            kinds[1:], ["BM_CALL", "BM_CANCELLED", "BM_REPLIED", "BM_UNANSWERED", "BM_INPUT_OVER"]
-        )
+        ours = ["BM_CALL", "BM_CANCELLED", "BM_REPLIED", "BM_UNANSWERED", "BM_INPUT_OVER"]
+        if "bm_open" in self.text:
+            ours.append("BM_BROKEN")
+            self.assertIn(["BM_CANCELS_NONE", "BM_CANCELS_LSP", "BM_CANCELS_MCP"], lists)
+            self.assertIn(["BM_UNREADABLE", "BM_INVALID"], lists)
+            self.assertIn(["BM_HAS_TOGETHER", "BM_HAS_OPEN"], lists)
+            self.assertEqual(_library.OPEN, _library.TOGETHER + 1)
+        self.assertEqual(kinds[1:], ours)
+        self.assertEqual(kinds.index(ours[-1]), getattr(_library, ours[-1][3:]))
         stops = next(it for it in lists if it[0] == "BM_STOP_NONE")
         ours = {"NONE": _library.NO_EVENT, "ROOM": _library.NO_ROOM, "MOST": _library.NO_MORE}
         ours["NO_MEMORY"] = _library.NO_MEMORY_LEFT

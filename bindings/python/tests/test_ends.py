@@ -1,5 +1,6 @@
 """An end that says why: one line that a person understands, and the same as data."""
 import asyncio
+import json
 import logging
 import os
 import subprocess
@@ -9,9 +10,32 @@ import textwrap
 import time
 import unittest
 
-from helping import Case, command, environment, frame, joined, logged, notice, request
+from helping import (
+    HAS_OPEN,
+    Case,
+    command,
+    environment,
+    frame,
+    joined,
+    logged,
+    needs_open,
+    notice,
+    over_an_older_library,
+    request,
+)
 
-from bullmyrtle import LATER, BadSettings, Client, Closed, NoMemory, Server, Unanswered, _process
+from bullmyrtle import (
+    LATER,
+    BadSettings,
+    Client,
+    Closed,
+    LibraryError,
+    NoMemory,
+    Server,
+    Unanswered,
+    _process,
+    events,
+)
 from bullmyrtle.testing import Memory
 
 LINE = b'{"jsonrpc":"2.0","method":"add","params":[1,2],"id":7}\n'
@@ -79,8 +103,9 @@ class Ends(Case):
         self.assertEqual((end.how, end.offset, end.first), (how, offset, first))
         self.assertEqual(end.status, 1)
         if offset is not None:
-            self.assertIn(f"byte {offset}", end.text)
-            self.assertIn(repr(first), end.text)
+            self.assertIn(f"at byte {offset}", end.text)
+        if first is not None:
+            self.assertIn(f": {first!r}", end.text)
         for it in words:
             self.assertIn(it, end.text)
         return end
@@ -126,8 +151,58 @@ class Ends(Case):
             self.check([given[:cut], given[cut:]], "BadHead", len(ADD), seen[len(ADD) :])
         self.check([bytes([it]) for it in given], "BadHead", len(ADD), b"hello\n")
 
-    def test_behind_what_is_kept(self):
+    @needs_open
+    def test_anywhere_in_the_stream(self):
+        """As far behind the stream's beginning as may be, and cut anyhow."""
+        for given, how in (
+            (b"hello\nand more", "BadHead"),
+            (LINE, "BadHead"),
+            (b"Content-Length: x\r\n\r\n", "BadLength"),
+            (b"Content-Length: 5\r\nContent-Length: 5\r\n\r\n", "TwoLengths"),
+            (b"Content-Type: x\r\n\r\n", "NoLength"),
+            (b"A: " + b"x" * 4100, "HeadTooLong"),
+            (b"Content-Length: 99999999\r\n\r\n", "TooLarge"),
+            (b"Content-Length: 9\r\n\r\n{}", "Truncated"),
+            (b"Content-Length: 9000\r\n\r\n" + b"y" * 7000, "Truncated"),
+        ):
+            with self.subTest(how):
+                for many in (103 * ADD, 300 * ADD + frame(b"nonsense")):
+                    data = many + given
+                    for at in (len(many) - 1, len(many), len(many) + 1):
+                        self.check([data[:at], data[at:]], how, len(many), given[:64])
+                    if len(given) > 100:
+                        continue
+                    end = self.end(a_server(), many, *(bytes([it]) for it in given))
+                    self.assertEqual((end.how, end.offset), (how, len(many)))
+                    self.assertEqual(end.first, given[: len(end.first)])
+                    self.assertGreater(len(end.first), 5)
+
+    @needs_open
+    def test_a_frame_whose_beginning_isnt_kept(self):
+        """Its place is known all the same."""
+        large = b"Content-Length: 99999\r\n\r\n"
+        pieces = [b"y" * 10_000] * 3
+        end = self.check([500 * ADD, large, *pieces], "Truncated", 500 * len(ADD), None)
+        self.assertTrue(
+            end.text.endswith(
+                f"at byte {500 * len(ADD)}: the other side ended before it had written all of it"
+            )
+        )
+        self.check([large, *pieces], "Truncated", 0, (large + pieces[0])[:64])
+
+    @needs_open
+    def test_it_is_what_the_connection_says(self):
+        """In a session that is traced, and in one whose content is read aside."""
+        many, large = 500 * ADD, frame(request(1, "echo", ["x" * 200_000]))
+        self.check([many, b"hello\n"], "BadHead", len(many), b"hello\n", trace=lambda line: None)
+        self.check([many + large + b"hello\n"], "BadHead", len(many + large), b"hello\n")
+
+    def test_behind_what_is_kept_over_an_older_library(self):
         """Where the frame began isn't known any more, and what was read last is."""
+        with over_an_older_library():
+            self.check_behind_what_is_kept()
+
+    def check_behind_what_is_kept(self):
         many = 500 * ADD
         end = self.check([many, b"hello\nand more"], "BadHead", None, None)
         self.assertIn(f"in what was read from byte {len(many)} on, b'hello\\nand more'", end.text)
@@ -607,17 +682,20 @@ class Counted(Case):
         lines, seen = self.lines(b"hello\n")
         self.assertEqual((len(lines), seen), (1, [1]))
         self.assertIn("1 message that couldn't be read (-32700) came so far", lines[0])
-        self.assertIn("b'hello\\n'", lines[0])
+        self.assertIn("b'hello", lines[0])
         lines, _ = self.lines(b"5\n6\n")
         self.assertIn("2 messages that were neither a call nor a reply (-32600) came so far", lines[0])
-        lines, _ = self.lines(b"hello\n5\nhello\n")
-        self.assertEqual(
-            lines,
-            [
-                "2 messages that couldn't be read (-32700) and 1 that was neither a call nor a reply (-32600) "
-                "came so far, besides 0 calls; the input began with b'hello\\n5\\nhello\\n'"
-            ],
+        said = (
+            "2 messages that couldn't be read (-32700) and 1 that was neither a call nor a reply (-32600) "
+            "came so far, besides 0 calls; "
         )
+        last = "the last one began at byte 8 with b'byebye'"
+        began = "the input began with b'hello\\n5\\nbyebye\\n'"
+        lines, _ = self.lines(b"hello\n5\nbyebye\n")
+        self.assertEqual(lines, [said + (last if HAS_OPEN else began)])
+        with over_an_older_library():
+            lines, _ = self.lines(b"hello\n5\nbyebye\n")
+        self.assertEqual(lines, [said + began])
 
     def test_frames_to_a_server_of_lines(self):
         lines, _ = self.lines(ADD)
@@ -643,6 +721,127 @@ class Counted(Case):
         lines, _ = self.lines(good + b"hello\n" + good)
         self.assertEqual(len(lines), 1)
         self.assertIn("besides 2 calls", lines[0])
+
+
+@needs_open
+class Broken(Case):
+    """Broken input is told to a hook: where it is, its first bytes, and what is wrong."""
+
+    GOOD = b'{"jsonrpc":"2.0","method":"echo","id":1}\n'
+
+    def told(self, hook, *pieces, make=Server, **settings):
+        """Feeds a session, and gives what was logged as errors."""
+
+        async def main():
+            peer = make(framing="lines", on_broken=hook, **settings)
+            peer.method("echo")(lambda params: self.seen.append("echo"))
+            channel = Raw()
+            channel._other = Raw()
+            if make is Server:
+                serving = asyncio.ensure_future(peer.serve_over(channel))
+            else:
+                peer.attach(channel)
+                serving = peer._serving
+            await asyncio.sleep(0)
+            self.session = peer.session
+            channel.feed(*pieces)
+            await asyncio.sleep(0)
+            channel._session.input_ended(False)
+            await serving
+            self.ended = self.session.ended
+
+        self.seen = []
+        with logged() as log:
+            self.wait(main())
+        return log.errors
+
+    def test_it_is_told_in_its_place(self):
+        def hook(broken, session):
+            self.assertIs(session, self.session)
+            self.seen.append(broken)
+
+        for make in (Server, Client):
+            self.assertEqual(self.told(hook, self.GOOD + b"nonsense\n[1,2]\n", self.GOOD, make=make), [])
+            self.assertEqual(
+                self.seen,
+                [
+                    "echo",
+                    events.Broken(len(self.GOOD), b"nonsense", "Unreadable", 0, 0),
+                    events.Broken(len(self.GOOD) + 9, b"[1,2]", "Invalid", 0, 2),
+                    "echo",
+                ],
+            )
+            self.assertEqual((self.ended.how, self.ended.status), ("Clean", 0))
+
+    def test_a_hook_that_raises(self):
+        def hook(broken, session):
+            raise KeyError(broken.offset)
+
+        errors = self.told(hook, b"nonsense\n" + self.GOOD + b"5\n")
+        self.assertEqual([it.getMessage() for it in errors], ["on_broken raised KeyError"] * 2)
+        self.assertEqual((self.seen, self.ended.how), (["echo"], "Clean"))
+
+    def test_a_hook_that_ends_the_session(self):
+        errors = self.told(lambda broken, session: session.stop(3), b"nonsense\n", self.GOOD)
+        self.assertEqual((errors, self.seen), ([], []))
+        self.assertEqual((self.ended.how, self.ended.status), ("Stopped", 3))
+
+    def test_while_calls_are_held(self):
+        """A slow reader holds calls up, and not what is told of broken input."""
+
+        def hook(broken, session):
+            self.seen.append(broken.first)
+
+        def much(params):
+            self.seen.append("much")
+            return "x" * 2_000_000
+
+        async def main():
+            server = Server(framing="lines", on_broken=hook)
+            server.method("much")(much)
+            channel = Raw()
+            channel._other = Raw()
+            channel.write = lambda: None
+            serving = asyncio.ensure_future(server.serve_over(channel))
+            await asyncio.sleep(0)
+            ask = b'{"jsonrpc":"2.0","method":"much","id":1}\n'
+            channel.feed(ask + ask + b"nonsense\n" + ask)
+            await self.until(lambda: len(self.seen) == 2)
+            self.assertEqual(self.seen, ["much", b"nonsense"])
+            server.stop()
+            with logged():
+                await serving
+
+        self.seen = []
+        self.wait(main())
+
+    def test_the_trace_has_it(self):
+        lines = []
+        self.told(None, b"nonsense\n", trace=lines.append)
+        found = [it for it in map(json.loads, lines) if it["type"] == "broken"]
+        self.assertEqual([it["isLSPMessage"] for it in found], [False])
+        self.assertEqual(
+            found[0]["message"], {"text": "a message can't be read (-32700), at byte 0: b'nonsense'"}
+        )
+
+
+class Hooks(Case):
+    def test_what_is_no_hook(self):
+        async def later(broken, session):
+            pass
+
+        for kind in (Server, Client):
+            for it in (5, "log", later):
+                with self.assertRaises(BadSettings) as caught:
+                    kind(on_broken=it)
+                self.assertIn("it is a plain function, or None", str(caught.exception))
+
+    def test_an_older_library(self):
+        with over_an_older_library():
+            for kind in (Server, Client):
+                with self.assertRaises(LibraryError) as caught:
+                    kind(on_broken=print)
+                self.assertIn("on_broken needs a library that has bm_open", str(caught.exception))
 
 
 if __name__ == "__main__":

@@ -8,7 +8,7 @@ import time
 import unittest
 from unittest import mock
 
-from helping import OVER, Case, joined, logged, notice, request
+from helping import HAS_OPEN, OVER, Case, joined, logged, notice, request
 
 from bullmyrtle import LATER, Client, Closed, Error, NotJson, NotOpen, Server, Unanswered
 from bullmyrtle._channels import Descriptors
@@ -345,13 +345,13 @@ class Aside(Case):
 class SlowReader(Case):
     """Calls begin as long as what is said is read; all else is told on."""
 
-    def piped(self, use, count=60, size=1_000_000):
+    def piped(self, use, count=60, size=1_000_000, **settings):
         """Serves what 6 KB ask for, of which nothing is read at first."""
 
         async def main():
             given, theirs = os.pipe()
             ours, taken = os.pipe()
-            server, began = Server(framing="lines", grace=60), []
+            server, began = Server(**{"framing": "lines", "grace": 60, **settings}), []
 
             @server.method("much")
             def much(params):
@@ -405,6 +405,14 @@ class SlowReader(Case):
         self.assertEqual(len(answers), 58)
 
     def test_replies_cancels_and_notifications_of_tasks_are_told_on(self):
+        self.check_what_is_told_on("notifications/cancelled", "requestId", -32800)
+
+    def test_the_same_with_other_cancels(self):
+        self.check_what_is_told_on("$/cancelRequest", "id", -32800, cancel_by="$/cancelRequest")
+        if HAS_OPEN:
+            self.check_what_is_told_on("notifications/cancelled", "requestId", None, protocol="mcp")
+
+    def check_what_is_told_on(self, name, member, code, **settings):
         async def use(server, began, write, asked, read):
             told, key = [], []
 
@@ -427,16 +435,17 @@ class SlowReader(Case):
             write(
                 asked
                 + line({"jsonrpc": "2.0", "id": key[0], "result": "Ys"})
-                + line(notice("notifications/cancelled", {"requestId": "slow"}))
-                + b"".join(line(notice("notifications/cancelled", {"requestId": it})) for it in range(40, 60))
+                + line(notice(name, {member: "slow"}))
+                + b"".join(line(notice(name, {member: it})) for it in range(40, 60))
             )
             await self.until(lambda: len(told) == 2)
             self.assertEqual((sorted(told), began), (["Ys", "cancelled"], [0, 1]))
 
-        status, answers, began = self.piped(use)
+        status, answers, began = self.piped(use, **settings)
         # (those that were cancelled meanwhile never begin)
         self.assertEqual((status, began), (0, list(range(40))))
-        self.assertEqual({answers[it]["error"]["code"] for it in range(40, 60)}, {-32800})
+        codes = {answers[it]["error"]["code"] if it in answers else None for it in range(40, 60)}
+        self.assertEqual(codes, {code})
 
     def test_the_end_is_told_on(self):
         async def use(server, began, write, asked, read):

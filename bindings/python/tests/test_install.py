@@ -87,7 +87,7 @@ class Wheels(Case):
         before = os.environ.get("BULLMYRTLE_LIBRARY")
         os.environ["BULLMYRTLE_LIBRARY"] = self.library
         try:
-            os.makedirs(os.path.join(self.room, room))
+            os.makedirs(os.path.join(self.room, room), exist_ok=True)
             return os.path.join(self.room, room, getattr(wheels, hook)(os.path.join(self.room, room)))
         finally:
             del os.environ["BULLMYRTLE_LIBRARY"]
@@ -120,7 +120,6 @@ class Wheels(Case):
         self.assertIn("bullmyrtle/lsp/server.py", names)
         self.assertNotIn("License", about)
         self.assertIn("Requires-Python: >=3.8", about)
-        self.assertTrue(self.build("build_sdist", "sdist").endswith(".tar.gz"))
         self.assertTrue(self.build("build_editable", "editable").endswith(".whl"))
 
     def test_another_library_is_seen(self):
@@ -137,30 +136,51 @@ class Wheels(Case):
             label = f"+library.{hashlib.sha256(data + more).hexdigest()[:8]}" if more else ""
             version = bullmyrtle.__version__ + label
             with contextlib.redirect_stderr(io.StringIO()) as said:
-                wheel, source = self.build("build_wheel", f"{name}-wheel"), self.build(
-                    "build_sdist", f"{name}-sdist"
-                )
+                wheel = self.build("build_wheel", f"{name}-wheel")
             self.assertEqual(
                 os.path.basename(wheel), f"bullmyrtle-{version}-py3-none-manylinux2014_x86_64.whl"
             )
-            self.assertEqual(os.path.basename(source), f"bullmyrtle-{version}.tar.gz")
             self.assertEqual(self.library in said.getvalue(), bool(more), said.getvalue())
             with zipfile.ZipFile(wheel) as it:
                 about = it.read(f"bullmyrtle-{version}.dist-info/METADATA").decode()
             self.assertIn(f"\nVersion: {version}\n", about)
-            # (and a wheel that is made of such sources has the same version)
-            with tarfile.open(source) as it:
-                it.extractall(self.room)
-            code = "import sys, wheels; print(wheels.build_wheel(sys.argv[1]))"
-            here = os.path.join(self.room, f"bullmyrtle-{version}")
-            env = {**self.env, "PYTHONPATH": os.path.join(here, "build_backend")}
-            del env["BULLMYRTLE_LIBRARY"]
-            got = self.run_quietly(sys.executable, "-c", code, self.room, env=env)
+            # (and a wheel that is made of a source distribution with this library is the same)
+            got = self.build_of_sources(self.library)
             self.assertEqual(got.stdout.decode().strip(), os.path.basename(wheel), got.stderr)
             with open(os.path.join(self.room, os.path.basename(wheel)), "rb") as again, open(
                 wheel, "rb"
             ) as first:
                 self.assertEqual(again.read(), first.read())
+
+    def build_of_sources(self, library=None):
+        """Makes a wheel of a source distribution, as far from the repository as a stranger is."""
+        source = self.build("build_sdist", "sources")
+        with tarfile.open(source) as it:
+            it.extractall(self.room)
+        here = os.path.join(self.room, f"bullmyrtle-{bullmyrtle.__version__}")
+        env = {**self.env, "PYTHONPATH": os.path.join(here, "build_backend")}
+        del env["BULLMYRTLE_LIBRARY"]
+        if library is not None:
+            env["BULLMYRTLE_LIBRARY"] = library
+        code = "import sys, wheels; print(wheels.build_wheel(sys.argv[1]))"
+        return self.run_quietly(sys.executable, "-c", code, self.room, env=env)
+
+    def test_the_source_distribution(self):
+        one, other = self.build("build_sdist", "one"), self.build("build_sdist", "other")
+        with open(one, "rb") as first, open(other, "rb") as second:
+            self.assertEqual(first.read(), second.read())
+        top = f"bullmyrtle-{bullmyrtle.__version__}"
+        self.assertEqual(os.path.basename(one), f"{top}.tar.gz")
+        with tarfile.open(one) as source:
+            names = source.getnames()
+            data = b"".join(source.extractfile(it).read() for it in names)
+        # (it has sources alone, and says what to do for the library)
+        self.assertIn(f"{top}/bullmyrtle/lsp/server.py", names)
+        self.assertNotIn(b"\x7fELF", data)
+        self.assertIn(b"BULLMYRTLE_LIBRARY=", data)
+        got = self.build_of_sources()
+        self.assertEqual(got.returncode, 1, got)
+        self.assertIn(b"BULLMYRTLE_LIBRARY may name it", got.stderr)
 
     def test_without_the_library(self):
         self.env["BULLMYRTLE_LIBRARY"] = os.path.join(self.room, "nowhere")

@@ -35,6 +35,8 @@ end 1
 
 
 class Interface(Case):
+    more = ()
+
     def setUp(self):
         if shutil.which("cc") is None:
             self.skipTest("cc isn't there: nothing shows how C sees what the package passes")
@@ -53,7 +55,7 @@ class Interface(Case):
             "-fPIC",
             f"-I{include}",
         ]
-        subprocess.run([*words, "-o", file, os.path.join(HERE, "interface.c")], check=True)
+        subprocess.run([*words, *self.more, "-o", file, os.path.join(HERE, "interface.c")], check=True)
         before = _library.library()
         self.addCleanup(_library.use, before)
         library = ctypes.PyDLL(file)
@@ -61,6 +63,9 @@ class Interface(Case):
         _library.use(library)
 
     def test_it(self):
+        self.check(SAID.lstrip(), b"new 0 0 0 0 0\n")
+
+    def check(self, wanted, without_cancels):
         event = events.Call((1 << 64) - 1, "a\0b", b"[10]", b'"i"')
         with Connection("lines", "as-came", True, 123, 1 << 63) as it:
             self.assertIs(it.is_done, True)
@@ -90,10 +95,35 @@ class Interface(Case):
             it.end(failed=True)
             pending = it.pending
             said = it.take(5) + it.take()
-            self.assertEqual((said.decode(), pending), (SAID.lstrip(), len(said)))
+            self.assertEqual((said.decode(), pending), (wanted, len(said)))
         with Connection(cancels=False) as it:
             self.assertIs(it.is_done, False)
-            self.assertTrue(it.take().startswith(b"new 0 0 0 0 0\n"))
+            self.assertTrue(it.take().startswith(without_cancels))
+
+
+class Opened(Interface):
+    """The same of a library that has bm_open."""
+
+    more = ("-DOPEN",)
+
+    def setUp(self):
+        with open(os.path.join(TOP, "include", "bullmyrtle.h"), encoding="utf-8") as header:
+            if "bm_open" not in header.read():
+                self.skipTest("the header has no bm_open")
+        super().setUp()
+
+    def test_it(self):
+        head = "new 1 1 1 123 9223372036854775808\n"
+        opened = "open 1 1 1 1 0 123 9223372036854775808\n"
+        self.check(SAID.lstrip().replace(head, opened), b"open 1 0 0 0 0 0 0\n")
+
+    def test_what_it_has_more(self):
+        with Connection("contents", cancels="mcp", broken=True) as it:
+            self.assertTrue(it.take().startswith(b"open 1 2 0 2 1 0 0\n"))
+            self.assertEqual(it.fault_offset, (1 << 64) - 1)
+            self.assertEqual(it.take(), b"fault_at\n")
+        with Connection(cancels=None) as it:
+            self.assertIsNone(it.fault_offset)
 
 
 if __name__ == "__main__":

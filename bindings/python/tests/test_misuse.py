@@ -76,7 +76,7 @@ class Settings(Refused):
 
     def test_protocols(self):
         for kind in (Server, Client):
-            self.refused(BadSettings, lambda: kind(protocol="dap"), "protocol='dap'", "'lsp' and None")
+            self.refused(BadSettings, lambda: kind(protocol="dap"), "protocol='dap'", "'lsp', 'mcp' and None")
             self.refused(
                 BadSettings,
                 lambda: kind(protocol="lsp", framing="lines"),
@@ -89,6 +89,7 @@ class Settings(Refused):
                     "protocol='lsp' has cancel_by='$/cancelRequest'",
                 )
             kind(protocol="lsp", framing="frames", cancel_by="$/cancelRequest")
+            self.assertEqual(kind(protocol="lsp")._settings["framing"], "frames")
 
     def test_a_protocol_without_batches(self):
         async def main(protocol, server_protocol=None):
@@ -157,6 +158,7 @@ class Settings(Refused):
     def test_of_a_connection(self):
         self.refused(BadSettings, lambda: Connection("line"), "there are 'frames', 'lines' and 'contents'")
         self.refused(BadSettings, lambda: Connection(order="soon"), "there are 'as-answered' and 'as-came'")
+        self.refused(BadSettings, lambda: Connection(cancels="dap"), "there are None, 'lsp' and 'mcp'")
         self.refused(BadSettings, lambda: Connection(content=0), "from 1 to 16,777,216")
         self.refused(BadSettings, lambda: Connection(content=16_777_217), "from 1 to 16,777,216")
         self.refused(BadSettings, lambda: Connection(calls=0), "from 1 to")

@@ -4,7 +4,7 @@ import random
 import sys
 import unittest
 
-from helping import OVER, TOP, Case
+from helping import HAS_OPEN, OVER, TOP, Case
 
 from bullmyrtle import Connection, Refused, events
 
@@ -41,6 +41,8 @@ def as_model(event):
         return model.Failed(event.key, event.code, event.message, event.data and event.data.decode())
     if isinstance(event, events.Replied):
         return model.Replied(event.key, event.result.decode())
+    if isinstance(event, events.Broken):
+        return model.Broken(event.offset, event.first, event.entry, event.entries)
     return getattr(model, type(event).__name__)(*event)
 
 
@@ -50,10 +52,8 @@ class Side:
     def __init__(self, case, chance, settings):
         self.case, self.chance = case, chance
         self.real = Connection(**settings)
-        cancels = settings.get("cancels", True)
-        self.model = model.Model(
-            model.Settings(settings["framing"], settings["order"], cancels, 1 << 24, (1 << 64) - 1)
-        )
+        ways = (settings["framing"], settings["order"], settings["cancels"])
+        self.model = model.Model(model.Settings(*ways, tells_broken=settings["broken"]))
         self.calls, self.keys = [0], [0]
 
     def both(self, ours, theirs):
@@ -124,13 +124,16 @@ class Side:
         self.case.assertEqual(self.real.pending, self.model.pending())
         self.case.assertEqual(self.real.is_done, self.model.is_done())
         self.case.assertEqual(tuple(self.real.counts()), tuple(self.model.report()))
+        if HAS_OPEN:
+            self.case.assertEqual(self.real.fault_offset, self.model.fault_place())
 
     def give(self, other):
         """Gives the other side what is written, cut anyhow, and now and then damaged."""
         most = self.chance.choice([1 << 20, 1 << 20, 40, 7])
         data = self.real.take(most)
         self.case.assertEqual(data, self.model.take(most))
-        if data and self.chance.random() < 0.02 and self.real._framing != "frames":
+        if data and self.chance.random() < 0.02:
+            # (a frame, too, is as long as before)
             data = data.replace(b'"jsonrpc"', b'"jsonrpx"')
         if data or self.real._framing != "contents":
             other.feed(data)
@@ -152,7 +155,8 @@ class Traffic(Case):
         settings = {
             "framing": chance.choice(["frames", "lines", "contents"]),
             "order": chance.choice(["as-answered", "as-came"]),
-            "cancels": chance.random() < 0.7,
+            "cancels": chance.choice(["lsp", "mcp" if HAS_OPEN else "lsp", None]),
+            "broken": HAS_OPEN and chance.random() < 0.5,
         }
         one, other = Side(self, chance, settings), Side(self, chance, settings)
         for _ in range(STEPS):

@@ -9,7 +9,7 @@ import time
 import typing
 import unittest
 
-from helping import Case, joined, logged
+from helping import HAS_OPEN, Case, joined, logged
 
 from bullmyrtle import Client, Error, InvalidParams, Server, mcp
 from bullmyrtle.mcp import Context, Image, ToolClient, ToolError, ToolResult, ToolServer
@@ -549,9 +549,38 @@ class Tools(Case):
 
         for name in ("waits", "asks", "looks"):
             host = Host(sampling_createMessage=sleeps)
-            # (an answer is sent, since the library has no way to send none; the host has to ignore it)
-            self.assertEqual(self.called(server, name, {}, host, act=cancel, sampling={})[0], -32800)
+            self.assertEqual(self.cancelled(server, name, host, cancel), [] if HAS_OPEN else [-32800])
         self.assertEqual(ended, ["waits", "looks"])
+
+    def cancelled(self, server, name, host, cancel):
+        """The codes of what a call is answered that is cancelled; no answer has come before another call's."""
+
+        async def main():
+            async with hosting(server, host, sampling={}) as it:
+                call = it.call("tools/call", {"name": name, "arguments": {}})
+                await cancel(it, call)
+                await it.call("ping")
+                found = [(await fault_of(call))[0]] if call.done() else []
+                await asyncio.sleep(0.02)
+                counts = server.session._connection.counts()
+                self.assertEqual((counts.open, counts.waiting), (0, 0))
+                return found
+
+        return self.wait(main())
+
+    def test_a_tool_that_asks_is_cancelled(self):
+        server, host = ToolServer("tools"), Host(sampling_createMessage=lambda params: asyncio.sleep(60))
+
+        @server.tool
+        async def asks(context: Context):
+            await context.sample("?")
+
+        async def cancel(it, call):
+            await self.until(lambda: it.asked)
+            it.notify("notifications/cancelled", {"requestId": call.key})
+
+        self.assertEqual(self.cancelled(server, "asks", host, cancel), [] if HAS_OPEN else [-32800])
+        self.assertEqual(len(host.of("notifications/cancelled")), 1)
 
     def test_time_limits(self):
         server, ended = ToolServer("tools"), []

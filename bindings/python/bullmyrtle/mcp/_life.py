@@ -3,6 +3,7 @@ from __future__ import annotations
 
 from typing import TYPE_CHECKING, Any, Dict, Optional, Set
 
+from .. import _library
 from .._middleware import raw
 from .._params import PLAIN, Method, Methods
 from .._request import Request
@@ -15,6 +16,17 @@ Json = Dict[str, Any]
 
 #: The versions of the protocol that are known, the newest first.
 VERSIONS = ("2025-06-18", "2025-03-26", "2024-11-05")
+
+
+def settings_of(given: Dict[str, Any]) -> Dict[str, Any]:
+    """The settings of a server or a client: those that are given, with MCP's protocol where they say nothing of that.
+
+    (A library that can't leave a cancelled request without an answer yet answers it.)
+    """
+    says_nothing = not {"protocol", "framing", "cancel_by"} & given.keys()
+    if says_nothing and _library.has_open():
+        return {"protocol": "mcp", **given}
+    return {"framing": "lines", **given}
 
 
 class Life:

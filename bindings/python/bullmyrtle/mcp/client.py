@@ -10,7 +10,7 @@ from .._params import PLAIN
 from .._request import Request
 from ..client import Client, Word
 from ..errors import Error
-from ._life import VERSIONS
+from ._life import VERSIONS, settings_of
 from .content import text
 from .context import check_level
 
@@ -68,10 +68,9 @@ class ToolClient(Client):
             or None where the user declines
         roots -- the URIs of the folders that the server may work in, or a function that gives them
         log -- what gets the server's log messages: their params
-        settings -- those of a `Client`; messages are lines, unless they say otherwise
+        settings -- those of a `Client`; `protocol="mcp"`, unless they say otherwise
         """
-        settings.setdefault("framing", "lines")
-        super().__init__(command, **settings)
+        super().__init__(command, **settings_of(settings))
         self._about = {"name": name, "version": version}
         self._versions = tuple(versions)
         self._roots = roots

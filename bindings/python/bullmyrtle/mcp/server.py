@@ -19,7 +19,7 @@ from .._session import Session
 from ..errors import INVALID_REQUEST, Closed, Error, InvalidParams
 from ..server import Server
 from ._functions import Function, result_schema
-from ._life import VERSIONS, Gate, Life
+from ._life import VERSIONS, Gate, Life, settings_of
 from ._schema import Checker
 from .content import Content, ToolError, ToolResult, contents_of, parts_of, text
 from .context import LEVELS, Context, check_level
@@ -85,10 +85,9 @@ class ToolServer(Server):
         versions -- the versions of the protocol that may be agreed on, the preferred one first
         page_size -- how many tools, resources or prompts are told at once; all where none is given
         capabilities -- what is to be told beside what is registered
-        settings -- those of a `Server`; messages are lines, unless they say otherwise
+        settings -- those of a `Server`; `protocol="mcp"`, unless they say otherwise
         """
-        settings.setdefault("framing", "lines")
-        super().__init__(**settings)
+        super().__init__(**settings_of(settings))
         if not set(versions) <= set(VERSIONS) or not versions:
             raise ValueError(f"the versions are {', '.join(VERSIONS)}: {versions!r}")
         if page_size is not None and page_size < 1:
