@@ -1,12 +1,14 @@
 /* The addon for Node.js: connections of libbullmyrtle, crossed as rarely as can be.
  *
  * Two crossings carry a piece of input and all that is said of it:
- *   fed    bytes in; out come the heads of events, as numbers in an array, and their texts as ONE string
+ *   fed    bytes in; out come the heads of events, as numbers in an array, and their texts as ONE string, whose first
+ *          part may be an array of JSON that has the params and results of all
  *   say    answers, calls, notifications and withdrawals in, as numbers in an array and ONE string; bytes out
  * since a crossing costs little, and a string much. The other calls are those of the header, one by one.
  *
  * With TOGETHER, which bin/tools/addon.py says where the header has bm_say_all, the library goes through what is said
- * and told by itself; without, it is asked for each.
+ * and told by itself; without, it is asked for each. With OPEN, which it says where the header has bm_open, a
+ * connection may have MCP's cancels, tell broken input, and say where a fault lies.
  *
  * Nothing here is global: what connections share belongs to the thread of JavaScript that loaded the addon. No call of
  * JavaScript is made from here, so rooms are free again when a crossing is over. */
@@ -19,8 +21,9 @@
 enum { BEFORE_HEADS = 4, HEAD = 6, MOST_EVENTS = 64 };
 /* The same of what is said. */
 enum { BEFORE_SAYINGS = 1, SAYING = 3, MOST_SAYINGS = 1024 };
-/* An event takes 64 bytes at least, so no more of them fit such a room than there are heads for. */
-enum { EVENTS_ROOM = 64 * MOST_EVENTS, TEXTS_ROOM = 1 << 16 };
+/* An event takes 64 bytes at least, so no more of them fit such a room than there are heads for. What is told of broken
+ * input is longer as a text than as bytes, and less than twice as long as its event. */
+enum { EVENTS_ROOM = 64 * MOST_EVENTS, TOLD_ROOM = 2 * EVENTS_ROOM, TEXTS_ROOM = 1 << 16 };
 /* A room that had to grow over this is given back once it was used. One below it is kept: a block of some megabytes
  * that is given back at each message costs more in faults of its pages than it holds. */
 enum { KEPT = 1 << 23 };
@@ -168,23 +171,54 @@ static void forget(napi_env env, void *data, void *hint)
     free(it);
 }
 
-/* open(framing, order, cancels, content, calls): a handle, or a code */
+/* What a connection is made with. */
+typedef struct {
+    uint32_t framing, order, cancels, content, broken;
+    uint64_t calls;
+} ways;
+
+#ifdef OPEN
+
+static int32_t make(const ways *it, void **at)
+{
+    bm_options options = {.size = sizeof options, .framing = it->framing, .order = it->order, .cancels = it->cancels};
+    options.broken = it->broken;
+    options.content = it->content;
+    options.calls = it->calls;
+    return bm_open(&options, at);
+}
+
+#else
+
+/* (JavaScript asks for neither MCP's cancels nor broken input here) */
+static int32_t make(const ways *it, void **at)
+{
+    bm_settings settings = {.framing = it->framing, .order = it->order, .takes_cancels = it->cancels};
+    settings.content = it->content;
+    settings.calls = it->calls;
+    return bm_new(&settings, at);
+}
+
+#endif
+
+/* open(framing, order, cancels, content, calls, broken): a handle, or a code */
 static napi_value open_one(napi_env env, napi_callback_info info)
 {
-    napi_value given[5], made = NULL;
-    size_t count = 5;
+    napi_value given[6], made = NULL;
+    size_t count = 6;
     int64_t now;
-    bm_settings settings = {0};
+    ways asked = {0};
     napi_get_cb_info(env, info, &count, given, NULL, NULL);
-    napi_get_value_uint32(env, given[0], &settings.framing);
-    napi_get_value_uint32(env, given[1], &settings.order);
-    napi_get_value_uint32(env, given[2], &settings.takes_cancels);
-    napi_get_value_uint32(env, given[3], &settings.content);
-    settings.calls = whole(env, given[4]);
+    napi_get_value_uint32(env, given[0], &asked.framing);
+    napi_get_value_uint32(env, given[1], &asked.order);
+    napi_get_value_uint32(env, given[2], &asked.cancels);
+    napi_get_value_uint32(env, given[3], &asked.content);
+    asked.calls = whole(env, given[4]);
+    asked.broken = flag(env, given[5]);
     connection *it = calloc(1, sizeof *it);
     if (it == NULL)
         return number(env, BM_NO_MEMORY);
-    int32_t code = bm_new(&settings, &it->at.at);
+    int32_t code = make(&asked, &it->at.at);
     if (code != BM_OK) {
         free(it);
         return number(env, code);
@@ -224,7 +258,7 @@ static int32_t ask(bm_connection *at, const bytes *piece, shared *rooms, uint32_
     bytes *room = &rooms->events;
     bm_told told = {0};
     *count = 0;
-    if (!grow(room, EVENTS_ROOM) || !grow(&rooms->texts, EVENTS_ROOM)) /* (the second for what string_of_all puts) */
+    if (!grow(room, EVENTS_ROOM) || !grow(&rooms->texts, TOLD_ROOM)) /* (the second for what string_of_all puts) */
         return BM_NO_MEMORY;
     int32_t code = tell(at, piece, room, EVENTS_ROOM, &told);
     *is_fed = code == BM_OK;
@@ -249,7 +283,7 @@ static int32_t tell(bm_connection *at, shared *rooms, uint32_t *count, bool *has
 {
     bytes *room = &rooms->events;
     size_t used = 0;
-    if (!grow(room, EVENTS_ROOM) || !grow(&rooms->texts, EVENTS_ROOM)) /* (the second for what string_of_all puts) */
+    if (!grow(room, EVENTS_ROOM) || !grow(&rooms->texts, TOLD_ROOM)) /* (the second for what string_of_all puts) */
         return BM_NO_MEMORY;
     int32_t code = bm_next_all(at, room->at, EVENTS_ROOM, &used, count);
     *has_more = true;
@@ -322,18 +356,82 @@ static double units(const uint8_t *at, size_t length)
     return (double)count;
 }
 
-/* The string of one event: its texts as they lie, with the zero bytes between them. */
-static napi_value string_of_one(napi_env env, const uint8_t *texts, const bm_event *event, double *head)
+#ifdef OPEN
+
+/* Room for what is told of broken input: an index of 20 digits at most, 64 letters of two bytes, and zero bytes. */
+enum { BROKEN_ROOM = 20 + 2 * 64 + 3 };
+
+/* Writes a number in digits, and gives how many. */
+static size_t put_digits(uint64_t number, uint8_t *to)
 {
-    size_t length = event->name_len + event->text_len + event->id_len + 2;
+    uint64_t power = 1;
+    size_t count = 0;
+    while (number / power >= 10)
+        power *= 10;
+    for (; power > 0; power /= 10)
+        to[count++] = (uint8_t)('0' + number / power % 10);
+    return count;
+}
+
+/* Broken input begins with any bytes, which no string has: JavaScript gets each as a letter of Latin-1, and the index
+ * of the first invalid entry as the name. Other events are told as they are. */
+static const uint8_t *texts_to_tell(bm_event *event, const uint8_t *texts, uint8_t room[BROKEN_ROOM])
+{
+    if (event->kind != BM_BROKEN)
+        return texts;
+    const uint8_t *from = texts + 1;
+    size_t length = event->text_len;
+    event->name_len = put_digits(event->key, room);
+    uint8_t *to = room + event->name_len;
+    *to++ = 0;
+    for (size_t i = 0; i < length; i++) {
+        if (from[i] >= 0x80)
+            *to++ = 0xc0 | from[i] >> 6;
+        *to++ = from[i] >= 0x80 ? (0x80 | (from[i] & 0x3f)) : from[i];
+    }
+    event->text_len = (size_t)(to - room) - event->name_len - 1;
+    to[0] = to[1] = 0;
+    return room;
+}
+
+static bool is_broken(const bm_event *event)
+{
+    return event->kind == BM_BROKEN;
+}
+
+#else
+
+enum { BROKEN_ROOM = 1 };
+
+static bool is_broken(const bm_event *event)
+{
+    (void)event;
+    return false;
+}
+
+static const uint8_t *texts_to_tell(bm_event *event, const uint8_t *texts, uint8_t room[BROKEN_ROOM])
+{
+    (void)event, (void)room;
+    return texts;
+}
+
+#endif
+
+/* The string of one event, whose head it writes: its texts as they lie, with the zero bytes between them. */
+static napi_value string_of_one(napi_env env, const uint8_t *given, bm_event event, double *head)
+{
+    uint8_t room[BROKEN_ROOM];
+    const uint8_t *texts = texts_to_tell(&event, given, room);
+    size_t length = event.name_len + event.text_len + event.id_len + 2;
     napi_value made = NULL;
+    put_head(&event, head);
     if (is_ascii(texts, length)) {
         napi_create_string_latin1(env, (const char *)texts, length, &made);
         return made;
     }
-    head[3] = units(texts, event->name_len);
-    head[4] = units(texts + event->name_len + 1, event->text_len);
-    head[5] = units(texts + event->name_len + event->text_len + 2, event->id_len);
+    head[3] = units(texts, event.name_len);
+    head[4] = units(texts + event.name_len + 1, event.text_len);
+    head[5] = units(texts + event.name_len + event.text_len + 2, event.id_len);
     napi_create_string_utf8(env, (const char *)texts, length, &made);
     return made;
 }
@@ -356,33 +454,99 @@ static bool put_texts(const uint8_t *texts, const bm_event *event, bool wants_id
     return false;
 }
 
-/* The string of many events: their texts, one behind the other. */
-static napi_value string_of_all(crossing *to, uint32_t count, bool wants_ids, double *head)
+/* The same without its text, which stands among the bodies. Broken input has no body, and its letters in the place of
+ * an id. */
+static bool put_name(const uint8_t *texts, const bm_event *event, bool wants_ids, uint8_t **end, double *head)
 {
-    const uint8_t *begin = to->shared->events.at, *at = begin;
-    bool is_plain = true;
-    napi_value made = NULL;
-    uint8_t *end = to->shared->texts.at;
-    for (uint32_t i = 0; i < count; i++, head += HEAD) {
+    bool has_letters = is_broken(event);
+    const uint8_t *id = texts + event->name_len + 1 + (has_letters ? 0 : event->text_len + 1);
+    size_t length = has_letters ? event->text_len : wants_ids ? event->id_len : 0;
+    uint8_t *begin = *end;
+    memcpy(begin, texts, event->name_len);
+    memcpy(begin + event->name_len, id, length);
+    *end += event->name_len + length;
+    if (has_letters)
+        head[4] = 0;
+    head[5] = (double)length;
+    if (is_ascii(begin, event->name_len + length))
+        return true;
+    head[3] = units(begin, event->name_len);
+    head[5] = units(begin + event->name_len, length);
+    return false;
+}
+
+/* Reads the event at a place of the room, and moves the place on to the next. Gives its texts. */
+static const uint8_t *read_event(const uint8_t *room, const uint8_t **at, bm_event *event)
+{
+    memcpy(event, *at, sizeof *event);
+    const uint8_t *texts = *at + sizeof *event;
+    size_t over = (size_t)(texts - room) + event->name_len + event->text_len + event->id_len + 3;
+    *at = room + (over + 7) / 8 * 8;
+    return texts;
+}
+
+/* Puts the bodies of many events as an array of JSON, which JavaScript reads at once. Each body is JSON. */
+static void put_bodies(const uint8_t *room, uint32_t count, uint8_t **end)
+{
+    const uint8_t *at = room;
+    uint8_t *to = *end;
+    *to++ = '[';
+    for (uint32_t i = 0; i < count; i++) {
         bm_event event;
-        memcpy(&event, at, sizeof event);
-        const uint8_t *texts = at + sizeof event;
-        put_head(&event, head);
-        is_plain &= put_texts(texts, &event, wants_ids, &end, head);
-        size_t over = (size_t)(texts - begin) + event.name_len + event.text_len + event.id_len + 3;
-        at = begin + (over + 7) / 8 * 8;
+        const uint8_t *texts = read_event(room, &at, &event);
+        if (event.text_len == 0 || is_broken(&event))
+            continue;
+        if (to > *end + 1)
+            *to++ = ',';
+        memcpy(to, texts + event.name_len + 1, event.text_len);
+        to += event.text_len;
     }
-    size_t length = (size_t)(end - to->shared->texts.at);
+    *to++ = ']';
+    *end = to;
+}
+
+/* How many events are told, and how: with ids or without, and with their bodies as an array in front, or each event's
+ * texts together. */
+typedef struct {
+    uint32_t count;
+    bool wants_ids, has_array;
+} telling;
+
+/* The string of many events: their texts, one behind the other. Writes their heads, and in the fourth place before
+ * these how many units the array of bodies has, if there is one. */
+static napi_value string_of_all(crossing *to, telling how, double *heads)
+{
+    const uint8_t *room = to->shared->events.at, *at = room;
+    uint8_t *begin = to->shared->texts.at, *end = begin;
+    double *head = heads + BEFORE_HEADS;
+    napi_value made = NULL;
+    bool is_plain = true;
+    if (how.has_array) {
+        put_bodies(room, how.count, &end);
+        size_t length = (size_t)(end - begin);
+        is_plain = is_ascii(begin, length);
+        heads[3] = is_plain ? (double)length : units(begin, length);
+    }
+    for (uint32_t i = 0; i < how.count; i++, head += HEAD) {
+        bm_event event;
+        uint8_t letters[BROKEN_ROOM];
+        const uint8_t *texts = read_event(room, &at, &event);
+        texts = texts_to_tell(&event, texts, letters);
+        put_head(&event, head);
+        is_plain &= how.has_array ? put_name(texts, &event, how.wants_ids, &end, head)
+                                  : put_texts(texts, &event, how.wants_ids, &end, head);
+    }
     if (is_plain)
-        napi_create_string_latin1(to->env, (char *)to->shared->texts.at, length, &made);
+        napi_create_string_latin1(to->env, (char *)begin, (size_t)(end - begin), &made);
     else
-        napi_create_string_utf8(to->env, (char *)to->shared->texts.at, length, &made);
+        napi_create_string_utf8(to->env, (char *)begin, (size_t)(end - begin), &made);
     return made;
 }
 
-/* Writes a code to heads[0], how many events there are to [1], whether there may be more to [2], how many units stand
- * between two texts to [3], and then the heads. Gives the texts, or nothing where there is no event. */
-static napi_value told(crossing *to, const bytes *piece, uint32_t place, bool wants_ids)
+/* Writes a code to heads[0], how many events there are to [1], whether there may be more to [2], to [3] how many units
+ * stand between two texts (0 or 1) or how many the array of bodies in front of them has (from 2 on), and then the
+ * heads. Gives the texts, or nothing where there is no event. */
+static napi_value told(crossing *to, const bytes *piece, uint32_t place, telling how)
 {
     uint32_t count = 0;
     bool has_more = false, is_fed = false;
@@ -399,10 +563,11 @@ static napi_value told(crossing *to, const bytes *piece, uint32_t place, bool wa
     if (count == 1) {
         bm_event event;
         memcpy(&event, room->at, sizeof event);
-        put_head(&event, heads + BEFORE_HEADS);
-        made = string_of_one(to->env, room->at + sizeof event, &event, heads + BEFORE_HEADS);
-    } else
-        made = string_of_all(to, count, wants_ids, heads + BEFORE_HEADS);
+        made = string_of_one(to->env, room->at + sizeof event, event, heads + BEFORE_HEADS);
+    } else {
+        how.count = count;
+        made = string_of_all(to, how, heads);
+    }
     give_back(room);
     give_back(&to->shared->texts);
     return made;
@@ -425,8 +590,7 @@ static napi_value told_one(crossing *to, uint32_t place)
     heads[2] = 0;
     if (heads[1] == 0)
         return NULL;
-    put_head(&event, heads + BEFORE_HEADS);
-    made = string_of_one(to->env, room->at, &event, heads + BEFORE_HEADS);
+    made = string_of_one(to->env, room->at, event, heads + BEFORE_HEADS);
     give_back(room);
     return made;
 }
@@ -440,14 +604,14 @@ static bool place_of(crossing *to, napi_value value, uint32_t *place)
     return false;
 }
 
-/* events(handle, heads, wantsIds) */
+/* events(handle, heads, wantsIds, wantsArray): with the latter, the bodies of several events are one array */
 static napi_value events(napi_env env, napi_callback_info info)
 {
     crossing to;
     uint32_t place;
     if (!begin(&to, env, info) || !place_of(&to, to.given[1], &place))
         return NULL;
-    return told(&to, NULL, place, flag(env, to.given[2]));
+    return told(&to, NULL, place, (telling){.wants_ids = flag(env, to.given[2]), .has_array = flag(env, to.given[3])});
 }
 
 /* next(handle, heads) */
@@ -460,8 +624,8 @@ static napi_value next(napi_env env, napi_callback_info info)
     return told_one(&to, place);
 }
 
-/* fed(handle, bytes, heads, wantsIds). A code is that of the bytes, none of which were taken then; where they were, and
- * there is no memory for an event, none is told, and there may be more. */
+/* fed(handle, bytes, heads, wantsIds, wantsArray). A code is that of the bytes, none of which were taken then; where
+ * they were, and there is no memory for an event, none is told, and there may be more. */
 static napi_value fed(napi_env env, napi_callback_info info)
 {
     crossing to;
@@ -471,7 +635,8 @@ static napi_value fed(napi_env env, napi_callback_info info)
         return NULL;
     if (!bytes_of(env, to.given[1], &piece))
         return thrown(env, "ERR_INVALID_ARG_TYPE", "bytes are needed");
-    return told(&to, &piece, place, flag(env, to.given[3]));
+    telling how = {.wants_ids = flag(env, to.given[3]), .has_array = flag(env, to.given[4])};
+    return told(&to, &piece, place, how);
 }
 
 /* feed(handle, bytes): a code */
@@ -772,6 +937,30 @@ static napi_value counts(napi_env env, napi_callback_info info)
     return made;
 }
 
+/* has(addition): whether the library has it */
+static napi_value has(napi_env env, napi_callback_info info)
+{
+    napi_value given, made = NULL;
+    size_t count = 1;
+    uint32_t addition = 0;
+    napi_get_cb_info(env, info, &count, &given, NULL, NULL);
+    napi_get_value_uint32(env, given, &addition);
+    napi_get_boolean(env, bm_has(addition), &made);
+    return made;
+}
+
+#ifdef OPEN
+/* faultAt(handle): the offset of the frame or line at fault, or undefined */
+static napi_value fault_at(napi_env env, napi_callback_info info)
+{
+    crossing to;
+    uint64_t offset = 0;
+    if (!begin(&to, env, info) || !bm_fault_at(&to.it->at, &offset))
+        return NULL;
+    return number(env, (double)offset);
+}
+#endif
+
 /* Loading */
 
 /* An array of numbers that JavaScript and this addon both see, and which is never given back. */
@@ -825,10 +1014,14 @@ __attribute__((visibility("default"))) napi_value napi_register_module_v1(napi_e
     static const struct {
         const char *name;
         napi_callback call;
-    } calls[] = {{"open", open_one}, {"close", close_one}, {"heads", heads},      {"feed", feed},
-                 {"fed", fed},       {"events", events},   {"next", next},        {"end", end},
-                 {"say", say},       {"take", take},       {"sayOne", say_alone}, {"callBatch", call_batch},
-                 {"counts", counts}, {"pending", pending}, {"isDone", is_done}};
+    } calls[] = {{"open", open_one},   {"close", close_one}, {"heads", heads},      {"feed", feed},
+                 {"fed", fed},         {"events", events},   {"next", next},        {"end", end},
+                 {"say", say},         {"take", take},       {"sayOne", say_alone}, {"callBatch", call_batch},
+                 {"counts", counts},   {"pending", pending}, {"isDone", is_done},   {"has", has},
+#ifdef OPEN
+                 {"faultAt", fault_at}
+#endif
+    };
     if (bm_interface() != BM_INTERFACE)
         return thrown(env, "ERR_BULLMYRTLE_INTERFACE", "the library has another interface");
     shared *it = calloc(1, sizeof *it);

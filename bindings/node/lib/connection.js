@@ -2,8 +2,10 @@
 // The lower floor: one end of a JSON-RPC conversation, without input and output. Its texts are JSON.
 
 const { inspect, types: { isUint8Array } } = require('node:util')
-const { native, HOWS, FRAMINGS, ORDERS, TOLD, LARGE_CODE, SAY, BEFORE_HEADS, HEAD, borrowHeads, returnHeads } =
-  require('./native')
+const {
+  native, checkOpen, HOWS, FRAMINGS, ORDERS, CANCELS, DEFECTS, TOLD, LARGE_CODE, SAY, BEFORE_HEADS, HEAD, borrowHeads,
+  returnHeads
+} = require('./native')
 const { check } = require('./refused')
 
 const NOTHING = Buffer.alloc(0)
@@ -48,6 +50,14 @@ function oneOf(names, value, name) {
   return at
 }
 
+/** Whose cancels, as the addon takes it. A boolean says whether LSP's. */
+function cancelsOf(value) {
+  if (typeof value === 'boolean') return value ? 1 : 0
+  const it = value === null ? 0 : 1 + oneOf(CANCELS.slice(1), value, 'cancels')
+  if (CANCELS[it] === 'mcp') checkOpen("cancels: 'mcp'")
+  return it
+}
+
 /** A limit as the addon takes it. There 0 is the greatest, and here it is none. */
 function limit(value, name, greatest) {
   if (value === undefined) return 0
@@ -84,8 +94,14 @@ function event(heads, head, name, body, id) {
       if (flags === 0) return { kind: 'replied', key: number, result: body }
       return { kind: 'failed', key: number, code: codeIn(heads, head), message: name, data: body }
     case TOLD.unanswered: return { kind: 'unanswered', key: number }
+    case TOLD.broken: return { kind: 'broken', ...brokenOf(number, flags, heads[head + 2], name, body) }
     default: return { kind: 'over', how: HOWS[flags] }
   }
+}
+
+/** What is told of broken input. The addon has each of its bytes as a letter, and a number as the name. */
+function brokenOf(offset, flags, entries, name, body = '') {
+  return { offset, first: Buffer.from(body, 'latin1'), what: DEFECTS[flags], entry: Number(name), entries }
 }
 
 /** An error's code: a BigInt where a number wouldn't be exact. */
@@ -102,10 +118,11 @@ class Connection {
   #handle
   #framing
 
-  constructor({ framing = 'frames', order = 'as-answered', cancels = true, content, calls } = {}) {
+  constructor({ framing = 'frames', order = 'as-answered', cancels = 'lsp', content, calls, broken = false } = {}) {
+    if (broken) checkOpen('broken: true')
     const made = native.open(
-      oneOf(FRAMINGS, framing, 'framing'), oneOf(ORDERS, order, 'order'), cancels ? 1 : 0,
-      Number(limit(content, 'content', 2n ** 32n - 1n)), limit(calls, 'calls', LARGEST - 1n)
+      oneOf(FRAMINGS, framing, 'framing'), oneOf(ORDERS, order, 'order'), cancelsOf(cancels),
+      Number(limit(content, 'content', 2n ** 32n - 1n)), limit(calls, 'calls', LARGEST - 1n), !!broken
     )
     if (typeof made === 'number') check(made)
     this.#handle = made
@@ -126,11 +143,11 @@ class Connection {
 
   /** `feed` and then `events`, in one crossing. */
   fed(bytes) {
-    return this.#all(place => native.fed(this.#handle, bytes, place, true))
+    return this.#all(place => native.fed(this.#handle, bytes, place, true, false))
   }
 
   events() {
-    return this.#all(place => native.events(this.#handle, place, true))
+    return this.#all(place => native.events(this.#handle, place, true, false))
   }
 
   nextEvent() {
@@ -154,7 +171,7 @@ class Connection {
         if (texts === undefined) return told
         for (const it of read(room, texts)) told.push(it)
         if (!room.heads[2]) return told
-        texts = native.events(this.#handle, room.place, true)
+        texts = native.events(this.#handle, room.place, true, false)
       }
     } finally {
       returnHeads(room)
@@ -221,6 +238,12 @@ class Connection {
     return native.isDone(this.#handle)
   }
 
+  /** Where the frame or line at fault begins, counted from the first byte that was fed; undefined without a fault. */
+  get faultOffset() {
+    checkOpen('faultOffset')
+    return native.faultAt(this.#handle)
+  }
+
   counts() {
     return countsOf(native.counts(this.#handle))
   }
@@ -230,4 +253,4 @@ class Connection {
   }
 }
 
-module.exports = { Connection, isWellFormed, countsOf }
+module.exports = { Connection, isWellFormed, countsOf, brokenOf }

@@ -1,16 +1,12 @@
 'use strict'
-// Cancels as MCP has them: a notification that names a request by its id. (LSP's are the connection's own.)
+// Cancels as MCP has them, for an addon whose library doesn't read them: a notification that names a request by its id.
 
 const MCP_CANCEL = 'notifications/cancelled'
 
-/** The id in the params of a cancel as JSON, digit for digit, if there is one. */
-function requestIdIn(json) {
-  const id = json === undefined ? undefined : JSON.parse(json).requestId
-  if (typeof id === 'string' || Number.isSafeInteger(id)) return JSON.stringify(id)
-  if (typeof id !== 'number') return undefined
-  // (a number is read with a loss: it is read again as a string)
-  const exact = json.replace(/("(?:[^"\\]|\\.)*")|(?<![\w.+-])-?[0-9]{16,}(?![\w.])/g, (it, text) => text ?? `"${it}"`)
-  return JSON.parse(exact).requestId
+/** The id in the params of a cancel as JSON, if there is one that is read without a loss. */
+function requestIdIn(params) {
+  const id = params?.requestId
+  return typeof id === 'string' || Number.isSafeInteger(id) ? JSON.stringify(id) : undefined
 }
 
 /** The numbers of the requests that are open, by their ids as JSON. Nothing keeps a peer from using an id twice. */

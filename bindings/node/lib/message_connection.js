@@ -3,11 +3,11 @@
 
 const net = require('node:net')
 const { types: { isUint8Array } } = require('node:util')
-const { TOLD, HOWS, SAY } = require('./native')
-const { isWellFormed, countsOf } = require('./connection')
+const { HAS_OPEN, checkOpen, TOLD, HOWS, SAY } = require('./native')
+const { isWellFormed, countsOf, brokenOf } = require('./connection')
 const { Emitter, Disposable } = require('./events')
 const cancellation = require('./cancellation')
-const { ErrorCodes, ResponseError, ConnectionError, ConnectionErrors } = require('./errors')
+const { ErrorCodes, ResponseError, ConnectionError, ConnectionErrors, REQUEST_CANCELLED } = require('./errors')
 const signatures = require('./signatures')
 const { NullLogger, ConnectionStrategy } = require('./messages')
 const { Handlers, handleRequest, handleNotification } = require('./handlers')
@@ -30,6 +30,7 @@ const Closed = 3
 const Disposed = 4
 
 const PROGRESS = '$/progress'
+const INITIALIZE = 'initialize'
 /** What works without its connection before it, as in `const { sendRequest } = connection`. */
 const BOUND = [
   'sendRequest', 'sendNotification', 'sendBatch', 'sendProgress', 'onRequest', 'onNotification', 'onProgress', 'trace',
@@ -58,7 +59,8 @@ class MessageConnection {
   #from
   #to
   #logger
-  #openIds // where cancels are MCP's
+  #isMcp
+  #openIds // where cancels are MCP's, and the library doesn't read them
   #strategy
   #messages // how each message is handled, if not at once
   #cancels
@@ -74,6 +76,7 @@ class MessageConnection {
   #errors
   #closes
   #disposes
+  #broken
   #unhandled
   #unhandledProgress
   #isStopped = false
@@ -92,7 +95,8 @@ class MessageConnection {
     this.#from = from
     this.#to = to
     this.#logger = logger ?? NullLogger
-    if (options.protocol === 'mcp') this.#openIds = new OpenIds()
+    this.#isMcp = options.protocol === 'mcp'
+    if (this.#isMcp && !HAS_OPEN) this.#openIds = new OpenIds()
     this.#strategy = options.connectionStrategy
     this.#messages = options.messageStrategy
     this.#cancels = options.cancellationStrategy ?? cancellation.CancellationStrategy.Message
@@ -163,14 +167,14 @@ class MessageConnection {
       if (kind === TOLD.call) this.#called(number, flags === 1, name, body, id)
       else if (kind === TOLD.replied) this.#replied(number, flags === 1, code, name, body)
       else if (kind === TOLD.unanswered) this.#calls.take(number)?.reject(rejected('the input is over'))
+      else if (kind === TOLD.broken) this.#broken?.fire(brokenOf(number, flags, code, name, id))
       else this.#over(HOWS[flags])
     } catch (error) { // (of a strategy; what handlers throw is an answer)
       this.#report(error)
     }
   }
 
-  #called(number, isRequest, method, json, id) {
-    const params = json === undefined ? undefined : JSON.parse(json)
+  #called(number, isRequest, method, params, id) {
     if (!isRequest) this.#wire.close(number)
     if (this.#messages !== undefined) return this.#byStrategy(number, isRequest, method, params, id)
     if (isRequest) this.#request(number, method, params, id)
@@ -263,7 +267,7 @@ class MessageConnection {
 
   /** Nobody waits for an answer that MCP's cancel has made unwanted. */
   #isCancelledByMcp(request) {
-    return this.#openIds !== undefined && request.source?.token.isCancellationRequested
+    return this.#isMcp && request.source?.token.isCancellationRequested
   }
 
   #threw(number, request, error) {
@@ -320,7 +324,7 @@ class MessageConnection {
   /** Notifications that the connection itself handles: progress, and what is to be traced. */
   #isOwn(method, given) {
     const params = Array.isArray(given) ? { token: given[0], value: given[1] } : given
-    if (method === PROGRESS && this.#openIds === undefined && params !== undefined) {
+    if (method === PROGRESS && !this.#isMcp && params !== undefined) {
       const handler = this.#progress?.get(params.token)
       if (handler) handler(params.value)
       else this.#unhandledProgress?.fire(params)
@@ -328,22 +332,28 @@ class MessageConnection {
     }
     const isLog = method === LogTraceNotification.type.method
     if (isLog && params !== undefined) this.#tracing?.log(params.message, params.verbose)
-    return isLog || (this.#openIds !== undefined && method === MCP_CANCEL)
+    return isLog || (this.#isMcp && method === MCP_CANCEL)
   }
 
   // Cancels
 
+  /** MCP's `initialize` is never cancelled, by either side. */
+  #isNeverCancelled(method) {
+    return this.#isMcp && method === INITIALIZE
+  }
+
   #cancelled(number) {
     const running = this.#running.get(number)
-    if (running !== undefined) return running.source.cancel()
+    if (running !== undefined) return this.#isNeverCancelled(running.method) ? undefined : running.source.cancel()
     const call = this.#turns.call(number)
-    if (call !== undefined && !this.#isUndispatched(number, call)) this.#early.add(number)
+    if (call === undefined || this.#isNeverCancelled(call.method)) return
+    if (!this.#isUndispatched(number, call)) this.#early.add(number)
   }
 
   /** Whether a strategy answers a request that hasn't begun. */
-  #isUndispatched(number, { method, json, id }) {
+  #isUndispatched(number, { method, params, id }) {
     if (!ConnectionStrategy.is(this.#strategy)) return false
-    const message = { jsonrpc: '2.0', id: JSON.parse(id), method, params: json && JSON.parse(json) }
+    const message = { jsonrpc: '2.0', id: JSON.parse(id), method, params }
     const response = this.#strategy.cancelUndispatched(message, () => undefined)
     if (!response || (response.error === undefined && response.result === undefined)) return false
     this.#turns.drop(number)
@@ -354,15 +364,16 @@ class MessageConnection {
     return true
   }
 
-  #cancelledById(json) {
-    const id = requestIdIn(json)
+  #cancelledById(params) {
+    const id = requestIdIn(params)
     if (id !== undefined) for (const number of this.#openIds.of(id)) this.#cancelled(number)
   }
 
   #withdraw(call) {
-    if (this.#openIds !== undefined) {
-      const note = { told() {}, refused: why => this.#report(refusal(why)) }
-      this.#wire.notify(MCP_CANCEL, `{"requestId":${call.key}}`, note)
+    if (this.#isNeverCancelled(call.method)) return
+    if (this.#isMcp) {
+      if (this.#openIds === undefined) this.#wire.withdraw(call.key)
+      else this.#sayMcpCancel(call.key)
       return this.#calls.giveUp(call)
     }
     const { sender } = this.#cancels
@@ -370,6 +381,10 @@ class MessageConnection {
     Promise.resolve(sender.sendCancellation(this, call.key)).catch(() => {
       this.#logError(`Sending cancellation messages for id ${call.key} failed`)
     })
+  }
+
+  #sayMcpCancel(key) {
+    this.#wire.notify(MCP_CANCEL, `{"requestId":${key}}`, { told() {}, refused: why => this.#report(refusal(why)) })
   }
 
   // Replies
@@ -380,10 +395,9 @@ class MessageConnection {
     this.#tracing.request(true, call.key, call.method, call.json && JSON.parse(call.json))
   }
 
-  #replied(key, isError, code, message, json) {
+  #replied(key, isError, code, message, value) {
     const call = this.#calls.take(key)
     if (call === undefined) return
-    const value = json === undefined ? undefined : JSON.parse(json)
     const error = isError ? new ResponseError(code, message, value) : undefined
     this.#turns.wait()
     if (this.#cancels.sender !== cancellation.CancellationSenderStrategy.Message) this.#cancels.sender.cleanup(key)
@@ -464,6 +478,11 @@ class MessageConnection {
 
   get onError() { return (this.#errors ??= new Emitter()).event }
   get onClose() { return (this.#closes ??= new Emitter()).event }
+  /** Beyond vscode-jsonrpc: messages that can't be read, or that are neither a call nor a reply. */
+  get onBroken() {
+    checkOpen('onBroken')
+    return (this.#broken ??= new Emitter()).event
+  }
   get onDispose() { return (this.#disposes ??= new Emitter()).event }
   get onUnhandledNotification() { return (this.#unhandled ??= new Emitter()).event }
   get onUnhandledProgress() { return (this.#unhandledProgress ??= new Emitter()).event }
@@ -563,8 +582,11 @@ class MessageConnection {
     if (this.#state >= Closed) return
     this.#state = Closed
     const reason = { how: this.#isStopped ? 'Stopped' : how, error: error ?? this.#readError }
+    const offset = reason.how === how ? this.#wire.faultOffset : undefined
+    if (offset !== undefined) reason.offset = offset
     if (reason.how !== 'Clean' && reason.how !== 'Stopped' && reason.error === undefined) {
-      reason.error = new Error(`the connection ended: ${TEXTS_OF_ENDS[reason.how]}`)
+      const place = offset === undefined ? '' : `, at byte ${offset}`
+      reason.error = new Error(`the connection ended: ${TEXTS_OF_ENDS[reason.how]}${place}`)
       this.#report(reason.error)
     }
     this.reason = reason
@@ -608,11 +630,13 @@ class MessageConnection {
 
   /** Answers as cancelled the requests whose handlers still go on. */
   cancelOpen() {
-    for (const [number, { source }] of [...this.#running]) {
+    for (const [number, { source, method }] of [...this.#running]) {
       this.#running.delete(number)
       source.cancel()
       this.#openIds?.remove(number)
-      this.#wire.cancel(number)
+      // (a cancel of theirs that played no part doesn't leave it without an answer)
+      if (this.#isNeverCancelled(method)) this.#wire.fail(number, REQUEST_CANCELLED, 'Request cancelled')
+      else this.#wire.cancel(number)
     }
     this.lookWhetherIdle()
   }

@@ -23,6 +23,14 @@ function load() {
 
 const native = load()
 
+/** Whether the library in it has bm_open: MCP's cancels, broken input told, and where a fault lies. */
+const HAS_OPEN = native.has?.(2) === true
+
+function checkOpen(wanted) {
+  if (HAS_OPEN) return
+  throw new Error(`${wanted} needs an addon whose library has bm_open, as bullmyrtle 0.3.0 does, and this one is older`)
+}
+
 /** What a call gives. */
 const CODES = [
   'Ok', 'NoMemory', 'NotOpen', 'NotWaiting', 'InputOver', 'NotJson', 'NotText', 'Small', 'BadSettings', 'Empty', 'Full'
@@ -34,8 +42,12 @@ const HOWS = [
 ]
 const FRAMINGS = ['frames', 'lines', 'contents']
 const ORDERS = ['as-answered', 'as-came']
+/** Whose cancels; the first is none. */
+const CANCELS = [null, 'lsp', 'mcp']
+/** What is wrong with broken input. */
+const DEFECTS = ['Unreadable', 'Invalid']
 /** The kinds of events. In a head, 16 times its flags stand beside the kind; LARGE_CODE where the code is a BigInt. */
-const TOLD = { call: 1, cancelled: 2, replied: 3, unanswered: 4, over: 5 }
+const TOLD = { call: 1, cancelled: 2, replied: 3, unanswered: 4, over: 5, broken: 6 }
 const LARGE_CODE = 256
 /** What can be said. ALONE stands beside a kind where there is no second text. */
 const SAY = { answer: 1, fail: 2, call: 3, notify: 4, withdraw: 5, cancel: 6, close: 7 }
@@ -54,6 +66,6 @@ const borrowHeads = () => free.pop() ?? { heads: native.heads(), place: made++ }
 const returnHeads = it => { free.push(it) }
 
 module.exports = {
-  native, CODES, OK, HOWS, FRAMINGS, ORDERS, TOLD, LARGE_CODE, SAY, ALONE, BEFORE_HEADS, HEAD, BEFORE_SAYINGS, SAYING,
-  MOST_SAYINGS, borrowHeads, returnHeads
+  native, HAS_OPEN, checkOpen, CODES, OK, HOWS, FRAMINGS, ORDERS, CANCELS, DEFECTS, TOLD, LARGE_CODE, SAY, ALONE,
+  BEFORE_HEADS, HEAD, BEFORE_SAYINGS, SAYING, MOST_SAYINGS, borrowHeads, returnHeads
 }

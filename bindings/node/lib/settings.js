@@ -1,9 +1,15 @@
 'use strict'
 // What a connection is made with, of the options that it is given.
 
+const { HAS_OPEN, CANCELS } = require('./native')
+
 const PAUSE_OVER = 1 << 24
 const STALLED = 30_000
-const PROTOCOLS = { lsp: { framing: 'frames', cancels: true }, mcp: { framing: 'lines', cancels: false } }
+/** (Where the library has no cancels of MCP's, these are found among the notifications.) */
+const PROTOCOLS = {
+  lsp: { framing: 'frames', cancels: 'lsp' },
+  mcp: { framing: 'lines', cancels: HAS_OPEN ? 'mcp' : null }
+}
 
 function oneOf(names, value, name) {
   if (!names.includes(value)) throw new TypeError(`${name} has to be ${names.map(it => `'${it}'`).join(' or ')}`)
@@ -17,7 +23,7 @@ function settingsOf(options, isBytes) {
   return {
     framing: isBytes ? asked : 'contents',
     order: oneOf(['as-answered', 'as-came'], options.order ?? 'as-answered', 'order'),
-    cancels,
+    cancels: CANCELS.indexOf(cancels),
     content: options.content ?? 0,
     calls: options.calls ?? 0,
     pauseOver: options.pauseOver ?? PAUSE_OVER,

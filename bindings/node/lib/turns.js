@@ -85,10 +85,10 @@ class Turns {
     this.#owner.lookWhetherIdle()
   }
 
-  /** The call with this number that waits: method, params and id, as they were told. */
+  /** The call with this number that waits: its method, params and id. */
   call(number) {
     const found = this.#queue.find(it => it?.[0] === TOLD.call && it[2] === number)
-    return found === undefined ? undefined : { method: found[4], json: found[5], id: found[6] }
+    return found === undefined ? undefined : { method: found[4], params: found[5], id: found[6] }
   }
 
   /** Takes the call with this number out. */

@@ -3,8 +3,8 @@
 // written. Two crossings carry a piece of input and the answers to it.
 
 const {
-  native, CODES, OK, FRAMINGS, ORDERS, LARGE_CODE, SAY, ALONE, BEFORE_HEADS, HEAD, BEFORE_SAYINGS, SAYING, MOST_SAYINGS,
-  borrowHeads, returnHeads
+  native, HAS_OPEN, CODES, OK, FRAMINGS, ORDERS, TOLD, LARGE_CODE, SAY, ALONE, BEFORE_HEADS, HEAD, BEFORE_SAYINGS,
+  SAYING, MOST_SAYINGS, borrowHeads, returnHeads
 } = require('./native')
 const { sharedRoom, MOST } = require('./outputs')
 
@@ -49,8 +49,8 @@ class Wire {
   /** Settings: framing, order, cancels, content, calls, pauseOver, stalled. The hearer gets events and faults. */
   constructor(settings, output, hearer) {
     const made = native.open(
-      FRAMINGS.indexOf(settings.framing), ORDERS.indexOf(settings.order), settings.cancels ? 1 : 0, settings.content,
-      settings.calls
+      FRAMINGS.indexOf(settings.framing), ORDERS.indexOf(settings.order), settings.cancels, settings.content,
+      settings.calls, HAS_OPEN
     )
     if (typeof made === 'number') throw new RangeError(`there are no such settings (${CODES[made]})`)
     this.#handle = made
@@ -302,7 +302,7 @@ class Wire {
   feed(bytes) {
     if (this.#hasEnded || this.#isFreed) return
     if (this.#isHeld) return void this.#later.push(bytes)
-    this.#hearBy(place => native.fed(this.#handle, bytes, place, this.#wantsIds), true)
+    this.#hearBy(place => native.fed(this.#handle, bytes, place, this.#wantsIds, true), true)
     this.flush() // (also without events: broken input has answers)
     this.#feedLater()
   }
@@ -323,7 +323,7 @@ class Wire {
     if (this.#isHeld) return void this.#later.push(isFailed)
     this.#hasEnded = true
     native.end(this.#handle, isFailed)
-    this.#hearBy(place => native.events(this.#handle, place, this.#wantsIds))
+    this.#hearBy(place => native.events(this.#handle, place, this.#wantsIds, true))
     this.flush()
   }
 
@@ -340,38 +340,61 @@ class Wire {
 
   #hear(room, told, hasFed) {
     const { heads, place } = room
-    const hearer = this.#hearer
     let texts = told
     let isFed = hasFed
     for (;;) {
       if (heads[0] !== OK) return isFed ? hearer.fault(CODES[heads[0]]) : this.#hearLater()
       if (texts === undefined) return heads[2] ? this.#hearLater() : undefined
-      const gap = heads[3]
-      for (let left = heads[1], head = BEFORE_HEADS, at = 0; left > 0; left--, head += HEAD) {
-        const word = heads[head]
-        const begin = at + heads[head + 3] + gap
-        const end = begin + heads[head + 4]
-        const over = this.#wantsIds ? end + gap + heads[head + 5] : end
-        const name = texts.substring(at, begin - gap)
-        const body = end > begin ? texts.substring(begin, end) : undefined
-        const id = over > end + gap ? texts.substring(end + gap, over) : undefined
-        const code = word & LARGE_CODE ? codeIn(heads, head) : heads[head + 2]
-        hearer.told(word & 15, (word & (LARGE_CODE - 1)) >> 4, heads[head + 1], code, name, body, id)
-        if (this.#isFreed) return
-        at = over
-      }
-      if (!heads[2]) return
+      if (heads[3] > 1) this.#tellTogether(heads, texts)
+      else this.#tellEach(heads, texts)
+      if (this.#isFreed || !heads[2]) return
       if (this.#count && !this.#isFlushing) this.#cross(NOTHING) // (few open calls cost the connection less than many)
-      texts = native.events(this.#handle, place, this.#wantsIds)
+      texts = native.events(this.#handle, place, this.#wantsIds, true)
       isFed = false
     }
+  }
+
+  /** Several events: in front of the texts is an array of JSON with their bodies, and behind it are names and ids. */
+  #tellTogether(heads, texts) {
+    let at = heads[3]
+    const bodies = JSON.parse(texts.substring(0, at))
+    let next = 0
+    for (let left = heads[1], head = BEFORE_HEADS; left > 0 && !this.#isFreed; left--, head += HEAD) {
+      const end = at + heads[head + 3]
+      const over = end + heads[head + 5]
+      const body = heads[head + 4] ? bodies[next++] : undefined
+      this.#tell(heads, head, texts.substring(at, end), body, over > end ? texts.substring(end, over) : undefined)
+      at = over
+    }
+  }
+
+  /** One event, or several where an older addon has told them: the texts of each stand together. */
+  #tellEach(heads, texts) {
+    const gap = heads[3]
+    for (let left = heads[1], head = BEFORE_HEADS, at = 0; left > 0 && !this.#isFreed; left--, head += HEAD) {
+      const begin = at + heads[head + 3] + gap
+      const end = begin + heads[head + 4]
+      const over = gap || this.#wantsIds ? end + gap + heads[head + 5] : end
+      const text = end > begin ? texts.substring(begin, end) : undefined
+      const id = over > end + gap ? texts.substring(end + gap, over) : undefined
+      const name = texts.substring(at, begin - gap)
+      if ((heads[head] & 15) === TOLD.broken) this.#tell(heads, head, name, undefined, text)
+      else this.#tell(heads, head, name, text === undefined ? undefined : JSON.parse(text), id)
+      at = over
+    }
+  }
+
+  #tell(heads, head, name, body, id) {
+    const word = heads[head]
+    const code = word & LARGE_CODE ? codeIn(heads, head) : heads[head + 2]
+    this.#hearer.told(word & 15, (word & (LARGE_CODE - 1)) >> 4, heads[head + 1], code, name, body, id)
   }
 
   /** There was no memory for an event, which comes again. */
   #hearLater() {
     setTimeout(() => {
       if (this.#isFreed || this.#isHeld) return
-      this.#hearBy(place => native.events(this.#handle, place, this.#wantsIds))
+      this.#hearBy(place => native.events(this.#handle, place, this.#wantsIds, true))
       this.flush()
     }, RETRY)
   }
@@ -424,6 +447,9 @@ class Wire {
       this.#isFlushing = false
     }
   }
+
+  /** Where the frame or line at fault begins, where there is one and the library says it. */
+  get faultOffset() { return this.#handle === undefined ? undefined : native.faultAt?.(this.#handle) }
 
   get pending() { return this.#handle === undefined ? 0 : native.pending(this.#handle) }
   get counts() { return this.#handle === undefined ? this.#lastCounts : native.counts(this.#handle) }

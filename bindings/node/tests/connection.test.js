@@ -5,6 +5,7 @@ const assert = require('node:assert/strict')
 const { test } = require('node:test')
 const { Connection, Refused } = require('..')
 const { carry } = require('../lib/testing.js')
+const { HAS_OPEN, skip } = require('./helping')
 
 const line = it => Buffer.from(`${JSON.stringify(it)}\n`)
 const refused = (act, code) => assert.throws(act, error => error instanceof Refused && error.code === code && error.name === 'Refused')
@@ -163,4 +164,94 @@ test('two connections talk', () => {
   other.answer(call.number, '8')
   carry(one, other)
   assert.deepEqual(one.events(), [{ kind: 'replied', key, result: '8' }])
+})
+
+const cancel = id => line({ jsonrpc: '2.0', method: 'notifications/cancelled', params: { requestId: id, reason: 'no' } })
+
+test("cancels as MCP has them", { skip }, () => {
+  const it = new Connection({ framing: 'lines', cancels: 'mcp' })
+  it.feed(Buffer.concat([line({ jsonrpc: '2.0', method: 'a', id: 7 }), line({ jsonrpc: '2.0', method: 'b', id: 8 }), cancel(7)]))
+  assert.deepEqual(it.events().at(-1), { kind: 'cancelled', number: 1 })
+  const key = it.call(1, 'ask')
+  it.take()
+  it.cancel(1)
+  it.cancel(2)
+  const said = [
+    `{"jsonrpc":"2.0","method":"notifications/cancelled","params":{"requestId":${key}}}`,
+    '{"error":{"code":-32800,"message":"Request cancelled"},"id":8,"jsonrpc":"2.0"}', ''
+  ]
+  assert.deepEqual(it.take().toString().split('\n'), said)
+  const other = it.call(0, 'ask')
+  it.withdraw(other)
+  refused(() => it.withdraw(other), 'NotWaiting')
+  it.feed(line({ jsonrpc: '2.0', id: other, result: 1 }))
+  it.end()
+  assert.deepEqual(it.events(), [{ kind: 'over', how: 'Clean' }])
+  const { answersWritten, ignored, waiting } = it.counts()
+  assert.deepEqual([answersWritten, ignored, waiting], [1, 1, 0])
+})
+
+test('whose cancels', () => {
+  const given = Buffer.concat([
+    line({ jsonrpc: '2.0', method: 'a', id: 7 }), line({ jsonrpc: '2.0', method: '$/cancelRequest', params: { id: 7 } }), cancel(7)
+  ])
+  const rows = [
+    ['lsp', ['call', 'cancelled', 'call']], [undefined, ['call', 'cancelled', 'call']], [true, ['call', 'cancelled', 'call']],
+    [null, ['call', 'call', 'call']], [false, ['call', 'call', 'call']], ...(HAS_OPEN ? [['mcp', ['call', 'call', 'cancelled']]] : [])
+  ]
+  for (const [cancels, kinds] of rows) {
+    assert.deepEqual(new Connection({ framing: 'lines', cancels }).fed(given).map(it => it.kind), kinds, `${cancels}`)
+  }
+  assert.throws(() => new Connection({ cancels: 'dap' }), /^TypeError: cancels has to be 'lsp' or 'mcp', and is 'dap'$/)
+})
+
+test('broken input is told, alone and with others, one by one and together', { skip }, () => {
+  const every = Buffer.from(Array.from({ length: 128 }, (_, at) => at + 128)) // (each byte that is no ASCII)
+  const m = '{"jsonrpc":"2.0","method":"é"}'
+  const rows = [
+    ['nonsense', { what: 'Unreadable', entry: 0, entries: 0 }], ['5', { what: 'Invalid', entry: 0, entries: 1 }],
+    [every, { what: 'Unreadable', entry: 0, entries: 0 }], [Buffer.from([0, 1, 0x7f, 0x80]), { what: 'Unreadable', entry: 0, entries: 0 }],
+    [`[${`${m},`.repeat(12)}7,${m},8]`, { what: 'Invalid', entry: 12, entries: 2 }]
+  ]
+  const contents = rows.map(([it]) => Buffer.from(it))
+  const bytes = Buffer.concat(contents.flatMap(it => [it, Buffer.from('\n')]))
+  let offset = 0
+  const wanted = rows.map(([, what], at) => {
+    const told = { kind: 'broken', offset, first: contents[at].subarray(0, 64), ...what }
+    offset += contents[at].length + 1
+    return told
+  })
+  const brokenOf = told => told.filter(it => it.kind === 'broken')
+  const together = new Connection({ framing: 'lines', broken: true }).fed(bytes)
+  assert.equal(together.length, rows.length + 13)
+  assert.ok(together.slice(-13).every(it => it.method === 'é'))
+  assert.deepEqual(brokenOf(together), wanted)
+  const one = new Connection({ framing: 'lines', broken: true })
+  one.feed(bytes)
+  const alone = []
+  for (let it = one.nextEvent(); it !== undefined; it = one.nextEvent()) alone.push(it)
+  assert.deepEqual(alone, together)
+  const cut = new Connection({ framing: 'lines', broken: true })
+  assert.deepEqual(Array.from(bytes, it => cut.fed(Buffer.from([it]))).flat(), together)
+  const many = new Connection({ framing: 'lines', broken: true })
+  const found = many.fed(Buffer.concat(Array.from({ length: 3_000 }, () => Buffer.concat([every.subarray(0, 64), Buffer.from('\n')]))))
+  assert.deepEqual(found.map(it => it.offset), Array.from({ length: 3_000 }, (_, at) => at * 65))
+  assert.ok(found.every(it => it.first.equals(every.subarray(0, 64))))
+  assert.deepEqual(new Connection({ framing: 'lines' }).fed(bytes).length, 13)
+})
+
+test('where a fault lies', { skip }, () => {
+  const it = new Connection({ framing: 'lines', content: 10 })
+  it.feed(Buffer.from('{}\n{}\n'))
+  assert.equal(it.faultOffset, undefined)
+  it.feed(Buffer.from('x'.repeat(11)))
+  assert.deepEqual([it.events().at(-1).how, it.faultOffset], ['TooLarge', 6])
+})
+
+test('what an older library lacks is told', { skip: HAS_OPEN && 'the library lacks nothing' }, () => {
+  const needs = ' needs an addon whose library has bm_open, as bullmyrtle 0.3.0 does, and this one is older'
+  for (const [name, act] of [
+    ["cancels: 'mcp'", () => new Connection({ cancels: 'mcp' })], ['broken: true', () => new Connection({ broken: true })],
+    ['faultOffset', () => new Connection().faultOffset]
+  ]) assert.throws(act, { message: `${name}${needs}` })
 })

@@ -7,7 +7,9 @@ const path = require('node:path')
 const { spawn } = require('node:child_process')
 const { once } = require('node:events')
 const { PassThrough, Writable } = require('node:stream')
-const { bullmyrtle, Raw, request, notice, until, sleep, rejectsWith, withBoth, frame, turns } = require('./helping')
+const {
+  bullmyrtle, HAS_OPEN, skip, Raw, request, notice, until, sleep, rejectsWith, withBoth, frame, turns
+} = require('./helping')
 
 const { ConnectionErrors, ErrorCodes } = bullmyrtle
 
@@ -47,6 +49,53 @@ test('each end has its reason', async () => {
   }
   const broken = await endOf(Buffer.from(''), {}, new Error('reset'))
   assert.deepEqual([broken.how, broken.error, broken.errors], ['Read', 'reset', ['reset']])
+})
+
+test('a fault of the input has its place', { skip }, async () => {
+  const before = Buffer.concat(Array.from({ length: 300 }, () => frame(notice('m'))))
+  const rows = [
+    ['BadHead', 'nonsense\r\n\r\n'], ['BadLength', 'Content-Length: x\r\n\r\n'], ['NoLength', 'Content-Type: a\r\n\r\n'],
+    ['TooLarge', 'Content-Length: 16777217\r\n\r\n'], ['HeadTooLong', `A: ${'x'.repeat(5000)}`], ['Truncated', 'Content-Length: 10\r\n\r\nxx']
+  ]
+  for (const [how, bytes] of rows) {
+    const { connection, error } = await endOf(Buffer.concat([before, Buffer.from(bytes)]))
+    assert.deepEqual([connection.reason.how, connection.reason.offset], [how, before.length])
+    assert.match(error, new RegExp(`, at byte ${before.length}$`))
+  }
+  const lines = await endOf(Buffer.from(`{}\n${'x'.repeat(200)}`), { framing: 'lines', content: 100 })
+  assert.deepEqual([lines.how, lines.connection.reason.offset], ['TooLarge', 3])
+  const clean = await endOf(before)
+  assert.deepEqual(clean.connection.reason, { how: 'Clean', error: undefined })
+})
+
+test('broken input is told, in its place, and the connection goes on', { skip }, async () => {
+  const raw = new Raw({ framing: 'lines' })
+  const told = []
+  raw.connection.onBroken(it => told.push(it))
+  raw.connection.onBroken(() => { throw new Error('a listener') })
+  raw.connection.onNotification('m', () => told.push('m'))
+  const error = console.error
+  console.error = () => {}
+  try {
+    raw.listen()
+    const m = '{"jsonrpc":"2.0","method":"m"}'
+    raw.input.write(Buffer.concat([Buffer.from(`${m}\n`), Buffer.from([0xff, 0, 0x80, 0x41]), Buffer.from(`\n[${m},5,{}]\n${m}\n`)]))
+    await until(() => told.length === 5)
+  } finally {
+    console.error = error
+  }
+  assert.deepEqual(told, [
+    'm', { offset: 31, first: Buffer.from([0xff, 0, 0x80, 0x41]), what: 'Unreadable', entry: 0, entries: 0 },
+    { offset: 36, first: Buffer.from('[{"jsonrpc":"2.0","method":"m"},5,{}]'), what: 'Invalid', entry: 1, entries: 2 }, 'm', 'm'
+  ])
+  assert.deepEqual(raw.connection.counts().unreadable, 1)
+  raw.connection.dispose()
+})
+
+test('what an older library lacks is told', { skip: HAS_OPEN && 'the library lacks nothing' }, () => {
+  const raw = new Raw()
+  assert.throws(() => raw.connection.onBroken, /^Error: onBroken needs an addon whose library has bm_open, as bullmyrtle 0\.3\.0 does, and this one is older$/)
+  raw.connection.dispose()
 })
 
 test('calls that wait are rejected at the end, and no more can be made', async () => {

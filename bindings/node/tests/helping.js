@@ -6,6 +6,10 @@ const { PassThrough } = require('node:stream')
 const { setTimeout: sleep, setImmediate: turn } = require('node:timers/promises')
 const bullmyrtle = require('..')
 const { joined } = require('../lib/testing.js')
+const { HAS_OPEN } = require('../lib/native.js')
+
+/** Why what needs bm_open is skipped, where the addon's library has none. */
+const skip = HAS_OPEN ? false : "the addon's library has no bm_open: no MCP's cancels, no broken input told"
 
 const frame = it => {
   const content = Buffer.isBuffer(it) ? it : Buffer.from(typeof it === 'string' ? it : JSON.stringify(it))
@@ -110,4 +114,4 @@ const rejectsWith = (promise, code, message) => assert.rejects(promise, error =>
   return true
 })
 
-module.exports = { bullmyrtle, frame, messages, request, notice, Log, Raw, until, sleep, turns, withBoth, rejectsWith, joined }
+module.exports = { bullmyrtle, HAS_OPEN, skip, frame, messages, request, notice, Log, Raw, until, sleep, turns, withBoth, rejectsWith, joined }

@@ -61,19 +61,24 @@ function eventLine(it) {
     case 'failed': return `replied ${it.key} error ${it.code} ${hex(it.message)} ${hexOrNone(it.data)}`
     case 'unanswered': return `unanswered ${it.key}`
     case 'over': return `over ${it.how}`
+    case 'broken': return `broken ${it.offset} ${defectOf(it)} ${hex(it.first)}`
   }
   throw new Error(`an event of the kind ${it.kind}`)
 }
 
-function settings(framing, order, cancels, content, calls) {
+const defectOf = it => (it.what === 'Invalid' ? `invalid ${it.entry} ${it.entries}` : 'unreadable')
+const CANCELS = { cancels: 'lsp', mcp: 'mcp', 'no-cancels': null }
+
+function settings(framing, order, cancels, content, calls, broken) {
   oneOf(['frames', 'lines', 'contents'], framing)
   oneOf(['as-answered', 'as-came'], order)
-  oneOf(['cancels', 'no-cancels'], cancels)
+  oneOf(Object.keys(CANCELS), cancels)
+  oneOf([undefined, 'broken'], broken)
   const limits = { content: number(content), calls: number(calls) }
   hasBegun = true
   connection?.close()
   connection = undefined
-  connection = new Connection({ framing, order, cancels: cancels === 'cancels', ...limits })
+  connection = new Connection({ framing, order, cancels: CANCELS[cancels], broken: broken === 'broken', ...limits })
   return 'ok'
 }
 
@@ -91,11 +96,12 @@ const ACTIONS = {
   take: [[number], most => `bytes ${hex(connection.take(Number(most)))}`],
   pending: [[], () => `pending ${connection.pending}`],
   is_done: [[], () => String(connection.isDone)],
+  fault_place: [[], () => (connection.faultOffset === undefined ? 'none' : `place ${connection.faultOffset}`)],
   report: [[], () => `report ${Object.values(connection.counts()).join(' ')}`]
 }
 
 function read(name, words) {
-  if (name === 'settings' && words.length === 5) return () => settings(...words)
+  if (name === 'settings' && (words.length === 5 || words.length === 6)) return () => settings(...words)
   if (name === 'batch' && words.length % 2 === 1) {
     const of = number(words[0])
     const calls = []

@@ -596,12 +596,26 @@ export declare namespace ConnectionOptions {
   function is(value: any): value is ConnectionOptions
 }
 
+/** A content that can't be read, or in which something is neither a call nor a reply. It is answered already. */
+export interface Broken {
+  /** Of its first byte, counted from the first one of the input. */
+  offset: number
+  /** Its first bytes, at most 64. */
+  first: Uint8Array
+  what: 'Unreadable' | 'Invalid'
+  /** The index of the first invalid entry of a batch; 0 where there is no batch. */
+  entry: number
+  /** How many entries are invalid; 0 where nothing can be read. */
+  entries: number
+}
 /** Why a connection ended. */
 export interface Ended {
   how:
     | 'Clean' | 'BadHead' | 'BadLength' | 'TwoLengths' | 'TooLarge' | 'NoLength' | 'HeadTooLong' | 'Truncated' | 'Read'
     | 'Full' | 'OutputClosed' | 'Stopped' | 'Disposed'
   error?: Error
+  /** Where the frame or line at fault begins, counted from the first byte of the input. */
+  offset?: number
 }
 export interface Counts {
   calls: number
@@ -685,6 +699,8 @@ export interface MessageConnection {
   dispose(): void
 
   // Beyond vscode-jsonrpc
+  /** Tells of each message that can't be read, or in which something is neither a call nor a reply. */
+  readonly onBroken: Event<Broken>
   /** Calls several times in one message. It rejects with the first error, or, `settled`, tells of each call. */
   sendBatch(calls: Iterable<BatchCall>): Promise<any[]>
   sendBatch(calls: Iterable<BatchCall>, options: { settled: true }): Promise<PromiseSettledResult<any>[]>
@@ -722,6 +738,7 @@ export type ConnectionEvent =
   | { kind: 'replied'; key: number; result: string }
   | { kind: 'failed'; key: number; code: number | bigint; message: string; data?: string }
   | { kind: 'unanswered'; key: number }
+  | ({ kind: 'broken' } & Broken)
   | { kind: 'over'; how: Exclude<Ended['how'], 'OutputClosed' | 'Stopped' | 'Disposed'> }
 export declare class Refused extends Error {
   readonly code:
@@ -730,9 +747,12 @@ export declare class Refused extends Error {
 export interface ConnectionSettings {
   framing?: 'frames' | 'lines' | 'contents'
   order?: 'as-answered' | 'as-came'
-  cancels?: boolean
+  /** Whose: `$/cancelRequest`, `notifications/cancelled`, or none; 'lsp' where it is absent. */
+  cancels?: 'lsp' | 'mcp' | boolean | null
   content?: number
   calls?: number | bigint
+  /** Whether broken input is told. */
+  broken?: boolean
 }
 export declare class Connection {
   constructor(settings?: ConnectionSettings)
@@ -752,6 +772,8 @@ export declare class Connection {
   readonly pending: number
   take(most?: number): Uint8Array
   readonly isDone: boolean
+  /** Where the frame or line at fault begins, counted from the first byte that was fed. */
+  readonly faultOffset: number | undefined
   counts(): Counts
   close(): void
 }

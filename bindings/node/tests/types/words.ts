@@ -51,7 +51,9 @@ void connection.sendBatch([[Hover, { position: { line: 0, character: 0 } }], ['a
 void connection.sendBatch([['any']], { settled: true }).then(all => all.map(it => it.status))
 void connection.trace(Trace.Verbose, { log: (message: unknown) => void message }, { traceFormat: TraceFormat.JSON })
 connection.onClose(reason => { const how: 'Clean' | string = reason.how; void how })
+connection.onClose(({ offset }) => { const place: number | undefined = offset; void place })
 connection.onClose(() => undefined)
+connection.onBroken(({ offset, first, what, entries }) => { const told: [number, Uint8Array, string, number] = [offset, first, what, entries]; void told })
 connection.onError(([error, message, count]) => { const text: string = error.message; void [text, message, count] })
 const emitter = new Emitter<number>()
 const event: Event<number> = emitter.event
@@ -74,6 +76,10 @@ createMessageConnection(input, output, undefined, { protocol: 'dap' })
 createMessageConnection(1, output)
 
 const lower = new Connection({ framing: 'lines', calls: 10n })
+const place: number | undefined = new Connection({ cancels: 'mcp', broken: true }).faultOffset
+void [place, new Connection({ cancels: null }), new Connection({ cancels: true })]
+// @ts-expect-error (there are no such cancels)
+new Connection({ cancels: 'dap' })
 for (const it of lower.fed(new Uint8Array())) {
   if (it.kind === 'call' && it.isRequest) lower.answer(it.number, it.params ?? 'null')
   // @ts-expect-error an end has no params
