@@ -1,0 +1,4 @@
+pub mod Agreeing
+pub mod Digits
+pub mod Elements
+pub mod Texts

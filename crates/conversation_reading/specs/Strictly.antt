@@ -1,0 +1,128 @@
+-- What a content is, strictly by JSON-RPC 2.0, sections 4 to 6.
+use Rattle.std.specs.Prelude.{ℕ, ◌&&◌, ◌||◌, not, List, [], ◌∷◌, Bool, true, false, Option, Some, None, option_map, option_and_then, is_some, codes, if◌then◌else◌}
+use Rattle.std.specs.Option.{option_map_or, is_none}
+use Rattle.std.specs.Str.{bytes_eq, is_utf8}
+use Rattle.json.specs.Json.{Json, null, number, string, array, object, Items, no_items, item}
+use Rattle.json.specs.Find.{get, as_str, as_number}
+use Rattle.json_texts.specs.Texts.{json_text, value_of}
+use Rattle.conversation_reading.specs.Numbers.{is_whole}
+use Rattle.conversation_reading.specs.declared.entry.Entry.{Entry}
+use Rattle.conversation_reading.specs.declared.entry.Faults.{Faults}
+use Rattle.conversation_reading.specs.declared.entry.Kind.{Kind}
+use Rattle.conversation_reading.specs.declared.entry.Kind.TheVariants.{Request, Notification, Answer, BrokenAnswer, Invalid}
+use Rattle.conversation_reading.specs.declared.entry.There.{There}
+use Rattle.conversation_reading.specs.declared.entry.WrittenId.{WrittenId}
+use Rattle.conversation_reading.specs.declared.entry.WrittenId.TheVariants.{Null, Text, Number}
+use Rattle.conversation_reading.specs.declared.reading.Reading.{Reading}
+use Rattle.conversation_reading.specs.declared.reading.Reading.TheVariants.{Foreign, NotText, NotJson, Single, Array}
+use Rattle.conversation_reading.specs.declared.reading.TheConstants.{MOST_DEPTH}
+
+-- ---- members: null is there, and of a name that stands twice the last counts
+
+abbrev pub has : List ℕ → Json → Bool
+has name j = is_some (get name j)
+
+abbrev pub there_in : Json → There
+there_in j = record { id = has (codes "id") j; method = has (codes "method") j; params = has (codes "params") j; result = has (codes "result") j; error = has (codes "error") j }
+
+abbrev pub is_object : Json → Bool
+is_object (object ms) = true
+is_object _ = false
+
+-- section 4: the member `jsonrpc` is exactly "2.0"
+abbrev pub is_version_2 : Json → Bool
+is_version_2 j = option_map_or (bytes_eq (codes "2.0")) (option_and_then as_str (get (codes "jsonrpc") j)) false
+
+-- section 4: an id is a string, a number or null
+abbrev pub written_id : Json → Option WrittenId
+written_id null = Some Null
+written_id (string s) = Some (Text s)
+written_id (number s) = Some (Number s)
+written_id _ = None
+
+abbrev pub id_in : Json → Option WrittenId
+id_in j = option_and_then written_id (get (codes "id") j)
+
+abbrev pub method_in : Json → Option (List ℕ)
+method_in j = option_and_then as_str (get (codes "method") j)
+
+-- section 4.2: params are an array or an object
+abbrev pub is_structured : Json → Bool
+is_structured (array js) = true
+is_structured (object ms) = true
+is_structured _ = false
+
+abbrev pub are_unfit : Option Json → Bool
+are_unfit None = false
+are_unfit (Some params) = not (is_structured params)
+
+-- section 5.1: an error has a whole number as its code, and a string as its message
+abbrev pub code_in : Json → Option (List ℕ)
+code_in error = option_and_then as_number (get (codes "code") error)
+
+abbrev pub is_error : Json → Bool
+is_error error = option_map_or is_whole (code_in error) false && is_some (option_and_then as_str (get (codes "message") error))
+
+-- beside a result it isn't looked into
+abbrev pub is_unfit_error : Option Json → Option Json → Bool
+is_unfit_error None result = false
+is_unfit_error (Some error) (Some result) = false
+is_unfit_error (Some error) None = not (is_error error)
+
+-- ---- why an entry is no message
+
+abbrev pub no_object : Faults
+no_object = record { object = true; version = false; method = false; params = false; id = false; outcome = false; error = false }
+
+-- of an object with a method: it is to be a request or a notification (section 4)
+abbrev pub call_faults : Json → Faults
+call_faults j = record { object = false; version = not (is_version_2 j); method = is_none (method_in j); params = are_unfit (get (codes "params") j); id = has (codes "id") j && is_none (id_in j); outcome = false; error = false }
+
+-- of an object without one: it is to be an answer, which has an id, and a result or an error (section 5)
+abbrev pub answer_faults : Json → There → Faults
+answer_faults j there = record { object = false; version = not (is_version_2 j); method = false; params = false; id = is_none (id_in j) && (there.id || there.result || there.error); outcome = (there.result && there.error) || not (there.result || there.error); error = is_unfit_error (get (codes "error") j) (get (codes "result") j) }
+
+abbrev pub faults_of : Json → Faults
+faults_of j = if is_object j then (if has (codes "method") j then call_faults j else answer_faults j (there_in j)) else no_object
+
+abbrev pub has_fault : Faults → Bool
+has_fault f = f.object || f.version || f.method || f.params || f.id || f.outcome || f.error
+
+-- ---- entries
+
+abbrev pub call_kind : Bool → Bool → Kind
+call_kind true has_id = Invalid
+call_kind false true = Request
+call_kind false false = Notification
+
+abbrev pub kind_of : There → Bool → Kind
+kind_of there is_faulty = if there.method then call_kind is_faulty there.id else (if there.result || there.error then (if is_faulty then BrokenAnswer else Answer) else Invalid)
+
+abbrev pub is_message : Kind → Bool
+is_message Request = true
+is_message Notification = true
+is_message Answer = true
+is_message BrokenAnswer = false
+is_message Invalid = false
+
+abbrev pub entry_of : Json → Entry
+entry_of j = record { kind = kind_of (there_in j) (has_fault (faults_of j)); there = there_in j; faults = faults_of j; id = id_in j; method = method_in j; params = option_map json_text (get (codes "params") j); code = option_and_then code_in (get (codes "error") j) }
+
+abbrev pub entries_of : Items → List Entry
+entries_of no_items = []
+entries_of (item j js) = entry_of j ∷ entries_of js
+
+-- ---- contents
+
+abbrev pub value_reading : Json → Reading
+value_reading (array js) = Array (entries_of js)
+value_reading j = Single (entry_of j)
+
+abbrev pub json_reading : Option Json → Reading
+json_reading None = NotJson
+json_reading (Some j) = value_reading j
+
+-- A content whose frame is foreign isn't looked into. JSON is a text in UTF-8 (RFC 8259, section 8.1).
+abbrev pub reading_of : Bool → List ℕ → Reading
+reading_of true content = Foreign
+reading_of false content = if is_utf8 content then json_reading (value_of MOST_DEPTH content) else NotText

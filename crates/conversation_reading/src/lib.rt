@@ -1,0 +1,19 @@
+//! What a content of a conversation is, read strictly by JSON-RPC 2.0: of each entry all that makes it a message, and each
+//! rule by which it is none.
+#![tactic(auto)]
+
+mod entry;
+mod law;
+mod number;
+mod read;
+mod reading;
+
+pub use entry::{Entry, Faults, Kind, There, WrittenId};
+pub use law::{
+    broken_entries, fractions, members, messages, messages_break_no_rule, whole_numbers,
+};
+pub use number::is_whole;
+pub use reading::{MOST_DEPTH, Reading, StrictReader, limit_of_depth_in_figures};
+
+#[cfg(test)]
+mod tests;

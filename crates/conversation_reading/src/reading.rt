@@ -1,0 +1,122 @@
+//! From contents to readings.
+
+ghost use Rattle.std.specs.Prelude.{◌≡◌, IfOk};
+ghost use Rattle.json.specs.Tree.{HasNumbers};
+ghost use Rattle.json.specs.Value.{value_view};
+ghost use Rattle.json_texts.specs.Texts.{value_of};
+ghost use Rattle.conversation_reading.specs.Strictly.{value_reading, json_reading, reading_of};
+ghost use Rattle.conversation_reading.specs.declared.reading.TheConstants.{MOST_DEPTH};
+
+use crate::entry::Entry;
+use crate::read::{read_entries, read_entry};
+use json::{Scratch, Value};
+use json_texts::{read_str, utf8_text};
+use json_values::Items;
+use std::alloc::{AllocError, Global};
+
+/// A content that nests deeper isn't read, each array or object counting one.
+pub const MOST_DEPTH: usize = 127;
+
+/// The limit in figures. All other definitions and clauses cite the constant.
+pub fn limit_of_depth_in_figures()
+    ensures { MOST_DEPTH ≡ 127 }
+{}
+
+/// The room that reading takes is kept from one content to the next where the content is at most this long, in bytes.
+const KEPT_ROOM: usize = 65_536;
+
+/// What a content is (JSON-RPC 2.0, sections 4 to 6).
+#[derive(Debug, Drop)]
+pub enum Reading {
+    /// Its head names another charset than UTF-8.
+    Foreign,
+    /// It isn't UTF-8.
+    NotText,
+    /// It isn't JSON of at most 127 levels whose strings have both halves of each surrogate pair.
+    NotJson,
+    /// One entry.
+    Single(Entry),
+    /// The elements of an array, which may have none.
+    Array(Items<Entry>),
+}
+
+/// Reads one content after another, over the same room.
+#[derive(Drop)]
+pub struct StrictReader {
+    alloc: Global,
+    scratch: Option<Box<Scratch>>,
+}
+
+impl StrictReader {
+    /// A reader that has no room yet. Takes no memory.
+    pub fn new(alloc: Global) -> StrictReader {
+        StrictReader {
+            alloc,
+            scratch: None,
+        }
+    }
+
+    /// What a content is. Every content has a reading, so it is refused only where it is out of memory; it can be read
+    /// again then.
+    pub fn read(&mut self, foreign: bool, content: &[u8]) -> Result<Reading, AllocError>
+        ensures { IfOk result (λ reading. reading ≡ reading_of foreign content.now) }
+    {
+        if foreign {
+            return Ok(Reading::Foreign);
+        }
+        match utf8_text(content) {
+            Some(text) => self.read_text(text),
+            None => Ok(Reading::NotText),
+        }
+    }
+
+    fn read_text(&mut self, text: &str) -> Result<Reading, AllocError>
+        ensures { IfOk result
+            (λ reading. reading ≡ json_reading (value_of MOST_DEPTH text.now)) }
+    {
+        let mut scratch = self.take_scratch()?;
+        let reading = read_json(self.alloc, text, &mut scratch);
+        if text.len() <= KEPT_ROOM {
+            self.scratch = Some(scratch);
+        } else {
+            drop(scratch);
+        }
+        reading
+    }
+
+    fn take_scratch(&mut self) -> Result<Box<Scratch>, AllocError> {
+        match self.scratch.take() {
+            Some(scratch) => Ok(scratch),
+            None => new_scratch(self.alloc),
+        }
+    }
+}
+
+fn read_json(alloc: Global, text: &str, scratch: &mut Scratch) -> Result<Reading, AllocError>
+    ensures { IfOk result (λ reading. reading ≡ json_reading (value_of MOST_DEPTH text.now)) }
+{
+    match read_str(alloc, text, MOST_DEPTH, scratch)? {
+        Some(value) => read_value(alloc, &value),
+        None => Ok(Reading::NotJson),
+    }
+}
+
+fn read_value(alloc: Global, value: &Value<'_>) -> Result<Reading, AllocError>
+    requires { HasNumbers (value_view value.now) }
+    ensures { IfOk result (λ reading. reading ≡ value_reading (value_view value.now)) }
+{
+    match value {
+        Value::Array(items) => {
+            let entries = read_entries(alloc, items.as_slice())?;
+            Ok(Reading::Array(Items::from(entries)))
+        }
+        value => Ok(Reading::Single(read_entry(alloc, value)?)),
+    }
+}
+
+/// Apart, since it holds the scratch's 16 KiB on the stack.
+#[cold]
+#[inline(never)]
+fn new_scratch(alloc: Global) -> Result<Box<Scratch>, AllocError> {
+    Ok(Box::new(alloc, Scratch::new(alloc))?)
+}

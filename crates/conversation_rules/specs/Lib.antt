@@ -1,0 +1,5 @@
+pub mod Amounts
+pub mod Matching
+pub mod Owed
+pub mod Protocols
+pub mod Rows

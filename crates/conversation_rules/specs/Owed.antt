@@ -1,0 +1,95 @@
+-- What a side owes on what the other one wrote (JSON-RPC 2.0, sections 4 to 6).
+use Rattle.std.specs.Prelude.{ℕ, suc, ◌&&◌, ◌||◌, not, List, [], ◌∷◌, Bool, true, false, Option, Some, None, if◌then◌else◌, codes}
+use Rattle.std.specs.Option.{option_map_or, option_to_list}
+use Rattle.std.specs.Str.{bytes_eq}
+use Rattle.conversation_reading.specs.declared.entry.Entry.{Entry}
+use Rattle.conversation_reading.specs.declared.entry.Faults.{Faults}
+use Rattle.conversation_reading.specs.declared.entry.Kind.{Kind}
+use Rattle.conversation_reading.specs.declared.entry.Kind.TheVariants.{Request, Notification, Answer, BrokenAnswer, Invalid}
+use Rattle.conversation_reading.specs.declared.entry.WrittenId.{WrittenId}
+use Rattle.conversation_reading.specs.declared.entry.WrittenId.TheVariants.{Null}
+use Rattle.conversation_rules.specs.Amounts.{same_id, is_odd, is_null}
+use Rattle.conversation_rules.specs.Protocols.{Protocol}
+
+-- What an entry may be answered by.
+pub record Owed : Type 0 where
+  -- the entry's place in its array, from 1, or 0
+  pub place : ℕ
+  -- a request has to be answered, and all else may be left
+  pub must : Bool
+  -- the id that its answer is expected to have
+  pub expected : Option WrittenId
+  -- the entry's own id, which its answer may have
+  pub own : Option WrittenId
+  -- whether its answer may have the id null
+  pub may_be_null : Bool
+  pub is_request : Bool
+  pub is_cancelled : Bool
+
+-- What is owed on a content.
+pub record Due : Type 0 where
+  pub entries : List Owed
+  pub is_batch : Bool
+  pub is_unreadable : Bool
+
+abbrev pub has_id : WrittenId → Option WrittenId → Bool
+has_id id other = option_map_or (same_id id) other false
+
+abbrev pub is_expected : WrittenId → Owed → Bool
+is_expected id owed = has_id id owed.expected
+
+abbrev pub may_have : WrittenId → Owed → Bool
+may_have id owed = has_id id owed.own || (owed.may_be_null && is_null id)
+
+-- ---- entries
+
+-- a request; one whose id is a number that isn't plain may be refused by null
+abbrev pub request_owed : Protocol → ℕ → Option WrittenId → Owed
+request_owed rules place id =
+    if option_map_or is_odd id false then record { place = place; must = false; expected = Some Null; own = id; may_be_null = true; is_request = false; is_cancelled = false }
+    else record { place = place; must = not (rules.may_leave_null && option_map_or is_null id false); expected = id; own = id; may_be_null = false; is_request = true; is_cancelled = false }
+
+-- what needn't be answered, and may be by null or by its own id
+abbrev pub may_be_left : ℕ → Option WrittenId → Option WrittenId → Owed
+may_be_left place expected own = record { place = place; must = false; expected = expected; own = own; may_be_null = true; is_request = false; is_cancelled = false }
+
+abbrev pub only_params : Faults → Bool
+only_params f = f.params && not (f.object || f.version || f.method || f.id || f.outcome || f.error)
+
+-- a call whose only fault is that its params are null
+abbrev pub has_null_params : Entry → Bool
+has_null_params entry = only_params entry.faults && option_map_or (bytes_eq (codes "null")) entry.params false
+
+-- it is expected to be answered as it would be without them
+abbrev pub expected_without_params : Option WrittenId → Option WrittenId
+expected_without_params id = if option_map_or is_odd id false then Some Null else id
+
+abbrev pub invalid_owed : ℕ → Entry → Owed
+invalid_owed place entry = may_be_left place (if has_null_params entry then expected_without_params entry.id else Some Null) entry.id
+
+abbrev pub owed_as : Protocol → ℕ → Entry → Kind → Option Owed
+owed_as rules place entry Request = Some (request_owed rules place entry.id)
+owed_as rules place entry Notification = None
+owed_as rules place entry Answer = None
+owed_as rules place entry BrokenAnswer = Some (may_be_left place None entry.id)
+owed_as rules place entry Invalid = Some (invalid_owed place entry)
+
+abbrev pub owed_on : Protocol → ℕ → Entry → Option Owed
+owed_on rules place entry = owed_as rules place entry entry.kind
+
+-- ---- contents
+
+abbrev pub all_owed : Protocol → ℕ → List Entry → List Owed
+all_owed rules place [] = []
+all_owed rules place (entry ∷ entries) = option_map_or (λ owed. owed ∷ all_owed rules (suc place) entries) (owed_on rules place entry) (all_owed rules (suc place) entries)
+
+abbrev pub unreadable_due : Due
+unreadable_due = record { entries = []; is_batch = false; is_unreadable = true }
+
+abbrev pub single_due : Protocol → Entry → Due
+single_due rules entry = record { entries = option_to_list (owed_on rules 0 entry); is_batch = false; is_unreadable = false }
+
+-- an array without entries is one that is invalid
+abbrev pub array_due : Protocol → List Entry → Due
+array_due rules [] = record { entries = may_be_left 0 (Some Null) None ∷ []; is_batch = false; is_unreadable = false }
+array_due rules (entry ∷ entries) = record { entries = all_owed rules 1 (entry ∷ entries); is_batch = true; is_unreadable = false }

@@ -1,0 +1,99 @@
+//! What the definitions say of worked rows. Each law is the contract of a function that does nothing.
+
+ghost use Rattle.std.specs.Prelude.{◌≡◌, ◌∷◌, [], List, true, false, Some, None, IfSome, codes};
+ghost use Rattle.json.specs.Json.{array, no_items, number};
+ghost use Rattle.conversation_reading.specs.Rows.{id, message, method, outcome};
+ghost use Rattle.conversation_reading.specs.declared.entry.WrittenId.{WrittenId};
+ghost use Rattle.conversation_reading.specs.declared.entry.WrittenId.TheVariants.{Null, Text, Number};
+ghost use Rattle.conversation_rules.specs.Amounts.{same_id, is_plain};
+ghost use Rattle.conversation_rules.specs.Matching.{IsFor, takes, entry_of, whole_of, named_target, null_target, parse_error_target, batch_target};
+ghost use Rattle.conversation_rules.specs.Owed.{Due, unreadable_due};
+ghost use Rattle.conversation_rules.specs.Protocols.{jsonrpc, lsp, mcp};
+ghost use Rattle.conversation_rules.specs.Rows.{request, old_request, null_request, request_without_params, must_be_answered, expected_of, single, batch};
+
+/// A single answer with an id that isn't null is for an entry that may have this id, by its value and its type; or for
+/// nothing.
+pub fn answers_are_for_their_id()
+    ensures { (id : WrittenId) (dues : List Due) →
+        IfSome (named_target id dues) (λ target. IsFor (takes id) dues target) }
+{}
+
+/// What is owed on an entry.
+pub fn owed_entries()
+    ensures request { must_be_answered jsonrpc (request (codes "7")) ≡ true }
+    ensures notification { expected_of (message (method ∷ [])) ≡ None }
+    ensures answer { expected_of (message (id (codes "7") ∷ outcome ∷ [])) ≡ None }
+    ensures null_id { must_be_answered jsonrpc null_request ≡ true }
+    ensures null_id_in_lsp { must_be_answered lsp null_request ≡ false }
+    ensures null_id_in_mcp { must_be_answered mcp null_request ≡ false }
+    ensures odd_id { must_be_answered jsonrpc (request (codes "1.0")) ≡ false }
+    ensures odd_id_is_refused { expected_of (request (codes "1.0")) ≡ Some (Some Null) }
+    ensures invalid { expected_of (old_request (codes "7")) ≡ Some (Some Null) }
+    ensures no_object { expected_of (array no_items) ≡ Some (Some Null) }
+    ensures null_params { expected_of (request_without_params (codes "7")) ≡ Some (Some (Number (codes "7"))) }
+    ensures null_params_may_be_left { must_be_answered jsonrpc (request_without_params (codes "7")) ≡ false }
+    ensures broken_answer { expected_of (message (outcome ∷ [])) ≡ Some None }
+{}
+
+/// Ids are equal as values.
+pub fn amounts()
+    ensures fraction { same_id (Number (codes "1.0")) (Number (codes "1")) ≡ true }
+    ensures power { same_id (Number (codes "-10e-1")) (Number (codes "-1")) ≡ true }
+    ensures zero { same_id (Number (codes "-0")) (Number (codes "0")) ≡ true }
+    ensures sign { same_id (Number (codes "-1")) (Number (codes "1")) ≡ false }
+    ensures text { same_id (Text (codes "7")) (Number (codes "7")) ≡ false }
+    ensures plain { is_plain (codes "18446744073709551615") ≡ true }
+    ensures beyond { is_plain (codes "18446744073709551616") ≡ false }
+    ensures least { is_plain (codes "-9223372036854775808") ≡ true }
+    ensures minus_zero { is_plain (codes "-0") ≡ false }
+{}
+
+/// A single answer is for a single entry first, and for the oldest one.
+pub fn single_answers()
+    ensures oldest { named_target (Number (codes "7"))
+        (single (request (codes "7")) ∷ single (request (codes "7")) ∷ []) ≡ Some (entry_of 0 0) }
+    ensures request_first { named_target (Number (codes "7"))
+        (single (old_request (codes "7")) ∷ single (request (codes "7")) ∷ []) ≡ Some (entry_of 1 0) }
+    ensures own_id { named_target (Number (codes "7")) (single (old_request (codes "7")) ∷ [])
+        ≡ Some (entry_of 0 0) }
+    ensures batch_last { named_target (Number (codes "7"))
+        (batch (request (codes "8")) (request (codes "7")) ∷ single (request (codes "7")) ∷ [])
+        ≡ Some (entry_of 1 0) }
+    ensures in_a_batch { named_target (Number (codes "7"))
+        (batch (request (codes "8")) (request (codes "7")) ∷ []) ≡ Some (entry_of 0 1) }
+    ensures another_type { named_target (Text (codes "7")) (single (request (codes "7")) ∷ []) ≡ None }
+{}
+
+/// An answer with the id null is for what its code says.
+pub fn null_answers()
+    ensures invalid { null_target true false
+        (single (request (codes "7")) ∷ single (number (codes "1")) ∷ []) ≡ Some (entry_of 1 0) }
+    ensures request_is_named { null_target false false (single (request (codes "7")) ∷ []) ≡ None }
+    ensures unreadable { parse_error_target false (unreadable_due ∷ []) ≡ Some (whole_of 0) }
+    ensures good_json { parse_error_target false (single (number (codes "1")) ∷ []) ≡ None }
+    ensures refused_batch { null_target true true
+        (batch (request (codes "7")) (request (codes "8")) ∷ []) ≡ Some (whole_of 0) }
+    ensures batches_are_known { null_target true false
+        (batch (request (codes "7")) (request (codes "8")) ∷ []) ≡ None }
+{}
+
+/// The answers in an array are for the batch from which just these ids are expected, else for one that they can answer.
+pub fn answers_of_a_batch()
+    ensures other_order { batch_target (Number (codes "8") ∷ Number (codes "7") ∷ []) 0
+        (batch (request (codes "7")) (request (codes "8")) ∷ []) ≡ Some 0 }
+    ensures second_first { batch_target (Number (codes "7") ∷ Number (codes "9") ∷ []) 0
+        (batch (request (codes "7")) (request (codes "8"))
+        ∷ batch (request (codes "7")) (request (codes "9")) ∷ []) ≡ Some 1 }
+    ensures just_these { batch_target (Number (codes "7") ∷ Number (codes "8") ∷ []) 0
+        (batch (request (codes "7")) (old_request (codes "8"))
+        ∷ batch (request (codes "7")) (request (codes "8")) ∷ []) ≡ Some 1 }
+    ensures invalid_left_out { batch_target (Number (codes "5") ∷ []) 0
+        (batch (number (codes "1")) (request (codes "5")) ∷ []) ≡ Some 0 }
+    ensures one_is_missing { batch_target (Number (codes "7") ∷ []) 0
+        (batch (request (codes "7")) (request (codes "8")) ∷ []) ≡ None }
+    ensures one_is_unnamed { batch_target (Number (codes "7") ∷ []) 1
+        (batch (request (codes "7")) (request (codes "8")) ∷ []) ≡ Some 0 }
+    ensures one_too_many { batch_target (Number (codes "7") ∷ Number (codes "8") ∷ Number (codes "9") ∷ []) 0
+        (batch (request (codes "7")) (request (codes "8")) ∷ []) ≡ None }
+    ensures no_batch { batch_target (Number (codes "7") ∷ []) 0 (single (request (codes "7")) ∷ []) ≡ None }
+{}
