@@ -1,0 +1,149 @@
+"""usage: python3 checks/judge_conversations.py [--cases N] [--seed S]      tries N of each kind, 600 where none are named
+
+The plain model of the judge (docs/judge.md) over conversations that are made at random. A connection of this library,
+before a hurt peer or joined back to back with another one, breaks no rule that is marked as a connection's, whatever its
+host does, by each set of rules; and what is found is the same where the bytes come in other pieces. Conversations that
+break nothing have no finding; with one break of a rule planted in them just this is found, at its message. A wrong
+accusation is made as small as it goes and shown."""
+import argparse
+import os
+import random
+import sys
+from collections import Counter
+from concurrent.futures import ProcessPoolExecutor
+from functools import partial
+from typing import Any, Callable, Optional
+
+from support import judge_conversations as conversations
+from support import judge_planted as plants
+from support import ran
+from support.judge_conversations import Conversation, found_in
+from support.judge_rules import CONNECTION, HOST, RULES
+
+CASES = 600
+BATCH = 25
+# Of a thousand conversations with a peer so many findings at least are the peer's, so that a run that finds nothing fails.
+# (the rules jsonrpc are counted alone)
+FLOORS = {
+    "head": 10,
+    "not-json": 100,
+    "charset": 10,
+    "object": 40,
+    "version": 150,
+    "method": 10,
+    "params": 10,
+    "outcome": 100,
+    "empty-array": 80,
+    "not-owed": 500,
+    "not-as-array": 40,
+    "unanswered": 100,
+}
+
+
+def words_of(words: list[str]) -> argparse.Namespace:
+    parser = argparse.ArgumentParser(usage=__doc__.partition("\n\n")[0].removeprefix("usage: "))
+    parser.add_argument("--cases", type=int, default=CASES)
+    parser.add_argument("--seed", type=int, default=1)
+    return parser.parse_args(words)
+
+
+# Connections of ours
+
+KINDS: dict[str, Callable[[str], Conversation]] = {
+    "with a peer": conversations.with_a_peer,
+    "joined": conversations.joined,
+}
+
+
+def tried(kind: str, seed: int, numbers: range) -> tuple[list[str], Counter[str]]:
+    """What is wrong with the conversations of these numbers, and what was found of the peers by jsonrpc."""
+    faults, seen = list[str](), Counter[str]()
+    for number in numbers:
+        conversation = KINDS[kind](f"{kind} seed-{seed}-{number}")
+        other = conversations.cut_otherwise(random.Random(conversation.name), conversation)
+        for rules in RULES:
+            found = found_in(conversation, rules)
+            if found != found_in(other, rules):
+                faults.append(f"{conversation.name}, {rules}: other findings where it is cut otherwise")
+            if any(it.side in conversation.ours and it.rule in CONNECTION for it in found):
+                faults.append(f"{conversation.name}, {rules}: {accusation(conversation, rules)}")
+            if rules == "jsonrpc":
+                seen.update(it.rule for it in found if it.side not in conversation.ours)
+        seen["written"] += sum(len(it.data) for it in conversation.seen if it.side in conversation.ours)
+    return faults, seen
+
+
+def accusation(conversation: Conversation, rules: str) -> str:
+    """The smallest conversation in which our side is accused."""
+    is_smaller = True
+    while is_smaller:
+        is_smaller = False
+        for it in conversations.smaller(conversation):
+            if is_accused(it, rules):
+                conversation, is_smaller = it, True
+                break
+    return f"{conversations.accused(conversation, rules, CONNECTION)} in {conversation.seen}"
+
+
+def is_accused(conversation: Conversation, rules: str) -> bool:
+    try:
+        return conversations.accused(conversation, rules, CONNECTION) is not None
+    except ValueError:
+        return False
+
+
+def check_ours(count: ran.Count, kind: str, seed: int, cases: int) -> Counter[str]:
+    batches = [range(first, min(first + BATCH, cases)) for first in range(0, cases, BATCH)]
+    total = Counter[str]()
+    with ProcessPoolExecutor(len(os.sched_getaffinity(0))) as pool:
+        for numbers, (faults, seen) in zip(batches, pool.map(partial(tried, kind, seed), batches)):
+            total.update(seen)
+            count.passed += len(numbers) - min(len(faults), len(numbers))
+            for it in faults[:3]:
+                count.check(kind, False, it)
+    return total
+
+
+# Planted breaks
+
+
+def check_planted(count: ran.Count, seed: int, cases: int) -> None:
+    every = (*plants.PLANTS, *plants.CUT)
+    missing = {*CONNECTION, *HOST} - {it.rule for it in every}
+    count.check("each rule is broken by a planted peer", not missing, f"{missing}")
+    for number, plant in enumerate(every):
+        for case in range(max(cases // len(every), 1)):
+            why = difference(plants.planted(f"planted {number} seed-{seed}-{case}", plant))
+            count.check(f"{plant.rule} is found, {case}", why is None, why or "")
+    for case in range(cases):
+        name = f"clean seed-{seed}-{case}"
+        chance = random.Random(name)
+        plan = plants.clean(chance, chance.choice([*RULES]), chance.choice(("frames", "lines", "contents")))
+        seen = [conversations.Seen(it.side, plants.written(it, plan.framing)) for it in plan.steps]
+        count.same(name, found_in(Conversation(name, plan.framing, (), seen), plan.rules), [])
+
+
+def difference(planted: plants.Planted) -> Optional[str]:
+    """How what is found differs from what was planted. Behind a fault there are more notes."""
+    found = found_in(planted.conversation, planted.rules)
+    lines: list[Any] = [(it.side, it.rule, it.level, it.place.side, it.place.number) for it in found]
+    if any(rule == "head" for _, rule, *_ in planted.wanted):
+        lines = [it for it in lines if it[1] == "head" or it[2] != "note"]
+    return None if lines == planted.wanted else f"{lines} in place of {planted.wanted} in {planted.conversation.seen}"
+
+
+def main(words: list[str]) -> None:
+    options, count = words_of(words), ran.Count()
+    check_planted(count, options.seed, options.cases)
+    for kind in KINDS:
+        seen = check_ours(count, kind, options.seed, options.cases)
+        print(f"{kind}: {seen.pop('written'):,} bytes of ours; of the peers:", dict(seen), flush=True)
+        if kind == "with a peer" and options.cases >= 500:
+            for rule, least in FLOORS.items():
+                wanted = least * options.cases // 1_000
+                count.check(f"{rule}: at least {wanted}", seen[rule] >= wanted, f"{seen[rule]}")
+    count.end()
+
+
+if __name__ == "__main__":
+    main(sys.argv[1:])

@@ -1,0 +1,302 @@
+"""Conversations that break no rule, made at random, and the same with one break of a rule planted at random."""
+import json
+import random
+from dataclasses import dataclass, field
+from typing import Any, Callable, NamedTuple
+
+from support.judge_conversations import Conversation, Seen
+from support.judge_model import OTHER, SIDES
+from support.judge_rules import MUST, NOTE, RULES, SHOULD
+from support.row_files import frame
+
+FIRST = 9_000  # ids of what is planted begin here
+
+
+class Step(NamedTuple):
+    """What a side writes: a content, or bytes that are none; or how it ends."""
+
+    side: str
+    content: bytes = b""
+    is_raw: bool = False
+    ended: str = ""
+    breaks: tuple[tuple[str, str], ...] = ()  # rules and levels that the writer breaks by it
+    leaves: str = ""  # the level at which the other side never answers it
+
+
+@dataclass
+class Plan:
+    """A conversation as it is made: what both sides write, one thing after the other."""
+
+    chance: random.Random
+    rules: str
+    framing: str
+    steps: list[Step] = field(default_factory=list)
+    last_id: int = 0
+
+    def say(self, side: str, value: Any) -> None:
+        self.steps.append(Step(side, text_of(value)))
+
+    def id_of(self) -> Any:
+        self.last_id += 1
+        return self.chance.choice((self.last_id, -self.last_id, f"id {self.last_id}"))
+
+
+def text_of(value: Any) -> bytes:
+    return json.dumps(value).encode()
+
+
+def request(id_: Any, method: str = "a", **more: Any) -> dict[str, Any]:
+    return {"jsonrpc": "2.0", "method": method, "id": id_, **more}
+
+
+def notification(method: str, **more: Any) -> dict[str, Any]:
+    return {"jsonrpc": "2.0", "method": method, **more}
+
+
+def result(id_: Any) -> dict[str, Any]:
+    return {"jsonrpc": "2.0", "id": id_, "result": {}}
+
+
+def error(id_: Any, code: int = 5) -> dict[str, Any]:
+    return {"jsonrpc": "2.0", "id": id_, "error": {"code": code, "message": "m"}}
+
+
+def cancel(rules: str, id_: Any) -> dict[str, Any]:
+    its = RULES[rules]
+    return notification(its.cancel or "cancel", params={its.target or "id": id_})
+
+
+# Conversations that break nothing
+
+
+def clean(chance: random.Random, rules: str, framing: str) -> Plan:
+    """Requests, notifications, batches and cancels of both sides, each answered as it should be, in any order."""
+    plan = Plan(chance, rules, framing)
+    due: list[tuple[str, Any]] = []  # answers that are to come
+    for _ in range(chance.randint(4, 25)):
+        side = chance.choice(SIDES)
+        kind = chance.choice(("request", "request", "notification", "batch", "cancel", "answer", "answer", "answer"))
+        if kind == "answer" and due:
+            plan.say(*due.pop(chance.randrange(len(due))))
+        elif kind == "notification":
+            plan.say(side, notification("note"))
+        elif kind == "batch" and RULES[rules].batch is None:
+            ids = [plan.id_of() for _ in range(chance.randint(1, 3))]
+            plan.say(side, [*map(request, ids), notification("note")])
+            due.append((OTHER[side], [result(it) for it in chance.sample(ids, len(ids))]))
+        elif kind == "cancel" and RULES[rules].cancel:
+            id_ = plan.id_of()
+            plan.say(side, request(id_))
+            plan.say(side, cancel(rules, id_))
+            if rules == "lsp":
+                due.append((OTHER[side], error(id_, -32800)))
+        elif kind == "request":
+            id_ = plan.id_of()
+            plan.say(side, request(id_))
+            due.append((OTHER[side], result(id_) if chance.random() < 0.5 else error(id_)))
+    for it in due:
+        plan.say(*it)
+    return plan
+
+
+# What breaks a rule: steps that are put in at random places, in their order
+
+
+def alone(side: str, content: bytes, rule: str, level: str = MUST) -> list[Step]:
+    return [Step(side, content, breaks=((rule, level),))]
+
+
+def value(rule: str, it: Any, level: str = MUST) -> Callable[[str, str], list[Step]]:
+    """A value that breaks a rule wherever it stands."""
+    return lambda side, rules: alone(side, text_of(it), rule, level)
+
+
+def asked(rule: str, ask: Any, answer: Any, level: str = MUST) -> Callable[[str, str], list[Step]]:
+    """A request, whose answer breaks a rule."""
+    return lambda side, rules: [Step(OTHER[side], text_of(ask)), *alone(side, text_of(answer), rule, level)]
+
+
+def odd_id(rule: str, id_: str, level: str = "") -> Callable[[str, str], list[Step]]:
+    """A request with an id as it is written, and its answer."""
+
+    def steps(side: str, rules: str) -> list[Step]:
+        ask = b'{"jsonrpc":"2.0","method":"a","id":%s}' % id_.encode()
+        answer = b'{"jsonrpc":"2.0","id":%s,"result":1}' % id_.encode()
+        return [*alone(side, ask, rule, level or RULES[rules].id_level), Step(OTHER[side], answer)]
+
+    return steps
+
+
+def again(side: str, rules: str) -> list[Step]:
+    ask, answer = Step(side, text_of(request(FIRST))), Step(OTHER[side], text_of(result(FIRST)))
+    level = MUST if RULES[rules].ids_once else NOTE
+    return [ask, ask._replace(breaks=(("id-again", level),)), answer, answer]
+
+
+def batch(side: str, rules: str) -> list[Step]:
+    return alone(side, text_of([notification("note")]), "batch", RULES[rules].batch or NOTE)
+
+
+def answers_of_a_batch(side: str, rules: str) -> list[Step]:
+    """They come singly."""
+    told = (("batch", RULES[rules].batch or NOTE),) if RULES[rules].batch else ()
+    return [
+        Step(OTHER[side], text_of([request(FIRST), request(FIRST + 1)]), breaks=told),
+        *alone(side, text_of(result(FIRST + 1)), "not-as-array", SHOULD),
+        *alone(side, text_of(result(FIRST)), "not-as-array", SHOULD),
+    ]
+
+
+def another_type(side: str, rules: str) -> list[Step]:
+    return [
+        Step(OTHER[side], text_of(request(FIRST))),
+        *alone(side, text_of(result(str(FIRST))), "not-owed"),
+        Step(side, text_of(result(FIRST))),
+    ]
+
+
+def twice(side: str, rules: str) -> list[Step]:
+    return [
+        *asked("not-owed", request(FIRST), result(FIRST))(side, rules)[:1],
+        Step(side, text_of(result(FIRST))),
+    ] + alone(side, text_of(result(FIRST)), "not-owed")
+
+
+def never(side: str, rules: str) -> list[Step]:
+    return [Step(OTHER[side], text_of(request(FIRST)), leaves=MUST)]
+
+
+def unknown_cancel(side: str, rules: str) -> list[Step]:
+    level = MUST if RULES[rules].ids_once else NOTE
+    return alone(side, text_of(cancel(rules, FIRST)), "cancel-unknown", level)
+
+
+def wrong_cancel(side: str, rules: str) -> list[Step]:
+    return alone(side, text_of(notification(RULES[rules].cancel, params={"ids": [1]})), "cancel-params")
+
+
+def cancelled_initialize(side: str, rules: str) -> list[Step]:
+    return [
+        Step(side, text_of(request(FIRST, "initialize"))),
+        *alone(side, text_of(cancel(rules, FIRST)), "cancel-initialize"),
+    ]
+
+
+def late_answer(side: str, rules: str) -> list[Step]:
+    return [
+        Step(OTHER[side], text_of(request(FIRST))),
+        Step(OTHER[side], text_of(cancel(rules, FIRST))),
+        *alone(side, text_of(result(FIRST)), "after-cancel", NOTE),
+    ]
+
+
+def foreign(side: str, rules: str) -> list[Step]:
+    content = text_of(notification("note"))
+    head = b"Content-Type: x; charset=latin1\r\nContent-Length: %d\r\n\r\n" % len(content)
+    return [Step(side, head + content, is_raw=True, breaks=(("charset", MUST),))]
+
+
+def no_head(side: str, rules: str) -> list[Step]:
+    return [Step(side, b"Loading ..\n", is_raw=True, breaks=(("head", MUST),))]
+
+
+class Plant(NamedTuple):
+    rule: str
+    steps: Callable[[str, str], list[Step]]
+    rules: tuple[str, ...] = tuple(RULES)
+    framings: tuple[str, ...] = ("frames", "lines", "contents")
+
+
+LSP, MCP, CANCELS = ("lsp",), ("mcp", "mcp:2025-03-26"), ("lsp", "mcp", "mcp:2025-03-26")
+ASK, BOTH = request(FIRST), {**result(FIRST), "error": None}
+PLANTS = (
+    Plant("head", no_head, framings=("frames",)),
+    Plant("charset", foreign, framings=("frames",)),
+    Plant("not-json", lambda side, rules: alone(side, b'{"jsonrpc":"2.0",', "not-json")),
+    Plant("object", value("object", 5)),
+    Plant("version", value("version", {"method": "a"})),
+    Plant("version", asked("version", ASK, {"id": FIRST, "result": 1})),
+    Plant("method", value("method", notification(5))),  # type: ignore[arg-type]
+    Plant("params", value("params", notification("a", params=None))),
+    Plant("id", value("id", request([FIRST]))),
+    Plant("outcome", asked("outcome", ASK, BOTH)),
+    Plant("error", asked("error", ASK, {"jsonrpc": "2.0", "id": FIRST, "error": "no"})),
+    Plant("empty-array", value("empty-array", [])),
+    Plant("batch", batch, rules=("lsp", "mcp")),
+    Plant("not-owed", value("not-owed", result(FIRST))),
+    Plant("not-owed", another_type),
+    Plant("not-owed", twice),
+    Plant("not-as-array", answers_of_a_batch),
+    Plant("not-as-array", asked("not-as-array", ASK, [result(FIRST)], SHOULD)),
+    Plant("id-fraction", odd_id("id-fraction", "9000.5")),
+    Plant("id-null", odd_id("id-null", "null")),
+    Plant("id-form", odd_id("id-form", "9000.0", NOTE)),
+    Plant("id-again", again),
+    Plant("rpc-name", value("rpc-name", notification("rpc.a"), NOTE)),
+    Plant("code", asked("code", ASK, error(FIRST, -32500))),
+    Plant("cancelled-code", asked("cancelled-code", ASK, error(FIRST, -32800), SHOULD), rules=LSP),
+    Plant("cancel-params", wrong_cancel, rules=CANCELS),
+    Plant("cancel-unknown", unknown_cancel, rules=CANCELS),
+    Plant("cancel-initialize", cancelled_initialize, rules=MCP),
+    Plant("after-cancel", late_answer, rules=MCP),
+    Plant("unanswered", never),
+)
+# These are planted at the end of a side's stream.
+CUT = (
+    Plant("cut-off", lambda side, rules: [Step(side, b"{", is_raw=True)], framings=("lines",)),
+    Plant("cut-off", lambda side, rules: [Step(side, b"Content-", is_raw=True)], framings=("frames",)),
+    Plant(
+        "line-end",
+        lambda side, rules: [Step(side, text_of(notification("note")), is_raw=True)],
+        framings=("lines",),
+    ),
+)
+
+
+class Planted(NamedTuple):
+    conversation: Conversation
+    rules: str
+    wanted: list[tuple[str, str, str, str, int]]  # who, the rule, its level, whose message, and its number
+
+
+def planted(seed: str, plant: Plant) -> Planted:
+    """A conversation with one break of a rule in it."""
+    chance = random.Random(seed)
+    rules, framing, side = chance.choice(plant.rules), chance.choice(plant.framings), chance.choice(SIDES)
+    plan = clean(chance, rules, framing)
+    steps = plan.steps
+    added = plant.steps(side, rules)
+    if plant in CUT:
+        level = MUST if plant.rule == "cut-off" else NOTE
+        steps += added + [Step(side, ended="closed", breaks=((plant.rule, level),)), Step(OTHER[side], ended="closed")]
+    else:
+        at = 0
+        for it in added:
+            at = chance.randint(at, len(steps))
+            steps.insert(at, it)
+            at += 1
+        # (the side that owes ends first, so that nothing excuses it)
+        steps += [Step(side, ended="closed"), Step(OTHER[side], ended="closed")]
+    seen = [Seen(it.side, written(it, framing), it.ended) for it in steps]
+    return Planted(Conversation(seed, framing, (), seen), rules, wanted_of(steps, side))
+
+
+def written(step: Step, framing: str) -> bytes:
+    if step.is_raw or step.ended:
+        return step.content
+    if framing == "frames":
+        return frame(step.content)
+    return step.content + (b"\n" if framing == "lines" else b"")
+
+
+def wanted_of(steps: list[Step], side: str) -> list[tuple[str, str, str, str, int]]:
+    """What is to be found, in its order."""
+    counts, found, left = dict.fromkeys(SIDES, 0), [], []
+    for it in steps:
+        counts[it.side] += not it.is_raw and not it.ended or it.breaks != ()
+        found += [(it.side, rule, level, it.side, counts[it.side]) for rule, level in it.breaks]
+        if it.leaves:
+            left.append((OTHER[it.side], "unanswered", it.leaves, it.side, counts[it.side]))
+        if it.ended and it.side == side:
+            found += left
+    return found

@@ -1,0 +1,312 @@
+"""What the judge reads: the contents of a side's stream with their places, and of each content its entries, strictly by
+the standards, as docs/judge.md has it."""
+import json
+import math
+import re
+from dataclasses import dataclass
+from typing import Any, Iterator, NamedTuple, Optional
+
+from support import connection_reading, reading
+from support.connection_reading import Members, Number
+from support.reading import ABSENT, DEPTH, HEAD, WHOLE
+
+LONG_LENGTH = re.compile(rb"^content-length:[ \t]*[0-9]{11,}[ \t]*\r$", re.I | re.M)
+NUMBER = re.compile(r"(-?)([0-9]+)(?:\.([0-9]+))?(?:[eE]([+-]?[0-9]+))?")
+BRACKETS = {"[": "]", "{": "}"}
+
+
+# Contents
+
+
+class Content(NamedTuple):
+    data: bytes
+    offset: int  # of its first byte in the side's stream
+    is_foreign: bool = False
+    is_unfinished: bool = False  # a last line without its LF
+
+
+class Stream:
+    """The bytes of one side, as contents and a fault."""
+
+    def __init__(self, framing: str, limit: int) -> None:
+        self.framing, self.limit = framing, limit
+        self.rest, self.offset = b"", 0  # what isn't cut off yet, and where it begins
+        self.fault = ""  # "head", or "not-judged" where the judge can't go on
+
+    @property
+    def is_over(self) -> bool:
+        return self.fault != ""
+
+    def saw(self, data: bytes) -> Iterator[Content]:
+        """The contents whose last byte is now seen."""
+        if self.framing == "contents":
+            yield from self.piece(data)
+            return
+        self.rest += data
+        while not self.is_over and self.rest:
+            content, length = self.line() if self.framing == "lines" else self.frame()
+            if length == 0:
+                return
+            self.cut(length)
+            if content is not None:
+                yield content
+
+    def cut(self, length: int) -> None:
+        self.rest, self.offset = self.rest[length:], self.offset + length
+
+    def piece(self, data: bytes) -> Iterator[Content]:
+        if self.is_over:
+            return
+        if len(data) > self.limit:
+            self.fault = "not-judged"
+            return
+        yield Content(data, self.offset)
+        self.offset += len(data)
+
+    def line(self) -> tuple[Optional[Content], int]:
+        """The line at the front, where it isn't blank, and its length with its LF, or 0 where there is none."""
+        line, end, _ = self.rest.partition(b"\n")
+        content = line.removesuffix(b"\r")
+        if len(content) > self.limit:
+            self.fault = "not-judged"
+            return None, 0
+        if not end:
+            return None, 0
+        return (Content(content, self.offset) if content.strip(b" \t") else None), len(line) + 1
+
+    def frame(self) -> tuple[Optional[Content], int]:
+        frame, fault = reading.frame_at(self.rest, 0, self.limit)
+        if frame is not None:
+            return Content(frame.content, self.offset + frame.end - len(frame.content), frame.is_foreign), frame.end
+        if fault != "Truncated":
+            self.fault = "not-judged" if self.is_beyond(fault) else "head"
+        return None, 0
+
+    def is_beyond(self, fault: str) -> bool:
+        """Whether a fault is a limit of the judge's."""
+        is_long = fault == "BadLength" and LONG_LENGTH.search(self.rest[:HEAD]) is not None
+        return is_long or fault in ("TooLarge", "HeadTooLong")
+
+    def closed(self) -> Optional[Content]:
+        """What the close leaves: a line without its LF, or a frame that isn't whole."""
+        if self.is_over or not self.rest or self.framing == "contents":
+            return None
+        data = self.rest.removesuffix(b"\r") if self.framing == "lines" else self.rest
+        is_blank = self.framing == "lines" and not data.strip(b" \t")
+        return None if is_blank else Content(data, self.offset, is_unfinished=True)
+
+
+# JSON
+
+
+class Unreadable(Exception):
+    """A content that isn't read, by the name of its rule, and why."""
+
+    def __init__(self, rule: str, why: str) -> None:
+        super().__init__(rule, why)
+        self.rule, self.why = rule, why
+
+
+def too_deep_front(text: str) -> Optional[str]:
+    """A JSON text that stops where the nesting first goes over the limit, and closes what is open there; or None, where
+    it never does."""
+    closers, is_string, is_escape = list[str](), False, False
+    for at, it in enumerate(text):
+        if is_string:
+            is_string = is_escape or it != '"'
+            is_escape = not is_escape and it == "\\"
+        elif it == '"':
+            is_string = True
+        elif it in BRACKETS:
+            if len(closers) == DEPTH:
+                return text[:at] + "0" + "".join(reversed(closers))
+            closers.append(BRACKETS[it])
+        elif it in "]}" and closers:
+            closers.pop()
+    return None
+
+
+def loaded(text: str) -> Any:
+    try:
+        return json.loads(
+            text, parse_int=Number, parse_float=Number, parse_constant=reading.refuse, object_pairs_hook=Members
+        )
+    except ValueError:
+        raise Unreadable("not-json", "it isn't JSON") from None
+
+
+def value_of(content: Content) -> Any:
+    """The JSON value that a content is."""
+    if content.is_foreign:
+        raise Unreadable("charset", "its head says another charset")
+    try:
+        text = content.data.decode("utf-8")
+    except ValueError:
+        raise Unreadable("not-json", "it isn't UTF-8") from None
+    if (front := too_deep_front(text)) is not None:
+        loaded(front)
+        raise Unreadable("not-judged", f"it nests deeper than {DEPTH}")
+    value = loaded(text)
+    if reading.has_half_a_pair(text):
+        raise Unreadable("not-judged", "a string has half of a surrogate pair")
+    return value
+
+
+def has_huge(value: Any) -> bool:
+    """Whether a number in it is beyond a float's range."""
+    if isinstance(value, Number):
+        return math.isinf(float(value.text))
+    if isinstance(value, Members):
+        return any(has_huge(it) for _, it in value)
+    return isinstance(value, list) and any(map(has_huge, value))
+
+
+# Ids
+
+
+class Decimal(NamedTuple):
+    """A number by its value: its digits, which begin and end with none that is 0, times ten to a power."""
+
+    is_negative: bool
+    digits: str
+    power: int
+
+    @property
+    def is_whole(self) -> bool:
+        return self.power >= 0
+
+    def within(self, numbers: range) -> Optional[int]:
+        """The whole number that it is, where it is one of these."""
+        if not self.is_whole or len(self.digits) + self.power > 20:
+            return None
+        value = int(self.digits or "0") * 10**self.power * (-1 if self.is_negative else 1)
+        return value if value in numbers else None
+
+
+Id = str | Decimal | None  # (None is null)
+
+
+def decimal_of(text: str) -> Decimal:
+    found = NUMBER.fullmatch(text)
+    assert found is not None
+    sign, whole, fraction, power = found.groups()
+    fraction = fraction or ""
+    digits = (whole + fraction).lstrip("0")
+    stripped = digits.rstrip("0")
+    if not stripped:
+        return Decimal(False, "", 0)
+    return Decimal(sign == "-", stripped, int(power or "0") - len(fraction) + len(digits) - len(stripped))
+
+
+def id_of(value: Any) -> Any:
+    """An id, or ABSENT where the value can't be one."""
+    if value is None or isinstance(value, str):
+        return value
+    return decimal_of(value.text) if isinstance(value, Number) else ABSENT
+
+
+def is_plain(value: Any) -> bool:
+    """Whether a number is written as a whole one of 64 bits."""
+    return connection_reading.whole_of(value, WHOLE) is not None
+
+
+# Entries
+
+
+@dataclass(frozen=True)
+class Entry:
+    kind: str  # request, notification, answer, broken answer, invalid
+    faults: tuple[str, ...] = ()  # each rule by which it is no message
+    id: Any = ABSENT  # the readable id that it has, or ABSENT
+    is_odd: bool = False  # its id is a number that isn't written as a whole one of 64 bits
+    method: str = ""
+    params: Any = ABSENT
+    error: Any = ABSENT  # (of an answer)
+
+    @property
+    def is_answer(self) -> bool:
+        return self.kind in ("answer", "broken answer")
+
+    @property
+    def is_message(self) -> bool:
+        return self.kind in ("request", "notification", "answer")
+
+    @property
+    def code(self) -> Optional[Decimal]:
+        """The code of its error, where it has one."""
+        code = self.error.get("code") if isinstance(self.error, Members) else None
+        return decimal_of(code.text) if isinstance(code, Number) else None
+
+
+def is_structured(value: Any) -> bool:
+    return isinstance(value, list)  # (an object's members are a list too)
+
+
+def is_error(value: Any) -> bool:
+    """Whether an answer's error has a code that is whole by value, and a string message."""
+    if not isinstance(value, Members) or not isinstance(value.get("message"), str):
+        return False
+    code = value.get("code")
+    return isinstance(code, Number) and decimal_of(code.text).is_whole
+
+
+def call_faults(value: dict[str, Any], id_: Any) -> Iterator[str]:
+    """Why an object with a method is no request and no notification."""
+    if value.get("jsonrpc") != "2.0":
+        yield "version"
+    if not isinstance(value.get("method"), str):
+        yield "method"
+    if "params" in value and not is_structured(value.get("params")):
+        yield "params"
+    if "id" in value and id_ is ABSENT:
+        yield "id"
+
+
+def answer_faults(value: dict[str, Any], id_: Any) -> Iterator[str]:
+    """Why an object without a method is no answer. An error beside a result isn't looked into."""
+    has_result, has_error = "result" in value, "error" in value
+    if value.get("jsonrpc") != "2.0":
+        yield "version"
+    if id_ is ABSENT and ("id" in value or has_result or has_error):
+        yield "id"
+    if has_result == has_error:
+        yield "outcome"
+    if has_error and not has_result and not is_error(value.get("error")):
+        yield "error"
+
+
+def entry_of(value: Any) -> Entry:
+    if not isinstance(value, Members):
+        return Entry("invalid", ("object",))
+    members = dict(value)  # (of a name that stands twice the last counts)
+    name = members.get("id", ABSENT)
+    id_ = id_of(name)
+    is_odd = isinstance(name, Number) and not is_plain(name)
+    if "method" in members:
+        faults = tuple(call_faults(members, id_))
+        kind = "invalid" if faults else "request" if "id" in members else "notification"
+        method = members.get("method")
+        return Entry(
+            kind, faults, id_, is_odd, method if isinstance(method, str) else "", members.get("params", ABSENT)
+        )
+    faults = tuple(answer_faults(members, id_))
+    is_like = "result" in members or "error" in members
+    kind = "invalid" if not is_like else "broken answer" if faults else "answer"
+    return Entry(kind, faults, id_, is_odd, error=members.get("error", ABSENT))
+
+
+class Unit(NamedTuple):
+    """A content that is JSON."""
+
+    is_array: bool
+    entries: tuple[Entry, ...]
+    texts: tuple[str, ...]  # the words of each entry, compact
+    has_huge: bool
+
+
+def unit_of(content: Content) -> Unit:
+    value = value_of(content)
+    is_array = isinstance(value, list) and not isinstance(value, Members)
+    values = value if is_array else [value]
+    texts = tuple(connection_reading.text_of(it) for it in values)
+    return Unit(is_array, tuple(map(entry_of, values)), texts, has_huge(value))

@@ -1,0 +1,92 @@
+"""The rules of docs/judge.md: their names, their levels, and what differs between the protocols."""
+from typing import NamedTuple, Optional
+
+MUST, SHOULD, NOTE = "must", "should", "note"
+DEFINED = {-32700, *range(-32603, -32599), *range(-32099, -31999)}
+RESERVED = range(-32768, -31999)
+
+# The rules that a connection of ours keeps, whatever its host does; and the others, which are its host's.
+CONNECTION = (
+    "head",
+    "not-json",
+    "charset",
+    "object",
+    "version",
+    "method",
+    "params",
+    "id",
+    "outcome",
+    "error",
+    "empty-array",
+    "not-owed",
+    "not-as-array",
+    "id-fraction",
+    "id-null",
+    "id-form",
+    "id-again",
+)
+HOST = (
+    "cut-off",
+    "line-end",
+    "batch",
+    "rpc-name",
+    "code",
+    "cancelled-code",
+    "cancel-params",
+    "cancel-unknown",
+    "cancel-initialize",
+    "after-cancel",
+    "unanswered",
+)
+NOT_JUDGED = "not-judged"
+# The levels that a rule may have; each one that isn't listed is a must.
+OTHER_LEVELS = {
+    "line-end": (NOTE,),
+    "batch": (NOTE, MUST),
+    "not-as-array": (SHOULD,),
+    "id-fraction": (SHOULD, MUST),
+    "id-null": (SHOULD, MUST),
+    "id-form": (NOTE,),
+    "id-again": (NOTE, MUST),
+    "rpc-name": (NOTE,),
+    "cancelled-code": (SHOULD,),
+    "cancel-unknown": (NOTE, MUST),
+    "after-cancel": (NOTE,),
+    "unanswered": (MUST, NOTE),
+}
+LEVELS_BY_RULE = {it: OTHER_LEVELS.get(it, (MUST,)) for it in (*CONNECTION, *HOST)}
+
+
+class Rules(NamedTuple):
+    """What differs between the protocols."""
+
+    name: str
+    batch: Optional[str] = None  # the level of a batch, where the rules have none
+    id_level: str = SHOULD  # of an id that is null or has a fraction
+    may_leave_null: bool = False  # a request with the id null
+    cancel: str = ""  # the method of a cancel
+    target: str = ""  # the member of its params that names a request
+    cancel_settles: bool = False  # a request whose cancel was seen is owed no longer
+    ids_once: bool = False  # an id may never be used again
+    defined: frozenset[int] = frozenset(DEFINED)
+    reserved: tuple[range, ...] = (RESERVED,)
+
+
+MCP = Rules("mcp", MUST, MUST, True, "notifications/cancelled", "requestId", cancel_settles=True, ids_once=True)
+RULES = {
+    it.name: it
+    for it in (
+        Rules("jsonrpc"),
+        Rules(
+            "lsp",
+            NOTE,
+            may_leave_null=True,
+            cancel="$/cancelRequest",
+            target="id",
+            defined=frozenset({*DEFINED, *range(-32803, -32799)}),
+            reserved=(RESERVED, range(-32899, -32799)),
+        ),
+        MCP,
+        MCP._replace(name="mcp:2025-03-26", batch=None),
+    )
+}
