@@ -2,6 +2,10 @@
 from typing import Dict, List, NamedTuple
 
 
+# What is measured beside ours.
+NOT_OURS = ("baseline", "limit", "limit v3")
+
+
 class Row(NamedTuple):
     """A row of a table by one program, at its largest size: the baseline's time by the program's, and why it is below
     1."""
@@ -22,7 +26,7 @@ class Behind:
         """Keeps what is behind of one row, given the time of each program."""
         for label, took in seconds.items():
             ratio = seconds["baseline"] / took
-            if label != "baseline" and ratio < 1:
+            if label not in NOT_OURS and ratio < 1:
                 self.rows.append(Row(name, label, ratio, why))
 
     def show(self) -> None:

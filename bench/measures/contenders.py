@@ -1,5 +1,5 @@
-"""What is measured: the baseline, our program, a second one of ours where it is named, and the program that reads and
-writes alone; and how they are built."""
+"""What is measured: the baseline, the limit, our program, a second one of ours where it is named, and the program that
+reads and writes alone; and how they are built, or where they lie."""
 import glob
 import os
 import shutil
@@ -16,6 +16,13 @@ FOLDER = os.path.join(TOP, "bench", "baseline")
 BASELINE = os.path.join(FOLDER, "target", "release", "baseline")
 # What plays rounds with a server; it is built beside the baseline.
 CLIENT = os.path.join(FOLDER, "target", "release", "client")
+# The limit, built for the processors that ours is built for, and for newer ones.
+LIMIT = os.path.join(TOP, "bench", "limit", "limit.c")
+TARGETS = {"limit": "x86-64", "limit v3": "x86-64-v3"}
+# What a processor of x86-64-v3 has, by the names in /proc/cpuinfo.
+V3 = {"avx2", "bmi1", "bmi2", "fma", "movbe", "abm", "f16c"}
+# What is measured where there is no kit.
+RELEASED = os.path.join(TOP, "release", "rpc_tool")
 # The table of the methods that are built into the baseline.
 METHODS = ("--table", os.path.join(FOLDER, "methods.toml"))
 # By `host` it hosts over a connection.
@@ -31,11 +38,25 @@ class Contender(NamedTuple):
     words: Tuple[str, ...]
 
 
+def file_of_limit(label: str) -> str:
+    return os.path.join(TOP, "out", label.replace(" ", "_"))
+
+
+def limits() -> List[Contender]:
+    """The limit, as far as the processor runs it."""
+    return [Contender(it, (file_of_limit(it),)) for it in TARGETS if it == "limit" or has_v3()]
+
+
+def has_v3() -> bool:
+    with open("/proc/cpuinfo", encoding="utf-8") as it:
+        return any(V3 <= {*line.split()} for line in it if line.startswith("flags"))
+
+
 class Programs(NamedTuple):
-    """Our program, what reads and writes alone, and another rpc_tool to compare with, if any."""
+    """Our program, what reads and writes alone, if there is such a one, and another rpc_tool to compare with, if any."""
 
     ours: str
-    reading: str
+    reading: Optional[str]
     before: Optional[str] = None
 
     def named(self) -> Iterator[Tuple[str, str]]:
@@ -43,19 +64,25 @@ class Programs(NamedTuple):
             yield "before", self.before
         yield "ours", self.ours
 
-    def players(self, has_methods: bool) -> List[Contender]:
-        """What plays an input, the baseline first."""
+    def players(self, has_methods: bool, has_calls: bool = False) -> List[Contender]:
+        """What plays an input, the baseline first. The limit names its calls as a host does."""
         words = ("play", *(METHODS if has_methods else ()))
-        return [Contender("baseline", (BASELINE,)), *(Contender(name, (it, *words)) for name, it in self.named())]
+        ours = (Contender(name, (it, *words)) for name, it in self.named())
+        return [Contender("baseline", (BASELINE,)), *([] if has_calls else limits()), *ours]
 
     def readers(self) -> List[Contender]:
         """What answers an input without methods, and keeps nothing of it, beside the baseline, which is first."""
-        return [Contender("baseline", (BASELINE,)), Contender("reading", (self.reading, "answer"))]
+        reading = [Contender("reading", (self.reading, "answer"))] if self.reading else []
+        return [Contender("baseline", (BASELINE,)), *limits(), *reading]
 
-    def servers(self, numbers_of_workers: Tuple[int, ...]) -> List[Contender]:
-        """What serves, the baseline first."""
+    def servers(self, numbers_of_workers: Tuple[int, ...], has_calls: bool = True) -> List[Contender]:
+        """What serves, the baseline first, and the limit where the other side isn't called."""
         many = [(count, *it) for count in numbers_of_workers for it in self.named()]
-        return [Contender("baseline", (BASELINE,)), *(server(*it) for it in many)]
+        return [
+            Contender("baseline", (BASELINE,)),
+            *([] if has_calls else limits()),
+            *(server(*it) for it in many),
+        ]
 
 
 def server(workers: int, name: str, program_file: str) -> Contender:
@@ -72,31 +99,49 @@ def lacking(counts: bool) -> List[str]:
     return wanted
 
 
-def built(before: Optional[str], reading: Optional[str], counts: bool) -> Programs:
-    """The programs, built where they aren't yet. A `peer_bench` that is named is taken as it is."""
+def has_kit() -> bool:
+    return shutil.which("rt") is not None
+
+
+def want(counts: bool) -> None:
+    """Ends the bench where something has to be installed first."""
     wanted = lacking(counts)
     if wanted:
         sys.exit(f"bench/run: first apt-get install -y {' '.join(wanted)}")
+
+
+def built(before: Optional[str], reading: Optional[str], counts: bool) -> Programs:
+    """The programs, built where they aren't yet. A `peer_bench` that is named is taken as it is."""
+    want(counts)
     subprocess.run([os.path.join(TOP, "bin", "rpc_tool"), "--version"], check=True, stdout=subprocess.DEVNULL)
-    build_baseline()
+    build_others()
     ours = program.current(sources.stamp())
     if ours is None:
         sys.exit("bench/run: the program's sources changed while it was built")
     return Programs(ours, reading or proved(READING), before)
 
 
-def built_host(hosting: Optional[str]) -> str:
-    """The program that hosts, which is taken as it is where it is named; and the baseline, whose host it is measured
-    beside."""
-    wanted = lacking(counts=False)
-    if wanted:
-        sys.exit(f"bench/run: first apt-get install -y {' '.join(wanted)}")
-    build_baseline()
+def released(before: Optional[str], counts: bool) -> Programs:
+    """The released program, and nothing that reads alone."""
+    want(counts)
+    build_others()
+    return Programs(RELEASED, None, before)
+
+
+def built_host(hosting: Optional[str], counts: bool) -> str:
+    """The program that hosts, which is taken as it is where it is named; and what it is measured beside."""
+    want(counts)
+    build_others()
     return hosting or proved(HOSTING)
 
 
-def build_baseline() -> None:
+def build_others() -> None:
+    """Builds the baseline and the limit."""
     subprocess.run(["cargo", "build", "--release", "--offline", "--quiet"], cwd=FOLDER, check=True)
+    os.makedirs(os.path.join(TOP, "out"), exist_ok=True)
+    for label, target in TARGETS.items():
+        words = ["cc", "-std=c11", "-O3", f"-march={target}", LIMIT, "-o", file_of_limit(label)]
+        subprocess.run(words, check=True)
 
 
 def proved(program_file: str) -> str:

@@ -1,14 +1,16 @@
-"""The tables of a host, whose methods are its own code: loads in bulk and round trips, by `connection_bench host` and
-by the baseline's host, each on one thread; and how often each asks for memory for one small request."""
+"""The tables of a host, whose methods are its own code: loads in bulk and round trips, by `connection_bench host`, by the
+baseline's host and by the limit, each on one thread; inputs that stand there whole; and how often each asks for memory
+for one small request."""
 import os
 import sys
 from typing import List
 
 from measures.behind import Behind
-from measures.contenders import BASELINE, TOP, Contender
-from measures.inputs import add, frame, frames, request
-from measures.loads import FIRST, Load, Round, added, batches, load, numbers, result, text_of
-from measures.serving import Row, show_bulks, show_trips_of
+from measures.contenders import BASELINE, TOP, Contender, limits
+from measures.inputs import add, add_with_blanks, cancel, frame, frames, request
+from measures.loads import FIRST, Load, Round, added, batches, bulk, cancelled, load, numbers, result, text_of
+from measures.playing import hosts_table
+from measures.serving import LONG_MESSAGES, Row, show_bulks, show_trips_of
 
 sys.path.insert(0, os.path.join(TOP, "checks"))
 
@@ -33,6 +35,25 @@ def reply(number: int, value: bytes = b"true") -> bytes:
 
 def requests(count: int) -> Load:
     return load([Round(frames(add, numbers(count)), count)], 1, [], [*map(added, numbers(count))])
+
+
+def requests_with_blanks(count: int) -> Load:
+    return bulk(count, add_with_blanks, added)
+
+
+def withdrawal(number: int) -> bytes:
+    return b'{"jsonrpc":"2.0","method":"$/cancelRequest","params":{"id":%d}}' % (number - 1)
+
+
+def cancels(count: int) -> Load:
+    """Each request is cancelled while its call waits."""
+    rounds = [it for number in numbers(count) for it in (Round(frame(ask(number)), 1), Round(frame(cancel(number)), 2))]
+    return load(
+        rounds,
+        2,
+        [*map(confirm, numbers(count))],
+        [it(number) for number in numbers(count) for it in (withdrawal, cancelled)],
+    )
 
 
 def open_calls(count: int) -> Load:
@@ -65,13 +86,16 @@ TEXTS = (
 )
 BULKS = (
     Row("requests", requests, 200_000, KEPT),
+    Row("requests with blanks", requests_with_blanks, 200_000, KEPT),
     Row("batches of 100", batches, 200_000, KEPT),
     Row("open calls", open_calls, 20_000, KEPT),
 )
 TRIPS = (
     Row("a request", pings, 5_000, KEPT),
     Row("a call back", calls_back, 5_000, KEPT),
+    Row("a cancel", cancels, 5_000, KEPT),
     Row("a param of 8 MB", long_param, 8_000_000, TEXTS),
+    *LONG_MESSAGES,
 )
 SMALL = {
     "a small request": add(1),
@@ -81,7 +105,7 @@ SMALL = {
 
 
 def hosts(program: str) -> List[Contender]:
-    return [Contender("baseline", (BASELINE, "host")), Contender("ours", (program, "host"))]
+    return [Contender("baseline", (BASELINE, "host")), *limits(), Contender("ours", (program, "host"))]
 
 
 def requests_for_memory(host: Contender, entry: bytes) -> float:
@@ -96,16 +120,19 @@ def requests_for_memory(host: Contender, entry: bytes) -> float:
 
 
 def memory_table(contenders: List[Contender]) -> None:
+    """(the limit keeps one block, and says nothing of how a host keeps its texts)"""
     print(f"{'requests for memory':20} {'program':17} {'of each':>10}")
     for name, entry in SMALL.items():
-        for host in contenders:
+        for host in (it for it in contenders if it not in limits()):
             print(f"{name:20} {host.label:17} {requests_for_memory(host, entry):>10.2f}", flush=True)
 
 
-def table(program: str, small: int, runs: int, behind: Behind) -> None:
+def table(program: str, small: int, runs: int, counts: bool, behind: Behind) -> None:
     contenders = hosts(program)
-    show_bulks(BULKS, "sent at once", contenders, small, runs, behind)
+    show_bulks(BULKS, "sent at once", lambda _: contenders, small, runs, behind)
     print()
-    show_trips_of(TRIPS, "there and back", contenders, small, runs, behind)
+    show_trips_of(TRIPS, "there and back", lambda _: contenders, small, runs, behind)
+    print()
+    hosts_table("played (host)", contenders, small, runs, counts, behind)
     print()
     memory_table(contenders)

@@ -1,5 +1,8 @@
 """Inputs to play: entries, frames of them, and what each row of the table reads."""
+from functools import partial
 from typing import Callable, Iterable, Iterator, NamedTuple, Tuple
+
+from measures.messages import LENGTH, MESSAGES, Message, parts_of
 
 Entry = Callable[[int], bytes]
 
@@ -22,6 +25,23 @@ def request(number: int) -> bytes:
 
 def add(number: int) -> bytes:
     return b'{"jsonrpc":"2.0","method":"add","params":[%d,1],"id":%d}' % (number, number)
+
+
+def add_with_blanks(number: int) -> bytes:
+    return b'{"jsonrpc": "2.0", "method": "add", "params": [%d, 1], "id": %d}' % (number, number)
+
+
+def hover(number: int) -> bytes:
+    place = b'{"textDocument":{"uri":"file:///home/user/project/src/file.py"},"position":{"line":%d,"character":4}}'
+    return b'{"jsonrpc":"2.0","id":%d,"method":"nope","params":%s}' % (number, place % (number % 1000))
+
+
+def hover_with_blanks(number: int) -> bytes:
+    return hover(number).replace(b',"', b', "').replace(b'":', b'": ')
+
+
+def cancel(number: int) -> bytes:
+    return b'{"jsonrpc":"2.0","method":"$/cancelRequest","params":{"id":%d}}' % number
 
 
 def ask(number: int, param: bytes = b'"x"') -> bytes:
@@ -53,6 +73,23 @@ def batches_of_adds(count: int) -> bytes:
     return batches(count, add)
 
 
+def adds_with_blanks(count: int) -> bytes:
+    return singles(count, add_with_blanks)
+
+
+def hovers(count: int) -> bytes:
+    return singles(count, hover)
+
+
+def hovers_with_blanks(count: int) -> bytes:
+    return singles(count, hover_with_blanks)
+
+
+def cancels(count: int) -> bytes:
+    """Each request is cancelled while its call waits."""
+    return b"".join(frame(ask(it)) + frame(cancel(it)) for it in range(1, count + 1))
+
+
 def calls_back(count: int) -> bytes:
     """Each request is followed by the reply to its call."""
     return b"".join(frame(ask(it)) + frame(reply(it)) for it in range(1, count + 1))
@@ -62,40 +99,63 @@ def batches_of_calls_back(count: int) -> bytes:
     return b"".join(batch(ask, it) + batch(reply, it) for it in hundreds(count))
 
 
+def long_messages(message: Message, size: int) -> bytes:
+    count, length = parts_of(size)
+    return b"".join(map(frame, message.entries(length, range(1, count + 1))))
+
+
 def long_text(count: int) -> bytes:
     return frame(b'{"jsonrpc":"2.0","method":"nope","params":["' + b"a" * count + b'"],"id":1}')
 
 
 class Input(NamedTuple):
-    """A row of the table: how what it reads is made, its size, which counts requests, or the bytes of one, and what
-    ours does that the baseline doesn't, where it takes longer."""
+    """A row of the table: how what it reads is made, its size, which counts requests, or bytes where a request has a
+    length, and what ours does that the baseline doesn't, where it takes longer."""
 
     name: str
     make: Callable[[int], bytes]
     size: int
     why: str
     has_methods: bool = False
-    is_one_request: bool = False
+    has_calls: bool = False  # the other side is called, by ids that are other ones in a host
+    length: int = 0
 
     def requests(self, size: int) -> int:
-        return 1 if self.is_one_request else size
+        return max(1, size // self.length) if self.length else size
 
 
 DESK = "each request has a place at the desk and a stage in the session, and its call is shared by both"
 SCRATCH = "the kit's reader clears a scratch as long as the content, and the baseline has none"
 STEPS = "a method is steps of a table, run by a handler that is parked, turned and taken back; the baseline calls a function"
 
+VALUES = "each value of a message is read, checked and kept by itself; the baseline keeps them in one tree"
+
+HOVERS = (
+    Input("hovers", hovers, 100_000, DESK),
+    Input("hovers with blanks", hovers_with_blanks, 100_000, DESK),
+)
+LONG = tuple(Input(it.name, partial(long_messages, it), 8 * LENGTH, VALUES, length=LENGTH) for it in MESSAGES)
+ADDS = (
+    Input("adds", adds, 200_000, STEPS, has_methods=True),
+    Input("adds with blanks", adds_with_blanks, 200_000, STEPS, has_methods=True),
+)
+CANCELS = Input("cancels", cancels, 100_000, STEPS, has_methods=True, has_calls=True)
 INPUTS: Tuple[Input, ...] = (
     Input("single requests", singles, 200_000, DESK),
     Input("batches of 100", batches, 200_000, DESK),
-    Input("one param of 8 MB", long_text, 8_000_000, SCRATCH, is_one_request=True),
-    Input("adds", adds, 200_000, STEPS, has_methods=True),
+    *HOVERS,
+    Input("one param of 8 MB", long_text, 8_000_000, SCRATCH, length=8_000_000),
+    *LONG,
+    *ADDS,
     Input("adds in batches", batches_of_adds, 200_000, STEPS, has_methods=True),
-    Input("calls back", calls_back, 100_000, STEPS, has_methods=True),
-    Input("the same in batches", batches_of_calls_back, 100_000, STEPS, has_methods=True),
+    Input("calls back", calls_back, 100_000, STEPS, has_methods=True, has_calls=True),
+    Input("the same in batches", batches_of_calls_back, 100_000, STEPS, has_methods=True, has_calls=True),
+    CANCELS,
 )
 # What is read and answered alone.
 READ: Tuple[Input, ...] = tuple(it for it in INPUTS if not it.has_methods)
+# What hosts answer too, as a `play` does: there the ids of calls are keys.
+HOSTED: Tuple[Input, ...] = (*HOVERS, *LONG, *ADDS, CANCELS)
 
 # Each method, replied to with a result, an error and not at all, in a batch and alone, and cancelled: it is compared,
 # and not measured.

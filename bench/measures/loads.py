@@ -4,7 +4,8 @@ The first request of each load isn't timed, so that the server's start isn't. So
 from FIRST on; the id of each is its number, and its call is therefore that of the same number."""
 from typing import List, NamedTuple
 
-from measures.inputs import Entry, add, ask, batch, frame, frames, hundreds, reply, request
+from measures.inputs import Entry, add, add_with_blanks, ask, batch, cancel, frame, frames, hundreds, reply, request
+from measures.messages import Message, parts_of
 
 FIRST = 2
 
@@ -42,6 +43,15 @@ def confirm(number: int, param: bytes = b'"x"') -> bytes:
     return b'{"id":"%d.1","jsonrpc":"2.0","method":"confirm","params":[%s]}' % (number, param)
 
 
+def cancelled(number: int) -> bytes:
+    return b'{"error":{"code":-32800,"message":"Request cancelled"},"id":%d,"jsonrpc":"2.0"}' % number
+
+
+def withdrawal(number: int) -> bytes:
+    """Of the call that the call with this number has made."""
+    return b'{"jsonrpc":"2.0","method":"$/cancelRequest","params":{"id":"%d.1"}}' % number
+
+
 def numbers(count: int) -> range:
     return range(FIRST, FIRST + count)
 
@@ -62,6 +72,10 @@ def unknown(count: int) -> Load:
 
 def adds(count: int) -> Load:
     return bulk(count, add, added)
+
+
+def adds_with_blanks(count: int) -> Load:
+    return bulk(count, add_with_blanks, added)
 
 
 def array(entry: Entry, some: range) -> bytes:
@@ -95,6 +109,22 @@ def calls_back(count: int) -> Load:
     """Each request's call is replied to, and its answer waited for."""
     rounds = [Round(frame(it), 1) for number in numbers(count) for it in (ask(number), reply(number))]
     return load(rounds, 2, [*map(confirm, numbers(count))], [*map(result, numbers(count))])
+
+
+def cancels(count: int) -> Load:
+    """Each request is cancelled while its call waits, and the call is withdrawn. A cancel is a call too, so the calls that
+    came have every other number."""
+    rounds = [it for number in numbers(count) for it in (Round(frame(ask(number)), 1), Round(frame(cancel(number)), 2))]
+    calls = [2 * it - FIRST for it in numbers(count)]
+    due = [it for number, call in zip(numbers(count), calls) for it in (withdrawal(call), cancelled(number))]
+    return load(rounds, 2, [*map(confirm, calls)], due)
+
+
+def messages(message: Message, size: int) -> Load:
+    """So many bytes of long messages, each sent once the one before is answered."""
+    count, length = parts_of(size)
+    rounds = [Round(frame(it), 1) for it in message.entries(length, numbers(count))]
+    return load(rounds, 1, [], [*map(not_found, numbers(count))])
 
 
 def text_of(length: int) -> bytes:

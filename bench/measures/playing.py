@@ -9,19 +9,21 @@ from typing import Dict, List, NamedTuple
 
 from measures.behind import Behind
 from measures.contenders import Contender, Programs
-from measures.inputs import EACH_METHOD, INPUTS, READ, Input
+from measures.inputs import EACH_METHOD, HOSTED, INPUTS, READ, Input
 
 # Instructions are counted at this part of the size.
 COUNTED = 10
 
 
 class Measured(NamedTuple):
-    """What one program took for one size: seconds, KiB, instructions, and the bytes that it read."""
+    """What one program took for one size: seconds, KiB and the bytes that it read; and instructions, with the bytes for
+    which they were counted."""
 
     seconds: float
     peak: int
-    instructions: int
     length: int
+    instructions: int
+    counted: int
 
 
 def timed(players: List[Contender], file: str, runs: int) -> Dict[str, float]:
@@ -86,7 +88,10 @@ def measured(row: Input, size: int, players: List[Contender], runs: int, counts:
         peaks = {it.label: peak_of(it, file.name) for it in players}
     few = row.make(size // COUNTED)
     counted = {it.label: instructions(it, few) if counts else 0 for it in players}
-    return {it.label: Measured(seconds[it.label], peaks[it.label], counted[it.label], len(given)) for it in players}
+    return {
+        it.label: Measured(seconds[it.label], peaks[it.label], len(given), counted[it.label], len(few))
+        for it in players
+    }
 
 
 def show(row: Input, size: int, seen: Dict[str, Measured], half: Dict[str, Measured]) -> None:
@@ -95,10 +100,12 @@ def show(row: Input, size: int, seen: Dict[str, Measured], half: Dict[str, Measu
         ratio = seen["baseline"].seconds / it.seconds
         counted = row.requests(size // COUNTED)
         each = it.instructions / counted if counted else 0
+        of_byte = it.instructions / it.counted if it.counted else 0
         growth = f"{it.instructions / half[label].instructions:7.2f}" if half and it.instructions else " " * 7
         rate = row.requests(size) / it.seconds
         megabytes = it.length / it.seconds / 1e6
-        figures = f"{rate:>10,.0f} {megabytes:>8.1f} {ratio:>6.2f} {each:>11,.0f} {growth} {it.peak:>9,}"
+        counts = f"{each:>11,.0f} {of_byte:>10,.1f} {growth}"
+        figures = f"{rate:>10,.0f} {megabytes:>8.1f} {ratio:>6.2f} {counts} {it.peak:>9,}"
         print(f"{row.name:20} {size:>9} {label:9} {figures}", flush=True)
 
 
@@ -106,11 +113,12 @@ def compare_each_method(programs: Programs) -> None:
     with tempfile.NamedTemporaryFile() as file:
         file.write(EACH_METHOD)
         file.flush()
-        compare("each method", programs.players(has_methods=True), file.name)
+        compare("each method", programs.players(has_methods=True, has_calls=True), file.name)
 
 
 def show_head(title: str) -> None:
-    head = f"{'req/s':>10} {'MB/s':>8} {'ratio':>6} {'instr/req':>11} {'growth':>7} {'peak KiB':>9}"
+    counts = f"{'instr/req':>11} {'instr/byte':>10} {'growth':>7}"
+    head = f"{'req/s':>10} {'MB/s':>8} {'ratio':>6} {counts} {'peak KiB':>9}"
     print(f"{title:20} {'size':>9} {'program':9} {head}")
 
 
@@ -128,7 +136,14 @@ def table(programs: Programs, small: int, runs: int, counts: bool, behind: Behin
     compare_each_method(programs)
     show_head("input")
     for row in INPUTS:
-        show_row(row, programs.players(row.has_methods), small, runs, counts, behind)
+        show_row(row, programs.players(row.has_methods, row.has_calls), small, runs, counts, behind)
+
+
+def hosts_table(title: str, hosts: List[Contender], small: int, runs: int, counts: bool, behind: Behind) -> None:
+    """What hosts take for an input that stands there whole."""
+    show_head(title)
+    for row in HOSTED:
+        show_row(row, hosts, small, runs, counts, behind)
 
 
 def reading_table(programs: Programs, small: int, runs: int, counts: bool, behind: Behind) -> None:

@@ -1,12 +1,14 @@
 """The tables of `serve`: loads in bulk, round trips, and a server that has nothing to do."""
 import os
 import tempfile
+from functools import partial
 from typing import Callable, Dict, List, NamedTuple, Sequence
 
 from measures import loads, rounds
 from measures.behind import Behind
 from measures.contenders import Contender, Programs
-from measures.inputs import SCRATCH
+from measures.inputs import SCRATCH, VALUES
+from measures.messages import LENGTH, MESSAGES
 from measures.rounds import Played
 
 WORKERS = (1, 4)
@@ -20,6 +22,7 @@ class Row(NamedTuple):
     make: Callable[[int], loads.Load]
     size: int
     why: str
+    has_calls: bool = False  # the other side is called, by ids that are other ones in a host
 
 
 STEPS = "a job goes to a worker and comes home, while the clerk reads, opens, finishes and writes; the baseline calls a function"
@@ -32,8 +35,9 @@ BULKS = (
         "each piece goes from the reader's thread to the clerk's, and each request to the desk and the session",
     ),
     Row("adds", loads.adds, 200_000, STEPS),
+    Row("adds with blanks", loads.adds_with_blanks, 200_000, STEPS),
     Row("adds in batches", loads.batches, 200_000, STEPS),
-    Row("open calls", loads.open_calls, 20_000, STEPS),
+    Row("open calls", loads.open_calls, 20_000, STEPS, has_calls=True),
 )
 TRIPS = (
     Row("a request", loads.pings, 5_000, HAND_OVERS),
@@ -43,13 +47,19 @@ TRIPS = (
         200,
         "three threads are woken one after the other, and the baseline's one thread once",
     ),
-    Row("a call back", loads.calls_back, 5_000, HAND_OVERS),
+    Row("a call back", loads.calls_back, 5_000, HAND_OVERS, has_calls=True),
+    Row("a cancel", loads.cancels, 5_000, HAND_OVERS, has_calls=True),
 )
+COPIES = f"{SCRATCH}; and a method's call takes copies of the param"
+# Each is sent once the one before is answered.
+LONG_MESSAGES = tuple(Row(it.name, partial(loads.messages, it), 8 * LENGTH, VALUES) for it in MESSAGES)
 LONG = (
     Row("8 MB, unknown method", loads.long_unknown, 8_000_000, SCRATCH),
-    Row("a reply of 8 MB", loads.long_reply, 8_000_000, SCRATCH),
-    Row("a param of 8 MB", loads.long_param, 8_000_000, f"{SCRATCH}; and a method's call takes copies of the param"),
+    Row("a reply of 8 MB", loads.long_reply, 8_000_000, SCRATCH, has_calls=True),
+    Row("a param of 8 MB", loads.long_param, 8_000_000, COPIES, has_calls=True),
+    *LONG_MESSAGES,
 )
+Servers = Callable[[Row], List[Contender]]
 
 
 def played(row: Row, size: int, servers: List[Contender], runs: int) -> Dict[str, List[Played]]:
@@ -76,16 +86,14 @@ def show_bulk(row: Row, size: int, seen: Dict[str, List[Played]], half: Dict[str
         print(f"{row.name:20} {size:>9} {label:17} {figures}", flush=True)
 
 
-def show_bulks(
-    rows: Sequence[Row], title: str, servers: List[Contender], small: int, runs: int, behind: Behind
-) -> None:
+def show_bulks(rows: Sequence[Row], title: str, servers: Servers, small: int, runs: int, behind: Behind) -> None:
     """Measures and prints half of each row's size, and all of it."""
     head = f"{'req/s':>10} {'ratio':>6} {'cpu us':>10} {'growth':>7} {'peak KiB':>9}"
     print(f"{title:20} {'size':>9} {'program':17} {head}")
     for row in rows:
         half: Dict[str, List[Played]] = {}
         for size in (row.size // small // 2, row.size // small):
-            seen = played(row, size, servers, runs)
+            seen = played(row, size, servers(row), runs)
             show_bulk(row, size, seen, half)
             half = seen
         behind.note(row.name, row.why, {label: min(it.trips[0] for it in many) for label, many in half.items()})
@@ -110,19 +118,19 @@ def show_trips(row: Row, seen: Dict[str, List[Played]]) -> None:
         print(f"{row.name:20} {len(times[label]):>9} {label:17} {figures}", flush=True)
 
 
-def show_trips_of(
-    rows: Sequence[Row], title: str, servers: List[Contender], small: int, runs: int, behind: Behind
-) -> None:
+def show_trips_of(rows: Sequence[Row], title: str, servers: Servers, small: int, runs: int, behind: Behind) -> None:
     head = f"{'median us':>10} {'ratio':>6} {'99th us':>10} {'cpu us':>10} {'peak KiB':>9}"
     print(f"{title:20} {'trips':>9} {'program':17} {head}")
     for row in rows:
-        seen = played(row, max(2, row.size // small), servers, runs)
+        seen = played(row, max(2, row.size // small), servers(row), runs)
         show_trips(row, seen)
         behind.note(row.name, row.why, {label: at_share(times, 50) for label, times in times_of(seen).items()})
 
 
 def table(programs: Programs, small: int, runs: int, behind: Behind) -> None:
-    servers = programs.servers(WORKERS)
+    def servers(row: Row) -> List[Contender]:
+        return programs.servers(WORKERS, row.has_calls)
+
     show_bulks(BULKS, "sent at once", servers, small, runs, behind)
     print()
     show_trips_of((*TRIPS, *LONG), "there and back", servers, small, runs, behind)

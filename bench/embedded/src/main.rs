@@ -45,7 +45,7 @@ impl Host {
                 Some(number) => self.connection.fail(number, -32000, "No reply", None),
                 None => Ok(()),
             },
-            Event::Over(_) => Ok(()),
+            Event::Over(_) | Event::Broken { .. } => Ok(()),
         }
     }
 
