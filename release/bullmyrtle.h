@@ -49,7 +49,7 @@ enum {
     BM_OK,
     BM_NO_MEMORY,   /* memory was refused; the call may be made again */
     BM_NOT_OPEN,    /* the number is no call that came, or it is answered already */
-    BM_NOT_WAITING, /* the key is no call of yours that waits, or it is withdrawn already, or cancels are off */
+    BM_NOT_WAITING, /* the key is no call of yours that waits, or it is withdrawn already, or there are no cancels */
     BM_OVER,        /* the input is over */
     BM_NOT_JSON,    /* bytes that aren't JSON, or params that are neither an array nor an object */
     BM_NOT_TEXT,    /* a method's name or an error's message that isn't UTF-8 */
@@ -72,6 +72,14 @@ enum {
     BM_AS_CAME      /* not before the answers of the contents that came before */
 };
 
+/* Whose cancels the protocol has: which notification is read as a cancel, and which one withdraws a call of yours. */
+enum {
+    BM_CANCELS_NONE, /* none: each notification is a call, and no call of yours can be withdrawn */
+    BM_CANCELS_LSP,  /* $/cancelRequest, whose params name a request by "id" */
+    BM_CANCELS_MCP   /* notifications/cancelled, whose params name a request by "requestId". A cancelled request gets
+                      * no answer where you cancel it, and a call that you withdraw waits no longer */
+};
+
 /* How the input ended, as you tell it. */
 enum { BM_CLOSED, BM_READ_FAILED };
 
@@ -82,12 +90,17 @@ enum {
     BM_CANCELLED,  /* the other side cancels one of its requests, which was open when the cancel came */
     BM_REPLIED,    /* the reply to a call of yours */
     BM_UNANSWERED, /* the input is over, and a call of yours has no reply */
-    BM_INPUT_OVER  /* the input is over; the last event */
+    BM_INPUT_OVER, /* the input is over; the last event */
+    BM_BROKEN      /* a content is broken, and is answered all the same; told only where bm_options say so */
 };
 
-/* Flags of an event: of BM_CALL, of BM_REPLIED. */
+/* Flags of an event: of BM_CALL, of BM_REPLIED, of BM_BROKEN. */
 enum { BM_REQUEST = 1 };
 enum { BM_ERROR = 1 };
+enum {
+    BM_UNREADABLE, /* the content isn't JSON in UTF-8, or nests over 127 deep, or is in another charset */
+    BM_INVALID     /* it has entries that are neither a call nor a reply */
+};
 
 /* Flags of BM_INPUT_OVER: why the input is over. */
 enum {
@@ -105,7 +118,8 @@ enum {
 
 /* What bm_has() tells of. */
 enum {
-    BM_HAS_TOGETHER = 1 /* bm_tell, bm_fed, bm_say_all, bm_taken and bm_close_call */
+    BM_HAS_TOGETHER = 1, /* bm_tell, bm_fed, bm_say_all, bm_taken and bm_close_call */
+    BM_HAS_OPEN          /* bm_open, bm_fault_at, BM_BROKEN and the cancels of MCP */
 };
 
 /* Why bm_tell or bm_fed tells no more events. */
@@ -138,6 +152,17 @@ typedef struct {
     uint64_t calls;         /* how many calls may come; 0 is the greatest value, 2^64 - 1 */
 } bm_settings;
 
+/* What bm_open makes a connection with. All zero but the size is a good start, as with bm_settings. */
+typedef struct {
+    uint32_t size;    /* sizeof(bm_options): it tells the library which fields there are */
+    uint32_t framing; /* BM_FRAMES, BM_LINES or BM_CONTENTS */
+    uint32_t order;   /* BM_AS_ANSWERED or BM_AS_CAME */
+    uint32_t cancels; /* BM_CANCELS_NONE or one of its neighbours */
+    uint32_t broken;  /* 1 where BM_BROKEN is to be told, else 0 */
+    uint32_t content; /* as in bm_settings */
+    uint64_t calls;   /* as in bm_settings */
+} bm_options;
+
 /* A connection. A copy of this struct is the same connection. */
 typedef struct {
     void *at;
@@ -150,18 +175,23 @@ typedef struct {
  *
  *   BM_CALL        number; flags: BM_REQUEST or 0; name: the method; text: the params as JSON, of length 0 where there
  *                  are none; id: as JSON, of length 0 where it is a notification
- *   BM_CANCELLED   number: that of the request
+ *   BM_CANCELLED   number: that of the request, which you may have answered since it came
  *   BM_REPLIED     key: that of your call; flags: BM_ERROR or 0; text: the result as JSON. Where it is an error: code;
- *                  name: its message; text: its data as JSON, of length 0 where there are none
+ *                  name: its message; text: its data as JSON, of length 0 where there are none. An error that is null
+ *                  beside a result is none
  *   BM_UNANSWERED  key: that of your call
  *   BM_INPUT_OVER  flags: why, by one of the names above
+ *   BM_BROKEN      number: how many bytes were fed before the content's first; flags: BM_UNREADABLE or BM_INVALID;
+ *                  text: the content's first bytes, at most 64, which may be any bytes, zeros too. For BM_INVALID
+ *                  key: which entry is the first such, from 0, or 0 where the content is a single one; code: how many
+ *                  there are
  */
 typedef struct {
     uint32_t kind;
     uint32_t flags;
-    uint64_t number; /* counts the calls that came, from 1 */
-    uint64_t key;    /* counts your calls, from 1 */
-    int64_t code;
+    uint64_t number; /* counts the calls that came, from 1; for BM_BROKEN a place in the input */
+    uint64_t key;    /* counts your calls, from 1; for BM_BROKEN the place of an entry, from 0 */
+    int64_t code;    /* that of an error; for BM_BROKEN a count */
     size_t name_len;
     size_t text_len;
     size_t id_len;
@@ -213,7 +243,7 @@ typedef struct {
 /* The version of the library's calls: compare it with BM_INTERFACE before any other call. */
 uint32_t bm_interface(void);
 
-/* Whether the library has an addition: BM_HAS_TOGETHER. Of a number that it doesn't know it has none. */
+/* Whether the library has an addition: BM_HAS_TOGETHER, BM_HAS_OPEN. Of a number that it doesn't know it has none. */
 bool bm_has(uint32_t addition);
 
 /* Makes a connection and writes it to *at, as in
@@ -222,6 +252,13 @@ bool bm_has(uint32_t addition);
  * *at needn't hold anything before, and is written where the code is BM_OK. Give the connection back by bm_free.
  * BM_SETTINGS: there are no such settings. BM_NO_MEMORY. */
 int32_t bm_new(const bm_settings *settings, void **at);
+
+/* The same, with what bm_settings can't say, as in
+ *     bm_options options = {.size = sizeof options, .framing = BM_LINES, .cancels = BM_CANCELS_MCP, .broken = 1};
+ *     int32_t code = bm_open(&options, &connection.at);
+ * bm_new is bm_open with the same numbers, BM_CANCELS_LSP or none, and without BM_BROKEN.
+ * BM_SETTINGS: there are no such options, or none of this size. BM_NO_MEMORY. */
+int32_t bm_open(const bm_options *options, void **at);
 
 /* Frees the connection with all that it holds. No call on it may follow, nor one on a copy of the struct. */
 void bm_free(bm_connection connection);
@@ -235,6 +272,12 @@ int32_t bm_feed(bm_connection *connection, const uint8_t *bytes, size_t length);
  * are told as BM_UNANSWERED, and then comes BM_INPUT_OVER. It needs no memory.
  * BM_OVER: it was ended before. BM_SETTINGS: there is no such way to end. */
 int32_t bm_end(bm_connection *connection, uint32_t how);
+
+/* Whether the bytes that were fed are at fault: once what came before has been told, BM_INPUT_OVER says which fault it
+ * is, from BM_OVER_BAD_HEAD to BM_OVER_TRUNCATED. Writes to *offset how many bytes were fed before the frame or line at
+ * fault; in BM_CONTENTS, before the content that is too long. Where nothing is at fault *offset is left as it is. A
+ * number of 2^64 or more, here and in BM_BROKEN, is told as 2^64 - 1. */
+bool bm_fault_at(bm_connection *connection, uint64_t *offset);
 
 /* Tells the next event: it is moved to *event and the room. Call it until the kind is BM_NONE: an answer to broken
  * input goes out only as it is gone past. BM_NONE needs no room.
@@ -295,13 +338,14 @@ int32_t bm_call_batch(bm_connection *connection, uint64_t number, const uint8_t 
 int32_t bm_notify(bm_connection *connection, const uint8_t *method, size_t method_length, const uint8_t *params,
                   size_t params_length);
 
-/* Tells the other side that this call of yours isn't wanted any more. It still waits for its reply, which is told.
+/* Tells the other side that this call of yours isn't wanted any more. It still waits for its reply, which is told. With
+ * BM_CANCELS_MCP it waits no longer: its key is over, and a reply that comes is ignored.
  * BM_NOT_WAITING, BM_NO_MEMORY. */
 int32_t bm_withdraw(bm_connection *connection, uint64_t key);
 
 /* Answers a request with a result, or closes a notification: pass a length of 0 for one, since nothing is written; a
  * result is checked all the same. For a request a length of 0 is no result. Each call that came is held until it is
- * answered, notifications too, also one of $/cancelRequest that isn't a cancel.
+ * answered, notifications too, also one that has the name of a cancel and isn't one.
  * BM_NOT_OPEN, BM_NOT_JSON, BM_NO_MEMORY. */
 int32_t bm_answer(bm_connection *connection, uint64_t number, const uint8_t *result, size_t length);
 
@@ -314,7 +358,9 @@ int32_t bm_close_call(bm_connection *connection, uint64_t number);
 int32_t bm_fail(bm_connection *connection, uint64_t number, int64_t code, const uint8_t *message, size_t message_length,
                 const uint8_t *data, size_t data_length);
 
-/* Answers a request as cancelled (-32800), and first withdraws your calls on its behalf that wait.
+/* Answers a request as cancelled (-32800), and first withdraws your calls on its behalf that wait. With BM_CANCELS_MCP
+ * a request whose BM_CANCELLED has come is closed without an answer: nothing is written for it. In a batch its entry is
+ * left out, and a batch without entries writes nothing.
  * BM_NOT_OPEN, BM_NO_MEMORY. */
 int32_t bm_cancel(bm_connection *connection, uint64_t number);
 

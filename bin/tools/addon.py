@@ -67,9 +67,11 @@ def run(words: list[str]) -> None:
         )
 
 
-def together(library: str) -> list[str]:
-    """The word for a library that goes through what is said and told by itself."""
-    return ["-DTOGETHER"] if b" bm_say_all(" in read_bytes(f"{library}/{HEADER}") else []
+def additions(library: str) -> list[str]:
+    """The words for what was added to the library, by the calls that its header has."""
+    header = read_bytes(f"{library}/{HEADER}")
+    words = {b" bm_say_all(": "-DTOGETHER", b" bm_open(": "-DOPEN"}
+    return [word for call, word in words.items() if call in header]
 
 
 def make(library: str, made: str) -> None:
@@ -80,7 +82,7 @@ def make(library: str, made: str) -> None:
             [
                 f"{tools}/bin/clang",
                 *COMPILED,
-                *together(library),
+                *additions(library),
                 f"-I{library}",
                 "-c",
                 f"{FOLDER}/addon.c",

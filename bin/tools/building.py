@@ -3,7 +3,8 @@ builds it.
 
 All is proved from nothing, in a copy of exactly the files that the stamp covers, but for the crates whose libraries are
 given, as the gate has proved and built them. The later a crate can come, the further its proof stands back behind
-others; those that can't wait share the processors."""
+others; those that can't wait share the processors. docs/decisions/tests_and_releases.md#building says why it has an
+order of its own."""
 from __future__ import annotations
 
 import contextlib

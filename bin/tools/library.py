@@ -3,7 +3,7 @@ release/.
 
 Both libraries hold the same compiled code: that of the crate, for any x86-64, and the few lines of C by which it takes
 memory. They are made by the kit's own linker, from the kit's own C library, so they are the same byte for byte wherever
-they are made, and need no kit to be used."""
+they are made, and need no kit to be used. Why so: docs/decisions/tests_and_releases.md#building."""
 from __future__ import annotations
 
 import hashlib
@@ -38,18 +38,7 @@ def shared(prover: Prover, made: str) -> list[str]:
         SHARED,
         f"--version-script={prover.room}/include/bullmyrtle.map",
     ]
-    words += [
-        "-z",
-        "relro",
-        "-z",
-        "now",
-        "-z",
-        "noexecstack",
-        "--build-id=none",
-        "--gc-sections",
-        "--strip-all",
-        "--no-undefined",
-    ]
+    words += sources.LINKED[sources.LIBRARY]
     words += ["--whole-archive", f"{prover.made}.a", "--no-whole-archive", f"{prover.kit}/c/liblibc_c.a"]
     return [*words, f"{prover.kit}/toolchain/lib/libc.so.6", "-o", made]
 

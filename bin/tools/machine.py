@@ -10,9 +10,15 @@ from typing import Any, Callable
 # The most that one check is likely to take, in bytes.
 MEMORY = 2_500_000_000
 # What has to be there, and Debian's packages that bring it.
-TOOLS = {"cc": ["gcc", "libc6-dev"], "valgrind": ["valgrind"], "/usr/bin/time": ["time"], "spin": ["spin"]}
-# (what bin/tidy runs; each is a package of its own)
-TOOLS |= {it: [it] for it in ("black", "pyflakes3", "mypy", "clang-format")}
+TOOLS = {
+    "cc": ["gcc", "libc6-dev"],
+    "strip": ["binutils"],
+    "valgrind": ["valgrind"],
+    "/usr/bin/time": ["time"],
+    "spin": ["spin"],
+    # (what bin/tidy runs; each is a package of its own)
+    **{it: [it] for it in ("black", "pyflakes3", "mypy", "clang-format")},
+}
 PYTEST, PYTEST_PACKAGES = "pytest with xdist", ["python3-pytest", "python3-pytest-xdist"]
 # The interpreters that may have it: the one that runs this, and Debian's own, for which its packages are.
 PYTHONS = [sys.executable, "/usr/bin/python3"]

@@ -12,7 +12,7 @@ from tools.repository import TOP, read_text
 PARTS = ("pages", "rows", "python", "rust", "c", "node", "proofs")
 # The part of a file whose name doesn't begin with that of its part. What stands nowhere is of the rows.
 OF = {
-    **dict.fromkeys(("examples", "methods", "pictures", "embedding"), "pages"),
+    **dict.fromkeys(("examples", "methods", "pictures", "embedding", "promises"), "pages"),
     **dict.fromkeys(("wrong_bodies", "wrong_body_judge", "tried", "planted", "wings", "progress"), "proofs"),
 }
 

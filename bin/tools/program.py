@@ -3,7 +3,10 @@ from __future__ import annotations
 
 import hashlib
 import os
+import shutil
+import subprocess
 import sys
+import tempfile
 
 from tools import sources
 from tools.repository import TOP, Fault, read_bytes, read_text
@@ -44,6 +47,25 @@ def current(stamp: list[str]) -> str | None:
     return RELEASED if is_released(stamp) else BUILT if is_built(stamp) else None
 
 
+def stripped(data: bytes) -> bytes:
+    """A program without its symbols, by Debian's strip (of binutils): what is released. It leaves a program that is
+    stripped as it is. Two programs are compared by one strip, since another version may lay out the file otherwise."""
+    if shutil.which("strip") is None:
+        raise Fault("strip isn't there (Debian's binutils): without it no program is released or compared")
+    with tempfile.TemporaryDirectory(prefix="strip-") as room:
+        write(f"{room}/given", data)
+        ended = subprocess.run(
+            ["strip", "--strip-all", "-o", f"{room}/made", f"{room}/given"],
+            stdin=subprocess.DEVNULL,
+            capture_output=True,
+            text=True,
+            check=False,
+        )
+        if ended.returncode:
+            raise Fault(f"strip ended with status {ended.returncode}: {ended.stderr.strip()}")
+        return read_bytes(f"{room}/made")
+
+
 def write(file: str, data: bytes, mode: int = 0o644) -> None:
     """Writes a file in one step, so that a run beside this one reads the old file or the new one."""
     os.makedirs(os.path.dirname(file), exist_ok=True)
@@ -66,17 +88,17 @@ def stamp_text(stamp: list[str]) -> bytes:
 
 
 def release(stamp: list[str]) -> None:
-    """Writes release/ from the program in out/."""
+    """Writes release/ from the program in out/, which it strips."""
     if not is_built(stamp):
         raise Fault(f"{BUILT} isn't of the sources that lie here")
-    write(RELEASED, read_bytes(BUILT), 0o755)
-    write(CHECKSUM, checksum_line(BUILT).encode())
+    write(RELEASED, stripped(read_bytes(BUILT)), 0o755)
+    write(CHECKSUM, checksum_line(RELEASED).encode())
     write(RELEASED_STAMP, stamp_text(stamp))
 
 
 def compared() -> tuple[bool | None, str]:
-    """Compares the program in out/ with the released one: whether they are the same, or None where nothing can be
-    compared, and what to say."""
+    """Compares the program in out/ with the released one, after the same strip: whether they are the same, or None where
+    nothing can be compared, and what to say."""
     if not os.path.isfile(RELEASED) or not os.path.isfile(RELEASED_STAMP):
         return None, "there is no released program to compare with: bin/release writes it"
     (released, released_kit), (built, built_kit) = (
@@ -84,13 +106,18 @@ def compared() -> tuple[bool | None, str]:
     )
     if released != built:
         return None, "release/ is of other sources, and isn't compared: bin/release writes it anew"
-    if read_bytes(RELEASED) != read_bytes(BUILT):
+    if shutil.which("strip") is None:
+        return None, "strip isn't there (Debian's binutils), and the released program isn't compared"
+    held = read_bytes(RELEASED)
+    if stripped(held) != stripped(read_bytes(BUILT)):
         if released_kit != built_kit:
             return (
                 None,
                 f"release/rpc_tool was built by another kit, {released_kit}, and differs from what this one makes: bin/release writes it anew",
             )
         return False, "release/rpc_tool has the stamp of these sources, and DIFFERS from the program that they give"
-    if read_text(CHECKSUM) != checksum_line(BUILT):
+    if read_text(CHECKSUM) != checksum_line(RELEASED):
         return False, "release/ has another checksum than that of its program"
-    return True, "the released program is the one that these sources give, byte for byte"
+    if len(stripped(held)) < len(held):
+        return None, "release/rpc_tool isn't stripped: bin/release writes it anew"
+    return True, "the released program is the one that these sources give, byte for byte, after the same strip"

@@ -1,5 +1,6 @@
 """What the program and the C library are built from, and their stamps: the files of the crates that each stands on
-without those of their tests, these crates' lines of crates.txt, HANDLES, and of the library what lies in include/."""
+without those of their tests, these crates' lines of crates.txt, HANDLES, and of the library what lies in include/ and how it is linked.
+docs/decisions/tests_and_releases.md#building says why just these."""
 from __future__ import annotations
 
 import hashlib
@@ -11,6 +12,15 @@ from tools.repository import TOP, Fault, listing, read_bytes, read_text
 PROGRAM, LIBRARY = "rpc_tool", "bullmyrtle"
 # What is built from files beside those of crates.
 BESIDE: dict[str, list[str]] = {PROGRAM: [], LIBRARY: ["include/bullmyrtle.h", "include/bullmyrtle.map"]}
+# What the linker is told beside the names of files, where it isn't the kit that links. The build id is a sum of what is
+# linked, so it is the same wherever the same sources are built.
+LINKED: dict[str, list[str]] = {
+    PROGRAM: [],
+    LIBRARY: [
+        *("-z", "relro", "-z", "now", "-z", "noexecstack"),
+        *("--build-id=sha1", "--gc-sections", "--strip-all", "--no-undefined"),
+    ],
+}
 
 
 def files_below(folder: str) -> list[str]:
@@ -46,6 +56,8 @@ def sum_of(top: str = TOP, of: str = PROGRAM) -> str:
             told.update(line_of(file, top))
     for file in BESIDE[of]:
         told.update(line_of(f"{top}/{file}", top))
+    for word in LINKED[of]:
+        told.update(f"{word}\n".encode())
     return told.hexdigest()
 
 

@@ -1,4 +1,5 @@
-"""What bin/tidy runs: the formatters, each of which lays out files or says which aren't, and what looks for faults."""
+"""What bin/tidy runs: the formatters, each of which lays out files or says which aren't, and what looks for faults. Why
+these: docs/decisions/tests_and_releases.md#which-tests-run-and-by-what."""
 from __future__ import annotations
 
 import os
