@@ -1,7 +1,7 @@
 """Runs the bench program on sizes that are no multiple of anything: each job comes home once, each unit is released,
 and its time is told; what it reads and writes alone it answers as the player does, and asks for little memory. What a
-desk took while much was open it gives back. And bench/run runs on small sizes, where what it measures can be built:
-each answer of the player and of the server is the one that it has to be."""
+desk took while much was open it gives back. And bench/run runs on small sizes, where what it measures can be built: each
+answer of the player, of the server and of the hosts is the one that it has to be."""
 import os
 import re
 import subprocess
@@ -15,18 +15,23 @@ sys.path.insert(0, os.path.join(ran.TOP, "bench"))
 
 from measures import contenders  # noqa: E402 (it stands in bench/)
 
-# What the first column of bench/run's tables names where a program was measured, less the rows of the libraries.
-ROWS = [
-    *("single requests", "batches of 100", "one param of 8 MB"),
-    *("adds", "adds in batches", "calls back", "the same in batches"),
-    *("unknown methods", "open calls", "a request", "one after 5 ms", "a call back"),
-    *("8 MB, unknown method", "a reply of 8 MB", "a param of 8 MB"),
-]
-# The same of the table of reading and writing alone.
-ROWS_READ = ("single requests", "batches of 100", "one param of 8 MB")
-# The same of the tables of the host.
-ROWS_HOST = ("requests", "batches of 100", "open calls", "a request", "a call back", "a param of 8 MB")
-ROWS_HOST_MEMORY = ("a small request", "an unknown method", "a notification")
+# The rows of bench/run's tables, by whether the other side is called: only where it isn't the limit is beside ours in
+# `play` and `serve`, and it always is beside hosts.
+LONG = (
+    *("completion list", "list with blanks", "list, indented", "didOpen", "didOpen with blanks"),
+    *("semantic tokens", "tokens with blanks", "beyond ASCII", "beyond ASCII as \\u"),
+)
+HOVERS = ("hovers", "hovers with blanks")
+READ = ("single requests", "batches of 100", *HOVERS, "one param of 8 MB", *LONG)
+PLAYED = (*READ, "adds", "adds with blanks", "adds in batches")
+PLAYED_WITH_CALLS = ("calls back", "the same in batches", "cancels")
+SERVED = ("unknown methods", "adds", "adds with blanks", "adds in batches")
+THERE_AND_BACK = ("a request", "one after 5 ms", "8 MB, unknown method", *LONG)
+THERE_AND_BACK_WITH_CALLS = ("a call back", "a cancel", "a reply of 8 MB", "a param of 8 MB")
+HOSTED = ("requests", "requests with blanks", "batches of 100", "open calls")
+HOSTED_THERE_AND_BACK = ("a request", "a call back", "a cancel", "a param of 8 MB", *LONG)
+HOSTED_WHOLE = (*HOVERS, *LONG, "adds", "adds with blanks", "cancels")
+HOSTED_MEMORY = ("a small request", "an unknown method", "a notification")
 
 # A request with small params and its answer ask for memory so often at most, where nothing but reading and writing is
 # done.
@@ -160,38 +165,65 @@ def check_requests():
     count.check("ten strings take ten requests for memory", requests_each(strings) >= 10)
 
 
+def tables_in(output):
+    """The lines of each table, by its title and which one of that title it is."""
+    found, lines = {}, []
+    for line in output.splitlines():
+        head = re.match(r"(\S.*?) {2,}(?:size|trips|seconds|program)\b", line)
+        if head:
+            lines = []
+            found[head[1], sum(title == head[1] for title, _ in found)] = lines
+        lines.append(line)
+    return found
+
+
+def check_table(found, key, names, labels):
+    """A table has these rows, each by these programs."""
+    text = "\n".join(found.get(key, []))
+    one = "|".join(sorted(map(re.escape, labels), reverse=True))
+    for name in names:
+        lines = re.findall(rf"^{re.escape(name)}(?: +\d+)? +({one}) +[\d.,]+", text, re.M)
+        count.check(f"bench/run's row of {key}: {name}", {*lines} == {*labels}, f"it has {lines}")
+
+
+def check_hosts(found, title, at, ours):
+    """The four tables of hosts, whose titles end so: `at` says which one of that title each is, and of the last."""
+    labels = ["baseline", *(it.label for it in contenders.limits()), *ours]
+    check_table(found, (f"sent at once{title}", at[0]), HOSTED, labels)
+    check_table(found, (f"there and back{title}", at[0]), HOSTED_THERE_AND_BACK, labels)
+    check_table(found, (f"played{title or ' (host)'}", 0), HOSTED_WHOLE, labels)
+    check_table(found, ("requests for memory", at[1]), HOSTED_MEMORY, ["baseline", *ours])
+
+
+def check_tables(output, is_released):
+    found = tables_in(output)
+    limits = [it.label for it in contenders.limits()]
+    workers = ["ours, 1 worker", "ours, 4 workers"]
+    check_table(found, ("input", 0), PLAYED, ["baseline", *limits, "ours"])
+    check_table(found, ("input", 0), PLAYED_WITH_CALLS, ["baseline", "ours"])
+    check_table(found, ("sent at once", 0), SERVED, ["baseline", *limits, *workers])
+    check_table(found, ("sent at once", 0), ("open calls",), ["baseline", *workers])
+    check_table(found, ("there and back", 0), THERE_AND_BACK, ["baseline", *limits, *workers])
+    check_table(found, ("there and back", 0), THERE_AND_BACK_WITH_CALLS, ["baseline", *workers])
+    check_hosts(found, " (lib)", (0, 0 if is_released else 1), ["in C", "in Rust"])
+    if not is_released:
+        check_table(found, ("read and answered", 0), READ, ["baseline", *limits, "reading"])
+        check_hosts(found, "", (1, 0), ["ours"])
+
+
 def check_run():
-    """All that bench/run measures of the player, the server and the host, on small sizes."""
+    """All that bench/run measures of the player, the server and the hosts, on small sizes: of the released files where
+    the programs aren't built that the gate builds."""
     wanted = contenders.lacking(counts=False)
     if wanted:
         print(f"SKIPPED: bench/run on small sizes, which wants {' '.join(wanted)}", flush=True)
         return
-    words = [
-        os.path.join(ran.TOP, "bench", "run"),
-        "--quick",
-        "--small",
-        "1000",
-        "--runs",
-        "1",
-        "--reading",
-        BENCH,
-        "--hosting",
-        HOST,
-    ]
-    ended = subprocess.run(words, capture_output=True, text=True, timeout=600, check=False)
+    is_released = not (BENCH and HOST)
+    which = ["--released"] if is_released else ["--reading", BENCH, "--hosting", HOST]
+    words = [os.path.join(ran.TOP, "bench", "run"), "--quick", "--small", "1000", "--runs", "1", *which]
+    ended = subprocess.run(words, capture_output=True, text=True, timeout=900, check=False)
     count.check("bench/run on small sizes", ended.returncode == 0, f"{ended.stdout[-500:]} {ended.stderr[-1000:]}")
-    for name in ROWS:
-        lines = re.findall(rf"^{name} +\d+ (baseline|ours)\b", ended.stdout, re.M)
-        count.check(f"bench/run's row: {name}", {*lines} == {"baseline", "ours"}, f"it has {lines}")
-    for name in ROWS_READ:
-        lines = re.findall(rf"^{name} +\d+ reading\b", ended.stdout, re.M)
-        count.check(f"bench/run's row of reading and writing alone: {name}", len(lines) == 2, f"it has {lines}")
-    # (the hosts' tables are the last: that in Rattle, and those over the library)
-    *_, hosted, embedded = ended.stdout.split("sent at once")
-    for name in (*ROWS_HOST, *ROWS_HOST_MEMORY):
-        for labels, text in ((["baseline", "ours"], hosted), (["baseline", "in C", "in Rust"], embedded)):
-            lines = re.findall(rf"^{name}(?: +\d+)? +({'|'.join(labels)})\b", text, re.M)
-            count.check(f"bench/run's row of hosts: {name}, {labels}", {*lines} == {*labels}, f"it has {lines}")
+    check_tables(ended.stdout, is_released)
     count.check("bench/run says where ours is behind", "behind the baseline at the largest size" in ended.stdout)
 
 
@@ -201,6 +233,5 @@ if BENCH:
     if not ran.lacks("cc", refusals.WHY):
         check_memory()
         check_requests()
-    if HOST:
-        check_run()
+check_run()
 count.end()

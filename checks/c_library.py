@@ -20,7 +20,7 @@ from support import connection_fuzzing as fuzzing
 from support import connection_rows as rows
 from support import hosts, playing_scripts, ran
 from support.c_programs import C99, EXAMPLES, PLAYER, PLAYER_NEEDS, SUPPORT, WARNINGS
-from support.c_programs import build, default_library, is_whole, lacks_cjson, said, said_slowly
+from support.c_programs import build, default_library, is_whole, lacks_cjson, lacks_open, said, said_slowly
 
 SESSIONS = 1_000
 
@@ -135,6 +135,12 @@ def check_host(count: ran.Count, host: str, way: str) -> None:
     count.check(f"the host answers, {way}", got == (0, hosts.HOST[1], b""), f"{got}")
 
 
+def check_explaining(count: ran.Count, host: str, way: str) -> None:
+    given, wanted, says = hosts.EXPLAINING
+    got = said([host], given)
+    count.check(f"the host says what is broken, {way}", got == (0, wanted, says), f"{got}")
+
+
 def check_client(count: ran.Count, client: str, host: str, way: str) -> None:
     for words, wanted in hosts.CLIENT:
         got = said([client, *words, host])
@@ -175,6 +181,8 @@ def check_players(count: ran.Count, library: str, room: str, cases: int) -> None
     by_hand = rows.all_rows()
     for way in ("shared", "static"):
         check_packed(count, library, room, way)
+    if lacks_open(library):
+        return
     for way in ("shared", "static"):
         player = build(count, library, room, PLAYER, way, PLAYER_NEEDS)
         playing_scripts.check(count, [player], way, by_hand + [row.cut_once for row in by_hand])
@@ -212,6 +220,7 @@ def main(words: list[str]) -> None:
                 )
                 host = build(count, library, room, f"{EXAMPLES}/host.c", way)
                 check_host(count, host, way)
+                check_explaining(count, build(count, library, room, f"{EXAMPLES}/explaining_host.c", way), way)
                 check_client(count, build(count, library, room, f"{EXAMPLES}/client.c", way), host, way)
             check_server(count, library, room)
             check_players(count, library, room, options.cases)

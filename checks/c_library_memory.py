@@ -1,8 +1,8 @@
 """usage: python3 checks/c_library_memory.py [--library FOLDER] [--cases N]      watches N random sessions, 150 where none are named
 
 What the C library does with memory. Two million calls come to a connection, and the most memory that is resident is the
-same as after the first 100,000; where a host closes no notification it is seen to grow. Under valgrind, where it is
-installed, rows, random sessions and all examples have no error and lose nothing. The same by AddressSanitizer, where
+same as after the first 100,000; where a host closes no notification it is seen to grow. The longest batch of invalid
+entries takes at most 160 bytes for each of its bytes, and leaves 64 KiB at most. Under valgrind, where it is installed, rows, random sessions and all examples have no error and lose nothing. The same by AddressSanitizer, where
 clang has it."""
 import argparse
 import os
@@ -35,6 +35,8 @@ CALLS, FEW_CALLS = 2_000_000, 200_000
 # So many KiB more may be resident in the end, since the system counts pages by dozens: that is less than a byte a call.
 # A host that forgets to close notifications has to take so many more.
 FLAT, GROWN = 512, 2_000
+# The longest content, and for each byte of a batch of invalid entries so many bytes at most; so many are held in the end.
+LONGEST, DEAREST, LEFT = 16_777_216, 160, 65_536
 SESSIONS, FEW = 150, 25
 SANITIZED = [
     "clang",
@@ -68,6 +70,15 @@ def check_steady(count: ran.Count, library: str, room: str) -> None:
     count.check("a host that closes no notification grows", late > early + GROWN, f"{got}")
 
 
+def check_invalid_batch(count: ran.Count, library: str, room: str) -> None:
+    program = build(count, library, room, f"{SUPPORT}/invalid_batch.c", "static")
+    for framing in ("lines", "frames"):
+        got = said([program, str(LONGEST), *([framing] if framing == "frames" else [])])
+        length, most, left = map(int, got[1].split()) if got[0] == 0 else (1, 1 << 60, 1 << 60)
+        print(f"a batch of {length:,} bytes in {framing}: {most / length:.0f} for each, {left:,} left", flush=True)
+        count.check(f"a batch of invalid entries, in {framing}", most <= DEAREST * length and left <= LEFT, f"{got}")
+
+
 def sessions(cases: int) -> list[rows.Row]:
     """Random sessions."""
     trials = [fuzzing.made(2, it)[0] for it in range(1, cases + 1)]
@@ -82,6 +93,9 @@ def check_examples(count: ran.Count, library: str, room: str, kind: str, watch: 
     for name, words_of_host in (("host", host), ("quick host", quick_host)):
         got = said(words_of_host, hosts.HOST[0])
         count.check(f"the {name}, {kind}", got == (0, hosts.HOST[1], b""), f"{got}"[-1500:])
+    explaining_host = [*watch, build(count, library, room, f"{EXAMPLES}/explaining_host.c", "static", words=words)]
+    got = said(explaining_host, hosts.EXPLAINING[0])
+    count.check(f"the host that says what is broken, {kind}", got == (0, *hosts.EXPLAINING[1:]), f"{got}"[-1500:])
     for given, wanted in hosts.CLIENT:
         got = said([*client, *given, *host])
         count.check(f"the client, {kind}", got == (*wanted, b""), f"{got}"[-1500:])
@@ -148,6 +162,7 @@ def main(words: list[str]) -> None:
             check(count, library, room, options.cases)
     with tempfile.TemporaryDirectory(prefix="c-library-") as room:
         check_steady(count, library, room)
+        check_invalid_batch(count, library, room)
     count.end()
 
 

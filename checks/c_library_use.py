@@ -24,6 +24,7 @@ from support.c_programs import C99, PLAYER, PLAYER_NEEDS, SUPPORT, build, defaul
 NEED_MEMORY = {
     *(
         "bm_new",
+        "bm_open",
         "bm_feed",
         "bm_next",
         "bm_next_all",

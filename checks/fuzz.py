@@ -4,7 +4,7 @@
 Makes streams at random and runs each by several schedules, whole and cut, and by servers of one and of four workers; a
 share of them by the built program too, over real pipes. What is written has to keep the laws of checks/support/laws.py.
 A stream that breaks one is made as small as it goes and written to out/fuzz, and the line that says so has the command
-that tries it again."""
+that tries it again. Why laws and no model: docs/decisions/tests_and_releases.md#fuzzing."""
 import argparse
 import sys
 from functools import partial

@@ -3,7 +3,7 @@ no memory is asked for what is only promised: a head that says 16 MiB, with noth
 Nor is any kept for what is over: a million runs of a method take as much as a thousand.
 
 Instructions are callgrind's, so that a busy machine changes nothing. What a size costs beside its start, the program's
-own beginning, is left out."""
+own beginning, is left out. Why by instructions: docs/decisions/tests_and_releases.md#measuring."""
 import os
 import re
 import subprocess

@@ -22,7 +22,7 @@ from tools import addon, library  # (ran has put bin/ on the path)
 PACKAGE = os.path.join(ran.TOP, "bindings", "node")
 PLAYER = os.path.join(PACKAGE, "tests", "play_script.js")
 # So many tests there are at least, and so many random sessions are played.
-FEWEST, SESSIONS = 105, 500
+FEWEST, SESSIONS = 115, 500
 SECONDS = 600
 # What of the C library the addon and the library in it call.
 LIBC = {"calloc", "free", "malloc", "memchr", "memcpy", "memmove", "memset", "realloc"}
@@ -67,7 +67,7 @@ def compiled(node: str, words: list[str], made: str) -> tuple[int, bytes, bytes]
         "-isystem",
         headers_of(node),
         f"-I{library.RELEASED}",
-        *addon.together(library.RELEASED),
+        *addon.additions(library.RELEASED),
     ]
     files = [f"{addon.FOLDER}/addon.c", *([f"{library.RELEASED}/{addon.STATIC}"] if "-shared" in words else [])]
     return said(["cc", "-std=c11", "-fPIC", *words, *from_node, *files, "-o", made])
@@ -119,9 +119,29 @@ def check_tests(count: ran.Count, node: str, way: str, names: list[str], env: di
     print(f"{node}{way}: {done} tests", flush=True)
 
 
+def has_open() -> bool:
+    """Whether the library has bm_open."""
+    return "-DOPEN" in addon.additions(library.RELEASED)
+
+
+def needs_open(row: rows.Row) -> bool:
+    """Whether a row has MCP's cancels, is told of broken input, or asks where a fault lies."""
+    return any(it.name == "fault_place" or {"mcp", "broken"} & set(it.given) for it in row.actions)
+
+
+def known_rows() -> list[rows.Row]:
+    """The rows of what the library has."""
+    found = rows.all_rows()
+    if has_open():
+        return found
+    known = [it for it in found if not needs_open(it)]
+    print(f"SKIPPED: {len(found) - len(known)} rows for what the library has with bm_open, which it lacks", flush=True)
+    return known
+
+
 def check_scripts(count: ran.Count, node: str) -> None:
     """The rows, whole and cut; their texts as bytes and as strings."""
-    by_hand = rows.all_rows()
+    by_hand = known_rows()
     scripts = playing_scripts.joined(by_hand + [row.cut_once for row in by_hand])
     for way in ("bytes", "strings"):
         playing_scripts.check(count, [node, PLAYER, way], f"{node}, {way}", scripts)
@@ -131,6 +151,9 @@ def check_scripts(count: ran.Count, node: str) -> None:
 
 
 def check_sessions(count: ran.Count) -> None:
+    if not has_open():
+        print("SKIPPED: random sessions through the lower floor, which need a library that has bm_open", flush=True)
+        return
     again = f"python3 checks/connection_fuzz.py --program {PLAYER}"
     fuzzing.Fuzzer(partial(fuzzing.play_by_program, PLAYER), count, again).try_all(5, SESSIONS)
 

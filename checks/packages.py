@@ -1,6 +1,7 @@
 #!/usr/bin/env python3
 """The version stands in one place and is the same everywhere; and the packages that bin/package makes: made twice they are the same byte for
-byte, and each is installed and used as its users do it, the Debian packages in a bare root where debootstrap may make one."""
+byte, and each is installed and used as its users do it, the Debian packages in a bare root where debootstrap may make one. The program is stripped, and
+has a build id as the library has."""
 import json
 import os
 import re
@@ -13,7 +14,8 @@ from typing import Any, Optional
 from support import ran
 
 sys.path.insert(0, f"{ran.TOP}/bin")
-from tools.repository import read_bytes, read_text  # noqa: E402 (the folder of the commands is on the path only now)
+from tools import program  # noqa: E402 (the folder of the commands is on the path only now)
+from tools.repository import read_bytes, read_text  # noqa: E402
 
 MIRROR, SUITE = "http://deb.debian.org/debian", "bookworm"
 REQUEST = '{"jsonrpc":"2.0","method":"add","params":[1,2],"id":7}\n'
@@ -135,6 +137,17 @@ def check_archive(count: ran.Count, folder: str, room: str) -> None:
     count.same("and runs", run([f"{room}/host"])[:2], (0, "1\n"))
 
 
+def check_symbols(count: ran.Count) -> None:
+    """The program has none left, and both have a sum of what was linked, by which a dump of either is told."""
+    if ran.lacks("readelf", "no look at the symbols and the build ids"):
+        return
+    held = read_bytes(program.RELEASED)
+    count.check("the program is stripped", len(program.stripped(held)) == len(held), f"{len(held):,} bytes")
+    for name in ("rpc_tool", "libbullmyrtle.so.1"):
+        notes = run(["readelf", "-n", f"{ran.TOP}/release/{name}"])[1]
+        count.check(f"{name} has a build id", re.search(r"Build ID: [0-9a-f]{40}$", notes, re.M), notes)
+
+
 def check_bill(count: ran.Count, folder: str) -> None:
     bill = json.loads(read_text(file_in(folder, ".spdx.json")))
     own = {it["name"]: it for it in bill["packages"] if it["SPDXID"].startswith("SPDXRef-own")}
@@ -194,6 +207,7 @@ def main() -> None:
         folder = f"{room}/packages"
         if make(count, folder):
             check_same(count, folder, room)
+            check_symbols(count)
             check_wheel(count, folder, room)
             check_crate(count, folder, room)
             check_archive(count, folder, room)

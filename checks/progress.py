@@ -1,7 +1,8 @@
 """Progress, by a model: spin goes through every interleaving of the server's threads in checks/progress/*.pml, for
 servers of several small sizes. No thread is left that waits, every job is turned and comes home, and every thread ends.
 Bugs planted in the model are found by the same runs. And the model makes the same calls in the same order as the code:
-docs/server.md has a table of the functions that its steps are.
+docs/server.md has a table of the functions that its steps are, and docs/decisions/programs_and_server.md#the-server-rpc_peer
+says why there is a model.
 
 usage: python3 checks/progress.py [NAME ..]    only the runs of these names, and the bugs that they find"""
 import glob

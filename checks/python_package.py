@@ -19,6 +19,8 @@ WITHOUT_PROCESSES += [
     "test_registering",
     "test_ends.Ends",
     "test_ends.Counted",
+    "test_ends.Broken",
+    "test_ends.Hooks",
     "test_many.Sessions",
     "test_many.WebSockets",
 ]
@@ -29,7 +31,7 @@ WITHOUT_PROCESSES += [
     "test_faults.NoThreads",
     "test_faults.Open",
 ]
-WITHOUT_PROCESSES += ["test_language_server", "test_middleware", "test_tool_server"]
+WITHOUT_PROCESSES += ["test_language_server", "test_middleware", "test_tool_server", "test_mcp"]
 FEWEST, FEWEST_WITHOUT_PROCESSES = 440, 275
 SECONDS = 900
 

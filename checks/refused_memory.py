@@ -1,7 +1,7 @@
 """Refuses each request for memory in turn, one alone and then all from it on, until a run meets no refusal: what is
 written is then the row's bytes, or a prefix of them with `failed: Memory`; where the table found none, nothing is
 written. So it is for `play`, for `serve` and for `check`; and tests that the gate built, run so, pass or name want of
-memory, and nothing else."""
+memory, and nothing else. Why by a script: docs/decisions/tests_and_releases.md#refused-memory-and-devices-that-fail."""
 from collections.abc import Callable
 
 from support import ran

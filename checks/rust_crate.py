@@ -19,7 +19,7 @@ from support.c_programs import VALGRIND, said
 
 CRATE = os.path.join(ran.TOP, "bindings", "rust")
 # So many tests there are at least, with those in the documentation.
-FEWEST = 40
+FEWEST = 50
 # The one that wants memory to be refused, and from which size on.
 WITHOUT_MEMORY, OVER = "memory_that_is_refused", 100_000
 # (what is reachable in the end is the standard library's)

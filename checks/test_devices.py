@@ -3,11 +3,17 @@ very bytes, or the front of them that was taken, and say why they ended. What is
 a server's threads end with it."""
 import errno
 import random
+import re
+import resource
+import signal
+import subprocess
+import tempfile
 import time
+from typing import Any
 
 import pytest
 
-from support import narrow, needing, rows
+from support import narrow, needing, ran, rows
 from support.client import Client, ended, error, request, result
 from support.expecting import check, same
 
@@ -176,3 +182,38 @@ def test_threads_after_a_failed_read(narrowed: Narrowed, workers: int) -> None:
         got = [it.receive(narrow.PATIENCE) for _ in range(3)]
         same(got, [rows.called("1.1"), error(7, -32000, "No reply"), None], "what came before is answered")
         same(ended(it.process, narrow.PATIENCE), (1, READ_END))
+
+
+# The system's own limits, as docs/commands.md has them
+
+
+@COMMANDS
+def test_a_limit_of_a_files_size(command: str) -> None:
+    """The system ends the program where nobody ignores its signal, and else the write fails."""
+    wanted = (1, REPLIED[:100], WRITE)
+    same(ran.run_into(100, words_of(command), GIVEN), wanted, "a signal that is ignored")
+    limit = lambda: resource.setrlimit(resource.RLIMIT_FSIZE, (100, 100))
+    with tempfile.TemporaryFile() as output:
+        how: dict[str, Any] = {"input": GIVEN, "stdout": output, "stderr": subprocess.PIPE, "timeout": 60}
+        ended = subprocess.run([ran.built(), *words_of(command)], check=False, preexec_fn=limit, **how)
+        output.seek(0)
+        same((ended.returncode, output.read(), ended.stderr), (-signal.SIGXFSZ, REPLIED[:100], b""), "a signal")
+
+
+@COMMANDS
+def test_a_small_stack(command: str) -> None:
+    """The stack that the page names is enough, with contents that nest as deep as may be and deeper."""
+    (found,) = re.findall(
+        r"stack of (\d+) KB, as by `ulimit -s (\d+)`", " ".join(ran.text_of("docs", "commands.md").split())
+    )
+    size = int(found[0]) * 1024
+    same(found[0], found[1], "the page's two numbers")
+    deep = [
+        f'{{"jsonrpc":"2.0","id":1,"method":"none","params":{"[" * it}{"]" * it}}}' for it in (100, 127, 128, 100_000)
+    ]
+    given = GIVEN + rows.frames(*deep, "[" + ",".join(deep[:2] * 20) + "]")
+    small = ran.run(
+        words_of(command), given, preexec_fn=lambda: resource.setrlimit(resource.RLIMIT_STACK, (size, size))
+    )
+    same(small, ran.run(words_of(command), given), f"a stack of {size} bytes")
+    check(small[0] == 0 and len(small[1]) > len(REPLIED), f"all is answered: {small}")

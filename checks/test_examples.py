@@ -1,7 +1,7 @@
 """Plays each stream of examples/ with the table there, read as it comes, lazily, and with the last method first, and
 compares what is printed with the file beside the stream; and runs the commands of its page, of the first one and of the
-page on commands. The page on connections shows the host that the gate runs. Each link of a page leads somewhere, and
-the page on changes begins with the program's version."""
+page on commands. The page on connections shows the host that the gate runs, and the page on changes begins with the
+program's version."""
 import glob
 import os
 import re
@@ -110,32 +110,6 @@ def test_fences_of_page_on_connections() -> None:
 def test_host_on_page_on_connections(mark: str, file: str) -> None:
     shown = dict(pages.read_blocks("docs", "connection.md"))
     same(shown.get(mark), ran.text_of("crates", "connection_example", file))
-
-
-# Links
-
-
-def prose_of(file: str) -> str:
-    return re.sub(r"^```.*?^```", "", ran.text_of(file), flags=re.M | re.S)
-
-
-def anchors_of(file: str) -> set[str]:
-    """The names by which a page's headings are linked."""
-    headings = re.findall(r"^#+ (.*)$", prose_of(file), re.M)
-    return {re.sub(r"[^\w\- ]", "", it.strip().lower()).replace(" ", "-") for it in headings}
-
-
-LINKING = [os.path.relpath(it, ran.TOP) for it in sorted(glob.glob(f"{ran.TOP}/*.md") + glob.glob(f"{ran.TOP}/*/*.md"))]
-
-
-@pytest.mark.parametrize("page", LINKING)
-def test_links(page: str) -> None:
-    """Each link that doesn't leave the repository leads to a file, and to a heading where it names one."""
-    page = os.path.join(ran.TOP, page)
-    for link in re.findall(r"\]\((?!http)([^)\s]+)\)", prose_of(page)):
-        place, _, heading = link.partition("#")
-        file = os.path.join(os.path.dirname(page), place) if place else page
-        check(os.path.exists(file) and (not heading or heading in anchors_of(file)), f"{link} leads nowhere")
 
 
 def test_latest_changes_are_those_of_this_version() -> None:

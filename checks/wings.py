@@ -1,6 +1,6 @@
 #!/usr/bin/env python3
-"""The groups of crates.txt keep to their rule: the floor (values, streams, messages) stands on itself alone, and of the two wings on it, the
-table peer and the connection, neither names a crate of the other. So an edit in one wing proves nothing of the other again."""
+"""The groups of crates.txt keep to their rule: the floor (values, streams, messages) stands on itself alone, and of the three wings on it, the
+table peer, the connection and the judge, none names a crate of another. So an edit in one wing proves nothing of the other again."""
 import os
 import re
 import sys
@@ -12,7 +12,7 @@ sys.path.insert(0, f"{ran.TOP}/bin")
 from tools.repository import Listing, read_text  # noqa: E402 (the folder of the commands is on the path only now)
 
 FLOOR = ["values", "streams", "messages"]
-WINGS = ["the table peer", "the connection"]
+WINGS = ["the table peer", "the connection", "the judge"]
 TOPS = ["programs", "tests"]
 
 

@@ -47,7 +47,7 @@ def arguments() -> argparse.Namespace:
     parser.add_argument(
         "--stands",
         action="store_true",
-        help="only look whether each old text stands once, in the function that is named, and whether docs/proofs.md names bodies that there are; proves nothing",
+        help="only look whether each old text stands once, in the function that is named, and whether docs/promises.md names bodies that there are; proves nothing",
     )
     parser.add_argument(
         "--kept",
@@ -157,19 +157,19 @@ def summary(crates: list[Crate], seconds: float, wall: float) -> None:
     say(f"== in all {seconds:.0f} processor seconds, {wall:.0f} s")
 
 
-def unknown_in_proofs() -> list[str]:
-    """The names that docs/proofs.md tells as refused bodies and that no file has."""
+def unknown_on_page() -> list[str]:
+    """The names that docs/promises.md tells as refused bodies and that no file has."""
     known = {os.path.basename(it).removesuffix(".edit") for it in glob.glob(f"{TOP}/crates/*/must-fail/*.edit")}
     for name in listing().lines:
         known |= {it.name for it in read_bodies(Sources(f"{TOP}/crates/{name}"))[0]}
     rows = [
         line.split("|")[-2]
-        for line in text_of("docs", "proofs.md").split("\n")
+        for line in text_of("docs", "promises.md").split("\n")
         if line.startswith("|") and line.endswith("|")
     ]
     named = [word for cell in rows for word in re.findall(r"`(\w+)`", cell)]
     return [
-        f"docs/proofs.md tells of {it}, and no wrong body has that name"
+        f"docs/promises.md tells of {it}, and no wrong body has that name"
         for it in dict.fromkeys(named)
         if it not in known
     ]
@@ -200,9 +200,9 @@ def attempt(crates: list[Crate], given: argparse.Namespace, record: Record) -> f
 
 
 def looked_at(names: list[str]) -> tuple[list[Crate], list[str]]:
-    """The same, and what docs/proofs.md tells of and no file has, where all crates are asked for."""
+    """The same, and what docs/promises.md tells of and no file has, where all crates are asked for."""
     crates, problems = read_crates(names)
-    return crates, problems + ([] if names else unknown_in_proofs())
+    return crates, problems + ([] if names else unknown_on_page())
 
 
 def main() -> int:

@@ -129,6 +129,90 @@ static void settings(void)
     }
 }
 
+enum { SIZE = sizeof(bm_options) };
+
+static void options(void)
+{
+    static const bm_options wrong[] = {
+        {.size = 0},
+        {.size = SIZE - 1},
+        {.size = SIZE + 1},
+        {.size = SIZE + 8},
+        {.size = UINT32_MAX},
+        {.size = SIZE, .framing = 3},
+        {.size = SIZE, .order = 2},
+        {.size = SIZE, .cancels = 3},
+        {.size = SIZE, .cancels = UINT32_MAX},
+        {.size = SIZE, .broken = 2},
+        {.size = SIZE, .broken = UINT32_MAX},
+        {.size = SIZE, .content = (1 << 24) + 1},
+        {.size = SIZE, .content = UINT32_MAX},
+        {.size = SIZE, .framing = 3, .order = 2, .cancels = 3, .broken = 2, .content = UINT32_MAX},
+    };
+    static char untouched;
+    for (size_t i = 0; i < sizeof wrong / sizeof *wrong; i++) {
+        void *at = &untouched;
+        check(bm_open(&wrong[i], &at) == BM_SETTINGS && at == &untouched, __LINE__, "bm_open");
+        refusals[BM_SETTINGS]++;
+    }
+    static const bm_options right[] = {
+        {.size = SIZE},
+        {.size = SIZE, .cancels = BM_CANCELS_LSP, .content = 1 << 24, .calls = UINT64_MAX},
+        {SIZE, BM_CONTENTS, BM_AS_CAME, BM_CANCELS_MCP, 1, 1, 1},
+    };
+    for (size_t i = 0; i < sizeof right / sizeof *right; i++) {
+        bm_connection made;
+        check(bm_open(&right[i], &made.at) == BM_OK, __LINE__, "bm_open");
+        bm_free(made);
+    }
+}
+
+static void open_both(bm_options asked)
+{
+    asked.size = SIZE;
+    check(bm_open(&asked, &tried.at) == BM_OK && bm_open(&asked, &twin.at) == BM_OK, __LINE__, "bm_open");
+}
+
+/* With the cancels of MCP a call that is withdrawn waits no longer, and a cancelled request is closed. */
+static void cancels_of_mcp(void)
+{
+    uint64_t key;
+    open_both((bm_options){.framing = BM_LINES, .cancels = BM_CANCELS_MCP});
+    BOTH(bm_call, 0, TEXT("a"), NONE, &key);
+    BOTH(bm_withdraw, key);
+    REFUSED(BM_NOT_WAITING, bm_withdraw, key);
+    BOTH(bm_feed, TEXT("{\"jsonrpc\":\"2.0\",\"method\":\"m\",\"id\":7}\n"
+                       "{\"jsonrpc\":\"2.0\",\"method\":\"notifications/cancelled\",\"params\":{\"requestId\":7}}\n"));
+    tell(BM_CALL);
+    tell(BM_CANCELLED);
+    size_t pending = bm_pending(&tried);
+    BOTH(bm_cancel, 1);
+    check(bm_pending(&tried) == pending, __LINE__, "a cancelled request has an answer");
+    REFUSED(BM_NOT_OPEN, bm_cancel, 1);
+    REFUSED(BM_NOT_OPEN, bm_answer, 1, TEXT("1"));
+    BOTH(bm_feed, TEXT("{\"jsonrpc\":\"2.0\",\"id\":1,\"result\":1}\n"));
+    BOTH(bm_end, BM_CLOSED);
+    tell(BM_INPUT_OVER);
+    end_both();
+}
+
+/* The place of a fault is written where there is one, and asking for it changes nothing. */
+static void places(void)
+{
+    uint64_t place = 77;
+    open_both((bm_options){.framing = BM_FRAMES, .broken = 1});
+    check(!bm_fault_at(&tried, &place) && place == 77, __LINE__, "bm_fault_at");
+    look_alike(__LINE__);
+    BOTH(bm_feed, TEXT("Content-Length: 2\r\n\r\n{]Content-Length: x\r\n\r\n"));
+    for (int i = 0; i < 3; i++) {
+        check(bm_fault_at(&tried, &place) && place == 23, __LINE__, "bm_fault_at");
+        look_alike(__LINE__);
+        if (i < 2)
+            tell(i ? BM_INPUT_OVER : BM_BROKEN);
+    }
+    end_both();
+}
+
 /* Bytes that aren't UTF-8: a byte alone, cut short, over-long, a surrogate, over U+10FFFF. */
 static const char *const not_texts[] = {"\xff", "a\xc3", "\xc0\x80", "\xed\xa0\x80", "\xf4\x90\x80\x80", "\x80"};
 enum { NOT_TEXTS = sizeof not_texts / sizeof *not_texts };
@@ -491,10 +575,14 @@ static void small_rooms_together(void)
 
 int main(void)
 {
-    check(bm_has(BM_HAS_TOGETHER) && !bm_has(0) && !bm_has(2) && !bm_has(UINT32_MAX), __LINE__, "bm_has");
+    check(bm_has(BM_HAS_TOGETHER) && bm_has(BM_HAS_OPEN), __LINE__, "bm_has");
+    check(!bm_has(0) && !bm_has(3) && !bm_has(UINT32_MAX), __LINE__, "bm_has");
     sayings();
     small_rooms_together();
     settings();
+    options();
+    cancels_of_mcp();
+    places();
     texts();
     numbers_and_keys();
     batches();

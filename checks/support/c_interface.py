@@ -19,6 +19,7 @@ IN_C = {
     "&mut Handle": ["bm_connection *"],
     "*mut Handle": ["void **"],
     "&Settings": ["const bm_settings *"],
+    "&Options": ["const bm_options *"],
     "&mut EventHead": ["bm_event *"],
     "&mut Report": ["bm_report *"],
     "&mut Told": ["bm_told *"],
@@ -42,6 +43,7 @@ IN_RUST = {
     "bm_connection": "bm_connection",
     "*mut bm_connection": "bm_connection *",
     "*const bm_settings": "const bm_settings *",
+    "*const bm_options": "const bm_options *",
     "*mut bm_event": "bm_event *",
     "*mut bm_report": "bm_report *",
     "*mut bm_told": "bm_told *",
@@ -64,6 +66,7 @@ IN_RUST = {
 # The structs: by their names in C, the file and the name of the struct that the exports have for each.
 STRUCTS = {
     "bm_settings": ("bullmyrtle/src/settings.rt", "Settings"),
+    "bm_options": ("bullmyrtle/src/settings.rt", "Options"),
     "bm_event": ("event_rooms/src/head.rt", "EventHead"),
     "bm_report": ("bullmyrtle/src/report.rt", "Report"),
     "bm_told": ("host_calls/src/telling.rt", "Told"),

@@ -27,6 +27,15 @@ def is_whole(library: str) -> bool:
     return all(os.path.isfile(f"{library}/{it}") for it in ("libbullmyrtle.so.1", "libbullmyrtle.a", "bullmyrtle.h"))
 
 
+def lacks_open(library: str) -> bool:
+    """Whether a library is of before `bm_open`, by which scripts are played; what is skipped for want of it is told."""
+    with open(f"{library}/bullmyrtle.h", encoding="utf-8") as it:
+        is_missing = "bm_open" not in it.read()
+    if is_missing:
+        print(f"SKIPPED: scripts, since the library in {library} has no bm_open", flush=True)
+    return is_missing
+
+
 def said(words: list[str], given: bytes = b"", **more: Any) -> tuple[int, bytes, bytes]:
     ended = subprocess.run(words, input=given, capture_output=True, timeout=600, check=False, **more)
     return ended.returncode, ended.stdout, ended.stderr

@@ -1,5 +1,5 @@
 """Runs many cases in one process, by the command `cases` of the proved program peer_bench: streams of bytes, each with
-how it is run."""
+how it is run. Why so: docs/decisions/tests_and_releases.md#fuzzing."""
 import subprocess
 from dataclasses import dataclass
 from functools import cached_property

@@ -47,6 +47,10 @@ FLOORS = {
     "refused not_text": 100,
     "refused empty": 50,
     "faults": 60,
+    "places of faults": 60,
+    "unreadable contents that were told": 100,
+    "invalid entries that were told": 300,
+    "requests that were left": 60,
     "Full": 20,
     "done": 300,
 }
@@ -140,6 +144,7 @@ def seen_in(session: sessions.Session) -> Counter[str]:
         "cancelled": "cancels that hit",
         "replied": "replies that were told",
         "unanswered": "calls without a reply",
+        "broken": "broken contents that were told",
     }
     for action, line in zip(session.actions, session.gives):
         for beginning, what in beginnings.items():
@@ -147,9 +152,13 @@ def seen_in(session: sessions.Session) -> Counter[str]:
         seen["withdrawals"] += action.name == "withdraw" and line == "ok"
         seen["faults"] += line.startswith("over ") and line not in ("over Clean", "over Read", "over Full")
         seen["Full"] += line == "over Full"
+        seen["places of faults"] += line.startswith("place ")
+        seen["unreadable contents that were told"] += " unreadable " in line
+        seen["invalid entries that were told"] += " invalid " in line
         seen[line] += line.startswith("refused")
     seen["answers"] += int(session.gives[-1].split(" ")[6])
     seen["done"] += session.gives[-2] == "true"
+    seen["requests that were left"] += session.left
     return seen
 
 

@@ -4,8 +4,8 @@ from dataclasses import dataclass, field
 from typing import Any, Callable, NamedTuple, Optional
 
 from support import connection_reading as reading
-from support.connection_reading import SAID_DEPTH, Entry, Error, Input, Members
-from support.reading import ABSENT, Frame
+from support.connection_reading import SAID_DEPTH, Content, Entry, Error, Input, Members, Unit
+from support.reading import ABSENT
 
 PARSE_ERROR = Error(-32700, "Parse error")
 INVALID_REQUEST = Error(-32600, "Invalid Request")
@@ -13,6 +13,9 @@ CANCELLED = Error(-32800, "Request cancelled")
 MOST_KEYS = 2**53 - 1
 MOST_CONTENT = 16_777_216
 MOST_CALLS = 2**64 - 1
+MOST_PLACE = 2**64 - 1
+# So many bytes of a broken content are told.
+MOST_START = 64
 
 
 class Refused(Exception):
@@ -22,12 +25,22 @@ class Refused(Exception):
 class Settings(NamedTuple):
     framing: str  # frames, lines, contents
     order: str  # as-answered, as-came
-    takes_cancels: bool
+    cancels: Optional[str]  # whose: lsp, mcp, or none
     content: int = MOST_CONTENT
     calls: int = MOST_CALLS
+    tells_broken: bool = False
 
 
 # Events. Params, ids, results and data are compact JSON texts, or None where there are none.
+
+
+class Broken(NamedTuple):
+    """A content is unreadable, or has invalid entries: so many, the first of which stands at `first`."""
+
+    place: int  # of its first byte, counted from the first byte that was fed
+    start: bytes  # its first bytes
+    first: int
+    count: int  # type: ignore[assignment]  # 0 where it is unreadable
 
 
 class Call(NamedTuple):
@@ -63,7 +76,7 @@ class Over(NamedTuple):
     how: str
 
 
-Event = Call | Cancelled | Replied | Failed | Unanswered | Over
+Event = Broken | Call | Cancelled | Replied | Failed | Unanswered | Over
 
 
 class Report(NamedTuple):
@@ -83,8 +96,8 @@ class Report(NamedTuple):
 
 @dataclass
 class Came:
-    """A unit that came: the answers of its requests and invalid entries in their order, each a text, or None as long as
-    it is open."""
+    """A unit that came: the answers of its requests and invalid entries in their order, each a text, empty where the
+    request was closed without an answer, or None as long as it is open."""
 
     is_batch: bool
     answers: list[Optional[str]] = field(default_factory=list)
@@ -96,8 +109,9 @@ class Came:
 
     @property
     def text(self) -> str:
-        texts = [it for it in self.answers if it is not None]
-        return f"[{','.join(texts)}]" if self.is_batch else texts[0]
+        """What is written, or no text where nothing is."""
+        texts = [it for it in self.answers if it]
+        return f"[{','.join(texts)}]" if self.is_batch and texts else "".join(texts)
 
 
 @dataclass
@@ -136,6 +150,14 @@ def answer_text(id_: Any, said: Any) -> str:
         if isinstance(said, Error)
         else f'{{{named},"result":{reading.text_of(said)}}}'
     )
+
+
+def broken_of(unit: Unit, content: Content) -> Optional[Broken]:
+    """What is told of a content, where it is unreadable or has invalid entries."""
+    place, start, invalid = min(content.place, MOST_PLACE), content.data[:MOST_START], unit.invalid
+    if unit.kind == "unreadable":
+        return Broken(place, start, 0, 0)
+    return Broken(place, start, invalid[0], len(invalid)) if invalid else None
 
 
 def message_text(key: Optional[int], method: str, params: Any) -> str:
@@ -189,7 +211,8 @@ class Model:
     def feed(self, piece: bytes) -> None:
         if self.input_ended:
             raise Refused("over")
-        self.input.feed(piece)
+        if not self.is_over:
+            self.input.feed(piece)
 
     def end(self, how: str) -> None:
         if self.input_ended:
@@ -211,11 +234,14 @@ class Model:
         self.told += 1
         return self.events[self.told - 1]
 
-    def take_content(self, frame: Frame) -> None:
-        unit = reading.unit_of(frame, self.settings.takes_cancels)
+    def take_content(self, content: Content) -> None:
+        unit = reading.unit_of(content, self.settings.cancels)
         if len(self.calls) + sum(it.kind == "call" for it in unit.entries) > self.settings.calls:
             self.end_now("Full")
             return
+        broken = broken_of(unit, content) if self.settings.tells_broken else None
+        if broken is not None:
+            self.events.append(broken)
         came = Came(unit.kind == "batch")
         self.units.append(came)
         if unit.kind == "unreadable":
@@ -297,10 +323,12 @@ class Model:
         self.write(message_text(None, words_of(method), params_of(params)))
 
     def withdraw(self, key: int) -> None:
-        if not self.settings.takes_cancels or not self.waits(key) or self.ours[key - 1].is_withdrawn:
+        if self.settings.cancels is None or not self.waits(key) or self.ours[key - 1].is_withdrawn:
             raise Refused("not_waiting")
         self.ours[key - 1].is_withdrawn = True
-        self.write(message_text(None, "$/cancelRequest", Members([("id", reading.Number(str(key)))])))
+        self.ours[key - 1].waits = self.settings.cancels == "lsp"
+        method, member = reading.CANCELS[self.settings.cancels]
+        self.write(message_text(None, method, Members([(member, reading.Number(str(key)))])))
 
     def answer(self, number: int, result: Optional[bytes]) -> None:
         """Answers with a result; None is for a notification."""
@@ -314,11 +342,11 @@ class Model:
         self.close(number, Error(code, words_of(message), ABSENT if data is None else value_of(data)))
 
     def cancel(self, number: int) -> None:
-        self.open_call(number)
-        if self.settings.takes_cancels:
+        is_cancelled = self.open_call(number).is_cancelled
+        if self.settings.cancels is not None:
             for key in self.keys_that(lambda call: call.number == number and call.waits and not call.is_withdrawn):
                 self.withdraw(key)
-        self.close(number, CANCELLED)
+        self.close(number, ABSENT if is_cancelled and self.settings.cancels == "mcp" else CANCELLED)
 
     # The output
 
@@ -336,6 +364,11 @@ class Model:
     def is_done(self) -> bool:
         is_told = self.told == len(self.events)
         return self.is_over and is_told and self.pending() == 0 and not any(it.is_open for it in self.calls)
+
+    def fault_place(self) -> Optional[int]:
+        """Where the frame, line or content at fault begins, once the input is at fault."""
+        place = self.input.fault_place
+        return None if place is None else min(place, MOST_PLACE)
 
     def report(self) -> Report:
         requests = sum(it.entry.is_request for it in self.calls)
@@ -358,14 +391,14 @@ class Model:
         return self.calls[number - 1]
 
     def close(self, number: int, said: Any) -> None:
-        """An open call is answered."""
+        """An open call is answered, or closed without an answer, where what is said is ABSENT."""
         call = self.calls[number - 1]
         call.is_open = False
         for ours in self.ours:
             if ours.number == number:
                 ours.waits = False
         if call.entry.is_request:
-            call.unit.answers[call.place] = answer_text(call.entry.id, said)
+            call.unit.answers[call.place] = "" if said is ABSENT else answer_text(call.entry.id, said)
         self.write_answers()
 
     def write_answers(self) -> None:
@@ -373,8 +406,9 @@ class Model:
         for unit in self.units:
             if unit.is_due:
                 unit.is_out = True
-                self.counts["answers_written"] += 1
-                self.write(unit.text)
+                if unit.text:
+                    self.counts["answers_written"] += 1
+                    self.write(unit.text)
             elif self.settings.order == "as-came" and None in unit.answers:
                 break
 

@@ -5,7 +5,9 @@ from typing import Any, Callable
 from support import connection_rows as rows
 from support import pages
 
-FEWEST = 3
+FEWEST = 5
+# What a picture shows where a setting isn't the standard one, and the way of that setting.
+SHOWS = {"notifications/cancelled": "mcp", "Broken ": "broken"}
 
 # The arrows of a picture, each with the action that it stands for, and what that gives: of the wire on the left, and of
 # the host on the right.
@@ -29,6 +31,8 @@ def event_of(words: str) -> str:
         return f"replied {found[1]} error {found[2]} '{found[3]}' -"
     if found := re.fullmatch(r"Replied ([0-9]+) (\S+)", words):
         return f"replied {found[1]} result '{found[2]}'"
+    if found := re.fullmatch(r"Broken ([0-9]+) (unreadable|invalid [0-9]+ [0-9]+) (.+)", words):
+        return f"broken {found[1]} {found[2]} '{found[3]}'"
     return words.lower()
 
 
@@ -45,7 +49,8 @@ def picture_of(count: Any, name: str, text: str) -> rows.Row:
     found = [say(it[1]) for line in lines for arrow, say in ARROWS if (it := arrow.fullmatch(line))]
     count.check("each arrow of a picture is read", len(found) == len(lines), f"{len(found)} of {len(lines)}")
     actions = (f"{action} => {gives}" for action, gives in found)
-    return rows.row_in("\n".join([f"{name}: contents", *actions, "next => none", "pending => pending 0"]))
+    ways = " ".join(["contents", *(way for shown, way in SHOWS.items() if shown in text)])
+    return rows.row_in("\n".join([f"{name}: {ways}", *actions, "next => none", "pending => pending 0"]))
 
 
 def pictures(count: Any) -> list[rows.Row]:

@@ -6,10 +6,12 @@ from dataclasses import dataclass, field
 from typing import Any, Optional
 
 from support import reading
-from support.reading import ABSENT, SIGNED, WHOLE, Frame
+from support.reading import ABSENT, SIGNED, WHOLE
 
 INTEGER = re.compile(r"-?(0|[1-9][0-9]*)")
 SAID_DEPTH = 120
+# Of the cancels that a conversation may have: the notification, and the member of its params that names the request.
+CANCELS = {"lsp": ("$/cancelRequest", "id"), "mcp": ("notifications/cancelled", "requestId")}
 
 
 # JSON whose numbers are texts
@@ -101,6 +103,11 @@ class Unit:
     kind: str  # unreadable, single, batch
     entries: list[Entry] = field(default_factory=list)
 
+    @property
+    def invalid(self) -> list[int]:
+        """Where its invalid entries stand, from 0."""
+        return [at for at, it in enumerate(self.entries) if it.kind == "invalid"]
+
 
 def is_call(value: Members) -> bool:
     id_is_well = "id" not in value or value.get("id") is None or is_name(value.get("id"))
@@ -108,9 +115,13 @@ def is_call(value: Members) -> bool:
     return value.get("jsonrpc") == "2.0" and isinstance(value.get("method"), str) and id_is_well and params_are_well
 
 
-def is_cancel(call: Entry) -> bool:
-    is_named = isinstance(call.params, Members) and is_name(call.params.get("id"))
-    return not call.is_request and call.method == "$/cancelRequest" and is_named
+def target_of(call: Entry, cancels: Optional[str]) -> Any:
+    """The id that a call names where it is a cancel, or ABSENT."""
+    method, member = CANCELS.get(cancels or "", ("", ""))
+    if cancels is None or call.is_request or call.method != method or not isinstance(call.params, Members):
+        return ABSENT
+    named = call.params.get(member)
+    return named if is_name(named) else ABSENT
 
 
 def said_by(reply: Members) -> Any:
@@ -128,32 +139,39 @@ def said_by(reply: Members) -> Any:
     return Error(code, message, error.get("data", ABSENT))
 
 
-def entry_of(value: Any, takes_cancels: bool) -> Entry:
+def entry_of(value: Any, cancels: Optional[str]) -> Entry:
     if not isinstance(value, Members) or not {"method", "result", "error"} & {name for name, _ in value}:
         return Entry("invalid")
     if "method" in value:
         if not is_call(value):
             return Entry("invalid")
         call = Entry("call", value.get("id", ABSENT), value.get("method"), value.get("params"))
-        return Entry("cancel", call.params.get("id")) if takes_cancels and is_cancel(call) else call
+        target = target_of(call, cancels)
+        return call if target is ABSENT else Entry("cancel", target)
     key = whole_of(value.get("id"))
     return Entry("reply", key=key, said=said_by(value)) if key is not None and key > 0 else Entry("stray")
 
 
-def unit_of(frame: Frame, takes_cancels: bool) -> Unit:
+def unit_of(content: "Content", cancels: Optional[str]) -> Unit:
+    """What a content is, where these are the conversation's cancels, if it has any."""
     try:
-        value = value_of(frame.content)
+        value = value_of(content.data)
     except ValueError:
         return Unit("unreadable")
-    if frame.is_foreign:
+    if content.is_foreign:
         return Unit("unreadable")
     is_batch = isinstance(value, list) and not isinstance(value, Members) and value != []
-    return Unit(
-        "batch" if is_batch else "single", [entry_of(it, takes_cancels) for it in (value if is_batch else [value])]
-    )
+    return Unit("batch" if is_batch else "single", [entry_of(it, cancels) for it in (value if is_batch else [value])])
 
 
 # Framings
+
+
+@dataclass(frozen=True)
+class Content:
+    data: bytes
+    is_foreign: bool
+    place: int  # of its first byte, counted from the first byte that was fed, from 0
 
 
 class Input:
@@ -161,14 +179,17 @@ class Input:
 
     def __init__(self, framing: str, limit: int) -> None:
         self.framing, self.limit = framing, limit
-        self.rest, self.waiting = b"", list[Frame]()
+        self.rest, self.waiting = b"", list[Content]()
+        self.place = 0  # of the first byte that is in no content yet
         self.end = ""
+        self.fault_place: Optional[int] = None
 
     def feed(self, piece: bytes) -> None:
         if self.end:
             return
         if self.framing == "contents":
-            self.take(piece)
+            self.take(piece, self.place)
+            self.place += len(piece)
         else:
             self.rest += piece
             while self.rest and not self.end and (self.take_line() if self.framing == "lines" else self.take_frame()):
@@ -180,36 +201,43 @@ class Input:
             return
         if self.framing == "lines" and not is_failed:
             self.take_content_of(self.rest)
-        is_cut = self.framing == "frames" and self.rest != b""
-        self.end = self.end or ("Read" if is_failed else "Truncated" if is_cut else "Clean")
+        if self.framing == "frames" and self.rest != b"" and not is_failed:
+            self.fail("Truncated")
+        self.end = self.end or ("Read" if is_failed else "Clean")
 
-    def take(self, content: bytes, is_foreign: bool = False) -> None:
+    def fail(self, fault: str) -> None:
+        """The frame, the line or the content that begins here is at fault."""
+        self.end, self.fault_place = fault, self.place
+
+    def take(self, content: bytes, place: int, is_foreign: bool = False) -> None:
         if len(content) > self.limit:
-            self.end = "TooLarge"
+            self.fail("TooLarge")
         else:
-            self.waiting.append(Frame(content, is_foreign, 0, 0))
+            self.waiting.append(Content(content, is_foreign, place))
 
     def take_frame(self) -> bool:
         """Takes a frame off the front, and says whether there was one."""
         frame, fault = reading.frame_at(self.rest, 0, self.limit)
         if frame is None:
-            self.end = "" if fault == "Truncated" else fault
+            if fault != "Truncated":
+                self.fail(fault)
             return False
-        self.take(frame.content, frame.is_foreign)
-        self.rest = self.rest[frame.end :]
+        self.take(frame.content, self.place + frame.end - len(frame.content), frame.is_foreign)
+        self.rest, self.place = self.rest[frame.end :], self.place + frame.end
         return True
 
     def take_line(self) -> bool:
         """Takes a line off the front, and says whether there was one."""
         line, end, rest = self.rest.partition(b"\n")
         if not end:
-            self.end = "TooLarge" if len(line.removesuffix(b"\r")) > self.limit else ""
+            if len(line.removesuffix(b"\r")) > self.limit:
+                self.fail("TooLarge")
             return False
         self.take_content_of(line)
-        self.rest = rest
+        self.rest, self.place = rest, self.place + len(line) + 1
         return True
 
     def take_content_of(self, line: bytes) -> None:
         content = line.removesuffix(b"\r")
         if content.strip(b" \t") or len(content) > self.limit:
-            self.take(content)
+            self.take(content, self.place)

@@ -1,7 +1,8 @@
 """Rows of checks/connection_rows, of a connection and its host: what comes and goes, and what the host does between.
 
 row_language.py has their language. The ways of a row are the settings of its connection: a framing, and what is other
-than in STANDARD, as in `a content that is too long: lines content 30`. With `settings` for its ways a row begins with
+than in STANDARD, as in `a content that is too long: lines content 30`, or in `.. : lines mcp broken`, where cancels are
+MCP's and broken contents are told. With `settings` for its ways a row begins with
 an action of that name. What comes in is fed, in the connection's framing; what goes out is all that a `take` gives.
 Beside these a row has an action a line, in the language of connection_script.py. After ` => ` stands what the action
 gives; where nothing stands there, that is `ok`:
@@ -68,6 +69,12 @@ UNREADABLE = (
     "settings frame as-answered cancels 1 1",
     "settings frames answered cancels 1 1",
     "settings frames as-came on 1 1",
+    "settings frames as-came lsp 1 1",
+    "settings frames as-came mcp 1 1 more",
+    "settings frames as-came mcp 1 1 broken broken",
+    "settings frames as-came broken 1 1",
+    "fault_place 1",
+    "fault-place",
 )
 
 
@@ -149,20 +156,22 @@ def joined(word: str) -> str:
 
 def settings_of(ways: list[str]) -> list[str]:
     """The settings that a row's ways stand for, as words of an action."""
-    framing, order, cancels, content, calls = ways[0], *STANDARD
+    (framing, order, cancels, content, calls), told = (ways[0], *STANDARD), list[str]()
     rest = iter(ways[1:])
     for it in rest:
         if it in script.ORDERS:
             order = it
         elif it in script.CANCELS:
             cancels = it
+        elif it in script.TELLING:
+            told = [it]
         elif it == "content":
             content = next(rest, "")
         elif it == "calls":
             calls = next(rest, "")
         else:
             raise Unread(f"a way that isn't known: {it}")
-    return ["settings", framing, order, cancels, content, calls]
+    return ["settings", framing, order, cancels, content, calls, *told]
 
 
 def framed(wire: Wire, framing: str) -> bytes:

@@ -7,8 +7,10 @@ isn't the same as an empty text.
 
     action                                                      gives
     settings FRAMING ORDER CANCELS CONTENT CALLS                ok | refused settings
-        FRAMING: frames, lines, contents; ORDER: as-answered, as-came; CANCELS: cancels, no-cancels.
+    settings FRAMING ORDER CANCELS CONTENT CALLS broken
+        FRAMING: frames, lines, contents; ORDER: as-answered, as-came; CANCELS: cancels (LSP's), mcp, no-cancels.
         CONTENT (1 to 16777216) and CALLS (1 to 18446744073709551615) are the limits.
+        With `broken` broken contents are told.
         Begins a connection, and drops the one before.
     feed HEX                                                    ok | refused over
     end closed    end failed                                    ok | refused over
@@ -23,6 +25,7 @@ isn't the same as an empty text.
     take ROOM                                                   bytes HEX
     pending                                                     pending COUNT
     is_done                                                     true | false
+    fault_place                                                 none | place OFFSET
     report                                                      report CALLS REQUESTS OPEN WAITING OWN_CALLS ANSWERS UNREADABLE INVALID IGNORED
 
 METHOD, PARAMS, RESULT, MESSAGE and DATA are HEX. WHY is not_open, not_text, not_json, over, empty or full; where
@@ -31,6 +34,8 @@ not_json: a text that isn't one JSON value of at most 120 levels, params that ar
 result of a request.
 
     EVENT
+    broken OFFSET unreadable START                              (START is HEX too)
+    broken OFFSET invalid FIRST COUNT START
     call NUMBER METHOD PARAMS|- ID|-                            (a notification has no id)
     cancelled NUMBER
     replied KEY result RESULT
@@ -43,7 +48,7 @@ each action but `settings` gives `refused settings`. A program that is given a l
 before the first settings, says nothing of it and ends with the status 2."""
 import re
 from dataclasses import dataclass
-from typing import Callable, Iterable, Iterator, Optional
+from typing import Callable, Collection, Iterable, Iterator, Optional
 
 from support import connection_model as model
 from support.connection_model import Model, Refused, Settings
@@ -51,7 +56,10 @@ from support.connection_model import Model, Refused, Settings
 NUMBER = re.compile(r"0|[1-9][0-9]*")
 CODE = re.compile(r"0|-?[1-9][0-9]*")
 HEX = re.compile(r"\.|(?:[0-9a-f]{2})+")
-FRAMINGS, ORDERS, CANCELS = ("frames", "lines", "contents"), ("as-answered", "as-came"), ("cancels", "no-cancels")
+FRAMINGS, ORDERS = ("frames", "lines", "contents"), ("as-answered", "as-came")
+# Whose cancels a conversation has.
+CANCELS = {"cancels": "lsp", "mcp": "mcp", "no-cancels": None}
+TELLING = ("broken",)
 
 
 # Words
@@ -93,9 +101,9 @@ def code_of(word: str) -> int:
     return value
 
 
-def one_of(words: tuple[str, ...], word: str) -> str:
+def one_of(words: Collection[str], word: str) -> str:
     if word not in words:
-        raise ValueError(f"{word!r} is none of {words}")
+        raise ValueError(f"{word!r} is none of {[*words]}")
     return word
 
 
@@ -122,7 +130,7 @@ class Action:
 Word = Callable[[str], object]
 
 
-def one_word_of(words: tuple[str, ...]) -> Word:
+def one_word_of(words: Collection[str]) -> Word:
     return lambda word: one_of(words, word)
 
 
@@ -140,6 +148,7 @@ FORMS: dict[str, tuple[Word, ...]] = {
     "take": (number_of,),
     "pending": (),
     "is_done": (),
+    "fault_place": (),
     "report": (),
 }
 
@@ -153,6 +162,8 @@ def action_of(line: str) -> Action:
     name, *words = line.split(" ")
     if name == "batch" and len(words) % 2 == 1:
         forms: tuple[Word, ...] = (number_of, *(bytes_of, bytes_or_none) * (len(words) // 2))
+    elif name == "settings" and len(words) == len(FORMS[name]) + 1:
+        forms = (*FORMS[name], one_word_of(TELLING))
     elif name in FORMS and len(FORMS[name]) == len(words):
         forms = FORMS[name]
     else:
@@ -173,6 +184,10 @@ def written(actions: Iterable[Action]) -> str:
 
 def event_line(event: model.Event) -> str:
     match event:
+        case model.Broken(place, start, _, 0):
+            return f"broken {place} unreadable {hex_of(start)}"
+        case model.Broken(place, start, first, count):
+            return f"broken {place} invalid {first} {count} {hex_of(start)}"
         case model.Call(number, method, params, id_):
             return f"call {number} {text(method)} {text(params)} {text(id_)}"
         case model.Cancelled(number):
@@ -195,9 +210,9 @@ class Runner:
         self.model: Optional[Model] = None
         self.is_begun = False
 
-    def settings(self, framing: str, order: str, cancels: str, content: int, calls: int) -> str:
+    def settings(self, framing: str, order: str, cancels: str, content: int, calls: int, told: str = "") -> str:
         self.model, self.is_begun = None, True
-        self.model = self.kind(Settings(framing, order, cancels == "cancels", content, calls))
+        self.model = self.kind(Settings(framing, order, CANCELS[cancels], content, calls, told in TELLING))
         return "ok"
 
     def do(self, action: Action) -> str:
@@ -227,6 +242,8 @@ class Runner:
                 return f"pending {given}"
             case "is_done":
                 return "true" if given else "false"
+            case "fault_place":
+                return "none" if given is None else f"place {given}"
             case "report":
                 return f"report {' '.join(map(str, given))}"
             case _:

@@ -9,8 +9,9 @@ from typing import Any, Callable, Optional
 
 from support import grammar
 from support.connection_model import MOST_CALLS, MOST_CONTENT
+from support.connection_reading import CANCELS as NAMES_OF_CANCELS
 from support.connection_reading import Input
-from support.connection_script import CANCELS, FRAMINGS, ORDERS, Action, Runner
+from support.connection_script import FRAMINGS, ORDERS, TELLING, Action, Runner
 
 METHODS = {"a": 1, "add": 0, "ask": 2, "$/progress": 0, '\u00e9\n"': 0, "": 0}
 TEXTS = (
@@ -41,7 +42,9 @@ NO_JSON = (
 )
 NO_PARAMS = (b"null", b"1", b'"x"', b"true")
 NO_TEXTS = (b"\xff", b"\xc0\x80", b"a\xed\xa0\x80")
-NAMES = (b"a", b"ask", b"$/cancelRequest", b"", "\u00e9\n\U0001f600".encode(), b'"\\')
+NAMES = (b"a", b"ask", b"$/cancelRequest", b"notifications/cancelled", b"", "\u00e9\n\U0001f600".encode(), b'"\\')
+# What no request has for an id, and a cancel may name.
+NO_IDS = (None, 1.5, -0.0, True, [1])
 CODES = (-32800, -32601, 0, 5, -(2**63), 2**63 - 1)
 MOST_STEPS = 45
 
@@ -50,6 +53,7 @@ MOST_STEPS = 45
 class Session:
     actions: tuple[Action, ...]
     gives: tuple[str, ...]
+    left: int  # how many requests were closed without an answer
 
 
 class Peer(grammar.Grammar):
@@ -62,6 +66,9 @@ class Peer(grammar.Grammar):
     def waiting(self) -> list[int]:
         return self.runner.model.keys_that(lambda it: it.waits)
 
+    def withdrawn(self) -> list[int]:
+        return self.runner.model.keys_that(lambda it: it.is_withdrawn)
+
     def entry(self) -> Any:
         return self.pick(
             (10, self.call),
@@ -72,10 +79,11 @@ class Peer(grammar.Grammar):
         )
 
     def key(self) -> Any:
-        """Mostly one that waits; at times any, one that is to come, or none."""
-        keys, waiting = len(self.runner.model.ours), self.waiting()
+        """Mostly one that waits; at times one that was withdrawn, any, one that is to come, or none."""
+        keys, waiting, withdrawn = len(self.runner.model.ours), self.waiting(), self.withdrawn()
         return self.pick(
             (20 if waiting else 0, lambda: self.chance.choice(waiting)),
+            (2 if withdrawn else 0, lambda: self.chance.choice(withdrawn)),
             (2, lambda: self.chance.randint(1, keys + 2)),
             (1, lambda: self.chance.choice((0, -1, None, 1.0, str(keys), 2**53, 2**64 - 1, 2**64))),
         )
@@ -84,12 +92,28 @@ class Peer(grammar.Grammar):
         return self.chance.choice(self.cancels_of(super().cancel()))
 
     def cancels_of(self, cancel: dict[str, Any]) -> list[dict[str, Any]]:
-        """A cancel, eight times, and what looks like it."""
-        return [cancel] * 8 + [
-            {**cancel, "id": 5},
-            {**cancel, "params": [cancel["params"]["id"]]},
-            {**cancel, "jsonrpc": "2"},
+        """A cancel by the name of the conversation's, eighteen times, and what looks like it; among it the other name's."""
+        ours = self.runner.model.settings.cancels or "lsp"
+        other = "mcp" if ours == "lsp" else "lsp"
+        named = self.named(cancel, ours)
+        member = NAMES_OF_CANCELS[ours][1]
+        return [named] * 18 + [
+            {**named, "id": 5},
+            {**named, "params": [named["params"][member]]},
+            {**named, "params": {**named["params"], member: self.chance.choice(NO_IDS)}},
+            {**named, "params": {"more": named["params"][member]}},
+            {**named, "jsonrpc": "2"},
+            self.named(cancel, other),
+            {**named, "params": self.named(cancel, other)["params"]},
         ]
+
+    def named(self, cancel: dict[str, Any], whose: str) -> dict[str, Any]:
+        """The same cancel in the words of LSP or of MCP, which may also say a reason."""
+        method, member = NAMES_OF_CANCELS[whose]
+        params = {member: cancel["params"]["id"], **{name: it for name, it in cancel["params"].items() if name != "id"}}
+        if self.chance.random() < 0.2:
+            params["reason"] = self.chance.choice(("gone", None, 7))
+        return {**cancel, "method": method, "params": params}
 
     def hurt(self, content: bytes) -> bytes:
         if self.chance.random() < 0.93:
@@ -145,8 +169,9 @@ class Maker:
     def number(self) -> int:
         """The number of an open call; at times of one that is answered or is to come, and 0."""
         still_open = [number for number, it in enumerate(self.model.calls, 1) if it.is_open]
+        cancelled = [it for it in still_open if self.model.calls[it - 1].is_cancelled]
         if still_open and self.chance.random() < 0.93:
-            return self.chance.choice((still_open[0], self.chance.choice(still_open)))
+            return self.chance.choice((still_open[0], *map(self.chance.choice, filter(None, (still_open, cancelled)))))
         return self.chance.choice((0, self.chance.randint(0, len(self.model.calls) + 2), 2**64 - 1))
 
     def speaker(self) -> int:
@@ -206,6 +231,7 @@ class Maker:
         self.do("end", "closed" if self.chance.random() < 0.7 else "failed")
 
     def close(self, number: int) -> None:
+        is_cancelled = any(it.is_cancelled for it in self.model.calls[number - 1 : number])
         self.pick(
             (6, lambda: self.do("answer", number, self.result())),
             (
@@ -214,7 +240,7 @@ class Maker:
                     "fail", number, self.chance.choice(CODES), self.name(), self.mostly((None, None, *TEXTS), NO_JSON)
                 ),
             ),
-            (2, lambda: self.do("cancel", number)),
+            (12 if is_cancelled else 2, lambda: self.do("cancel", number)),
         )
 
     def step(self) -> None:
@@ -230,6 +256,7 @@ class Maker:
             (4, self.take),
             (0.5, lambda: self.do("pending")),
             (0.5, lambda: self.do("is_done")),
+            (0.5, lambda: self.do("fault_place")),
             (0.7, lambda: self.do("report")),
             (0.2, self.end),
         )
@@ -249,18 +276,20 @@ class Maker:
                 self.do("answer", number, b"null" if call.entry.is_request else None)
         while self.do("take", self.chance.choice((self.model.pending(), 100_000))) != "bytes .":
             pass
-        for name in ("next", "pending", "is_done", "report"):
+        for name in ("next", "pending", "fault_place", "is_done", "report"):
             self.do(name)
 
     def made(self) -> Session:
         content = MOST_CONTENT if self.chance.random() < 0.9 else self.chance.randint(50, 300)
         calls = self.chance.choice((1000, MOST_CALLS)) if self.chance.random() < 0.9 else self.chance.randint(1, 8)
-        cancels = CANCELS[self.chance.random() < 0.15]
-        self.do("settings", self.framing, self.chance.choice(ORDERS), cancels, content, calls)
+        cancels = self.chance.choices(("cancels", "mcp", "no-cancels"), (9, 9, 2))[0]
+        told = TELLING if self.chance.random() < 0.5 else ()
+        self.do("settings", self.framing, self.chance.choice(ORDERS), cancels, content, calls, *told)
         for _ in range(self.chance.randint(5, MOST_STEPS)):
             self.step()
         self.finish()
-        return Session(tuple(self.actions), tuple(self.gives))
+        left = sum(it.entry.is_request and it.unit.answers[it.place] == "" for it in self.model.calls)
+        return Session(tuple(self.actions), tuple(self.gives), left)
 
 
 def made(seed: str) -> Session:
@@ -270,19 +299,21 @@ def made(seed: str) -> Session:
 # The same, cut otherwise
 
 
-def places_of(actions: tuple[Action, ...], stream: bytes) -> list[int]:
-    """How much has come, contents and a fault, with each front of a stream."""
-    framing, _, _, limit, _ = actions[0].given
-    came, counts = Input(framing, limit), [0]  # type: ignore[arg-type]
+def places_of(actions: tuple[Action, ...], stream: bytes) -> list[tuple[int, bool, bool]]:
+    """How much has come with each front of a stream: the contents, whether a fault has, and whether it ends inside a
+    frame (once the limit of calls has ended the input, no more of it is fed, and the host may still close it)."""
+    framing, limit = actions[0].given[0], actions[0].given[3]
+    came = Input(framing, limit)  # type: ignore[arg-type]
+    counts = [(0, False, False)]
     for at in range(len(stream)):
         came.feed(stream[at : at + 1])
-        counts.append(len(came.waiting) + bool(came.end))
+        counts.append((len(came.waiting), came.end != "", framing == "frames" and came.rest != b""))
     return counts
 
 
 def cut_otherwise(chance: random.Random, actions: tuple[Action, ...]) -> list[Action]:
-    """The same actions of the host, with what it feeds before the end cut otherwise: at each `next` the same contents
-    have come."""
+    """The same actions of the host, with what it feeds before the end cut otherwise: at each `next` and `fault_place` the
+    same contents have come."""
     if actions[0].given[0] == "contents":
         return list(actions)
     ends = next((at for at, it in enumerate(actions) if it.name == "end"), len(actions))
@@ -295,7 +326,9 @@ def cut_otherwise(chance: random.Random, actions: tuple[Action, ...]) -> list[Ac
             continue
         goes_on = range(fed, due + 1) if chance.random() < 0.2 else range(fed, fed)
         allowed = (
-            [at for at in range(fed, len(counts)) if counts[at] == counts[due]] if action.name == "next" else goes_on
+            [at for at in range(fed, len(counts)) if counts[at] == counts[due]]
+            if action.name in ("next", "fault_place")
+            else goes_on
         )
         if allowed:
             to = chance.choice(allowed)

@@ -1,7 +1,7 @@
 """What tests compare by: each comparison is counted, and one that fails shows the lines in which the two differ.
 
 Outputs may have megabytes. Of those that differ only a part about the first difference is shown, a frame's head or a
-line in each line."""
+line in each line. Why not by assert: docs/decisions/tests_and_releases.md#rows."""
 import difflib
 import threading
 from typing import Any, Iterable, Iterator

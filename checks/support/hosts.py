@@ -11,6 +11,18 @@ HOST = (
     b'[{"id":8,"jsonrpc":"2.0","result":{"b":null}},{"error":{"code":-32600,"message":"Invalid Request"},"id":null,"jsonrpc":"2.0"},'
     b'{"error":{"code":-32601,"message":"Method not found"},"id":"x","jsonrpc":"2.0"}]\n',
 )
+# The same for the host that says what is broken, with what it says. The second content begins behind 56 bytes, and the
+# third behind 24 more.
+EXPLAINING = (
+    b'{"jsonrpc":"2.0","method":"echo","params":["a"],"id":7}\n{"jsonrpc":"2.0","id":8\n[1,{"foo":"\xff"}]\n[1,{"foo":2}]\n'
+    + b" " * 100_001,
+    b'{"id":7,"jsonrpc":"2.0","result":["a"]}\n'
+    + b'{"error":{"code":-32700,"message":"Parse error"},"id":null,"jsonrpc":"2.0"}\n' * 2
+    + b'[{"error":{"code":-32600,"message":"Invalid Request"},"id":null,"jsonrpc":"2.0"},'
+    b'{"error":{"code":-32600,"message":"Invalid Request"},"id":null,"jsonrpc":"2.0"}]\n',
+    b'byte 56: unreadable: {"jsonrpc":"2.0","id":8\nbyte 80: unreadable: [1,{"foo":"?"}]\n'
+    b'byte 96: 2 invalid, the first is entry 0: [1,{"foo":2}]\nbyte 110: a content is longer than the setting allows\n',
+)
 # What the client is given before its server, and its status and what it prints, where that is the host.
 CLIENT = (
     (["echo", '["a", 1.50]'], (0, b'["a",1.50]\n')),

@@ -1,4 +1,5 @@
-"""Runs the program on standard streams that are cut, short or broken."""
+"""Runs the program on standard streams that are cut, short or broken. Why by a library that is preloaded:
+docs/decisions/tests_and_releases.md#refused-memory-and-devices-that-fail."""
 import os
 import subprocess
 

@@ -187,6 +187,14 @@ static void say_event(const bm_event *event, const uint8_t *room)
     case BM_INPUT_OVER:
         printf("over %s", endings[event->flags]);
         break;
+    case BM_BROKEN:
+        printf("broken %llu ", (unsigned long long)event->number);
+        if (event->flags == BM_INVALID)
+            printf("invalid %llu %lld ", (unsigned long long)event->key, (long long)event->code);
+        else
+            printf("unreadable ");
+        put_hex(text, event->text_len);
+        break;
     }
     putchar('\n');
 }
@@ -219,25 +227,41 @@ static uint32_t one_of(const char *it, const char *const *names, uint32_t count)
     return 0;
 }
 
+/* By bm_open; where bm_new has the settings too, half of the connections are made by that one. */
+static int32_t made(const bm_options *options)
+{
+    if (options->broken || options->cancels == BM_CANCELS_MCP || options->calls % 2)
+        return bm_open(options, &connection.at);
+    bm_settings settings = {.framing = options->framing,
+                            .order = options->order,
+                            .takes_cancels = options->cancels == BM_CANCELS_LSP,
+                            .content = options->content,
+                            .calls = options->calls};
+    return bm_new(&settings, &connection.at);
+}
+
 static void begin(char *line)
 {
     static const char *const framings[] = {"frames", "lines", "contents"};
     static const char *const orders[] = {"as-answered", "as-came"};
-    static const char *const cancels[] = {"no-cancels", "cancels"};
-    bm_settings settings;
-    settings.framing = one_of(word(&line), framings, 3);
-    settings.order = one_of(word(&line), orders, 2);
-    settings.takes_cancels = one_of(word(&line), cancels, 2);
+    static const char *const cancels[] = {"no-cancels", "cancels", "mcp"};
+    static const char *const telling[] = {"broken"};
+    bm_options options = {.size = sizeof options};
+    options.framing = one_of(word(&line), framings, 3);
+    options.order = one_of(word(&line), orders, 2);
+    options.cancels = one_of(word(&line), cancels, 3);
     uint64_t content = number(word(&line));
-    settings.calls = number(word(&line));
+    options.calls = number(word(&line));
+    if (line)
+        options.broken = 1 + one_of(word(&line), telling, 1);
     no_more(line);
     has_begun = true;
     if (has_connection)
         bm_free(connection);
     has_connection = false;
     /* a limit of 0 is the greatest here, and none in a script */
-    settings.content = content > UINT32_MAX ? UINT32_MAX : (uint32_t)content;
-    int32_t code = content && settings.calls ? bm_new(&settings, &connection.at) : BM_SETTINGS;
+    options.content = content > UINT32_MAX ? UINT32_MAX : (uint32_t)content;
+    int32_t code = content && options.calls ? made(&options) : BM_SETTINGS;
     has_connection = code == BM_OK;
     say(code);
 }
@@ -281,6 +305,27 @@ static size_t take_counted(uint8_t *room, size_t size, size_t waiting)
     if (code != BM_SMALL || !waiting || count != waiting)
         exit(6);
     return 0;
+}
+
+/* Something that the library promises and doesn't keep. */
+static void check(bool is_so, const char *what)
+{
+    if (!is_so) {
+        fprintf(stderr, "play_script: %s\n", what);
+        exit(6);
+    }
+}
+
+static void fault_place(void)
+{
+    const uint64_t untouched = 0xa5a5a5a5a5a5a5a5;
+    uint64_t place = untouched;
+    if (bm_fault_at(&connection, &place))
+        printf("place %llu\n", (unsigned long long)place);
+    else {
+        check(place == untouched, "a place was written where there is no fault");
+        puts("none");
+    }
 }
 
 static void counts(void)
@@ -367,6 +412,8 @@ static void play(char *line)
         printf("pending %zu\n", bm_pending(&connection));
     else if (!strcmp(action, "is_done"))
         puts(bm_is_done(&connection) ? "true" : "false");
+    else if (!strcmp(action, "fault_place"))
+        fault_place();
     else if (!strcmp(action, "report"))
         counts();
     else
@@ -376,15 +423,6 @@ static void play(char *line)
 }
 
 /* ---- several actions in one call */
-
-/* Something that the library promises and doesn't keep. */
-static void check(bool is_so, const char *what)
-{
-    if (!is_so) {
-        fprintf(stderr, "play_script: %s\n", what);
-        exit(6);
-    }
-}
 
 /* (so that NULL is passed too) */
 static uint8_t *null_if_empty(uint8_t *at, size_t length)
@@ -676,7 +714,7 @@ int main(int words, char **given)
 {
     bool together = words > 1 && !strcmp(given[1], "together");
     size_t count;
-    if (bm_interface() != BM_INTERFACE || !bm_has(BM_HAS_TOGETHER))
+    if (bm_interface() != BM_INTERFACE || !bm_has(BM_HAS_TOGETHER) || !bm_has(BM_HAS_OPEN))
         return 5;
     char **lines = read_lines(&count);
     for (size_t at = 0; at < count;) {

@@ -4,7 +4,7 @@ they should.
 A line is a crate, how many bodies it has, and the sum of all that their verdicts rest on: the logic, the scripts that
 judge, the bodies' files, and the sources of the crate and of those below it. The prover's verdict on the same text is
 the same, so a crate whose line holds needn't be tried again. A line is written as soon as its crate is done, so that a
-run that is interrupted keeps what it has."""
+run that is interrupted keeps what it has. Why it is kept so: docs/decisions/tests_and_releases.md#wrong-bodies."""
 import contextlib
 import fcntl
 import hashlib

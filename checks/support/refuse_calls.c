@@ -13,9 +13,11 @@
 void *__real_malloc(size_t);
 void *__real_realloc(void *, size_t);
 int32_t __real_bm_new(const bm_settings *, void **);
+int32_t __real_bm_open(const bm_options *, void **);
 void __real_bm_free(bm_connection);
 int32_t __real_bm_feed(bm_connection *, const uint8_t *, size_t);
 int32_t __real_bm_end(bm_connection *, uint32_t);
+bool __real_bm_fault_at(bm_connection *, uint64_t *);
 int32_t __real_bm_next(bm_connection *, bm_event *, uint8_t *, size_t);
 int32_t __real_bm_next_all(bm_connection *, uint8_t *, size_t, size_t *, uint32_t *);
 int32_t __real_bm_call(bm_connection *, uint64_t, const uint8_t *, size_t, const uint8_t *, size_t, uint64_t *);
@@ -144,20 +146,29 @@ static void refused_call(const char *line)
     }                                                                                                                  \
     return code
 
+/* Makes a connection, and makes it again where it is refused memory. */
+#define MADE(name, call)                                                                                               \
+    static char untouched;                                                                                             \
+    void *made = &untouched;                                                                                           \
+    int32_t code = INSIDE(true, call);                                                                                 \
+    if (code == BM_NO_MEMORY) {                                                                                        \
+        check(made == &untouched, name, "was refused memory, and has written something");                              \
+        refused_call(name "\n");                                                                                       \
+        code = INSIDE(false, call);                                                                                    \
+        check(code != BM_NO_MEMORY, name, "is still refused memory");                                                  \
+    }                                                                                                                  \
+    if (code == BM_OK)                                                                                                 \
+        *at = made;                                                                                                    \
+    return code
+
 int32_t __wrap_bm_new(const bm_settings *settings, void **at)
 {
-    static char untouched;
-    void *made = &untouched;
-    int32_t code = INSIDE(true, __real_bm_new(settings, &made));
-    if (code == BM_NO_MEMORY) {
-        check(made == &untouched, "bm_new", "was refused memory, and has written something");
-        refused_call("bm_new\n");
-        code = INSIDE(false, __real_bm_new(settings, &made));
-        check(code != BM_NO_MEMORY, "bm_new", "is still refused memory");
-    }
-    if (code == BM_OK)
-        *at = made;
-    return code;
+    MADE("bm_new", __real_bm_new(settings, &made));
+}
+
+int32_t __wrap_bm_open(const bm_options *options, void **at)
+{
+    MADE("bm_open", __real_bm_open(options, &made));
 }
 
 int32_t __wrap_bm_feed(bm_connection *connection, const uint8_t *bytes, size_t length)
@@ -394,6 +405,11 @@ size_t __wrap_bm_take(bm_connection *connection, uint8_t *room, size_t length)
 int32_t __wrap_bm_taken(bm_connection *connection, uint8_t *room, size_t length, size_t *count)
 {
     WITHOUT("bm_taken", int32_t, __real_bm_taken(connection, room, length, count));
+}
+
+bool __wrap_bm_fault_at(bm_connection *connection, uint64_t *offset)
+{
+    WITHOUT("bm_fault_at", bool, __real_bm_fault_at(connection, offset));
 }
 
 bool __wrap_bm_is_done(bm_connection *connection)

@@ -3,8 +3,8 @@ from typing import Any
 
 from support import connection_model as right
 from support import connection_reading as reading
-from support.connection_model import Call, Came, Model, Ours, Refused
-from support.connection_reading import ABSENT, Entry, Error, Frame, Number
+from support.connection_model import Broken, Call, Came, Model, Ours, Refused
+from support.connection_reading import ABSENT, Content, Entry, Error, Number
 
 
 class AnswersTwice(Model):
@@ -67,8 +67,8 @@ class NoArrayForOne(Model):
 class ArrayForNothing(Model):
     """A batch of notifications gets an empty array."""
 
-    def take_content(self, frame):
-        super().take_content(frame)
+    def take_content(self, content):
+        super().take_content(content)
         if self.units and self.units[-1].is_batch and not self.units[-1].answers:
             self.write("[]")
 
@@ -136,10 +136,10 @@ class CancelOfTheAnswered(Model):
 class CancelOfTheNext(Model):
     """A cancel in a batch reaches a request after it."""
 
-    def take_content(self, frame):
+    def take_content(self, content):
         events = len(self.events)
-        super().take_content(frame)
-        unit = reading.unit_of(frame, self.settings.takes_cancels)
+        super().take_content(content)
+        unit = reading.unit_of(content, self.settings.cancels)
         cancels = [it for it in unit.entries if it.kind == "cancel"]
         ignored = self.counts["ignored"]
         if not self.is_over and len(self.events) > events:
@@ -298,7 +298,7 @@ class WithdrawnTwice(Model):
     """A cancel withdraws what was withdrawn already."""
 
     def cancel(self, number):
-        if self.settings.takes_cancels and 1 <= number <= len(self.calls) and self.calls[number - 1].is_open:
+        if self.settings.cancels and 1 <= number <= len(self.calls) and self.calls[number - 1].is_open:
             for it in self.ours:
                 it.is_withdrawn = it.is_withdrawn and it.number != number
         super().cancel(number)
@@ -323,7 +323,7 @@ class WithdrawnWhereOff(Model):
 
     def cancel(self, number):
         settings = self.settings
-        self.settings = settings._replace(takes_cancels=True)
+        self.settings = settings._replace(cancels="lsp")
         try:
             super().cancel(number)
         finally:
@@ -342,18 +342,18 @@ class OverTooSoon(Model):
 class OneCallMore(Model):
     """The limit of calls is one too high."""
 
-    def take_content(self, frame):
+    def take_content(self, content):
         settings = self.settings
         self.settings = settings._replace(calls=settings.calls + 1)
-        super().take_content(frame)
+        super().take_content(content)
         self.settings = settings
 
 
 class PartOfABatch(Model):
     """At the limit of calls, what of a batch stands before it is taken."""
 
-    def take_content(self, frame):
-        unit = reading.unit_of(frame, self.settings.takes_cancels)
+    def take_content(self, content):
+        unit = reading.unit_of(content, self.settings.cancels)
         calls = [it for it in unit.entries if it.kind == "call"]
         if unit.kind == "batch" and len(self.calls) + len(calls) > self.settings.calls > len(self.calls):
             came = Came(True)
@@ -361,7 +361,7 @@ class PartOfABatch(Model):
             self.take_entry(calls[0], came)
             self.end_now("Full")
         else:
-            super().take_content(frame)
+            super().take_content(content)
 
 
 class FaultyIgnored(Model):
@@ -440,7 +440,7 @@ class LineAfterAFailure(Model):
             and self.input.end == "Read"
             and self.input.rest.strip()
         ):
-            self.input.waiting.append(Frame(self.input.rest, False, 0, 0))
+            self.input.waiting.append(Content(self.input.rest, False, self.input.place))
 
 
 class ReadsOn(Model):
@@ -493,8 +493,319 @@ class IgnoredUncounted(Model):
             self.counts["ignored"] -= entry.key > len(self.ours)
 
 
+# Cancels as MCP has them
+
+
+class LeftIsAnswered(Model):
+    """A request whose cancel came is answered Request cancelled, where cancels are MCP's too."""
+
+    def close(self, number, said):
+        super().close(number, right.CANCELLED if said is ABSENT else said)
+
+
+class LeftByItself(Model):
+    """With MCP's cancels a request that the host cancels has no answer, though no cancel came."""
+
+    def close(self, number, said):
+        super().close(number, ABSENT if said is right.CANCELLED and self.settings.cancels == "mcp" else said)
+
+
+class LeftAllTheSame(Model):
+    """A request whose cancel came has no answer, though the host answers it."""
+
+    def close(self, number, said):
+        is_left = self.calls[number - 1].is_cancelled and self.settings.cancels == "mcp"
+        super().close(number, ABSENT if is_left else said)
+
+
+class LeftWhereItIsLsp(Model):
+    """With LSP's cancels a cancelled request has no answer."""
+
+    def close(self, number, said):
+        is_left = self.calls[number - 1].is_cancelled and said is right.CANCELLED
+        super().close(number, ABSENT if is_left else said)
+
+
+class LeftOnceTold(Model):
+    """A request is left only where its host has been told of the cancel."""
+
+    def cancel(self, number):
+        is_told = right.Cancelled(number) in self.events[: self.told]
+        if self.settings.cancels == "mcp" and 1 <= number <= len(self.calls) and not is_told:
+            self.calls[number - 1].is_cancelled = False
+        super().cancel(number)
+
+
+class LeftIsCounted(Model):
+    """A request without an answer counts among the answers written."""
+
+    def close(self, number, said):
+        super().close(number, said)
+        self.counts["answers_written"] += said is ABSENT
+
+
+class LeftWithItsCalls(Model):
+    """A request that is left withdraws none of its calls."""
+
+    def cancel(self, number):
+        is_left = 1 <= number <= len(self.calls) and self.calls[number - 1].is_cancelled
+        if is_left and self.calls[number - 1].is_open and self.settings.cancels == "mcp":
+            self.close(number, ABSENT)
+        else:
+            super().cancel(number)
+
+
+class LeftHoldsBack(Model):
+    """As they came, the order doesn't go past a unit that has nothing to write."""
+
+    def write_answers(self):
+        order = self.settings.order
+        at = next((at for at, it in enumerate(self.units) if "" in it.answers and not it.text), len(self.units))
+        units, behind = self.units, self.units[at:] if order == "as-came" else []
+        self.units = units[: len(units) - len(behind)]
+        super().write_answers()
+        self.units = units
+
+
+class LeftLeavesAnArray(Model):
+    """A batch of which nothing is left is answered by an empty array."""
+
+    def close(self, number, said):
+        super().close(number, said)
+        unit = self.calls[number - 1].unit
+        if said is ABSENT and unit.is_batch and {*unit.answers} == {""}:
+            self.write("[]")
+
+
+class WithdrawnAndWaiting(Model):
+    """A call that was withdrawn by MCP's cancel waits on: its reply is told."""
+
+    def withdraw(self, key):
+        super().withdraw(key)
+        self.ours[key - 1].waits = True
+
+
+class LateReplyUncounted(Model):
+    """A late reply to a call that was withdrawn by MCP's cancel isn't counted as ignored."""
+
+    def take_entry(self, entry, came):
+        super().take_entry(entry, came)
+        is_late = entry.kind == "reply" and 1 <= entry.key <= len(self.ours) and self.ours[entry.key - 1].is_withdrawn
+        self.counts["ignored"] -= is_late and self.settings.cancels == "mcp"
+
+
+class WithdrawnByTheOtherName(Model):
+    """With MCP's cancels a withdrawal is written as LSP has it."""
+
+    def write(self, text):
+        old, new = '"notifications/cancelled","params":{"requestId":', '"$/cancelRequest","params":{"id":'
+        super().write(text.replace(old, new) if text.count('"method"') == 1 and "reason" not in text else text)
+
+
+class WithdrawnById(Model):
+    """With MCP's cancels a withdrawal names its call by `id`."""
+
+    def write(self, text):
+        super().write(text.replace('"params":{"requestId":', '"params":{"id":'))
+
+
+class BothCancels(Model):
+    """LSP's cancel is one in an MCP conversation too."""
+
+    def take_entry(self, entry, came):
+        target = reading.target_of(entry, "lsp") if entry.kind == "call" else ABSENT
+        is_other = self.settings.cancels == "mcp" and target is not ABSENT
+        super().take_entry(Entry("cancel", target) if is_other else entry, came)
+
+
+class McpByTheWay(Model):
+    """MCP's cancel is one in an LSP conversation too."""
+
+    def take_entry(self, entry, came):
+        target = reading.target_of(entry, "mcp") if entry.kind == "call" else ABSENT
+        is_other = self.settings.cancels == "lsp" and target is not ABSENT
+        super().take_entry(Entry("cancel", target) if is_other else entry, came)
+
+
+class MalformedCancels(Model):
+    """A malformed cancel by MCP's name isn't told."""
+
+    def take_entry(self, entry, came):
+        is_notice = entry.kind == "call" and not entry.is_request and entry.method == "notifications/cancelled"
+        is_malformed = is_notice and self.settings.cancels == "mcp" and entry.params is not None
+        super().take_entry(Entry("stray") if is_malformed else entry, came)
+
+
+# Broken contents that are told
+
+
+class TellsBroken(Model):
+    """A model that tells broken contents otherwise."""
+
+    def take_content(self, content):
+        events = len(self.events)
+        super().take_content(content)
+        self.events[events:] = self.told_of(content, self.events[events:])
+
+    def told_of(self, content, events):
+        return [self.broken(content, it) if isinstance(it, Broken) else it for it in events]
+
+    def broken(self, content, broken):
+        return broken
+
+
+class BrokenBehind(TellsBroken):
+    """What is broken is told behind the other events of its content."""
+
+    def told_of(self, content, events):
+        return sorted(events, key=lambda it: isinstance(it, Broken))
+
+
+class BrokenEach(TellsBroken):
+    """Each invalid entry is told."""
+
+    def told_of(self, content, events):
+        return [each for it in events for each in [it] * (it.count or 1 if isinstance(it, Broken) else 1)]
+
+
+class BrokenUnasked(Model):
+    """What is broken is told where it isn't asked for."""
+
+    def __init__(self, settings):
+        super().__init__(settings._replace(tells_broken=True))
+
+
+class BrokenEmptyArray(TellsBroken):
+    """An empty array isn't told."""
+
+    def told_of(self, content, events):
+        return [it for it in events if not (isinstance(it, Broken) and it.start.strip() == b"[]")]
+
+
+class BrokenOnlyUnreadable(TellsBroken):
+    """Invalid entries aren't told."""
+
+    def told_of(self, content, events):
+        return [it for it in events if not (isinstance(it, Broken) and it.count > 0)]
+
+
+class BrokenAtItsHead(TellsBroken):
+    """What is told of a frame is the place of its head."""
+
+    def broken(self, content, broken):
+        head = len(b"Content-Length: %d\r\n\r\n" % len(content.data))
+        return broken._replace(place=broken.place - head) if self.settings.framing == "frames" else broken
+
+
+class BrokenCountedByLine(TellsBroken):
+    """The places of lines count no blank lines."""
+
+    def __init__(self, settings):
+        super().__init__(settings)
+        take = self.input.take_content_of
+        self.blank = 0
+        self.input.take_content_of = lambda line: (self.pass_over(line), take(line))
+
+    def pass_over(self, line):
+        self.blank += len(line) + 1 if not line.strip() else 0
+
+    def broken(self, content, broken):
+        return broken._replace(place=broken.place - self.blank)
+
+
+class BrokenByTheLast(TellsBroken):
+    """The index is that of the last invalid entry."""
+
+    def broken(self, content, broken):
+        invalid = reading.unit_of(content, self.settings.cancels).invalid
+        return broken._replace(first=invalid[-1]) if invalid else broken
+
+
+class BrokenByAnswers(TellsBroken):
+    """The index counts only what is answered."""
+
+    def broken(self, content, broken):
+        entries = reading.unit_of(content, self.settings.cancels).entries[: broken.first]
+        return broken._replace(first=sum(it.is_request for it in entries))
+
+
+class BrokenStartTooLong(TellsBroken):
+    """A byte more of a long content is told."""
+
+    def broken(self, content, broken):
+        return broken._replace(start=content.data[: right.MOST_START + 1])
+
+
+class BrokenStartAsText(TellsBroken):
+    """Of the start only what is UTF-8 is told."""
+
+    def broken(self, content, broken):
+        return broken._replace(start=broken.start.decode("utf-8", errors="ignore").encode())
+
+
+class BrokenWhereFull(Model):
+    """What is broken is told of the content too that would bring too many calls."""
+
+    def end_now(self, how):
+        super().end_now(how)
+        if how == "Full" and self.settings.tells_broken and self.broken is not None:
+            self.events.insert(self.before, self.broken)
+
+    def take_content(self, content):
+        self.before = len(self.events)
+        self.broken = right.broken_of(reading.unit_of(content, self.settings.cancels), content)
+        super().take_content(content)
+
+
+# Where a fault lies
+
+
+class FaultWhereItIsSeen(Model):
+    """A fault lies where the input was at its end when it was seen."""
+
+    def __init__(self, settings):
+        super().__init__(settings)
+        fail = self.input.fail
+        self.input.fail = lambda fault: (fail(fault), self.move())
+
+    def move(self):
+        self.input.fault_place += len(self.input.rest)
+
+
+class FaultOfAFailedRead(Model):
+    """A read that failed inside a frame is a fault with a place."""
+
+    def end(self, how):
+        super().end(how)
+        if self.input.end == "Read" and self.input.rest:
+            self.input.fault_place = self.input.place
+
+
+class FaultOnceTold(Model):
+    """A fault has a place only once it is told."""
+
+    def fault_place(self):
+        return super().fault_place() if self.is_over else None
+
+
+class FaultOfTheClosed(Model):
+    """A frame in which the input was closed has no place."""
+
+    def fault_place(self):
+        return None if self.input.end == "Truncated" else super().fault_place()
+
+
+class FaultBehindTheEnd(Model):
+    """What is fed once the input is over may be at fault."""
+
+    def feed(self, piece):
+        if self.is_over and not self.input_ended:
+            self.input.feed(piece)
+        super().feed(piece)
+
+
 def is_wrong(kind: Any) -> bool:
-    return isinstance(kind, type) and issubclass(kind, Model) and kind is not Model
+    return isinstance(kind, type) and issubclass(kind, Model) and kind not in (Model, TellsBroken)
 
 
 WRONG: list[type[Model]] = [it for it in list(globals().values()) if is_wrong(it)]
