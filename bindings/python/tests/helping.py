@@ -36,6 +36,12 @@ needs_open = unittest.skipUnless(
     HAS_OPEN, "the library has no bm_open: no MCP's cancels, no broken input told"
 )
 
+#: What holds a bound on time. Where BULLMYRTLE_TEST_CLOCK is "no" it is left out, since whatever else the machine does
+#: adds to it: checks/test_python_clock.py runs it while nothing else runs.
+by_the_clock = unittest.skipIf(
+    os.environ.get("BULLMYRTLE_TEST_CLOCK") == "no", "it holds a bound on time, and runs apart"
+)
+
 
 class Older:
     """The library as it was before bm_open."""

@@ -6,7 +6,7 @@ import sys
 import time
 import unittest
 
-from helping import Case, environment, joined, logged, notice
+from helping import Case, by_the_clock, environment, joined, logged, notice
 
 from bullmyrtle import BadSettings, Client, Connection, Error, NotJson, Server, _json, events
 
@@ -203,6 +203,7 @@ assert before == after
                     check=True,
                 )
 
+    @by_the_clock
     def test_what_it_costs_is_at_most_about_quadratic(self):
         loads, dumps = _json.with_digits(10**6)
         times = []

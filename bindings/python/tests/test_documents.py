@@ -4,7 +4,7 @@ import re
 import time
 import unittest
 
-from helping import Case, logged
+from helping import Case, by_the_clock, logged
 
 from bullmyrtle import InvalidParams
 from bullmyrtle.lsp import Document
@@ -265,6 +265,7 @@ class Large(Case):
             document.change([it], version)
         return time.process_time() - start
 
+    @by_the_clock
     def test_many_changes(self):
         for name, text in self.TEXTS.items():
             with self.subTest(name):

@@ -13,6 +13,7 @@ import unittest
 from helping import (
     HAS_OPEN,
     Case,
+    by_the_clock,
     command,
     environment,
     frame,
@@ -618,6 +619,7 @@ class StandardErrors(Scripts):
         self.assertEqual(len(end.stderr), 4096)
         self.assertTrue(end.stderr.endswith(b"019998\n019999\n"))
 
+    @by_the_clock
     def test_nothing_is_left_behind(self):
         """Also where a child of the server has its standard error, and stays."""
         text = "import subprocess, sys\nnull = subprocess.DEVNULL\n"

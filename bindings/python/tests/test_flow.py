@@ -8,7 +8,7 @@ import time
 import unittest
 from unittest import mock
 
-from helping import HAS_OPEN, OVER, Case, joined, logged, notice, request
+from helping import HAS_OPEN, OVER, Case, by_the_clock, joined, logged, notice, request
 
 from bullmyrtle import LATER, Client, Closed, Error, NotJson, NotOpen, Server, Unanswered
 from bullmyrtle._channels import Descriptors
@@ -297,6 +297,7 @@ class Aside(Case):
 
         self.wait(main())
 
+    @by_the_clock
     def test_other_sessions_answer_in_time(self):
         """The longest that a session waits for an answer, while another one gets a content of 16 MB."""
 

@@ -6,7 +6,7 @@ import threading
 import time
 import unittest
 
-from helping import Case, frame, logged, messages, notice, request
+from helping import Case, by_the_clock, frame, logged, messages, notice, request
 
 from bullmyrtle import Server, _loop
 from bullmyrtle._channels import Channel, Descriptors
@@ -175,6 +175,7 @@ class Order(Piped):
 class Others(Piped):
     """What else the loop has to do is done."""
 
+    @by_the_clock
     def test_timers_and_threads_while_messages_come(self):
         server, ticks = Server(), []
         server.method("echo")(lambda params: params)
@@ -257,6 +258,7 @@ class Others(Piped):
 
         self.assertEqual(self.served(server, talk), (0, list(asked)))
 
+    @by_the_clock
     def test_a_timer_is_in_time_though_messages_never_end(self):
         server, ticks = Server(), []
         server.method("echo")(lambda params: params)
