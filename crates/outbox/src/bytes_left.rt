@@ -137,15 +137,10 @@ fn put_line(bytes: &mut Vec<u8>, text: &[u8]) -> Result<(), AllocError>
     ensures ok { OnOk result (bytes.new.items ≡ bytes.old.items ++ text.now ++ 10 ∷ []) }
     ensures err { OnErr result (bytes.new.items ≡ bytes.old.items) }
 {
-    let before = bytes.len();
-    // Room for both at once is just that, where a text without room for its LF would take twice as much.
+    // Room for both at once is just that, where a text without room for its LF would take twice as much. And so no text
+    // stays without its LF.
     bytes.reserve(text.len().saturating_add(1))?;
     bytes.extend_from_slice(text)?;
-    match bytes.push(b'\n') {
-        Ok(()) => Ok(()),
-        Err(_) => {
-            bytes.truncate(before);
-            Err(AllocError)
-        }
-    }
+    bytes.push(b'\n')?;
+    Ok(())
 }
