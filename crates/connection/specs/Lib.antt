@@ -1,3 +1,4 @@
+pub mod BackToBack
 pub mod Connections
 pub mod Conversations
 pub mod Inner

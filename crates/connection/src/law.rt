@@ -1,12 +1,27 @@
 //! What a connection has done, from the bytes that came to those that went out. Each law is the contract of a function that
 //! does nothing.
 
-ghost use Rattle.std.specs.Prelude.{List};
+ghost use Rattle.std.specs.Prelude.{◌≡◌, ◌≤◌, ℕ, List, map, take, Option};
 ghost use Rattle.connection_history.specs.declared.event.Event.{Event};
 ghost use Rattle.connection_history.specs.History.{History};
+ghost use Rattle.content_streams.specs.Streams.{contents_of, plain};
+ghost use Rattle.content_streams.specs.declared.ending.HowEnded.{HowEnded};
+ghost use Rattle.outbox.specs.Output.{full_count};
+ghost use Rattle.connection.specs.BackToBack.{text_of, messages_of, AllCanBeSaid, AreFirst, AllFit, IsEndedWhole, whole_count, AreJoined, Understands};
 ghost use Rattle.connection.specs.Connections.{Connection as Seen, IsDone, StandsAfter};
 ghost use Rattle.connection.specs.Conversations.{IsConversation, IsConversationCutShort};
 ghost use Rattle.connection.specs.Reports.{report_of};
+
+use connection_messages::{
+    a_batch_of_answers_reads_back, a_batch_of_calls_reads_back, a_call_reads_back,
+    a_notification_reads_back, a_withdrawal_reads_back, an_answer_reads_back,
+    each_text_is_one_line,
+};
+use content_streams::frames_are_those_of_the_bytes;
+use lsp_frames::{
+    contents_are_a_function_of_the_bytes, front_is_a_frame, front_shows_a_fault,
+    no_frame_extends_another, written_frame_is_read_back,
+};
 
 /// A connection that is done has had a whole conversation; any other has had one as far as it has come.
 pub fn a_connection_has_a_conversation()
@@ -19,3 +34,53 @@ pub fn a_connection_has_a_conversation()
         IsConversationCutShort connection.settings connection.stream history told connection.desk.out
         (report_of connection.settings.order history) }
 {}
+
+/// All that is written are the texts of the messages that were said, in their order. Their bytes, cut as the framing says,
+/// have just these texts as contents; a front of the bytes has those that are whole in it.
+pub fn contents_of_what_is_written_are_its_texts()
+    ensures texts { (connection : Seen) (history : History) (told : List Event) →
+        StandsAfter connection history told →
+        connection.desk.out.written ≡ map text_of (messages_of connection.settings.order history) }
+    ensures whole { (connection : Seen) (history : History) (told : List Event) (limit : ℕ)
+        (pieces : List (List ℕ)) (ended : Option HowEnded) →
+        StandsAfter connection history told → AllCanBeSaid connection.settings.cancels history →
+        AllFit limit connection.desk.out.written →
+        (n : ℕ) → full_count connection.settings.framing connection.desk.out.written ≤ n →
+        AreFirst connection.settings.framing n connection.desk.out.written pieces →
+        contents_of connection.settings.framing limit pieces ended
+        ≡ map plain connection.desk.out.written }
+    ensures front { (connection : Seen) (history : History) (told : List Event) (limit : ℕ)
+        (pieces : List (List ℕ)) (ended : Option HowEnded) →
+        StandsAfter connection history told → AllCanBeSaid connection.settings.cancels history →
+        AllFit limit connection.desk.out.written →
+        (n : ℕ) → IsEndedWhole connection.settings.framing n connection.desk.out.written ended →
+        AreFirst connection.settings.framing n connection.desk.out.written pieces →
+        contents_of connection.settings.framing limit pieces ended
+        ≡ map plain (take (whole_count connection.settings.framing n connection.desk.out.written)
+        connection.desk.out.written) }
+{
+    each_text_is_one_line();
+    front_is_a_frame();
+    front_shows_a_fault();
+    no_frame_extends_another();
+    written_frame_is_read_back();
+    contents_are_a_function_of_the_bytes();
+    frames_are_those_of_the_bytes();
+}
+
+/// Where what one connection wrote, or a front of it, is what another was fed, the units that came to the other are just the
+/// calls, batches, notifications, withdrawals and answers that the one said, in their order.
+pub fn two_connections_understand_each_other()
+    ensures { (n : ℕ) (writer reader : Seen) (said heard : History) (told other : List Event) →
+        StandsAfter writer said told → StandsAfter reader heard other →
+        AllCanBeSaid writer.settings.cancels said → AreJoined n writer reader →
+        Understands n writer reader said heard }
+{
+    a_call_reads_back();
+    a_batch_of_calls_reads_back();
+    a_notification_reads_back();
+    a_withdrawal_reads_back();
+    an_answer_reads_back();
+    a_batch_of_answers_reads_back();
+    contents_of_what_is_written_are_its_texts();
+}

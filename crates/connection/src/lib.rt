@@ -18,6 +18,9 @@ pub use connection_messages::{
     Answer, AnswerError, Call, Cancels, Outgoing, OutgoingParams, Reply, ReplyError,
 };
 pub use content_streams::{Framing, HowEnded};
-pub use law::a_connection_has_a_conversation;
+pub use law::{
+    a_connection_has_a_conversation, contents_of_what_is_written_are_its_texts,
+    two_connections_understand_each_other,
+};
 pub use report::Report;
 pub use settings::{MOST_CONTENT, Settings};
