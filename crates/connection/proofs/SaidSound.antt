@@ -9,6 +9,7 @@ use Rattle.message_ids.specs.declared.id.Id.{Id}
 use Rattle.connection_messages.specs.Envelope.{cancels_by}
 use Rattle.connection_messages.specs.ReadBack.{IsSayable, AreSayable, IsId, IsAnswer, AreAnswers}
 use Rattle.connection_messages.specs.declared.answer.Answer.{Answer}
+use Rattle.connection_messages.specs.declared.call.Call.{Call as Came}
 use Rattle.connection_messages.specs.declared.cancels.Cancels.{Cancels}
 use Rattle.connection_messages.specs.declared.cancels.Cancels.TheVariants.{Lsp, Mcp}
 use Rattle.connection_messages.specs.declared.entry.Entry.{Entry}
@@ -19,12 +20,12 @@ use Rattle.connection_messages.specs.declared.unit.Unit.TheVariants.{Unreadable,
 use Rattle.connection_history.specs.declared.order.Order.{Order}
 use Rattle.connection_history.specs.declared.refused.Refused.TheVariants.{NotOpen, NotWaiting, Over, Empty, Full}
 use Rattle.connection_history.specs.Stream.{entries_in, call_in, calls_in}
-use Rattle.connection_history.specs.History.{Happening, came, called, called_all, noticed, withdrew, answered, ended, History, or_else, units_of, is_open, is_over, callers, callers_at, key_count, caller_of, reply_to, is_given_up, is_waiting, is_withdrawn, answer_at, answer_to}
+use Rattle.connection_history.specs.History.{Happening, came, called, called_all, noticed, withdrew, answered, ended, History, or_else, units_of, units_at, is_open, is_over, callers, callers_at, key_count, caller_of, reply_to, is_given_up, is_waiting, is_withdrawn, answer_at, answer_to}
 use Rattle.connection_history.specs.Items.{answers_at}
 use Rattle.connection_history.specs.Refusals.{first_of, most_keys, same_cancels, has_cancels, call_refusal, refusal, IsLawful}
 use Rattle.connection_history.specs.Written.{places_in}
 use Rattle.connection.specs.BackToBack as back
-use Rattle.connection.specs.BackToBack.{Message, call, calls, notice, withdrawal, answer, answers, said_at, given_to, answer_in, answers_in, in_one, answer_of, answers_along, messages_at, messages_of, IsGiven, HasId, HaveIds, CanBeSaid, AllCanBeSaid}
+use Rattle.connection.specs.BackToBack.{Message, call, calls, notice, withdrawal, answer, answers, said_at, given_to, answer_in, answers_in, in_one, answer_of, answers_along, messages_at, messages_of, IsGiven, CanBeSaid, AllCanBeSaid}
 
 -- What the laws of texts ask for, where the reader has these cancels.
 abbrev pub IsSound : Option Cancels → Message → Type 0
@@ -139,6 +140,23 @@ said_sound cancels past (ended close) lawful can = tt
 
 -- ---- answers
 
+-- no id, or such as ids are
+abbrev pub HasId : Option Id → Type 0
+HasId None = ⊤
+HasId (Some id) = IsId id
+
+abbrev pub HaveIds : List Came → Type 0
+HaveIds [] = ⊤
+HaveIds (c ∷ cs) = HasId c.id × HaveIds cs
+
+abbrev pub UnitsHaveIds : List Unit → Type 0
+UnitsHaveIds [] = ⊤
+UnitsHaveIds (u ∷ us) = HaveIds (calls_in (entries_in u)) × UnitsHaveIds us
+
+units-first : (us more : List Unit) → UnitsHaveIds (us ++ more) → UnitsHaveIds us
+units-first [] more have = tt
+units-first (u ∷ us) more have = (have.0, units-first us more have.1)
+
 given_at : (cancels : Option Cancels) (n : ℕ) (h : Happening) (a : Option Answer) → CanBeSaid cancels h → answer_at n h ≡ Some a → IsGiven a
 given_at cancels n (came o u) a can is = absurd (cc)
 given_at cancels n (called m o) a can is = absurd (cc)
@@ -206,42 +224,24 @@ module _ (cancels : Option Cancels) (history : History) (can : AllCanBeSaid canc
   unit_sound n (Single e) have = each_sound (answer_in history n e) (entry_are n e have)
   unit_sound n (Batch es) have = one_sound (answers_in history n es) (all_are n es have)
 
-abbrev UnitsHaveIds : List Unit → Type 0
-UnitsHaveIds [] = ⊤
-UnitsHaveIds (u ∷ us) = HaveIds (calls_in (entries_in u)) × UnitsHaveIds us
-
-units-append : (us more : List Unit) → UnitsHaveIds us → UnitsHaveIds more → UnitsHaveIds (us ++ more)
-units-append [] more first second = second
-units-append (u ∷ us) more first second = (first.0, units-append us more first.1 second)
-
-units_have : (cancels : Option Cancels) (history : History) → AllCanBeSaid cancels history → UnitsHaveIds (units_of history)
-units_have cancels [] can = tt
-units_have cancels (came o u ∷ past) can = units-append (units_of past) (u ∷ []) (units_have cancels past can.1) (can.0, tt)
-units_have cancels (called n o ∷ past) can = units-append (units_of past) [] (units_have cancels past can.1) tt
-units_have cancels (called_all n os ∷ past) can = units-append (units_of past) [] (units_have cancels past can.1) tt
-units_have cancels (noticed o ∷ past) can = units-append (units_of past) [] (units_have cancels past can.1) tt
-units_have cancels (withdrew by k ∷ past) can = units-append (units_of past) [] (units_have cancels past can.1) tt
-units_have cancels (answered n a ∷ past) can = units-append (units_of past) [] (units_have cancels past can.1) tt
-units_have cancels (ended close ∷ past) can = units-append (units_of past) [] (units_have cancels past can.1) tt
-
 along_sound : (cancels : Option Cancels) (history : History) → AllCanBeSaid cancels history → (n : ℕ) (us : List Unit) (place : ℕ) → UnitsHaveIds us
     → AreSound cancels (get_or (answers_along history n us) place [])
 along_sound cancels history can n [] place have = tt
 along_sound cancels history can n (u ∷ us) zero have = unit_sound cancels history can n u have.0
 along_sound cancels history can n (u ∷ us) (suc place) have = along_sound cancels history can (n + length (calls_in (entries_in u))) us place have.1
 
-answer_sound : (cancels : Option Cancels) (history : History) (place : ℕ) → AllCanBeSaid cancels history → AreSound cancels (back.answer_at history place)
-answer_sound cancels history place can = along_sound cancels history can 1 (units_of history) place (units_have cancels history can)
+answer_sound : (cancels : Option Cancels) (history : History) (place : ℕ) → AllCanBeSaid cancels history → UnitsHaveIds (units_of history) → AreSound cancels (back.answer_at history place)
+answer_sound cancels history place can have = along_sound cancels history can 1 (units_of history) place have
 
-places_sound : (cancels : Option Cancels) (history : History) (places : List ℕ) → AllCanBeSaid cancels history → AreSound cancels (flat_map (back.answer_at history) places)
-places_sound cancels history [] can = tt
-places_sound cancels history (place ∷ places) can =
-    sound-append cancels (back.answer_at history place) (flat_map (back.answer_at history) places) (answer_sound cancels history place can) (places_sound cancels history places can)
+places_sound : (cancels : Option Cancels) (history : History) (places : List ℕ) → AllCanBeSaid cancels history → UnitsHaveIds (units_of history) → AreSound cancels (flat_map (back.answer_at history) places)
+places_sound cancels history [] can have = tt
+places_sound cancels history (place ∷ places) can have =
+    sound-append cancels (back.answer_at history place) (flat_map (back.answer_at history) places) (answer_sound cancels history place can have) (places_sound cancels history places can have)
 
--- all that is said can be read
-pub messages_sound : (cancels : Option Cancels) (order : Order) (history : History) → IsLawful cancels history → AllCanBeSaid cancels history → AreSound cancels (messages_of order history)
-messages_sound cancels order [] lawful can = tt
-messages_sound cancels order (h ∷ past) lawful can =
-    sound-append cancels (messages_of order past) (messages_at order past h) (messages_sound cancels order past lawful.1 can.1)
+-- all that is said can be read, where the ids that came are such as ids are
+pub messages_sound : (cancels : Option Cancels) (order : Order) (history : History) → IsLawful cancels history → AllCanBeSaid cancels history → UnitsHaveIds (units_of history) → AreSound cancels (messages_of order history)
+messages_sound cancels order [] lawful can have = tt
+messages_sound cancels order (h ∷ past) lawful can have =
+    sound-append cancels (messages_of order past) (messages_at order past h) (messages_sound cancels order past lawful.1 can.1 (units-first (units_of past) (units_at h) have))
     (sound-append cancels (said_at past h) (flat_map (back.answer_at (h ∷ past)) (places_in (answers_at order past h))) (said_sound cancels past h lawful can.0)
-    (places_sound cancels (h ∷ past) (places_in (answers_at order past h)) can))
+    (places_sound cancels (h ∷ past) (places_in (answers_at order past h)) can have))

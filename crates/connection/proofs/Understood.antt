@@ -10,6 +10,7 @@ use Rattle.content_streams.specs.declared.ending.HowEnded.{HowEnded}
 use Rattle.outbox.specs.Output.{full_count}
 use Rattle.connection.specs.BackToBack.{Message, text_of, as_read, messages_of, AllCanBeSaid, AreFirst, AllFit, IsEndedWhole, whole_count, AreJoined, Understands}
 use Rattle.connection.specs.Connections.{Connection, StandsAfter, read, next_content}
+use Rattle.connection.proofs.ReadIds.{came_have_ids}
 use Rattle.connection.proofs.SaidSound.{AreSound, messages_sound}
 use Rattle.connection.proofs.SoundTexts.{ReadLaws, message_reads}
 use Rattle.connection.proofs.Written.{written_is}
@@ -46,7 +47,7 @@ module _ (laws : ReadLaws) (are : AreContents) (n : ℕ) (writer reader : Connec
   whole = whole_count writer.settings.framing n writer.desk.out.written
 
   sound : AreSound writer.settings.cancels messages
-  sound = messages_sound writer.settings.cancels writer.settings.order said speaks.lawful can
+  sound = messages_sound writer.settings.cancels writer.settings.order said speaks.lawful can (came_have_ids writer said told speaks)
 
   -- the reader's contents are the texts that came whole
   texts_came : contents reader.stream ≡ map plain (map text_of (take whole messages))

@@ -10,6 +10,7 @@ use Rattle.outbox.specs.Output.{full_count}
 use Rattle.connection.specs.BackToBack.{text_of, messages_of, AllCanBeSaid, AreFirst, whole_count, AllFit, IsEndedWhole}
 use Rattle.connection.specs.Connections.{Connection, StandsAfter}
 use Rattle.connection.proofs.AnswersSaid.{texts_are}
+use Rattle.connection.proofs.ReadIds.{came_have_ids}
 use Rattle.connection.proofs.SaidSound.{messages_sound}
 use Rattle.connection.proofs.SoundTexts.{LineLaws}
 use Rattle.connection.proofs.WrittenBytes.{AreWhole, messages_whole, limit_is, all_taken}
@@ -31,7 +32,7 @@ module _ (frames : FrameLaws) (lines : LineLaws) (c : Connection) (history : His
   texts_whole =
       let is = written_is c history told stands in
       subst (AreWhole limit) (sym is)
-      (messages_whole lines c.settings.cancels limit (messages_of c.settings.order history) (messages_sound c.settings.cancels c.settings.order history stands.lawful can) (subst (AllFit limit) is fit))
+      (messages_whole lines c.settings.cancels limit (messages_of c.settings.order history) (messages_sound c.settings.cancels c.settings.order history stands.lawful can (came_have_ids c history told stands)) (subst (AllFit limit) is fit))
 
   pub front_contents : IsEndedWhole c.settings.framing n c.desk.out.written ended → AreFirst c.settings.framing n c.desk.out.written pieces
       → contents_of c.settings.framing limit pieces ended ≡ map plain (take (whole_count c.settings.framing n c.desk.out.written) c.desk.out.written)

@@ -4,11 +4,10 @@ use Rattle.message_ids.specs.declared.id.Id.{Id}
 use Rattle.message_ids.specs.declared.id.Id.TheVariants.{Null, Unsigned}
 use Rattle.message_ids.specs.declared.standard.Standard.TheVariants.{ParseError, InvalidRequest}
 use Rattle.connection_messages.specs.Envelope.{cancels_by}
-use Rattle.connection_messages.specs.ReadBack.{IsSayable, AreSayable, IsId, IsAnswer, answer_texts, call_as_read, calls_as_read, notice_as_read, answer_as_read, answers_as_read}
+use Rattle.connection_messages.specs.ReadBack.{IsSayable, AreSayable, IsAnswer, answer_texts, call_as_read, calls_as_read, notice_as_read, answer_as_read, answers_as_read}
 use Rattle.connection_messages.specs.Texts.{call_text, calls_text, notice_text, withdrawal_text, answer_text, batch_text}
 use Rattle.connection_messages.specs.declared.answer.Answer.{Answer}
 use Rattle.connection_messages.specs.declared.answer.Answer.TheVariants.{Standard}
-use Rattle.connection_messages.specs.declared.call.Call.{Call as Came}
 use Rattle.connection_messages.specs.declared.cancels.Cancels.{Cancels}
 use Rattle.connection_messages.specs.declared.entry.Entry.{Entry}
 use Rattle.connection_messages.specs.declared.entry.Entry.TheVariants.{Call, Cancel, Reply, Stray, Invalid}
@@ -128,19 +127,10 @@ abbrev pub IsGiven : Option Answer → Type 0
 IsGiven None = ⊤
 IsGiven (Some a) = IsAnswer a
 
--- no id, or such as ids are
-abbrev pub HasId : Option Id → Type 0
-HasId None = ⊤
-HasId (Some id) = IsId id
-
-abbrev pub HaveIds : List Came → Type 0
-HaveIds [] = ⊤
-HaveIds (c ∷ cs) = HasId c.id × HaveIds cs
-
--- What is said is such as its types hold: names and messages are UTF-8, params, results and data are JSON texts, codes have 64
--- bits, and so with the ids that came. A notification hasn't the name of a cancel.
+-- What is said is such as its types hold: names and messages are UTF-8, params, results and data are JSON texts, and codes have
+-- 64 bits. A notification hasn't the name of a cancel.
 abbrev pub CanBeSaid : Option Cancels → Happening → Type 0
-CanBeSaid cancels (came o u) = HaveIds (calls_in (entries_in u))
+CanBeSaid cancels (came o u) = ⊤
 CanBeSaid cancels (called n o) = IsSayable o
 CanBeSaid cancels (called_all n os) = AreSayable os
 CanBeSaid cancels (noticed o) = IsSayable o × (cancels_by cancels o.method ≡ None)

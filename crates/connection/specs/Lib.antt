@@ -3,4 +3,5 @@ pub mod Connections
 pub mod Conversations
 pub mod Inner
 pub mod Reports
+pub mod Rules
 pub mod Settings

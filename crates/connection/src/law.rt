@@ -1,17 +1,24 @@
 //! What a connection has done, from the bytes that came to those that went out. Each law is the contract of a function that
 //! does nothing.
 
-ghost use Rattle.std.specs.Prelude.{◌≡◌, ◌≤◌, ℕ, List, map, take, Option};
+ghost use Rattle.std.specs.Prelude.{◌≡◌, ◌≤◌, ◌⊎◌, ℕ, List, map, take, Option, Some};
+ghost use Rattle.connection_messages.specs.ReadBack.{AreParams};
+ghost use Rattle.connection_messages.specs.declared.call.Call.{Call};
 ghost use Rattle.connection_history.specs.declared.event.Event.{Event};
-ghost use Rattle.connection_history.specs.History.{History};
+ghost use Rattle.connection_history.specs.History.{Happening, History, stream};
+ghost use Rattle.connection_history.specs.Stream.{call_numbered};
+ghost use Rattle.connection_history.specs.Refusals.{refusal};
+ghost use Rattle.connection_history.specs.declared.refused.Refused.{Refused};
 ghost use Rattle.content_streams.specs.Streams.{contents_of, plain};
 ghost use Rattle.content_streams.specs.declared.ending.HowEnded.{HowEnded};
 ghost use Rattle.outbox.specs.Output.{full_count};
 ghost use Rattle.connection.specs.BackToBack.{text_of, messages_of, AllCanBeSaid, AreFirst, AllFit, IsEndedWhole, whole_count, AreJoined, Understands};
-ghost use Rattle.connection.specs.Connections.{Connection as Seen, IsDone, StandsAfter};
+ghost use Rattle.connection.specs.Connections.{Connection as Seen, IsDone, IsRefusal, StandsAfter};
 ghost use Rattle.connection.specs.Conversations.{IsConversation, IsConversationCutShort};
 ghost use Rattle.connection.specs.Reports.{report_of};
+ghost use Rattle.connection.specs.Rules.{KeepsRules, IsExcused, IsDeep};
 
+use connection_history::what_the_rules_allow_is_not_refused;
 use connection_messages::{
     a_batch_of_answers_reads_back, a_batch_of_calls_reads_back, a_call_reads_back,
     a_notification_reads_back, a_withdrawal_reads_back, an_answer_reads_back,
@@ -83,4 +90,21 @@ pub fn two_connections_understand_each_other()
     an_answer_reads_back();
     a_batch_of_answers_reads_back();
     contents_of_what_is_written_are_its_texts();
+}
+
+/// A host that keeps the rules is refused only for memory, or by what it can't know yet: the end of the input, or a reply,
+/// that isn't told yet; and where there are no more keys. The params of a call that came can be said again, unless they nest
+/// deeper than what is said may.
+pub fn a_host_that_keeps_the_rules_is_refused_only_for_memory()
+    ensures refused { (connection : Seen) (history : History) (told : List Event) (happening : Happening)
+        (why : Refused) → StandsAfter connection history told →
+        KeepsRules connection.settings.cancels history told happening →
+        IsRefusal why (refusal connection.settings.cancels history happening) →
+        IsExcused history happening why }
+    ensures again { (connection : Seen) (history : History) (told : List Event) (number : ℕ) (call : Call)
+        (params : List ℕ) → StandsAfter connection history told →
+        call_numbered number (stream history) ≡ Some call → call.params ≡ Some params →
+        AreParams (Some params) ⊎ IsDeep params }
+{
+    what_the_rules_allow_is_not_refused();
 }

@@ -19,8 +19,8 @@ pub use connection_messages::{
 };
 pub use content_streams::{Framing, HowEnded};
 pub use law::{
-    a_connection_has_a_conversation, contents_of_what_is_written_are_its_texts,
-    two_connections_understand_each_other,
+    a_connection_has_a_conversation, a_host_that_keeps_the_rules_is_refused_only_for_memory,
+    contents_of_what_is_written_are_its_texts, two_connections_understand_each_other,
 };
 pub use report::Report;
 pub use settings::{MOST_CONTENT, Settings};
