@@ -8,7 +8,7 @@ ghost use Rattle.std.specs.Ptr.{room_at};
 ghost use base.Fml.{fex};
 ghost use Rattle.connection_history.specs.declared.event.Event.{Event};
 ghost use Rattle.connection_history.specs.History.{History};
-ghost use Rattle.connection.specs.Connections.{IsDone, StandsAfter};
+ghost use Rattle.connection.specs.Connections.{IsDone, StandsAfter, output};
 ghost use Rattle.connection.specs.Reports.{report_of};
 ghost use Rattle.bullmyrtle.specs.Counts.{as_c};
 ghost use Rattle.outbox.specs.Output.{given_of, next_of, after_take};
@@ -308,7 +308,7 @@ pub extern "C" fn bm_cancel(handle: &mut Handle, number: u64) -> i32
 /// How many bytes are to be written.
 #[unsafe(no_mangle)]
 pub extern "C" fn bm_pending(handle: &mut Handle) -> usize
-    ensures count { result ≡ length (next_of (value_of handle.old).connection.desk.out) }
+    ensures count { result ≡ length (next_of (output (value_of handle.old).connection)) }
     ensures same { value_of handle.new ≡ value_of handle.old }
 {
     handle.as_mut().connection.pending()
@@ -317,9 +317,9 @@ pub extern "C" fn bm_pending(handle: &mut Handle) -> usize
 /// Moves the first of the bytes that are to be written.
 #[unsafe(no_mangle)]
 pub extern "C" fn bm_take(handle: &mut Handle, room: &mut [u8]) -> usize
-    ensures count { result ≡ length (given_of (value_of handle.old).connection.desk.out (length room.old)) }
+    ensures count { result ≡ length (given_of (output (value_of handle.old).connection) (length room.old)) }
     ensures moved { room.new ≡
-        given_of (value_of handle.old).connection.desk.out (length room.old) ++ drop result room.old }
+        given_of (output (value_of handle.old).connection) (length room.old) ++ drop result room.old }
     ensures left { value_of handle.new ≡ taken (value_of handle.old) (length room.old) }
 {
     handle.as_mut().take(room)

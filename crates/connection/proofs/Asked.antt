@@ -19,7 +19,6 @@ use Rattle.connection_history.proofs.Streams.{length-calls_in-append}
 use Rattle.content_streams.specs.declared.ending.StreamEnd.{StreamEnd}
 use Rattle.content_streams.specs.Streams.{Stream, contents, placed_contents, next_content, next_placed, close_of as end_of_stream}
 use Rattle.content_streams.proofs.KeepingPlaces.{contents_alone}
-use Rattle.outbox.proofs.Left.{full_more}
 use Rattle.connection_states.specs.States.{State}
 use Rattle.connection_states.specs.Steps.{leaving, owed_with}
 use Rattle.connection_desk.specs.Desks.{Desk, after_unit, after_end, answer_texts}
@@ -28,7 +27,7 @@ use Rattle.connection.specs.Connections.{Connection, IsStreamOf, HasEnded, was_f
 use Rattle.connection.specs.Inner.{IsNext, HasMoved, HasStayed, HasGone}
 use Rattle.connection.proofs.Moves.{desk_came, desk_ended}
 use Rattle.connection.proofs.Fed.{over_is, unclosed, all_told}
-use Rattle.connection.proofs.Stands.{still}
+use Rattle.connection.proofs.Stands.{full_more, still}
 
 -- ---- the next content
 

@@ -24,7 +24,6 @@ use Rattle.open_calls.specs.declared.own_call.OwnCall.{OwnCall}
 use Rattle.open_calls.specs.declared.their_call.TheirCall.{TheirCall}
 use Rattle.open_calls.specs.Numbered.{at}
 use Rattle.open_calls.specs.Own.{without_caller}
-use Rattle.outbox.proofs.Left.{full_more}
 use Rattle.connection_states.specs.States.{State, own_call, own_of, theirs_of}
 use Rattle.connection_states.proofs.OwnFound.{withdrawable_found}
 use Rattle.connection_states.proofs.OwnPicked.{picked, picked-agree, filter-picked}
@@ -34,7 +33,7 @@ use Rattle.connection_desk.specs.Desks.{Desk, answer_refused, wanted_keys, may_l
 use Rattle.connection.specs.Settings.{Chosen}
 use Rattle.connection.specs.Connections.{Connection, IsDeskOf, StandsAfter}
 use Rattle.connection.proofs.Moves.{desk_withdrew, desk_answered}
-use Rattle.connection.proofs.Stands.{closed_is, no_more, ended_still}
+use Rattle.connection.proofs.Stands.{full_more, closed_is, no_more, ended_still}
 
 abbrev cancel : Answer
 cancel = Standard Cancelled

@@ -53,7 +53,7 @@ message_reads laws cancels (answer id a) sound = laws.answer_reads cancels id a 
 message_reads laws cancels (answers []) sound = absurd sound
 message_reads laws cancels (answers (a ∷ more)) sound = laws.answers_read cancels a more sound
 
-message_line : LineLaws → (cancels : Option Cancels) (m : Message) → IsSound cancels m → IsLine (text_of m)
+pub message_line : LineLaws → (cancels : Option Cancels) (m : Message) → IsSound cancels m → IsLine (text_of m)
 message_line laws cancels (call key o) sound = laws.call_line key o sound.0 sound.1
 message_line laws cancels (calls key []) sound = absurd sound
 message_line laws cancels (calls key (o ∷ os)) sound = laws.calls_line key (o ∷ os) sound.0 sound.1

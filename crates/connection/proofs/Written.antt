@@ -1,5 +1,6 @@
 -- The contents of what a connection has written.
-use Rattle.std.proofs.Common.{◌≡◌, ℕ, ◌≤◌, List, map, take, Option, inr, sym, ap, ◌∙◌, subst}
+use Rattle.std.proofs.Common.{◌≡◌, ℕ, ◌≤◌, List, [], ◌∷◌, map, take, Option, inr, sym, ap, ◌∙◌, subst}
+use Rattle.connection_messages.specs.declared.cancels.Cancels.{Cancels}
 use Rattle.connection_history.specs.declared.event.Event.{Event}
 use Rattle.connection_history.specs.History.{History}
 use Rattle.content_streams.specs.Streams.{plain, contents_of}
@@ -7,12 +8,12 @@ use Rattle.content_streams.specs.declared.ending.HowEnded.{HowEnded}
 use Rattle.content_streams.specs.declared.framing.Framing.{Framing}
 use Rattle.content_streams.specs.declared.framing.Framing.TheVariants.{Frames, Lines, Contents}
 use Rattle.outbox.specs.Output.{full_count}
-use Rattle.connection.specs.BackToBack.{text_of, messages_of, AllCanBeSaid, AreFirst, whole_count, AllFit, IsEndedWhole}
+use Rattle.connection.specs.BackToBack.{Message, AreLines, text_of, messages_of, AllCanBeSaid, AreFirst, whole_count, AllFit, IsEndedWhole}
 use Rattle.connection.specs.Connections.{Connection, StandsAfter}
 use Rattle.connection.proofs.AnswersSaid.{texts_are}
 use Rattle.connection.proofs.ReadIds.{came_have_ids}
-use Rattle.connection.proofs.SaidSound.{messages_sound}
-use Rattle.connection.proofs.SoundTexts.{LineLaws}
+use Rattle.connection.proofs.SaidSound.{AreSound, messages_sound}
+use Rattle.connection.proofs.SoundTexts.{LineLaws, message_line}
 use Rattle.connection.proofs.WrittenBytes.{AreWhole, messages_whole, limit_is, all_taken}
 use Rattle.connection.proofs.WrittenFrames.{FrameLaws, frames_are_texts}
 use Rattle.connection.proofs.WrittenLines.{lines_are_texts, contents_are_texts}
@@ -40,3 +41,12 @@ module _ (frames : FrameLaws) (lines : LineLaws) (c : Connection) (history : His
 
   pub whole_contents : full_count c.settings.framing c.desk.out.written ≤ n → AreFirst c.settings.framing n c.desk.out.written pieces → contents_of c.settings.framing limit pieces ended ≡ map plain c.desk.out.written
   whole_contents all fed = front_contents (inr all) fed ∙ ap (map plain) (all_taken c.settings.framing n c.desk.out.written all)
+
+messages_are_lines : LineLaws → (cancels : Option Cancels) (ms : List Message) → AreSound cancels ms → AreLines (map text_of ms)
+messages_are_lines lines cancels [] sound = tt
+messages_are_lines lines cancels (m ∷ ms) sound = (message_line lines cancels m sound.0, messages_are_lines lines cancels ms sound.1)
+
+pub written_are_lines : LineLaws → (c : Connection) (history : History) (told : List Event) → StandsAfter c history told → AllCanBeSaid c.settings.cancels history → AreLines c.desk.out.written
+written_are_lines lines c history told stands can =
+    subst AreLines (sym (written_is c history told stands))
+    (messages_are_lines lines c.settings.cancels (messages_of c.settings.order history) (messages_sound c.settings.cancels c.settings.order history stands.lawful can (came_have_ids c history told stands)))

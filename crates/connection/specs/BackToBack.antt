@@ -4,7 +4,7 @@ use Rattle.message_ids.specs.declared.id.Id.{Id}
 use Rattle.message_ids.specs.declared.id.Id.TheVariants.{Null, Unsigned}
 use Rattle.message_ids.specs.declared.standard.Standard.TheVariants.{ParseError, InvalidRequest}
 use Rattle.connection_messages.specs.Envelope.{cancels_by}
-use Rattle.connection_messages.specs.ReadBack.{IsSayable, AreSayable, IsAnswer, answer_texts, call_as_read, calls_as_read, notice_as_read, answer_as_read, answers_as_read}
+use Rattle.connection_messages.specs.ReadBack.{IsSayable, AreSayable, IsAnswer, IsLine, answer_texts, call_as_read, calls_as_read, notice_as_read, answer_as_read, answers_as_read}
 use Rattle.connection_messages.specs.Texts.{call_text, calls_text, notice_text, withdrawal_text, answer_text, batch_text}
 use Rattle.connection_messages.specs.declared.answer.Answer.{Answer}
 use Rattle.connection_messages.specs.declared.answer.Answer.TheVariants.{Standard}
@@ -26,7 +26,7 @@ use Rattle.content_streams.specs.declared.ending.HowEnded.{HowEnded}
 use Rattle.content_streams.specs.declared.ending.HowEnded.TheVariants.{Closed}
 use Rattle.lsp_frames.specs.declared.limits.TheConstants.{LARGEST_CONTENT}
 use Rattle.outbox.specs.Output.{framed, bytes_of_texts, full_count}
-use Rattle.connection.specs.Connections.{Connection, next_content}
+use Rattle.connection.specs.Connections.{Connection, next_content, output}
 
 -- ---- messages
 
@@ -142,6 +142,11 @@ abbrev pub AllCanBeSaid : Option Cancels → History → Type 0
 AllCanBeSaid cancels [] = ⊤
 AllCanBeSaid cancels (h ∷ past) = CanBeSaid cancels h × AllCanBeSaid cancels past
 
+-- no text has a line feed
+abbrev pub AreLines : List (List ℕ) → Type 0
+AreLines [] = ⊤
+AreLines (text ∷ texts) = IsLine text × AreLines texts
+
 -- ---- what of it has come
 
 -- The pieces are the first n bytes of the texts as they are written, however cut. In Contents they are the first n texts.
@@ -173,15 +178,15 @@ IsEndedWhole framing n texts how = (how ≢ Some Closed) ⊎ (full_count framing
 pub record AreJoined (n : ℕ) (writer reader : Connection) : Type 0 where
   pub framing : reader.settings.framing ≡ writer.settings.framing
   pub cancels : reader.settings.cancels ≡ writer.settings.cancels
-  pub fed : AreFirst writer.settings.framing n writer.desk.out.written reader.stream.pieces
-  pub fits : AllFit reader.settings.content writer.desk.out.written
-  pub ended : IsEndedWhole writer.settings.framing n writer.desk.out.written reader.stream.ended
+  pub fed : AreFirst writer.settings.framing n (output writer).written reader.stream.pieces
+  pub fits : AllFit reader.settings.content (output writer).written
+  pub ended : IsEndedWhole writer.settings.framing n (output writer).written reader.stream.ended
 
 -- What came to the reader is what the writer said, in its order, each message once: the first ones; and once the reader has
 -- gone through its contents, those that have come whole, or all, where all bytes have come.
 pub record Understands (n : ℕ) (writer reader : Connection) (said heard : History) : Type 0 where
   pub first : units_of heard ≡ map as_read (take (length (units_of heard)) (messages_of writer.settings.order said))
   pub whole : next_content reader heard ≡ None
-      → units_of heard ≡ map as_read (take (whole_count writer.settings.framing n writer.desk.out.written) (messages_of writer.settings.order said))
-  pub all : next_content reader heard ≡ None → full_count writer.settings.framing writer.desk.out.written ≤ n
+      → units_of heard ≡ map as_read (take (whole_count writer.settings.framing n (output writer).written) (messages_of writer.settings.order said))
+  pub all : next_content reader heard ≡ None → full_count writer.settings.framing (output writer).written ≤ n
       → units_of heard ≡ map as_read (messages_of writer.settings.order said)

@@ -1,5 +1,5 @@
 -- A connection, and what holds of it after a history: what came, what the host was told, and what is written.
-use Rattle.std.specs.Prelude.{◌≡◌, ◌≤◌, ◌<◌, ◌⊎◌, ℕ, ◌+◌, List, ◌∷◌, ◌++◌, Bool, true, false, map, length, take, slice_get, Option, Some, None}
+use Rattle.std.specs.Prelude.{◌≡◌, ◌≤◌, ◌<◌, ℕ, zero, suc, ◌+◌, List, ◌∷◌, ◌++◌, Bool, true, false, map, length, take, slice_get, Option, Some, None, option_map, is_some, if◌then◌else◌}
 use Rattle.lsp_frames.specs.declared.frame.Frame.{Frame}
 use Rattle.connection_messages.specs.Reading.{unit_of}
 use Rattle.connection_messages.specs.declared.cancels.Cancels.{Cancels}
@@ -7,10 +7,8 @@ use Rattle.connection_messages.specs.declared.unit.Unit.{Unit}
 use Rattle.connection_history.specs.declared.close.Close.{Close}
 use Rattle.connection_history.specs.declared.close.Close.TheVariants as close
 use Rattle.connection_history.specs.declared.event.Event.{Event}
-use Rattle.connection_history.specs.declared.refused.Refused.{Refused}
-use Rattle.connection_history.specs.declared.refused.Refused.TheVariants.{Memory}
-use Rattle.connection_history.specs.Stream.{entries_in, calls_in}
-use Rattle.connection_history.specs.History.{Origin, Happening, came, ended, History, units_of, origins_of, is_over, is_open, close_of as close_in}
+use Rattle.connection_history.specs.Stream.{entries_in, calls_in, request_id}
+use Rattle.connection_history.specs.History.{Origin, Happening, came, ended, History, stream as stream_of, units_of, origins_of, is_over, is_open, close_of as close_in}
 use Rattle.connection_history.specs.Refusals.{IsLawful}
 use Rattle.connection_history.specs.Events.{events_of, call_count}
 use Rattle.connection_history.specs.Items.{items_of, text_of}
@@ -18,10 +16,12 @@ use Rattle.content_streams.specs.declared.ending.StreamEnd.{StreamEnd}
 use Rattle.content_streams.specs.declared.ending.StreamEnd.TheVariants as stream
 use Rattle.content_streams.specs.Streams as streams
 use Rattle.content_streams.specs.Streams.{Stream}
-use Rattle.outbox.specs.Output.{full_count, IsAllTaken}
+use Rattle.open_calls.specs.Numbered.{at}
+use Rattle.outbox.specs.Output.{Output, full_count, IsAllTaken}
 use Rattle.connection_states.specs.States.{state_of}
 use Rattle.connection_states.specs.Tallies.{tally_of}
 use Rattle.connection_desk.specs.Desks.{Desk, capped_tally}
+pub use Rattle.connection_desk.specs.Desks.{IsRefusal}
 use Rattle.connection.specs.Settings.{Chosen}
 
 pub record Connection : Type 0 where
@@ -30,6 +30,22 @@ pub record Connection : Type 0 where
   pub stream : Stream
   -- what stands open, what the host hasn't been told yet, and what is written
   pub desk : Desk
+
+-- what is written, and how much of it was taken
+abbrev pub output : Connection → Output
+output c = c.desk.out
+
+abbrev pub with_output : Connection → Output → Connection
+with_output c o = record c { desk = record c.desk { out = o } }
+
+-- whether the open call with this number is a request; none where it isn't open
+abbrev pub asked : Connection → ℕ → Option Bool
+asked c n = option_map (λ call. is_some call.id) (at n c.desk.state.theirs.calls)
+
+-- the same by the history: the call came, isn't answered, and has an id or none
+abbrev pub asked_in : History → ℕ → Option Bool
+asked_in history zero = None
+asked_in history (suc n) = if is_open (suc n) history then Some (is_some (request_id (suc n) (stream_of history))) else None
 
 -- ---- what comes
 
@@ -118,7 +134,7 @@ pub record StandsAfter (c : Connection) (history : History) (told : List Event) 
   pub ended : (close : Close) → close_in history ≡ Some close → HasEnded c.settings c.stream history close
   pub desk : IsDeskOf c.settings history told c.desk
   -- no more was taken than is written
-  pub taken : c.desk.out.taken ≤ full_count c.desk.out.framing c.desk.out.written
+  pub taken : (output c).taken ≤ full_count (output c).framing (output c).written
 
 -- Nothing was fed between.
 pub record SamePieces (before now : Stream) : Type 0 where
@@ -164,12 +180,6 @@ pub record HasGoneOn (before now : Connection) (past : History) (told : List Eve
   pub steps : GoesOn before told past history
   pub stands : StandsAfter now history told
 
--- ---- refusals
-
--- A refusal is for memory, or the history's.
-abbrev pub IsRefusal : Refused → Option Refused → Type 0
-IsRefusal why refusal = (why ≡ Memory) ⊎ (refusal ≡ Some why)
-
 -- ---- done
 
 pub record IsDone (c : Connection) (history : History) (told : List Event) : Type 0 where
@@ -177,4 +187,4 @@ pub record IsDone (c : Connection) (history : History) (told : List Event) : Typ
   pub all_told : events_of history ≡ told
   -- no call is open
   pub answered : (number : ℕ) → 0 < number → is_open number history ≡ false
-  pub taken : IsAllTaken c.desk.out
+  pub taken : IsAllTaken (output c)

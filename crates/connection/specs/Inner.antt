@@ -7,7 +7,7 @@ use Rattle.connection_history.specs.History.{History}
 use Rattle.connection_history.specs.declared.broken.Broken.{Broken}
 use Rattle.connection_history.specs.Events.{broken_in, events_of}
 use Rattle.content_streams.specs.Streams as streams
-use Rattle.connection.specs.Connections.{Connection, contents, read, origin_of, StandsAfter, IsStill, HasStepped, HasGoneOn, SamePieces}
+use Rattle.connection.specs.Connections.{Connection, contents, read, origin_of, StandsAfter, IsStill, HasStepped, HasGoneOn, SamePieces, output}
 
 -- how often the connection can go on before more is fed: each content that wasn't taken, and the end
 abbrev pub left : Connection → ℕ
@@ -26,7 +26,7 @@ pub record HasMoved (before now : Connection) : Type 0 where
   pub fewer : left now < left before
   pub pieces : SamePieces before.stream now.stream
   pub settings : now.settings ≡ before.settings
-  pub taken : now.desk.out.taken ≡ before.desk.out.taken
+  pub taken : (output now).taken ≡ (output before).taken
 
 -- it can't go on
 pub record HasStayed (before now : Connection) : Type 0 where
@@ -38,4 +38,4 @@ pub record HasGone (before now : Connection) : Type 0 where
   pub gone : (history : History) (told : List Event) → StandsAfter before history told → HasGoneOn before now history told
   pub pieces : SamePieces before.stream now.stream
   pub settings : now.settings ≡ before.settings
-  pub taken : now.desk.out.taken ≡ before.desk.out.taken
+  pub taken : (output now).taken ≡ (output before).taken

@@ -15,7 +15,7 @@ use content_streams::StreamEnd;
 use std::alloc::AllocError;
 
 impl Connection {
-    ghost use Rattle.connection.specs.Connections.{GoesOn, IsStill, SamePieces, StandsAfter, HasGoneOn};
+    ghost use Rattle.connection.specs.Connections.{GoesOn, IsStill, SamePieces, StandsAfter, HasGoneOn, output};
     ghost use Rattle.connection.specs.Inner.{IsNext, HasMoved, HasStayed};
     ghost use Rattle.content_streams.specs.Streams.{next_content};
 
@@ -32,7 +32,7 @@ impl Connection {
             OnErr result (HasGoneOn self.old self.new history told) }
         ensures settings { self.new.settings ≡ self.old.settings }
         ensures pieces { SamePieces self.old.stream self.new.stream }
-        ensures taken { self.new.desk.out.taken ≡ self.old.desk.out.taken }
+        ensures taken { (output self.new).taken ≡ (output self.old).taken }
     {
         loop {
             if let Some(event) = self.next_untold() {
@@ -51,7 +51,7 @@ impl Connection {
         ensures none { result ≡ None → (self.new ≡ self.old) × (self.old.desk.untold ≡ []) }
         ensures settings { self.new.settings ≡ self.old.settings }
         ensures stream { self.new.stream ≡ self.old.stream }
-        ensures taken { self.new.desk.out.taken ≡ self.old.desk.out.taken }
+        ensures taken { (output self.new).taken ≡ (output self.old).taken }
     {
         self.desk.next_event()
     }

@@ -12,8 +12,8 @@ ghost use Rattle.connection_history.specs.declared.refused.Refused.{Refused};
 ghost use Rattle.content_streams.specs.Streams.{contents_of, plain};
 ghost use Rattle.content_streams.specs.declared.ending.HowEnded.{HowEnded};
 ghost use Rattle.outbox.specs.Output.{full_count};
-ghost use Rattle.connection.specs.BackToBack.{text_of, messages_of, AllCanBeSaid, AreFirst, AllFit, IsEndedWhole, whole_count, AreJoined, Understands};
-ghost use Rattle.connection.specs.Connections.{Connection as Seen, IsDone, IsRefusal, StandsAfter};
+ghost use Rattle.connection.specs.BackToBack.{AreLines, text_of, messages_of, AllCanBeSaid, AreFirst, AllFit, IsEndedWhole, whole_count, AreJoined, Understands};
+ghost use Rattle.connection.specs.Connections.{Connection as Seen, IsDone, IsRefusal, StandsAfter, output};
 ghost use Rattle.connection.specs.Conversations.{IsConversation, IsConversationCutShort};
 ghost use Rattle.connection.specs.Reports.{report_of};
 ghost use Rattle.connection.specs.Rules.{KeepsRules, IsExcused, IsDeep};
@@ -34,37 +34,40 @@ use lsp_frames::{
 pub fn a_connection_has_a_conversation()
     ensures whole { (connection : Seen) (history : History) (told : List Event) →
         StandsAfter connection history told → IsDone connection history told →
-        IsConversation connection.settings connection.stream history told connection.desk.out
+        IsConversation connection.settings connection.stream history told (output connection)
         (report_of connection.settings.order history) }
     ensures cut_short { (connection : Seen) (history : History) (told : List Event) →
         StandsAfter connection history told →
-        IsConversationCutShort connection.settings connection.stream history told connection.desk.out
+        IsConversationCutShort connection.settings connection.stream history told (output connection)
         (report_of connection.settings.order history) }
 {}
 
-/// All that is written are the texts of the messages that were said, in their order. Their bytes, cut as the framing says,
-/// have just these texts as contents; a front of the bytes has those that are whole in it.
+/// All that is written are the texts of the messages that were said, in their order. None has a line feed. Their bytes, cut
+/// as the framing says, have just these texts as contents; a front of the bytes has those that are whole in it.
 pub fn contents_of_what_is_written_are_its_texts()
     ensures texts { (connection : Seen) (history : History) (told : List Event) →
         StandsAfter connection history told →
-        connection.desk.out.written ≡ map text_of (messages_of connection.settings.order history) }
+        (output connection).written ≡ map text_of (messages_of connection.settings.order history) }
+    ensures lines { (connection : Seen) (history : History) (told : List Event) →
+        StandsAfter connection history told → AllCanBeSaid connection.settings.cancels history →
+        AreLines (output connection).written }
     ensures whole { (connection : Seen) (history : History) (told : List Event) (limit : ℕ)
         (pieces : List (List ℕ)) (ended : Option HowEnded) →
         StandsAfter connection history told → AllCanBeSaid connection.settings.cancels history →
-        AllFit limit connection.desk.out.written →
-        (n : ℕ) → full_count connection.settings.framing connection.desk.out.written ≤ n →
-        AreFirst connection.settings.framing n connection.desk.out.written pieces →
+        AllFit limit (output connection).written →
+        (n : ℕ) → full_count connection.settings.framing (output connection).written ≤ n →
+        AreFirst connection.settings.framing n (output connection).written pieces →
         contents_of connection.settings.framing limit pieces ended
-        ≡ map plain connection.desk.out.written }
+        ≡ map plain (output connection).written }
     ensures front { (connection : Seen) (history : History) (told : List Event) (limit : ℕ)
         (pieces : List (List ℕ)) (ended : Option HowEnded) →
         StandsAfter connection history told → AllCanBeSaid connection.settings.cancels history →
-        AllFit limit connection.desk.out.written →
-        (n : ℕ) → IsEndedWhole connection.settings.framing n connection.desk.out.written ended →
-        AreFirst connection.settings.framing n connection.desk.out.written pieces →
+        AllFit limit (output connection).written →
+        (n : ℕ) → IsEndedWhole connection.settings.framing n (output connection).written ended →
+        AreFirst connection.settings.framing n (output connection).written pieces →
         contents_of connection.settings.framing limit pieces ended
-        ≡ map plain (take (whole_count connection.settings.framing n connection.desk.out.written)
-        connection.desk.out.written) }
+        ≡ map plain (take (whole_count connection.settings.framing n (output connection).written)
+        (output connection).written) }
 {
     each_text_is_one_line();
     front_is_a_frame();

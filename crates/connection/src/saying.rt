@@ -1,9 +1,8 @@
 //! What the host says.
 
-ghost use Rattle.std.specs.Prelude.{◌≡◌, ◌+◌, ◌∷◌, List, Some, None, is_some, option_map, IfOk, IfErr, OnOk, OnErr};
+ghost use Rattle.std.specs.Prelude.{◌≡◌, ◌+◌, ◌∷◌, List, Some, None, IfOk, IfErr, OnOk, OnErr};
 ghost use Rattle.connection_history.specs.declared.event.Event.{Event};
 ghost use Rattle.connection_history.specs.History.{History, called, called_all, noticed, withdrew, answered, key_count};
-ghost use Rattle.open_calls.specs.Numbered.{at};
 ghost use Rattle.connection_history.specs.Refusals.{refusal, after, by_of, cancel_answer, cancel_of};
 
 use crate::connection::Connection;
@@ -12,7 +11,7 @@ use connection_messages::{Answer, Outgoing};
 use std::alloc::AllocError;
 
 impl Connection {
-    ghost use Rattle.connection.specs.Connections.{IsRefusal, StandsAfter};
+    ghost use Rattle.connection.specs.Connections.{IsRefusal, StandsAfter, asked, asked_in, output};
 
     /// Calls the other side on behalf of the open call with this number, or of the host itself where it is 0, and answers
     /// the key of the call.
@@ -28,7 +27,7 @@ impl Connection {
             IsRefusal why (refusal self.old.settings.cancels history (called number outgoing.now)))) }
         ensures settings { self.new.settings ≡ self.old.settings }
         ensures stream { self.new.stream ≡ self.old.stream }
-        ensures taken { self.new.desk.out.taken ≡ self.old.desk.out.taken }
+        ensures taken { (output self.new).taken ≡ (output self.old).taken }
     {
         self.desk.call(number, outgoing)
     }
@@ -46,7 +45,7 @@ impl Connection {
             IsRefusal why (refusal self.old.settings.cancels history (called_all number outgoings.now)))) }
         ensures settings { self.new.settings ≡ self.old.settings }
         ensures stream { self.new.stream ≡ self.old.stream }
-        ensures taken { self.new.desk.out.taken ≡ self.old.desk.out.taken }
+        ensures taken { (output self.new).taken ≡ (output self.old).taken }
     {
         self.desk.call_batch(number, outgoings)
     }
@@ -58,7 +57,7 @@ impl Connection {
         ensures err { OnErr result (self.new ≡ self.old) }
         ensures settings { self.new.settings ≡ self.old.settings }
         ensures stream { self.new.stream ≡ self.old.stream }
-        ensures taken { self.new.desk.out.taken ≡ self.old.desk.out.taken }
+        ensures taken { (output self.new).taken ≡ (output self.old).taken }
     {
         self.desk.notify(outgoing)
     }
@@ -75,7 +74,7 @@ impl Connection {
             IsRefusal why (refusal self.old.settings.cancels history (withdrew (by_of self.old.settings.cancels) key)))) }
         ensures settings { self.new.settings ≡ self.old.settings }
         ensures stream { self.new.stream ≡ self.old.stream }
-        ensures taken { self.new.desk.out.taken ≡ self.old.desk.out.taken }
+        ensures taken { (output self.new).taken ≡ (output self.old).taken }
     {
         self.desk.withdraw(key)
     }
@@ -92,7 +91,7 @@ impl Connection {
             IsRefusal why (refusal self.old.settings.cancels history (answered number (Some answer.now))))) }
         ensures settings { self.new.settings ≡ self.old.settings }
         ensures stream { self.new.stream ≡ self.old.stream }
-        ensures taken { self.new.desk.out.taken ≡ self.old.desk.out.taken }
+        ensures taken { (output self.new).taken ≡ (output self.old).taken }
     {
         self.desk.answer(number, answer)
     }
@@ -109,14 +108,16 @@ impl Connection {
             IsRefusal why (refusal self.old.settings.cancels history (answered number (cancel_answer self.old.settings.cancels number history))))) }
         ensures settings { self.new.settings ≡ self.old.settings }
         ensures stream { self.new.stream ≡ self.old.stream }
-        ensures taken { self.new.desk.out.taken ≡ self.old.desk.out.taken }
+        ensures taken { (output self.new).taken ≡ (output self.old).taken }
     {
         self.desk.cancel(number)
     }
 
     /// Whether this call is a request, and so has an answer. There is none where it isn't open.
     pub fn is_request(&self, number: u64) -> Option<bool>
-        ensures { result ≡ option_map (λ call. is_some call.id) (at number self.now.desk.state.theirs.calls) }
+        ensures now { result ≡ asked self.now number }
+        ensures history { (history : History) (told : List Event) →
+            StandsAfter self.now history told → result ≡ asked_in history number }
     {
         self.desk.is_request(number)
     }

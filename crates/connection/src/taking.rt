@@ -8,11 +8,11 @@ use crate::connection::Connection;
 
 impl Connection {
     ghost use Rattle.outbox.specs.Output.{given_of, next_of, after_take};
-    ghost use Rattle.connection.specs.Connections.{IsDone, StandsAfter};
+    ghost use Rattle.connection.specs.Connections.{IsDone, StandsAfter, output, with_output};
 
     /// How many bytes are to be taken; in Contents the length of the next text, and 0 where there is none. Takes no memory.
     pub fn pending(&self) -> usize
-        ensures { result ≡ length (next_of self.now.desk.out) }
+        ensures { result ≡ length (next_of (output self.now)) }
     {
         self.desk.pending()
     }
@@ -20,12 +20,10 @@ impl Connection {
     /// Takes the next bytes, as many as there is room for; in Contents the next text, or nothing where it doesn't fit. They
     /// are put to the front of the room, and counted. Takes no memory.
     pub fn take(&mut self, room: &mut [u8]) -> usize
-        ensures count { result ≡ length (given_of self.old.desk.out (length room.old)) }
+        ensures count { result ≡ length (given_of (output self.old) (length room.old)) }
         ensures room { room.new ≡
-            given_of self.old.desk.out (length room.old) ++ drop result room.old }
-        ensures state { self.new ≡ record self.old {
-          desk = record self.old.desk { out = after_take (length room.old) self.old.desk.out };
-        } }
+            given_of (output self.old) (length room.old) ++ drop result room.old }
+        ensures state { self.new ≡ with_output self.old (after_take (length room.old) (output self.old)) }
         ensures stands { (history : History) (told : List Event) →
             StandsAfter self.old history told → StandsAfter self.new history told }
     {

@@ -10,7 +10,8 @@ use Rattle.event_rooms.specs.declared.shown.Shown.TheVariants.{To}
 use Rattle.event_rooms.specs.Shown.{IsShown}
 use Rattle.host_calls.specs.declared.asking.Packed.TheVariants.{Told}
 use Rattle.host_calls.specs.Retaining.{RetainsPieces}
-use Rattle.host_calls.specs.Outlets.{Tells, At, Fetched, Failed, Packs}
+use Rattle.host_calls.specs.Outlets.{Tells, At, Fetched, Failed}
+use Rattle.host_calls.specs.Inner.{Packs}
 
 abbrev pub Asked : Type 0
 Asked = Result (Option Event) AllocError

@@ -1,4 +1,5 @@
 pub mod AtHand
 pub mod Cutting
+pub mod HandedOver
 pub mod PackedSoFar
 pub mod SaidSoFar

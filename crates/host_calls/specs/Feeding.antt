@@ -5,7 +5,7 @@ use Rattle.connection_history.specs.declared.refused.Refused.TheVariants.{Over}
 use Rattle.connection_history.specs.declared.refused.Refused.TheVariants as refused
 use Rattle.content_streams.specs.Streams.{capped, fault_place}
 use Rattle.outbox.specs.Output.{after_take, given_of, next_of}
-use Rattle.connection.specs.Connections.{Connection}
+use Rattle.connection.specs.Connections.{Connection, output, with_output}
 use Rattle.host_calls.specs.declared.code.Why.TheVariants.{Refused}
 use Rattle.host_calls.specs.declared.outlet.Outlet.{Outlet}
 use Rattle.host_calls.specs.declared.asking.Got.{Got}
@@ -26,19 +26,15 @@ HasFaultAt a old new at_fault = (at_fault ≡ is_some (fault_place a.connection.
 
 -- without what a room of so many bytes takes
 abbrev pub taken : Outlet → ℕ → Outlet
-taken a room = record a {
-  connection = record a.connection {
-    desk = record a.connection.desk { out = after_take room a.connection.desk.out };
-  };
-}
+taken a room = record a { connection = with_output a.connection (after_take room (output a.connection)) }
 
 -- From a to b and from the room r to s, so many bytes are taken: the first of those that are to be written.
 abbrev pub HasTaken : Outlet → Outlet → List ℕ → List ℕ → ℕ → Type 0
-HasTaken a b r s n = (n ≡ length (given_of a.connection.desk.out (length r))) × (s ≡ given_of a.connection.desk.out (length r) ++ drop n r) × (b ≡ taken a (length r))
+HasTaken a b r s n = (n ≡ length (given_of (output a.connection) (length r))) × (s ≡ given_of (output a.connection) (length r) ++ drop n r) × (b ≡ taken a (length r))
 
 -- how many bytes are to be written, in Contents those of the next text
 abbrev pub pending : Outlet → ℕ
-pending a = length (next_of a.connection.desk.out)
+pending a = length (next_of (output a.connection))
 
 -- So many are taken, and none only where none are to be written; or none fit, and so many are to be written.
 abbrev pub HasTakenSome : Outlet → Outlet → List ℕ → List ℕ → ℕ → Got → Type 0

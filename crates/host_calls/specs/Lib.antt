@@ -1,6 +1,7 @@
 pub mod Batches
 pub mod Codes
 pub mod Feeding
+pub mod Inner
 pub mod Outlets
 pub mod Passed
 pub mod Retaining

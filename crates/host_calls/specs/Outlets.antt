@@ -10,8 +10,6 @@ use Rattle.host_calls.specs.Retaining.{RetainsPieces}
 use Rattle.host_calls.specs.declared.outlet.Outlet.{Outlet}
 use Rattle.host_calls.specs.declared.asking.Got.{Got}
 use Rattle.host_calls.specs.declared.asking.Got.TheVariants.{Done, Memory, Small}
-use Rattle.host_calls.specs.declared.asking.Packed.{Packed}
-use Rattle.host_calls.specs.declared.asking.Packed.TheVariants as packed
 
 -- ---- asking
 
@@ -72,27 +70,56 @@ packs room end (e ∷ es) = packs (written room (aligned end) (bytes_of e)) (ali
 abbrev pub HasPacked : Outlet → List ℕ → Outlet → List ℕ → ℕ → ℕ → Type 0
 HasPacked a r b s end n = (es : List Event) × (length es ≡ n) × HandsAll a es b × ((s, end) ≡ packs r 0 es)
 
-abbrev pub Packs : Outlet → Outlet → List ℕ → List ℕ → ℕ → Packed → Type 0
-Packs a b r s used (packed.Told end) = (e : Event) × Hands a e b × (s ≡ written r (aligned used) (bytes_of e)) × (end ≡ aligned used + length (bytes_of e))
-Packs a b r s used packed.Nothing = Fetched a b × (b.next ≡ None) × (s ≡ r)
-Packs a b r s used packed.Refused = Kept a b × (s ≡ r)
-Packs a b r s used (packed.TooLong n) = Fetched a b × ((e : Event) × (b.next ≡ Some e) × (n ≡ needed e) × (length r < aligned used + length (bytes_of e))) × (s ≡ r)
-Packs a b r s used packed.Most = ⊥
+-- Why no more events are handed over.
+pub data Stop : Type 0 where
+  -- there is none
+  none_left : Stop
+  no_memory : Stop
+  -- the next one doesn't fit behind the others, and needs so much room by itself
+  no_room : ℕ → Stop
+  -- no more were asked for
+  enough : Stop
 
--- Behind n events, of which at most so many were asked for, no more is handed over: there is none, the next doesn't fit, memory was refused, or no more were asked for.
-abbrev pub Stops : Outlet → Outlet → List ℕ → List ℕ → ℕ → ℕ → ℕ → Packed → Type 0
-Stops a b r s end most n (packed.Told _) = ⊥
-Stops a b r s end most n packed.Nothing = (n < most) × Packs a b r s end packed.Nothing
-Stops a b r s end most n packed.Refused = (n < most) × Packs a b r s end packed.Refused
-Stops a b r s end most n (packed.TooLong m) = (n < most) × Packs a b r s end (packed.TooLong m)
-Stops a b r s end most n packed.Most = (n ≡ most) × (b ≡ a) × (s ≡ r)
+-- From a to b, behind n events that lie in the room r up to the end, it stops so. The room is s then.
+abbrev pub StopsAs : Outlet → Outlet → List ℕ → List ℕ → ℕ → ℕ → ℕ → Stop → Type 0
+StopsAs a b r s end most n none_left = (n < most) × Fetched a b × (b.next ≡ None) × (s ≡ r)
+StopsAs a b r s end most n no_memory = (n < most) × Kept a b × (s ≡ r)
+StopsAs a b r s end most n (no_room alone) =
+    (n < most) × Fetched a b × ((e : Event) × (b.next ≡ Some e) × (alone ≡ needed e) × (length r < aligned end + length (bytes_of e))) × (s ≡ r)
+StopsAs a b r s end most n enough = (n ≡ most) × (b ≡ a) × (s ≡ r)
 
--- the events that fitted were handed over, at most so many, and then it stopped so
-abbrev pub HasPackedAll : Outlet → Outlet → List ℕ → List ℕ → ℕ → Packed × ℕ × ℕ → Type 0
-HasPackedAll a b r s most (stopped, end, n) =
-    (m : Outlet) × (t : List ℕ) × HasPacked a r m t end n × Stops m b t s end most n stopped
+-- The events that fit were handed over, at most so many, and then it stopped.
+pub record HandsOver (a b : Outlet) (r s : List ℕ) (most : ℕ) (stop : Stop) (end count : ℕ) : Type 0 where
+  -- the outlet and the room behind the last one
+  pub behind : Outlet
+  pub room : List ℕ
+  pub handed : HasPacked a r behind room end count
+  pub stops : StopsAs behind b room s end most count stop
+
+-- Memory was refused before the first event, and nothing was handed over.
+pub record HandsNone (a b : Outlet) (r s : List ℕ) (used now_used count now_count : ℕ) : Type 0 where
+  pub kept : Kept a b
+  pub room : s ≡ r
+  pub same_use : now_used ≡ used
+  pub same_count : now_count ≡ count
+
+-- The first event doesn't fit the room, and waits. This is how much it needs.
+pub record IsTooLarge (a b : Outlet) (r s : List ℕ) (now_used now_count : ℕ) : Type 0 where
+  pub fetched : Fetched a b
+  pub event : Event
+  pub waits : b.next ≡ Some event
+  pub larger : length r < length (bytes_of event)
+  pub needs : now_used ≡ needed event
+  pub room : s ≡ r
+  pub none : now_count ≡ 0
+
+-- All that fit were handed over; none, only where there is none.
+pub record HandsWhatFits (a b : Outlet) (r s : List ℕ) (now_used now_count : ℕ) : Type 0 where
+  pub stop : Stop
+  pub hands : HandsOver a b r s 4294967295 stop now_used now_count
+  pub none : now_count ≡ 0 → stop ≡ none_left
 
 abbrev pub AskedAll : Outlet → Outlet → List ℕ → List ℕ → ℕ → ℕ → ℕ → ℕ → Got → Type 0
-AskedAll a b r s used used' count count' Memory = Kept a b × (s ≡ r) × (used' ≡ used) × (count' ≡ count)
-AskedAll a b r s used used' count count' Small = Fetched a b × ((e : Event) × (b.next ≡ Some e) × (length r < length (bytes_of e)) × (used' ≡ needed e)) × (s ≡ r) × (count' ≡ 0)
-AskedAll a b r s used used' count count' Done = (stopped : Packed) × HasPackedAll a b r s 4294967295 (stopped, used', count') × (count' ≡ 0 → stopped ≡ packed.Nothing)
+AskedAll a b r s used now_used count now_count Memory = HandsNone a b r s used now_used count now_count
+AskedAll a b r s used now_used count now_count Small = IsTooLarge a b r s now_used now_count
+AskedAll a b r s used now_used count now_count Done = HandsWhatFits a b r s now_used now_count

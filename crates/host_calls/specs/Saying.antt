@@ -1,5 +1,5 @@
 -- What the host says, and how it is answered.
-use Rattle.std.specs.Prelude.{◌≡◌, ◌≢◌, ◌⊎◌, ℕ, ℤ, ◌+◌, ◌==◌, List, [], ◌∷◌, Bool, true, false, Option, Some, None, Ok, Err, is_some, option_map, if◌then◌else◌}
+use Rattle.std.specs.Prelude.{◌≡◌, ◌≢◌, ◌⊎◌, ℕ, ℤ, ◌+◌, ◌==◌, List, [], ◌∷◌, true, false, Option, Some, None, Ok, Err, if◌then◌else◌}
 use Rattle.content_streams.specs.declared.ending.HowEnded.{HowEnded}
 use Rattle.content_streams.specs.declared.ending.HowEnded.TheVariants.{Closed, ReadFailed}
 use Rattle.connection_messages.specs.declared.answer.Answer.{Answer}
@@ -11,9 +11,8 @@ use Rattle.connection_history.specs.declared.refused.Refused.{Refused}
 use Rattle.connection_history.specs.declared.refused.Refused.TheVariants.{NotOpen, Over}
 use Rattle.connection_history.specs.History.{Happening, History, called, called_all, noticed, withdrew, answered, key_count}
 use Rattle.connection_history.specs.Refusals.{refusal, after, by_of, cancel_answer, cancel_of}
-use Rattle.open_calls.specs.Numbered.{at}
 use Rattle.connection_desk.specs.Desks.{has_call}
-use Rattle.connection.specs.Connections.{Connection, StandsAfter, IsRefusal}
+use Rattle.connection.specs.Connections.{Connection, StandsAfter, IsRefusal, asked}
 use Rattle.host_calls.specs.declared.code.Why.{Why}
 use Rattle.host_calls.specs.declared.code.Why.TheVariants.{Refused as By, Settings}
 use Rattle.host_calls.specs.declared.outlet.Outlet.{Outlet}
@@ -50,10 +49,6 @@ IsShut c n why = (has_call n c.desk.state ≡ false) × (why ≡ By NotOpen)
 abbrev pub IsOpen : Connection → ℕ → Type 0
 IsOpen c n = has_call n c.desk.state ≡ true
 
--- whether the open call is a request
-abbrev pub is_asked : Connection → ℕ → Option Bool
-is_asked c n = option_map (λ call. is_some call.id) (at n c.desk.state.theirs.calls)
-
 -- ---- the end
 
 abbrev pub how_of : ℕ → Option HowEnded
@@ -69,11 +64,27 @@ HasEnded a b n (Err why) = (b ≡ a) × EndRefused a n why
 
 -- ---- calls
 
+-- The call was made: it happened, under the next key, and the event that waits is the same.
+pub record IsMade (a b : Outlet) (n : ℕ) (method params : List ℕ) (its_key : ℕ) : Type 0 where
+  pub waits : b.next ≡ a.next
+  pub key : IsKey a.connection its_key
+  pub outgoing : Outgoing
+  pub read : IsOutgoing method params outgoing
+  pub happens : Happens a.connection b.connection (called n outgoing)
+
+-- why it isn't made: the number isn't open; or there is no such call; or the connection refuses it
+abbrev pub CallRefused : Connection → ℕ → List ℕ → List ℕ → Why → Type 0
+CallRefused c n method params why = IsShut c n why ⊎ (IsOpen c n × IsNoOutgoing method params why) ⊎ ((o : Outgoing) × IsOutgoing method params o × Refuses c (called n o) why)
+
+-- The call wasn't made, and nothing has changed.
+pub record IsntMade (a b : Outlet) (n : ℕ) (method params : List ℕ) (k its_key : ℕ) (why : Why) : Type 0 where
+  pub keeps : Keeps a b
+  pub key : its_key ≡ k
+  pub cause : CallRefused a.connection n method params why
+
 abbrev pub HasCalled : Outlet → Outlet → ℕ → List ℕ → List ℕ → ℕ → ℕ → Said → Type 0
-HasCalled a b n method params k key (Ok _) = (b.next ≡ a.next) × IsKey a.connection key ×
-    ((o : Outgoing) × IsOutgoing method params o × Happens a.connection b.connection (called n o))
-HasCalled a b n method params k key (Err why) = Keeps a b × (key ≡ k) ×
-    (IsShut a.connection n why ⊎ (IsOpen a.connection n × IsNoOutgoing method params why) ⊎ ((o : Outgoing) × IsOutgoing method params o × Refuses a.connection (called n o) why))
+HasCalled a b n method params k key (Ok _) = IsMade a b n method params key
+HasCalled a b n method params k key (Err why) = IsntMade a b n method params k key why
 
 -- why the calls of these methods and params aren't made
 abbrev pub CallsRefused : Connection → ℕ → List Part → Why → Type 0
@@ -105,15 +116,15 @@ HasWithdrawn a b key (Err why) = (b ≡ a) × Refuses a.connection (withdrew (by
 -- no bytes close a notification, and any answer does, since none is written
 abbrev pub IsAnswer : Connection → ℕ → List ℕ → Answer → Type 0
 IsAnswer c n bytes (Result text) = IsJson bytes text
-IsAnswer c n bytes (Standard it) = (bytes ≡ []) × (is_asked c n ≡ Some false)
+IsAnswer c n bytes (Standard it) = (bytes ≡ []) × (asked c n ≡ Some false)
 IsAnswer c n bytes (Error e) = ⊥
 
 abbrev pub IsntOpen : Connection → ℕ → Why → Type 0
-IsntOpen c n why = (is_asked c n ≡ None) × (why ≡ By NotOpen)
+IsntOpen c n why = (asked c n ≡ None) × (why ≡ By NotOpen)
 
 -- what is to be read: of a notification, no bytes aren't
 abbrev pub IsRead : Connection → ℕ → List ℕ → Type 0
-IsRead c n bytes = (is_asked c n ≡ Some true) ⊎ ((is_asked c n ≡ Some false) × (bytes ≢ []))
+IsRead c n bytes = (asked c n ≡ Some true) ⊎ ((asked c n ≡ Some false) × (bytes ≢ []))
 
 abbrev pub IsNoAnswer : Connection → ℕ → List ℕ → Why → Type 0
 IsNoAnswer c n bytes why = IsntOpen c n why ⊎ (IsRead c n bytes × IsntJson bytes why)
@@ -127,7 +138,7 @@ abbrev pub HasFailed : Outlet → Outlet → ℕ → ℤ → List ℕ → List �
 HasFailed a b n code message bytes (Ok _) = (b.next ≡ a.next) ×
     ((it : Answer) × IsFailure code message bytes it × Happens a.connection b.connection (answered n (Some it)))
 HasFailed a b n code message bytes (Err why) = Keeps a b ×
-    (IsntOpen a.connection n why ⊎ ((is_asked a.connection n ≢ None) × IsNoFailure message bytes why) ⊎ ((it : Answer) × IsFailure code message bytes it × Refuses a.connection (answered n (Some it)) why))
+    (IsntOpen a.connection n why ⊎ ((asked a.connection n ≢ None) × IsNoFailure message bytes why) ⊎ ((it : Answer) × IsFailure code message bytes it × Refuses a.connection (answered n (Some it)) why))
 
 -- why this call can't be cancelled after a history, where it can't
 abbrev pub cancel_refusal : Option Cancels → ℕ → History → Option Refused

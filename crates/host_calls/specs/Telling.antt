@@ -1,36 +1,37 @@
 -- What the host gets where it asks for so many events.
 use Rattle.std.specs.Prelude.{◌≡◌, ℕ, ◌==◌, List, Ok, Err, if◌then◌else◌}
 use Rattle.host_calls.specs.declared.outlet.Outlet.{Outlet}
-use Rattle.host_calls.specs.declared.asking.Packed.{Packed}
-use Rattle.host_calls.specs.declared.asking.Packed.TheVariants.{Told as ToldOne, Nothing, Refused, TooLong, Most}
 use Rattle.host_calls.specs.declared.telling.Told.{Told}
 use Rattle.host_calls.specs.Codes.{Said}
-use Rattle.host_calls.specs.Feeding.{HasFed, pending}
-use Rattle.host_calls.specs.Outlets.{HasPackedAll}
+use Rattle.host_calls.specs.Feeding as feeding
+use Rattle.host_calls.specs.Feeding.{HasFed}
+use Rattle.host_calls.specs.Outlets.{Stop, none_left, no_memory, no_room, enough, HandsOver}
 
 -- 0 is as many as there can be
 abbrev pub most_of : ℕ → ℕ
 most_of n = if n == 0 then 4294967295 else n
 
-abbrev pub stop_of : Packed → ℕ
-stop_of Nothing = 0
-stop_of (ToldOne end) = 0
-stop_of (TooLong n) = 1
-stop_of Most = 2
-stop_of Refused = 3
+-- why no more were told, as a number
+abbrev pub code_of : Stop → ℕ
+code_of none_left = 0
+code_of (no_room alone) = 1
+code_of enough = 2
+code_of no_memory = 3
 
 -- the room that the next event alone needs, where it doesn't fit
-abbrev pub needed_by : Packed → ℕ
-needed_by Nothing = 0
-needed_by (ToldOne end) = 0
-needed_by (TooLong n) = n
-needed_by Most = 0
-needed_by Refused = 0
+abbrev pub room_for : Stop → ℕ
+room_for none_left = 0
+room_for (no_room alone) = alone
+room_for enough = 0
+room_for no_memory = 0
 
 -- From a to b and from the room r to s, at most so many events are handed over, and this is told of it.
-abbrev pub HasTold : Outlet → Outlet → List ℕ → List ℕ → ℕ → Told → Type 0
-HasTold a b r s most it = (stopped : Packed) × HasPackedAll a b r s (most_of most) (stopped, it.used, it.count)
-    × (it.stopped ≡ stop_of stopped) × (it.needed ≡ needed_by stopped) × (it.pending ≡ pending b)
+pub record HasTold (a b : Outlet) (r s : List ℕ) (most : ℕ) (it : Told) : Type 0 where
+  pub stop : Stop
+  pub hands : HandsOver a b r s (most_of most) stop it.used it.count
+  pub stopped : it.stopped ≡ code_of stop
+  pub needed : it.needed ≡ room_for stop
+  pub pending : it.pending ≡ feeding.pending b
 
 -- The piece is fed, and then events are handed over; or it isn't fed, and nothing has changed.
 abbrev pub HasFedAndTold : Outlet → Outlet → List ℕ → List ℕ → List ℕ → ℕ → Told → Told → Said → Type 0

@@ -1,6 +1,7 @@
 //! The host asks for events.
 ghost use Rattle.std.specs.Prelude.{◌≡◌, None, IfOk, OnOk, OnErr};
-ghost use Rattle.host_calls.specs.Outlets.{Fetched, Failed, Asked, Packs, HasPackedAll, AskedAll};
+ghost use Rattle.host_calls.specs.Outlets.{Fetched, Failed, Asked, AskedAll};
+ghost use Rattle.host_calls.specs.Inner.{Packs, HasPackedAll};
 
 use crate::outlet::Outlet;
 use connection::Event;
@@ -19,7 +20,7 @@ pub enum Got {
 
 /// How it went to pack one event more.
 #[derive(Drop)]
-pub enum Packed {
+pub(crate) enum Packed {
     /// It lies in the room, up to here.
     Told(usize),
     Nothing,

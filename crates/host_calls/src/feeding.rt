@@ -3,7 +3,7 @@
 ghost use Rattle.std.specs.Prelude.{◌≡◌, ◌++◌, ◌↔◌, List, None, IsTrue, length, drop};
 ghost use Rattle.connection_history.specs.declared.event.Event.{Event};
 ghost use Rattle.connection_history.specs.History.{History};
-ghost use Rattle.connection.specs.Connections.{IsDone, StandsAfter};
+ghost use Rattle.connection.specs.Connections.{IsDone, StandsAfter, output};
 ghost use Rattle.outbox.specs.Output.{given_of};
 ghost use Rattle.host_calls.specs.Feeding.{HasFed, HasFaultAt, HasTakenSome, taken};
 
@@ -35,9 +35,9 @@ impl Outlet {
 
     /// Moves the first of the bytes that are to be written.
     pub fn take(&mut self, room: &mut [u8]) -> usize
-        ensures count { result ≡ length (given_of self.old.connection.desk.out (length room.old)) }
+        ensures count { result ≡ length (given_of (output self.old.connection) (length room.old)) }
         ensures moved { room.new ≡
-            given_of self.old.connection.desk.out (length room.old) ++ drop result room.old }
+            given_of (output self.old.connection) (length room.old) ++ drop result room.old }
         ensures left { self.new ≡ taken self.old (length room.old) }
     {
         self.connection.take(room)

@@ -13,7 +13,7 @@ mod sayings;
 mod telling;
 mod texts;
 
-pub use asking::{Got, Packed};
+pub use asking::Got;
 pub use code::{Why, code_of, code_of_got};
 pub use outlet::Outlet;
 pub use sayings::{AllSaid, Saying, SayingKind};

@@ -1,7 +1,8 @@
 //! The host feeds bytes and gets events, in one call.
 
 ghost use Rattle.std.specs.Prelude.{◌≡◌};
-ghost use Rattle.host_calls.specs.Telling.{most_of, stop_of, needed_by, HasTold, HasFedAndTold};
+ghost use Rattle.host_calls.specs.Telling.{most_of, code_of, room_for, HasTold, HasFedAndTold};
+ghost use Rattle.host_calls.specs.Inner.{stop_as};
 
 use crate::asking::Packed;
 use crate::code::Why;
@@ -12,7 +13,7 @@ use crate::outlet::Outlet;
 #[derive(Clone, Copy)]
 pub struct Told {
     pub count: u32,
-    /// Why no more: 0 where there is none, and else by `stop_of`.
+    /// Why no more: 0 where there is none, and else by `code_of`.
     pub stopped: u32,
     /// Where the last one ends in the room.
     pub used: usize,
@@ -62,7 +63,7 @@ fn most_of(most: u32) -> u32
 
 /// Why no more events were told, as a number.
 fn stop_of(stopped: &Packed) -> u32
-    ensures { result ≡ stop_of stopped.now }
+    ensures { result ≡ code_of (stop_as stopped.now) }
 {
     match stopped {
         Packed::Nothing | Packed::Told(_) => 0,
@@ -74,7 +75,7 @@ fn stop_of(stopped: &Packed) -> u32
 
 /// The room that the next event alone needs, where it didn't fit.
 fn needed_by(stopped: &Packed) -> usize
-    ensures { result ≡ needed_by stopped.now }
+    ensures { result ≡ room_for (stop_as stopped.now) }
 {
     match stopped {
         Packed::TooLong(size) => *size,

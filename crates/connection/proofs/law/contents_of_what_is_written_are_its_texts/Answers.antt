@@ -1,5 +1,5 @@
 use Rattle.connection.proofs.SoundTexts.{LineLaws}
-use Rattle.connection.proofs.Written.{written_is, front_contents, whole_contents}
+use Rattle.connection.proofs.Written.{written_is, written_are_lines, front_contents, whole_contents}
 use Rattle.connection.proofs.WrittenFrames.{FrameLaws}
 use Rattle.connection.proofs.law.contents_of_what_is_written_are_its_texts.Goals as goal
 
@@ -26,6 +26,9 @@ lines c = record {
 
 pub returns-clause-texts : goal.returns-clause-texts
 returns-clause-texts c = written_is
+
+pub returns-clause-lines : goal.returns-clause-lines
+returns-clause-lines c = written_are_lines (lines c)
 
 pub returns-clause-whole : goal.returns-clause-whole
 returns-clause-whole c = whole_contents (frames c) (lines c)

@@ -1,5 +1,5 @@
 -- The calls that were read are those that are made.
-use Rattle.std.proofs.Common.{List, refl, sym, ◌∙◌, subst}
+use Rattle.std.proofs.Common.{List, refl, sym, subst}
 use Rattle.connection_messages.specs.declared.outgoing.Outgoing.{Outgoing}
 use Rattle.host_calls.specs.Batches.{parts, AreOutgoings}
 use Rattle.host_calls.proofs.outlet.Outlet.call_parts.Goals as goal

@@ -1,8 +1,8 @@
 -- Each turn says one thing more, or passes over the call of a batch.
-use Rattle.std.proofs.Common.{◌≡◌, ◌<◌, ◌≤◌, ◌+◌, ◌-◌, ℕ, pos, List, length, take, drop, get_or, sym, ap, ◌∙◌, subst, arith}
+use Rattle.std.proofs.Common.{◌≡◌, ◌<◌, ◌+◌, ◌-◌, ℕ, pos, List, length, take, drop, get_or, sym, ap, ◌∙◌, subst, arith}
 use Rattle.std.proofs.lemmas.Grind.{common_steps}
 use Rattle.std.proofs.lemmas.List.{drop-set-lt}
-use Rattle.std.proofs.Math.ListN.{set, length-set}
+use Rattle.std.proofs.Math.ListN.{length-set}
 use Rattle.host_calls.specs.declared.sayings.Saying.{Saying}
 use Rattle.host_calls.specs.Sayings.{SaysOne}
 use Rattle.host_calls.proofs.SaidSoFar.{drop-more, refused-most, said-over, said-one, said-all}

@@ -1,11 +1,12 @@
 -- Where none was packed, the outlet is as it was, but for what it has fetched.
-use Rattle.std.proofs.Common.{◌≡◌, ◌+◌, ◌<◌, ℕ, List, length, subst, refl, arith}
+use Rattle.std.proofs.Common.{◌≡◌, ◌+◌, ◌<◌, ℕ, List, length, subst, refl, ap, arith}
 use Rattle.host_calls.specs.declared.outlet.Outlet.{Outlet}
 use Rattle.host_calls.specs.declared.asking.Packed.{Packed}
 use Rattle.host_calls.specs.declared.asking.Packed.TheVariants as packed
-use Rattle.host_calls.specs.Outlets.{Packs, Stops, HasPackedAll}
+use Rattle.host_calls.specs.Inner.{Packs, Stops, HasPackedAll, stop_as}
 use Rattle.event_rooms.specs.Events.{bytes_of}
 use Rattle.event_rooms.specs.Rooms.{aligned}
+use Rattle.host_calls.proofs.HandedOver.{handed}
 use Rattle.host_calls.proofs.PackedSoFar.{packed-zero}
 use Rattle.host_calls.proofs.outlet.Outlet.tell_all.Goals as goal
 
@@ -48,12 +49,13 @@ returns-in-TooLong c =
     let P : Packed → Type 0 = λ p. IsStop p × Packs a all.new.self r all.new.room 0 p in
     let it = subst P c.in-TooLong.is (at_once a all.new.self r all.new.room all.result.0 all.result.1 all.result.2 all.ensures c.if-packed-eq0.true) in
     let e = it.1.1 in
-    (it.1.0, (e.0, e.1, lower (length r) (length (bytes_of e.0)) e.3, e.2), it.1.2, refl)
+    record { fetched = it.1.0; event = e.0; waits = e.1; larger = lower (length r) (length (bytes_of e.0)) e.3; needs = e.2; room = it.1.2; none = refl }
 
 pub returns-in_default : goal.returns-in_default
 returns-in_default c =
-    let all = c.pack_all-stopped in let a = c.args.self.now in let r = c.args.room.now in (
-      all.result.0,
-      all.ensures,
-      λ z. the_nothing all.result.0 (at_once a all.new.self r all.new.room all.result.0 all.result.1 all.result.2 all.ensures z).0 c.in_default.not-Refused c.in_default.not-TooLong,
-    )
+    let all = c.pack_all-stopped in let a = c.args.self.now in let r = c.args.room.now in
+    record {
+      stop = stop_as all.result.0;
+      hands = handed a all.new.self r all.new.room 4294967295 all.result.0 all.result.1 all.result.2 all.ensures;
+      none = λ z. ap stop_as (the_nothing all.result.0 (at_once a all.new.self r all.new.room all.result.0 all.result.1 all.result.2 all.ensures z).0 c.in_default.not-Refused c.in_default.not-TooLong);
+    }
