@@ -1,3 +1,4 @@
+pub mod Ids
 pub mod Listed
 pub mod Numbered
 pub mod OwedLemmas
@@ -5,4 +6,5 @@ pub mod OwedTexts
 pub mod Own
 pub mod Pairs
 pub mod Rows
+pub mod StandIns
 pub mod Theirs

@@ -6,10 +6,10 @@ use Rattle.std.proofs.lemmas.Bool.{eqb-true, ltb-true, lt-ltb}
 use Rattle.std.specs.Option.{option_map}
 use Rattle.open_calls.specs.declared.own_call.OwnCall.{OwnCall}
 use Rattle.open_calls.specs.declared.keys_by_caller.KeysByCaller.{KeysByCaller}
-use Rattle.open_calls.specs.Numbered.{at, up_to, Above, Below, Ascending}
+use Rattle.number_windows.specs.Numbered.{at, up_to, Above, Below, Ascending}
 use Rattle.open_calls.specs.Own.{OwnState, is_wanted_by, next_wanted, new_call, new_calls}
 use Rattle.open_calls.specs.Inner.{has_key, passes, IsKeyIndex}
-use Rattle.open_calls.proofs.Numbered.{find_none, find_first, above_push, up_to_all, up_to_above}
+use Rattle.number_windows.proofs.Numbered.{find_none, find_first, above_push, up_to_all, up_to_above}
 
 abbrev pub state_of : ℕ → List (ℕ × OwnCall) → OwnState
 state_of made waiting = record { made = made; waiting = waiting }

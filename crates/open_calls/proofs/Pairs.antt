@@ -9,7 +9,7 @@ use Rattle.std.specs.declared.cmp.Ordering.{Ordering}
 use Rattle.std.specs.declared.cmp.Ordering.TheVariants.{Less, Equal, Greater}
 use Rattle.std.specs.BTreeSet as sorted
 use Rattle.open_calls.specs.Inner.{pair_cmp}
-use Rattle.open_calls.proofs.Numbered.{below}
+use Rattle.number_windows.proofs.Numbered.{below}
 
 true_not_false : true ≡ false → ⊥
 true_not_false is = cc

@@ -7,10 +7,10 @@ use Rattle.message_ids.specs.Ids.{same_id, has_id}
 use Rattle.message_ids.proofs.Ids.{same-is}
 use Rattle.open_calls.specs.declared.their_call.TheirCall.{TheirCall}
 use Rattle.open_calls.specs.declared.numbers_by_id.NumbersById.{NumbersById}
-use Rattle.open_calls.specs.Numbered.{at, up_to, number_of_first, Ascending}
+use Rattle.number_windows.specs.Numbered.{at, up_to, number_of_first, Ascending}
 use Rattle.open_calls.specs.Theirs.{TheirState, is_reached, reached, cancelled}
 use Rattle.open_calls.specs.Inner.{is_listed, passes, IsNumberIndex, IsWithNumber, IsWithoutNumber}
-use Rattle.open_calls.proofs.Numbered.{find_none, find_first, find_among}
+use Rattle.number_windows.proofs.Numbered.{find_none, find_first, find_among}
 use Rattle.open_calls.proofs.Own.{gone_step, come_step, passes_at, and_true, and_false, false_and, some_of, both_false}
 
 abbrev pub state_of : ℕ → List (ℕ × TheirCall) → TheirState

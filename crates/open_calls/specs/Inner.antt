@@ -6,6 +6,7 @@ use Rattle.std.specs.declared.cmp.Ordering.{Ordering}
 use Rattle.std.specs.BTreeMap as tree
 use Rattle.std.specs.BTreeSet as sorted
 use Rattle.message_ids.specs.declared.id.Id.{Id}
+use Rattle.message_ids.specs.declared.id.Id.TheVariants.{Null, Text, Signed, Unsigned}
 use Rattle.message_ids.specs.Ids.{id_cmp, has_id, same_id}
 use Rattle.open_calls.specs.declared.own_call.OwnCall.{OwnCall}
 use Rattle.open_calls.specs.declared.their_call.TheirCall.{TheirCall}
@@ -14,9 +15,10 @@ use Rattle.open_calls.specs.declared.numbers.Numbers.{Numbers}
 use Rattle.open_calls.specs.declared.numbers.Numbers.TheVariants.{One, Several}
 use Rattle.open_calls.specs.declared.numbers_by_id.NumbersById.{NumbersById}
 use Rattle.open_calls.specs.declared.other_numbers.OtherNumbers.{OtherNumbers}
-use Rattle.open_calls.specs.declared.number_rows.NumberRows.{NumberRows}
-use Rattle.open_calls.specs.Rows.{IsRow, row_entries}
-use Rattle.open_calls.specs.Numbered.{at, Above, Below, Ascending}
+use Rattle.open_calls.specs.declared.scattered_numbers.ScatteredNumbers.{ScatteredNumbers}
+use Rattle.number_windows.specs.declared.number_window.NumberWindow.{NumberWindow}
+use Rattle.number_windows.specs.Windows.{IsWindow, window_entries}
+use Rattle.number_windows.specs.Numbered.{at, Above, Below, Ascending}
 use Rattle.open_calls.specs.Owed.{OwedUnit}
 use Rattle.open_calls.specs.Own.{is_wanted_by}
 use Rattle.open_calls.specs.Theirs.{is_reached}
@@ -37,7 +39,18 @@ abbrev pub is_in : ℕ → Option Numbers → Bool
 is_in number None = false
 is_in number (Some numbers) = has_number numbers number
 
--- whether this number stands there under this id: in the tree, alone, or anywhere
+-- whether the number of an id is this one
+abbrev pub points : Option ℕ → ℕ → Bool
+points None number = false
+points (Some own) number = own == number
+
+-- whether this number stands there under this id: in the window, in the tree, alone, or anywhere
+abbrev pub is_ascending : List (ℕ × ℕ) → Id → ℕ → Bool
+is_ascending ids (Unsigned id) number = points (at id ids) number
+is_ascending ids Null number = false
+is_ascending ids (Text id) number = false
+is_ascending ids (Signed id) number = false
+
 abbrev pub is_other : OtherNumbers → Id → ℕ → Bool
 is_other index id number = is_in number (tree.get id_cmp index.numbers id)
 
@@ -45,8 +58,11 @@ abbrev pub is_alone : Option (Id × ℕ) → Id → ℕ → Bool
 is_alone None id number = false
 is_alone (Some entry) id number = same_id entry.0 id && (entry.1 == number)
 
+abbrev pub is_scattered : ScatteredNumbers → Id → ℕ → Bool
+is_scattered index id number = is_alone index.alone id number || is_other index.others id number
+
 abbrev pub is_listed : NumbersById → Id → ℕ → Bool
-is_listed index id number = is_alone index.alone id number || is_other index.others id number
+is_listed index id number = is_ascending index.ascending id number || is_scattered index.others id number
 
 -- the index has the entries that pass
 abbrev pub passes : {X : Type 0} → (X → Bool) → Option X → Bool
@@ -68,14 +84,14 @@ pub record IsOwn (made : ℕ) (waiting : List (ℕ × OwnCall)) (all kept : Keys
   pub by_caller : IsKeyIndex all is_of waiting
   pub wanted : IsKeyIndex kept is_wanted_by waiting
 
-pub record IsTheirs (came : ℕ) (calls : NumberRows TheirCall) (index : NumbersById) : Type 0 where
-  pub row : IsRow calls
-  pub numbered : Below (suc came) (row_entries calls)
-  pub by_id : IsNumberIndex index (row_entries calls)
+pub record IsTheirs (came : ℕ) (calls : NumberWindow TheirCall) (index : NumbersById) : Type 0 where
+  pub window : IsWindow calls
+  pub numbered : Below (suc came) (window_entries calls)
+  pub by_id : IsNumberIndex index (window_entries calls)
 
-pub record IsOwed (places : ℕ) (owed : NumberRows OwedUnit) : Type 0 where
-  pub row : IsRow owed
-  pub numbered : Below places (row_entries owed)
+pub record IsOwed (places : ℕ) (owed : NumberWindow OwedUnit) : Type 0 where
+  pub window : IsWindow owed
+  pub numbered : Below places (window_entries owed)
 
 -- the index with this number of a request
 abbrev pub IsWithNumber : NumbersById → NumbersById → Option Id → ℕ → Type 0

@@ -2,6 +2,5 @@ pub mod Inner
 pub mod Numbered
 pub mod Owed
 pub mod Own
-pub mod Rows
 pub mod Slots
 pub mod Theirs

@@ -1,7 +1,7 @@
 -- Our calls that wait for a reply.
 use Rattle.std.specs.Prelude.{ℕ, zero, suc, Bool, false, true, ◌+◌, ◌==◌, ◌&&◌, not, nat_lt, List, [], ◌∷◌, ◌++◌, Option, filter}
 use Rattle.open_calls.specs.declared.own_call.OwnCall.{OwnCall}
-use Rattle.open_calls.specs.Numbered.{number_of_first}
+use Rattle.number_windows.specs.Numbered.{number_of_first}
 
 -- how many were made, and those that wait, by their keys
 pub record OwnState : Type 0 where

@@ -3,7 +3,7 @@ use Rattle.std.specs.Prelude.{ℕ, Bool, true, false, ◌&&◌, not, List, Optio
 use Rattle.message_ids.specs.declared.id.Id.{Id}
 use Rattle.message_ids.specs.Ids.{has_id}
 use Rattle.open_calls.specs.declared.their_call.TheirCall.{TheirCall}
-use Rattle.open_calls.specs.Numbered.{number_of_first, changed_at}
+use Rattle.number_windows.specs.Numbered.{number_of_first, changed_at}
 
 -- how many came, and those that are open, by their numbers
 pub record TheirState : Type 0 where

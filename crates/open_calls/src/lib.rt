@@ -3,8 +3,8 @@
 //! length of that list.
 #![tactic(auto)]
 
+mod ascending_ids;
 mod keys_by_caller;
-mod number_rows;
 mod numbers;
 mod numbers_by_id;
 mod other_numbers;
@@ -12,6 +12,7 @@ mod owed;
 mod owed_answers;
 mod own_call;
 mod own_calls;
+mod scattered_numbers;
 mod slot;
 mod slots;
 mod their_call;

@@ -1,31 +1,30 @@
-ghost use Rattle.std.specs.Prelude.{◌≡◌, ℕ, ◌<◌, ◌==◌, ◌&&◌, true, false, Some, if◌then◌else◌, OnOk, OnErr, IfSome, IfNone, MatchOption};
+ghost use Rattle.std.specs.Prelude.{◌≡◌, ℕ, ◌<◌, ◌==◌, ◌&&◌, true, false, if◌then◌else◌, OnOk, OnErr, IfSome, IfNone, MatchOption};
 ghost use Rattle.message_ids.specs.declared.id.Id.{Id};
 ghost use Rattle.message_ids.specs.Ids.{same_id};
-ghost use Rattle.open_calls.specs.Inner.{is_alone};
 
-use crate::other_numbers::OtherNumbers;
+use crate::ascending_ids::AscendingIds;
+use crate::scattered_numbers::ScatteredNumbers;
 use message_ids::Id;
 use std::alloc::{AllocError, Global};
 
-/// The index by which a cancel finds its requests: of each id their numbers. A request that is alone takes no place in the
-/// tree, which needs memory.
+/// The index by which a cancel finds its requests: of each id their numbers.
 #[derive(Drop)]
 pub struct NumbersById {
-    /// One request, where there is any room for it here.
-    alone: Option<(Id, u64)>,
+    /// Those whose ids came as ascending numbers.
+    ascending: AscendingIds,
     /// All others.
-    others: OtherNumbers,
+    others: ScatteredNumbers,
 }
 
 impl NumbersById {
-    ghost use Rattle.open_calls.specs.Inner.{is_listed};
+    ghost use Rattle.open_calls.specs.Inner.{is_listed, is_ascending};
 
     pub fn new(alloc: Global) -> NumbersById
         ensures { (id : Id) (k : ℕ) → is_listed result id k ≡ false }
     {
         NumbersById {
-            alone: None,
-            others: OtherNumbers::new(alloc),
+            ascending: AscendingIds::new(alloc),
+            others: ScatteredNumbers::new(alloc),
         }
     }
 
@@ -37,7 +36,7 @@ impl NumbersById {
             ((k : ℕ) → k < number → is_listed self.now id.now k ≡ false)) }
     {
         let other = self.others.least(id);
-        match alone_of(&self.alone, id) {
+        match self.ascending.number_of(id) {
             Some(own) => match other {
                 Some(other) if other < own => Some(other),
                 _ => Some(own),
@@ -51,10 +50,7 @@ impl NumbersById {
         ensures { (q : Id) (k : ℕ) → is_listed self.new q k ≡
             (if same_id id.now q && (number == k) then false else is_listed self.old q k) }
     {
-        match alone_of(&self.alone, id) {
-            Some(own) if own == number => self.alone = None,
-            _ => (),
-        }
+        self.ascending.remove(id, number);
         self.others.remove(id, number);
     }
 
@@ -64,21 +60,9 @@ impl NumbersById {
         ensures err { OnErr result ((q : Id) (k : ℕ) →
             is_listed self.new q k ≡ is_listed self.old q k) }
     {
-        if self.alone.is_some() {
-            return self.others.add(id, number);
+        if self.ascending.add(id, number)? {
+            return Ok(());
         }
-        self.alone = Some((id.clone()?, number));
-        Ok(())
-    }
-}
-
-/// The number that is alone, where it is of this id.
-fn alone_of(alone: &Option<(Id, u64)>, id: &Id) -> Option<u64>
-    ensures found { IfSome result (λ number. alone.now ≡ Some (id.now, number)) }
-    ensures missing { IfNone result ((k : ℕ) → is_alone alone.now id.now k ≡ false) }
-{
-    match alone {
-        Some((own, number)) if own == id => Some(*number),
-        _ => None,
+        self.others.add(id, number)
     }
 }

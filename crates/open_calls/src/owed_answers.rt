@@ -1,9 +1,11 @@
 ghost use Rattle.std.specs.Prelude.{◌≡◌, ◌+◌, ◌-◌, ◌<◌, ◌^◌, ◌++◌, ◌∷◌, [], true, false, length, OnOk, OnErr, option_copied};
-ghost use Rattle.open_calls.specs.Numbered.{at, without, changed_at, first_number, next_number, Ascending};
+ghost use Rattle.number_windows.specs.Windows.{window_entries, IsWindow};
+ghost use Rattle.open_calls.specs.Owed.{seen_slot, slot_at, replaced};
+ghost use Rattle.number_windows.specs.Numbered.{at, without, changed_at, first_number, next_number, Ascending};
 
-use crate::number_rows::NumberRows;
 use crate::owed::Owed;
 use crate::slot::Slot;
+use number_windows::NumberWindow;
 use std::alloc::{AllocError, Global};
 use std::marker::Model;
 
@@ -13,7 +15,7 @@ pub struct OwedAnswers {
     /// How many places there were. `IsOwed` holds: no unit that is owed an answer has this place or a greater one.
     places: u64,
     /// Those that are owed an answer, by their places.
-    owed: NumberRows<Owed>,
+    owed: NumberWindow<Owed>,
 }
 
 impl Model for OwedAnswers {
@@ -22,22 +24,22 @@ impl Model for OwedAnswers {
     ghost Value = { OwedState };
 
     ghost use Rattle.open_calls.specs.Inner.{IsOwed};
-    ghost use Rattle.open_calls.specs.Rows.{row_entries};
+    ghost use Rattle.number_windows.specs.Windows.{window_entries};
 
-    ghost view = { λ a. record { places = a.places; owed = row_entries a.owed } };
+    ghost view = { λ a. record { places = a.places; owed = window_entries a.owed } };
 
     ghost invariant = { λ a. IsOwed a.places a.owed };
 }
 
 impl OwedAnswers {
-    ghost use Rattle.open_calls.specs.Owed.{seen_slot, seen_slots, opened, slot_at, replaced, has_answer_in, text_or_none};
+    ghost use Rattle.open_calls.specs.Owed.{seen_slots, opened, has_answer_in, text_or_none};
 
     pub fn new(alloc: Global) -> OwedAnswers
         ensures { result ≡ record { places = 0; owed = [] } }
     {
         OwedAnswers {
             places: 0,
-            owed: NumberRows::new(alloc),
+            owed: NumberWindow::new(alloc),
         }
     }
 
@@ -117,7 +119,7 @@ impl OwedAnswers {
         } }
         ensures ascending { Ascending self.old.owed }
     {
-        self.owed.replace(place, slot, text)
+        replace_in(&mut self.owed, place, slot, text)
     }
 
     /// The unit at this place, where it is owed an answer. Places ascend.
@@ -174,24 +176,21 @@ impl OwedAnswers {
     }
 }
 
-impl NumberRows<Owed> {
-    ghost use Rattle.open_calls.specs.Rows.{row_entries, IsRow};
-    ghost use Rattle.open_calls.specs.Owed.{seen_slot, slot_at, replaced};
-
-    /// Puts a text, or none, into this slot of the unit with this number, and answers what stood there.
-    fn replace(&mut self, number: u64, slot: u64, text: Slot) -> Slot
-        requires { IsRow self.old }
-        ensures was { seen_slot result ≡ slot_at slot (at number (row_entries self.old)) }
-        ensures entries { row_entries self.new ≡
-            changed_at number (replaced slot (seen_slot text)) (row_entries self.old) }
-        ensures row { IsRow self.new }
-    {
-        if let Some(index) = self.place(number) {
-            return self.recent[index].1.replace(slot, text);
-        }
-        match self.older.get_mut(&number) {
-            Some(unit) => unit.replace(slot, text),
-            None => Slot::Lacking,
-        }
-    }
+/// Puts a text, or none, into this slot of the unit at this place, and answers what stood there. A stand-in holds the
+/// unit's place meanwhile.
+fn replace_in(owed: &mut NumberWindow<Owed>, place: u64, slot: u64, text: Slot) -> Slot
+    requires { IsWindow owed.old }
+    ensures was { seen_slot result ≡ slot_at slot (at place (window_entries owed.old)) }
+    ensures entries { window_entries owed.new ≡
+        changed_at place (replaced slot (seen_slot text)) (window_entries owed.old) }
+    ensures window { IsWindow owed.new }
+{
+    let stand_in = Owed::single(Slot::Lacking);
+    let mut unit = match owed.replace(place, stand_in) {
+        Ok(unit) => unit,
+        Err(_) => return Slot::Lacking,
+    };
+    let was = unit.replace(slot, text);
+    drop(owed.replace(place, unit));
+    was
 }

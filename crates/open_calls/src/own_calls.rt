@@ -1,7 +1,7 @@
 ghost use Rattle.std.specs.Prelude.{◌≡◌, ℕ, ◌==◌, ◌&&◌, true, false, if◌then◌else◌, ◌+◌, ◌-◌, ◌<◌, ◌≤◌, ◌^◌, ◌++◌, ◌∷◌, [], length, OnOk, OnErr, IfOk, MatchOption, Option, Some, None};
 ghost use Rattle.open_calls.specs.Inner.{has_key};
 ghost use Rattle.open_calls.specs.declared.own_call.OwnCall.{OwnCall};
-ghost use Rattle.open_calls.specs.Numbered.{at, without, up_to, changed_at, Above, Ascending};
+ghost use Rattle.number_windows.specs.Numbered.{at, without, up_to, changed_at, Above, Ascending};
 
 use crate::keys_by_caller::KeysByCaller;
 use crate::own_call::OwnCall;

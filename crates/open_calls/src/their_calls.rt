@@ -1,12 +1,14 @@
 ghost use Rattle.std.specs.Prelude.{◌≡◌, ℕ, ◌+◌, ◌-◌, ◌<◌, ◌≤◌, ◌^◌, ◌++◌, ◌∷◌, [], length, OnOk, OnErr, IfOk, Option, Some, None, MatchOption, option_copied};
+ghost use Rattle.number_windows.specs.Windows.{window_entries, IsWindow};
+ghost use Rattle.open_calls.specs.Theirs.{cancelled};
 ghost use Rattle.open_calls.specs.Inner.{is_listed, IsWithNumber, IsWithoutNumber};
 ghost use Rattle.message_ids.specs.declared.id.Id.{Id};
-ghost use Rattle.open_calls.specs.Numbered.{at, without, up_to, changed_at, Ascending};
+ghost use Rattle.number_windows.specs.Numbered.{at, without, up_to, changed_at, Ascending};
 
-use crate::number_rows::NumberRows;
 use crate::numbers_by_id::NumbersById;
 use crate::their_call::TheirCall;
 use message_ids::Id;
+use number_windows::NumberWindow;
 use std::alloc::{AllocError, Global};
 use std::marker::Model;
 
@@ -16,7 +18,7 @@ pub struct TheirCalls {
     /// How many came. `IsTheirs` holds: no number is greater, and the index has just the numbers that are said here.
     came: u64,
     /// Those that are open, by their numbers.
-    calls: NumberRows<TheirCall>,
+    calls: NumberWindow<TheirCall>,
     /// The numbers of the requests that no cancel has reached.
     by_id: NumbersById,
 }
@@ -27,22 +29,22 @@ impl Model for TheirCalls {
     ghost Value = { TheirState };
 
     ghost use Rattle.open_calls.specs.Inner.{IsTheirs};
-    ghost use Rattle.open_calls.specs.Rows.{row_entries};
+    ghost use Rattle.number_windows.specs.Windows.{window_entries};
 
-    ghost view = { λ a. record { came = a.came; calls = row_entries a.calls } };
+    ghost view = { λ a. record { came = a.came; calls = window_entries a.calls } };
 
     ghost invariant = { λ a. IsTheirs a.came a.calls a.by_id };
 }
 
 impl TheirCalls {
-    ghost use Rattle.open_calls.specs.Theirs.{new_call, cancelled, reached, cancelled_at};
+    ghost use Rattle.open_calls.specs.Theirs.{new_call, reached, cancelled_at};
 
     pub fn new(alloc: Global) -> TheirCalls
         ensures { result ≡ record { came = 0; calls = [] } }
     {
         TheirCalls {
             came: 0,
-            calls: NumberRows::new(alloc),
+            calls: NumberWindow::new(alloc),
             by_id: NumbersById::new(alloc),
         }
     }
@@ -142,7 +144,7 @@ impl TheirCalls {
             Some(number) => number,
             None => return None,
         };
-        self.calls.cancel(number);
+        cancel(&mut self.calls, number);
         self.by_id.remove(id, number);
         Some(number)
     }
@@ -163,22 +165,21 @@ impl TheirCalls {
     }
 }
 
-impl NumberRows<TheirCall> {
-    ghost use Rattle.open_calls.specs.Rows.{row_entries, IsRow};
-    ghost use Rattle.open_calls.specs.Theirs.{cancelled};
-
-    /// Cancels the call with this number, where it is open.
-    fn cancel(&mut self, number: u64)
-        requires { IsRow self.old }
-        ensures entries { row_entries self.new ≡
-            changed_at number cancelled (row_entries self.old) }
-        ensures row { IsRow self.new }
-    {
-        if let Some(index) = self.place(number) {
-            self.recent[index].1.is_cancelled = true;
-        } else if let Some(call) = self.older.get_mut(&number) {
-            call.is_cancelled = true;
-        }
+/// Cancels the call with this number, where it is open. A stand-in holds its place meanwhile.
+fn cancel(calls: &mut NumberWindow<TheirCall>, number: u64)
+    requires { IsWindow calls.old }
+    ensures entries { window_entries calls.new ≡ changed_at number cancelled (window_entries calls.old) }
+    ensures window { IsWindow calls.new }
+{
+    let stand_in = TheirCall {
+        id: None,
+        is_cancelled: true,
+        place: 0,
+        slot: 0,
+    };
+    if let Ok(mut call) = calls.replace(number, stand_in) {
+        call.is_cancelled = true;
+        drop(calls.replace(number, call));
     }
 }
 

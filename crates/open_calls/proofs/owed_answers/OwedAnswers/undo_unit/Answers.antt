@@ -1,18 +1,18 @@
 use Rattle.std.proofs.Common.{◌≡◌, ap, ◌-◌, suc, subst, sym, arith}
-use Rattle.open_calls.specs.Rows.{row_entries}
-use Rattle.open_calls.specs.Numbered.{without, Below}
+use Rattle.number_windows.specs.Windows.{window_entries}
+use Rattle.number_windows.specs.Numbered.{without, Below}
 use Rattle.open_calls.specs.Owed.{OwedState}
-use Rattle.open_calls.proofs.Numbered.{below_without}
+use Rattle.number_windows.proofs.Numbered.{below_without}
 use Rattle.open_calls.proofs.OwedLemmas.{through, state_of, same_owed}
 use Rattle.open_calls.proofs.owed_answers.OwedAnswers.undo_unit.Goals as goal
 
 pub invariant_of-self : goal.invariant_of-self
 invariant_of-self c =
     let place = c.self.inside.places - 1 in
-    let es = row_entries c.self.inside.owed in
+    let es = window_entries c.self.inside.owed in
     let places : c.self.inside.places ≡ suc place = let seen : c.self.inside.places ≡ c.args.self.now.places = ap (λ (s : OwedState). s.places) c.self.view_is in omega (arith, c.requires) in
     record {
-      row = c.remove.ensures.row;
+      window = c.remove.ensures.window;
       numbered = subst (λ fs. Below place fs) (sym c.remove.ensures.entries) (below_without place es (subst (λ n. Below n es) places c.self.invariant.numbered));
     }
 
@@ -20,4 +20,4 @@ pub returns : goal.returns
 returns c =
     let place = c.self.inside.places - 1 in
     through (λ s. state_of (s.places - 1) (without (s.places - 1) s.owed)) _ _ c.args.self.now c.self.view_is
-    (same_owed place (row_entries c.remove.new.self) (without place (row_entries c.self.inside.owed)) c.remove.ensures.entries)
+    (same_owed place (window_entries c.remove.new.self) (without place (window_entries c.self.inside.owed)) c.remove.ensures.entries)

@@ -1,8 +1,8 @@
 use Rattle.std.proofs.Common.{◌≡◌, ◌<◌, ◌==◌, not, length, ◌∙◌, ap, subst, sym}
-use Rattle.open_calls.specs.Numbered.{at, without}
+use Rattle.number_windows.specs.Numbered.{at, without}
 use Rattle.open_calls.specs.Own.{OwnState, without_caller}
 use Rattle.open_calls.specs.Inner.{is_of, passes}
-use Rattle.open_calls.proofs.Numbered.{filter_without, filter_all, shorter, at_above}
+use Rattle.number_windows.proofs.Numbered.{filter_without, filter_all, shorter, at_above}
 use Rattle.open_calls.proofs.Own.{state_of, same_waiting, some_of}
 use Rattle.open_calls.proofs.own_calls.OwnCalls.end_caller.Goals as goal
 

@@ -1,5 +1,5 @@
 use Rattle.std.proofs.Common.{◌≡◌, ◌+◌, ◌++◌, ◌∷◌, [], suc, ◌∙◌, ap, subst, arith}
-use Rattle.open_calls.specs.Numbered.{Below, up_to}
+use Rattle.number_windows.specs.Numbered.{Below, up_to}
 use Rattle.open_calls.specs.Own.{OwnState, new_call, new_calls}
 use Rattle.open_calls.proofs.Own.{state_of, calls_more, calls_undone}
 use Rattle.open_calls.proofs.own_calls.OwnCalls.make.Goals as goal

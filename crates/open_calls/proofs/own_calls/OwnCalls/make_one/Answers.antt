@@ -1,8 +1,8 @@
 use Rattle.std.proofs.Common.{◌≡◌, ◌+◌, ◌++◌, ◌∷◌, [], suc, Some, ◌∙◌, ◌==◌, ap, subst, sym, refl, arith, add-one}
-use Rattle.open_calls.specs.Numbered.{Above, Below}
+use Rattle.number_windows.specs.Numbered.{Above, Below}
 use Rattle.open_calls.specs.Own.{is_wanted_by, new_call}
 use Rattle.open_calls.specs.Inner.{is_of, passes}
-use Rattle.open_calls.proofs.Numbered.{ascending, pushed, below_push, above_push, at_updates, at_below}
+use Rattle.number_windows.proofs.Numbered.{ascending, pushed, below_push, above_push, at_updates, at_below}
 use Rattle.open_calls.proofs.OwedLemmas.{through}
 use Rattle.open_calls.proofs.Own.{state_of, same_waiting, index_come, and_true}
 use Rattle.open_calls.proofs.own_calls.OwnCalls.make_one.Goals as goal

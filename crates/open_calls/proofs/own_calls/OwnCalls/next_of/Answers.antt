@@ -1,5 +1,5 @@
 use Rattle.std.proofs.Common.{ap, subst, ◌∙◌}
-use Rattle.open_calls.specs.Numbered.{Above, Ascending}
+use Rattle.number_windows.specs.Numbered.{Above, Ascending}
 use Rattle.open_calls.specs.Own.{OwnState, next_wanted}
 use Rattle.open_calls.proofs.Own.{wanted_next}
 use Rattle.open_calls.proofs.own_calls.OwnCalls.next_of.Goals as goal

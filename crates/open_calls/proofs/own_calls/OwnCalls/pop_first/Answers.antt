@@ -1,7 +1,7 @@
 use Rattle.std.proofs.Common.{◌≡◌, ◌∷◌, ◌∙◌, ap, sym, subst}
-use Rattle.open_calls.specs.Numbered.{without}
+use Rattle.number_windows.specs.Numbered.{without}
 use Rattle.open_calls.specs.Own.{OwnState}
-use Rattle.open_calls.proofs.Numbered.{without_first}
+use Rattle.number_windows.proofs.Numbered.{without_first}
 use Rattle.open_calls.proofs.own_calls.OwnCalls.pop_first.Goals as goal
 
 pub returns-clause-first : goal.returns-clause-first

@@ -1,8 +1,8 @@
 use Rattle.std.proofs.Common.{◌≡◌, suc, Some, None, ◌∙◌, ◌==◌, not, subst, sym, refl}
-use Rattle.open_calls.specs.Numbered.{at, without, Above, Below}
+use Rattle.number_windows.specs.Numbered.{at, without, Above, Below}
 use Rattle.open_calls.specs.Own.{is_wanted_by}
 use Rattle.open_calls.specs.Inner.{is_of}
-use Rattle.open_calls.proofs.Numbered.{ascending, removed, below_filter, above_filter, at_updates, at-get}
+use Rattle.number_windows.proofs.Numbered.{ascending, removed, below_filter, above_filter, at_updates, at-get}
 use Rattle.open_calls.proofs.OwedLemmas.{through}
 use Rattle.open_calls.proofs.Own.{state_of, same_waiting, index_gone, false_and}
 use Rattle.open_calls.proofs.own_calls.OwnCalls.remove.Goals as goal

@@ -1,7 +1,7 @@
 use Rattle.std.proofs.Common.{◌≡◌, ◌-◌, suc, ◌∙◌, ap, subst, sym, arith}
-use Rattle.open_calls.specs.Numbered.{without, Below}
+use Rattle.number_windows.specs.Numbered.{without, Below}
 use Rattle.open_calls.specs.Own.{OwnState}
-use Rattle.open_calls.proofs.Numbered.{below_without}
+use Rattle.number_windows.proofs.Numbered.{below_without}
 use Rattle.open_calls.proofs.OwedLemmas.{through}
 use Rattle.open_calls.proofs.Own.{state_of, same_waiting}
 use Rattle.open_calls.proofs.own_calls.OwnCalls.remove_last.Goals as goal

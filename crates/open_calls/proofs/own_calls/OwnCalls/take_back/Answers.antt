@@ -1,7 +1,7 @@
 use Rattle.std.proofs.Common.{◌≡◌, ◌-◌, suc, ◌∙◌, ap, subst, sym, arith}
-use Rattle.open_calls.specs.Numbered.{up_to, Below}
+use Rattle.number_windows.specs.Numbered.{up_to, Below}
 use Rattle.open_calls.specs.Own.{OwnState}
-use Rattle.open_calls.proofs.Numbered.{up_to_without, up_to_all}
+use Rattle.number_windows.proofs.Numbered.{up_to_without, up_to_all}
 use Rattle.open_calls.proofs.Own.{state_of, same_waiting}
 use Rattle.open_calls.proofs.own_calls.OwnCalls.take_back.Goals as goal
 

@@ -1,10 +1,10 @@
 use Rattle.std.proofs.Common.{◌≡◌, ℕ, suc, Some, ◌∙◌, ◌==◌, not, ap, subst, sym, refl, rules}
 use Rattle.std.specs.BTreeMap as tree
 use Rattle.open_calls.specs.declared.own_call.OwnCall.{OwnCall}
-use Rattle.open_calls.specs.Numbered.{at, changed_at, Above, Below}
+use Rattle.number_windows.specs.Numbered.{at, changed_at, Above, Below}
 use Rattle.open_calls.specs.Own.{is_wanted_by, withdrawn}
 use Rattle.open_calls.specs.Inner.{is_of}
-use Rattle.open_calls.proofs.Numbered.{ascending, changed, unchanged, below_changed, above_changed, at_updates, at-get}
+use Rattle.number_windows.proofs.Numbered.{ascending, changed, unchanged, below_changed, above_changed, at_updates, at-get}
 use Rattle.open_calls.proofs.OwedLemmas.{through}
 use Rattle.open_calls.proofs.Own.{state_of, same_waiting, index_gone, index_same, false_and, and_false}
 use Rattle.open_calls.proofs.own_calls.OwnCalls.withdraw.Goals as goal

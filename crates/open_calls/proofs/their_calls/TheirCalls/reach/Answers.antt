@@ -1,34 +1,34 @@
 use Rattle.std.proofs.Common.{◌≡◌, suc, None, Some, ◌∙◌, ap, subst, sym}
-use Rattle.open_calls.specs.Rows.{row_entries}
-use Rattle.open_calls.specs.Numbered.{at, changed_at, Below}
+use Rattle.number_windows.specs.Windows.{window_entries}
+use Rattle.number_windows.specs.Numbered.{at, changed_at, Below}
 use Rattle.open_calls.specs.Theirs.{cancelled, cancelled_at, reached, is_reached}
-use Rattle.open_calls.proofs.Numbered.{below_changed}
+use Rattle.number_windows.proofs.Numbered.{below_changed}
 use Rattle.open_calls.proofs.OwedLemmas.{through}
 use Rattle.open_calls.proofs.Own.{some_of}
-use Rattle.open_calls.proofs.Rows.{at_replaced}
+use Rattle.number_windows.proofs.Rows.{at_replaced}
 use Rattle.open_calls.proofs.Theirs.{state_of, same_calls, number_reached, reached_none, reached_some}
 use Rattle.open_calls.proofs.their_calls.TheirCalls.reach.Goals as goal
 
 pub returns-in-None-clause-number : goal.returns-in-None-clause-number
 returns-in-None-clause-number c =
-    reached_none c.self.inside.by_id (row_entries c.self.inside.calls) c.args.id.now c.self.invariant.row.ordered c.self.invariant.by_id c.in-None.ensures
+    reached_none c.self.inside.by_id (window_entries c.self.inside.calls) c.args.id.now c.self.invariant.window.ordered c.self.invariant.by_id c.in-None.ensures
     ∙ ap (λ s. reached c.args.id.now s.calls) c.self.view_is
 
 pub returns-in-None-clause-state : goal.returns-in-None-clause-state
 returns-in-None-clause-state c =
     let none : None ≡ reached c.args.id.now c.args.self.now.calls =
-    reached_none c.self.inside.by_id (row_entries c.self.inside.calls) c.args.id.now c.self.invariant.row.ordered c.self.invariant.by_id c.in-None.ensures
+    reached_none c.self.inside.by_id (window_entries c.self.inside.calls) c.args.id.now c.self.invariant.window.ordered c.self.invariant.by_id c.in-None.ensures
     ∙ ap (λ s. reached c.args.id.now s.calls) c.self.view_is in
     ap (λ n. state_of c.args.self.now.came (cancelled_at n c.args.self.now.calls)) none
 
 pub invariant_of-self : goal.invariant_of-self
 invariant_of-self c =
-    let es = row_entries c.self.inside.calls in
-    let now = row_entries c.cancel.new.self in
+    let es = window_entries c.self.inside.calls in
+    let now = window_entries c.cancel.new.calls in
     let number = c.in-Some.number in
     let found = some_of (is_reached c.args.id.now) (at number es) (sym (c.self.invariant.by_id c.args.id.now number) ∙ c.in-Some.ensures.0) in
     record {
-      row = c.cancel.ensures.row;
+      window = c.cancel.ensures.window;
       numbered = subst (λ fs. Below (suc c.self.inside.came) fs) (sym c.cancel.ensures.entries) (below_changed (suc c.self.inside.came) number cancelled es c.self.invariant.numbered);
       by_id = number_reached c.self.inside.by_id c.remove.new.self es now number c.args.id.now found.0 c.remove.ensures c.self.invariant.by_id
           (at_replaced number cancelled found.0 es now c.cancel.ensures.entries found.1) found.1 found.2;
@@ -36,20 +36,20 @@ invariant_of-self c =
 
 pub returns-clause-number : goal.returns-clause-number
 returns-clause-number c =
-    let es = row_entries c.self.inside.calls in
+    let es = window_entries c.self.inside.calls in
     let number = c.in-Some.number in
     let found = some_of (is_reached c.args.id.now) (at number es) (sym (c.self.invariant.by_id c.args.id.now number) ∙ c.in-Some.ensures.0) in
-    reached_some c.self.inside.by_id es c.args.id.now number found.0 c.self.invariant.row.ordered c.self.invariant.by_id found.1 c.in-Some.ensures.0 c.in-Some.ensures.1
+    reached_some c.self.inside.by_id es c.args.id.now number found.0 c.self.invariant.window.ordered c.self.invariant.by_id found.1 c.in-Some.ensures.0 c.in-Some.ensures.1
     ∙ ap (λ s. reached c.args.id.now s.calls) c.self.view_is
 
 pub returns-clause-state : goal.returns-clause-state
 returns-clause-state c =
-    let es = row_entries c.self.inside.calls in
+    let es = window_entries c.self.inside.calls in
     let number = c.in-Some.number in
     let first = some_of (is_reached c.args.id.now) (at number es) (sym (c.self.invariant.by_id c.args.id.now number) ∙ c.in-Some.ensures.0) in
     let found : Some number ≡ reached c.args.id.now c.args.self.now.calls =
-    reached_some c.self.inside.by_id es c.args.id.now number first.0 c.self.invariant.row.ordered c.self.invariant.by_id first.1 c.in-Some.ensures.0 c.in-Some.ensures.1
+    reached_some c.self.inside.by_id es c.args.id.now number first.0 c.self.invariant.window.ordered c.self.invariant.by_id first.1 c.in-Some.ensures.0 c.in-Some.ensures.1
     ∙ ap (λ s. reached c.args.id.now s.calls) c.self.view_is in
     through (λ s. state_of s.came (changed_at number cancelled s.calls)) _ _ c.args.self.now c.self.view_is
-    (same_calls c.self.inside.came (row_entries c.cancel.new.self) (changed_at number cancelled es) c.cancel.ensures.entries)
+    (same_calls c.self.inside.came (window_entries c.cancel.new.calls) (changed_at number cancelled es) c.cancel.ensures.entries)
     ∙ ap (λ n. state_of c.args.self.now.came (cancelled_at n c.args.self.now.calls)) found

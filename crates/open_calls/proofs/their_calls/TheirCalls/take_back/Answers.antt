@@ -1,8 +1,8 @@
 use Rattle.std.proofs.Common.{◌≡◌, ◌-◌, suc, ◌∙◌, ap, subst, sym, arith}
-use Rattle.open_calls.specs.Rows.{row_entries}
-use Rattle.open_calls.specs.Numbered.{up_to, Below}
+use Rattle.number_windows.specs.Windows.{window_entries}
+use Rattle.number_windows.specs.Numbered.{up_to, Below}
 use Rattle.open_calls.specs.Theirs.{TheirState}
-use Rattle.open_calls.proofs.Numbered.{up_to_without, up_to_all}
+use Rattle.number_windows.proofs.Numbered.{up_to_without, up_to_all}
 use Rattle.open_calls.proofs.Theirs.{state_of, same_calls}
 use Rattle.open_calls.proofs.their_calls.TheirCalls.take_back.Goals as goal
 
@@ -21,7 +21,7 @@ pub returns : goal.returns
 returns c =
     let now = c.loop-self.self in
     let came : c.self.inside.came ≡ now.came = ap (λ (s : TheirState). s.came) c.self.view_is in
-    let seen : row_entries c.self.inside.calls ≡ now.calls = ap (λ (s : TheirState). s.calls) c.self.view_is in
+    let seen : window_entries c.self.inside.calls ≡ now.calls = ap (λ (s : TheirState). s.calls) c.self.view_is in
     let last : now.came ≡ c.args.came = omega (arith, c.loop-self-test.false, c.loop-self.invariant.least) in
     let under : Below (suc c.args.came) now.calls =
     subst (λ n. Below (suc n) now.calls) (came ∙ last) (subst (λ fs. Below (suc c.self.inside.came) fs) seen c.self.invariant.numbered) in

@@ -1,5 +1,5 @@
 use Rattle.std.proofs.Common.{◌≡◌, ◌≤◌}
-use Rattle.open_calls.specs.Numbered.{up_to}
+use Rattle.number_windows.specs.Numbered.{up_to}
 use Rattle.open_calls.proofs.their_calls.TheirCalls.take_back.Given as goal
 
 abbrev pub invariant-loop-self : goal.invariant-loop-self
