@@ -207,48 +207,11 @@ below_without m (e ∷ es) under =
 
 -- ---- the first above a number
 
-is_lt_of : (x y : Bool) → is_lt (cond x Less (cond y Equal Greater)) ≡ x
-is_lt_of true y = refl
-is_lt_of false true = refl
-is_lt_of false false = refl
-
-head_step : {X : Type 0} (b : Bool) (e : ℕ × X) (f : Option (ℕ × X)) (fs : List (ℕ × X)) → f ≡ slice_get fs 0 → cond b (Some e) f ≡ slice_get (cond b (e ∷ fs) fs) 0
-head_step true e f fs is = refl
-head_step false e f fs is = is
-
-pub find_filter : {X : Type 0} (p : ℕ × X → Bool) (es : List (ℕ × X)) → find p es ≡ slice_get (filter p es) 0
-find_filter p [] = refl
-find_filter p (e ∷ es) = head_step (p e) e (find p es) (filter p es) (find_filter p es)
-
 and_true : (b : Bool) → (b && true) ≡ b
 and_true true = refl
 and_true false = refl
 
-above_bound : (after n : ℕ) → range_contains nat_cmp (Excluded after) Unbounded n ≡ nat_lt after n
-above_bound after n = and_true (is_lt (nat_cmp after n)) ∙ is_lt_of (nat_lt after n) (after == n)
-
--- the first entry of the range above a number
-pub find_above : {X : Type 0} (after : ℕ) (es part : List (ℕ × X)) → part ≡ entries_between nat_cmp (Excluded after) Unbounded es
-    → find (λ e. nat_lt after e.0) es ≡ slice_get part 0
-find_above {X} after es part is =
-    find_filter (λ e. nat_lt after e.0) es
-    ∙ ap (λ p. slice_get p 0) (sym (is ∙ filter_agree (λ (e : ℕ × X). range_contains nat_cmp (Excluded after) Unbounded e.0) (λ e. nat_lt after e.0) (λ e. above_bound after e.0) es))
-
-pub next_some : {X : Type 0} (after : ℕ) (es part rest : List (ℕ × X)) (e : ℕ × X) → part ≡ entries_between nat_cmp (Excluded after) Unbounded es → part ≡ e ∷ rest
-    → Some e.0 ≡ next_number after es
-next_some after es part rest e is first = sym (ap (λ o. option_map (λ x. x.0) o) (find_above after es part is ∙ ap (λ p. slice_get p 0) first))
-
-pub next_none : {X : Type 0} (after : ℕ) (es part : List (ℕ × X)) → part ≡ entries_between nat_cmp (Excluded after) Unbounded es → part ≡ []
-    → None ≡ next_number after es
-next_none after es part is none = sym (ap (λ o. option_map (λ x. x.0) o) (find_above after es part is ∙ ap (λ p. slice_get p 0) none))
-
 -- ---- a map's changes
-
-pub at_updates : {X : Type 0} (was now : tree.BTreeMap ℕ X) (number : ℕ) (value : Option X) → tree.Updates nat_cmp was now number value
-    → (k : ℕ) → at k now.entries ≡ cond (number == k) value (at k was.entries)
-at_updates was now number value updates k =
-    sym (at-get k now.entries) ∙ updates.0 k ∙ ap (λ b. cond b value (lookup (is_at (nat_cmp k)) was.entries)) (sym (unsigned_ties number k))
-    ∙ ap (λ o. cond (number == k) value o) (at-get k was.entries)
 
 pub at_below : {X : Type 0} (n : ℕ) (es : List (ℕ × X)) → Below n es → at n es ≡ None
 at_below n [] under = refl

@@ -12,7 +12,7 @@ use Rattle.std.specs.Option.{option_map, option_or}
 use Rattle.std.specs.BTreeMap.Range.{entries_between}
 use Rattle.std.specs.declared.ops.Bound.TheVariants.{Excluded, Unbounded}
 use Rattle.number_windows.specs.Numbered.{at, without, changed_at, first_number, next_number, Above, Below, Ascending}
-use Rattle.number_windows.proofs.Numbered.{apart, apart_after, at-get, at_above, at_below, without_above, without_below, removed, changed_above, changed, unchanged, pushed, keeps, above_filter, above_changed, above_push, find_above}
+use Rattle.number_windows.proofs.Numbered.{apart, apart_after, at-get, at_above, at_below, without_above, without_below, removed, changed_above, changed, unchanged, pushed, keeps, above_filter, above_changed, above_push}
 
 -- ---- an entry by its index
 
@@ -104,9 +104,6 @@ pub below_seam : {X : Type 0} (a b : List (ℕ × X)) (i : ℕ) (d : ℕ × X) �
 below_seam [] b i d order lt = tt
 below_seam (e ∷ a) b i d order lt = (above_at e.0 b i d (above_behind e.0 a b order.0) lt, below_seam a b i d order.1 lt)
 
-below_number : {X : Type 0} (n : ℕ) (a b : List (ℕ × X)) (i : ℕ) (d : ℕ × X) → Ascending (a ++ b) → i < length b → (get_or b i d).0 ≡ n → Below n a
-below_number n a b i d order lt is = subst (λ m. Below m a) is (below_seam a b i d order lt)
-
 pub ascending_without : {X : Type 0} (n : ℕ) (es : List (ℕ × X)) → Ascending es → Ascending (without n es)
 ascending_without n [] order = tt
 ascending_without n (e ∷ es) order =
@@ -134,72 +131,10 @@ pub at_front : {X : Type 0} (n : ℕ) (a b : List (ℕ × X)) → at n b ≡ Non
 at_front n [] b none = none
 at_front n (e ∷ a) b none = ap (λ o. cond (n == e.0) (Some e.1) o) (at_front n a b none)
 
-pub got_recent : {X : Type 0} (n : ℕ) (a b : List (ℕ × X)) (i : ℕ) (d : ℕ × X) → Ascending (a ++ b) → i < length b → (get_or b i d).0 ≡ n → Some (get_or b i d).1 ≡ at n (a ++ b)
-got_recent n a b i d order lt is =
-    sym (at_behind n a b (at_below n a (below_number n a b i d order lt is)) ∙ at_index n b i d (ascending_behind a b order) lt is)
-
-pub removed_recent : {X : Type 0} (n : ℕ) (a b : List (ℕ × X)) (i : ℕ) (d : ℕ × X) → Ascending (a ++ b) → i < length b → (get_or b i d).0 ≡ n
-    → a ++ (take i b ++ drop (suc i) b) ≡ without n (a ++ b)
-removed_recent {X} n a b i d order lt is =
-    ap (λ t. a ++ t) (without_index n b i d (ascending_behind a b order) lt is)
-    ∙ ap (λ s. s ++ without n b) (sym (without_below n a (below_number n a b i d order lt is)))
-    ∙ sym (filter-append (λ (e : ℕ × X). not (n == e.0)) a b)
-
-pub changed_recent : {X : Type 0} (n : ℕ) (f : X → X) (a b : List (ℕ × X)) (i : ℕ) (d : ℕ × X) → Ascending (a ++ b) → i < length b → (get_or b i d).0 ≡ n
-    → a ++ set b i ((get_or b i d).0, f (get_or b i d).1) ≡ changed_at n f (a ++ b)
-changed_recent {X} n f a b i d order lt is =
-    ap (λ t. a ++ t) (changed_index n f b i d (ascending_behind a b order) lt is)
-    ∙ ap (λ s. s ++ changed_at n f b) (unchanged n f a (at_below n a (below_number n a b i d order lt is)))
-    ∙ sym (map-append (λ (e : ℕ × X). (e.0, cond (n == e.0) (f e.1) e.1)) a b)
-
--- the same, where the entry and its change are given by equations
-pub put_recent : {X : Type 0} (n : ℕ) (f : X → X) (a b : List (ℕ × X)) (i : ℕ) (d : ℕ × X) (w : X) → Ascending (a ++ b) → i < length b → (get_or b i d).0 ≡ n
-    → d ≡ get_or b i d → w ≡ f d.1 → a ++ set b i (d.0, w) ≡ changed_at n f (a ++ b)
-put_recent {X} n f a b i d w order lt is here change =
-    ap (λ (v : X). a ++ set b i (d.0, v)) change
-    ∙ ap (λ (e : ℕ × X). a ++ set b i (e.0, f e.1)) here
-    ∙ changed_recent n f a b i d order lt is
-
-pub removed_older : {X : Type 0} (n : ℕ) (a b : List (ℕ × X)) → Ascending (a ++ b) → at n b ≡ None → remove_entry (is_at (nat_cmp n)) a ++ b ≡ without n (a ++ b)
-removed_older {X} n a b order none =
-    ap (λ s. s ++ b) (removed n a (ascending_front a b order))
-    ∙ ap (λ t. without n a ++ t) (sym (without_missing n b none))
-    ∙ sym (filter-append (λ (e : ℕ × X). not (n == e.0)) a b)
-
-pub changed_older : {X : Type 0} (n : ℕ) (f : X → X) (v : X) (a b : List (ℕ × X)) → Ascending (a ++ b) → at n b ≡ None → at n a ≡ Some v
-    → set_value (is_at (nat_cmp n)) a (f v) ++ b ≡ changed_at n f (a ++ b)
-changed_older {X} n f v a b order none there =
-    ap (λ s. s ++ b) (changed n f v a (ascending_front a b order) there)
-    ∙ ap (λ t. changed_at n f a ++ t) (unchanged n f b none)
-    ∙ sym (map-append (λ (e : ℕ × X). (e.0, cond (n == e.0) (f e.1) e.1)) a b)
-
-pub got_older : {X : Type 0} (n : ℕ) (a b : List (ℕ × X)) → at n b ≡ None → lookup (is_at (nat_cmp n)) a ≡ at n (a ++ b)
-got_older n a b none = at-get n a ∙ sym (at_front n a b none)
-
 -- the first of the second list moves to the end of the first one
 pub moved : {X : Type 0} (n : ℕ) (x : X) (a b : List (ℕ × X)) → Ascending (a ++ (n, x) ∷ b) → insert_entry nat_cmp a n x ++ b ≡ a ++ (n, x) ∷ b
 moved n x a b order =
     ap (λ s. s ++ b) (pushed n x a (below_seam a ((n, x) ∷ b) 0 (n, x) order (omega arith))) ∙ append_assoc a ((n, x) ∷ []) b
-
-pub next_older : {X : Type 0} (after : ℕ) (a b part rest : List (ℕ × X)) (e : ℕ × X) → part ≡ entries_between nat_cmp (Excluded after) Unbounded a → part ≡ e ∷ rest
-    → Some e.0 ≡ next_number after (a ++ b)
-next_older {X} after a b part rest e is first =
-    let p = λ (x : ℕ × X). nat_lt after x.0 in
-    sym (ap (λ o. option_map (λ x. x.0) o) (find-append p a b ∙ ap (λ o. option_or o (find p b)) (find_above after a part is ∙ ap (λ part. slice_get part 0) first)))
-
-pub next_behind : {X : Type 0} (after : ℕ) (a b part : List (ℕ × X)) → part ≡ entries_between nat_cmp (Excluded after) Unbounded a → part ≡ []
-    → next_number after b ≡ next_number after (a ++ b)
-next_behind {X} after a b part is none =
-    let p = λ (x : ℕ × X). nat_lt after x.0 in
-    sym (ap (λ o. option_map (λ x. x.0) o) (find-append p a b ∙ ap (λ o. option_or o (find p b)) (find_above after a part is ∙ ap (λ part. slice_get part 0) none)))
-
-pub first_older : {X : Type 0} (a b : List (ℕ × X)) (n : ℕ) (x : X) → slice_get a 0 ≡ Some (n, x) → Some n ≡ first_number (a ++ b)
-first_older [] b n x is = cc
-first_older (e ∷ a) b n x is = let here : e ≡ (n, x) = cc in sym (ap (λ d. Some d.0) here)
-
-pub first_behind : {X : Type 0} (a b : List (ℕ × X)) → length a ≡ 0 → first_number b ≡ first_number (a ++ b)
-first_behind [] b none = refl
-first_behind (e ∷ a) b none = absurd (omega arith)
 
 -- ---- what stands under a number after a change
 

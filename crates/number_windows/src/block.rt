@@ -14,6 +14,31 @@ pub fn place<T>(block: &VecDeque<(u64, T)>, number: u64) -> Option<usize>
         ((d : ℕ × T) → (slice_index_or block.now.items i d).0 ≡ number)) }
     ensures missing { IfNone result (at number block.now.items ≡ None) }
 {
+    match guess(block, number) {
+        Some(index) => Some(index),
+        None => search(block, number),
+    }
+}
+
+/// Where the entry with this number stands if none is missing between the first and it.
+fn guess<T>(block: &VecDeque<(u64, T)>, number: u64) -> Option<usize>
+    ensures { IfSome result (λ i. (i < length block.now.items) ×
+        ((d : ℕ × T) → (slice_index_or block.now.items i d).0 ≡ number)) }
+{
+    let (first, _) = block.front()?;
+    let index = number.checked_sub(*first)? as usize;
+    match block.get(index) {
+        Some((other, _)) if *other == number => Some(index),
+        _ => None,
+    }
+}
+
+fn search<T>(block: &VecDeque<(u64, T)>, number: u64) -> Option<usize>
+    requires { Ascending block.now.items }
+    ensures found { IfSome result (λ i. (i < length block.now.items) ×
+        ((d : ℕ × T) → (slice_index_or block.now.items i d).0 ≡ number)) }
+    ensures missing { IfNone result (at number block.now.items ≡ None) }
+{
     let index = below(block, number);
     match block.get(index) {
         Some((other, _)) if *other == number => Some(index),

@@ -8,6 +8,3 @@ mod number_window;
 mod pages;
 
 pub use number_window::NumberWindow;
-
-#[cfg(test)]
-mod tests;

@@ -77,12 +77,12 @@ IsNumberIndex index calls = (id : Id) (number : ℕ) → is_listed index id numb
 abbrev pub is_of : ℕ → OwnCall → Bool
 is_of caller call = call.caller == caller
 
-pub record IsOwn (made : ℕ) (waiting : List (ℕ × OwnCall)) (all kept : KeysByCaller) : Type 0 where
-  pub ascending : Ascending waiting
-  pub positive : Above 0 waiting
-  pub numbered : Below (suc made) waiting
-  pub by_caller : IsKeyIndex all is_of waiting
-  pub wanted : IsKeyIndex kept is_wanted_by waiting
+pub record IsOwn (made : ℕ) (waiting : NumberWindow OwnCall) (all kept : KeysByCaller) : Type 0 where
+  pub window : IsWindow waiting
+  pub positive : Above 0 (window_entries waiting)
+  pub numbered : Below (suc made) (window_entries waiting)
+  pub by_caller : IsKeyIndex all is_of (window_entries waiting)
+  pub wanted : IsKeyIndex kept is_wanted_by (window_entries waiting)
 
 pub record IsTheirs (came : ℕ) (calls : NumberWindow TheirCall) (index : NumbersById) : Type 0 where
   pub window : IsWindow calls

@@ -5,8 +5,8 @@ ghost use Rattle.number_windows.specs.Numbered.{at, without, up_to, changed_at, 
 
 use crate::keys_by_caller::KeysByCaller;
 use crate::own_call::OwnCall;
+use number_windows::NumberWindow;
 use std::alloc::{AllocError, Global};
-use std::collections::BTreeMap;
 use std::marker::Model;
 use std::mem;
 
@@ -16,7 +16,7 @@ pub struct OwnCalls {
     /// How many were made. `IsOwn` holds: no key is greater, and the indexes have just the keys that are said here.
     made: u64,
     /// Those that wait, by their keys.
-    waiting: BTreeMap<u64, OwnCall>,
+    waiting: NumberWindow<OwnCall>,
     /// The keys of all that wait.
     by_caller: KeysByCaller,
     /// The keys of those that wait and aren't withdrawn.
@@ -29,10 +29,11 @@ impl Model for OwnCalls {
     ghost Value = { OwnState };
 
     ghost use Rattle.open_calls.specs.Inner.{IsOwn};
+    ghost use Rattle.number_windows.specs.Windows.{window_entries};
 
-    ghost view = { λ a. record { made = a.made; waiting = a.waiting.entries } };
+    ghost view = { λ a. record { made = a.made; waiting = window_entries a.waiting } };
 
-    ghost invariant = { λ a. IsOwn a.made a.waiting.entries a.by_caller a.wanted };
+    ghost invariant = { λ a. IsOwn a.made a.waiting a.by_caller a.wanted };
 }
 
 impl OwnCalls {
@@ -43,7 +44,7 @@ impl OwnCalls {
     {
         OwnCalls {
             made: 0,
-            waiting: BTreeMap::new(alloc),
+            waiting: NumberWindow::new(alloc),
             by_caller: KeysByCaller::new(alloc),
             wanted: KeysByCaller::new(alloc),
         }
@@ -53,7 +54,7 @@ impl OwnCalls {
     pub fn len(&self) -> u64
         ensures { result ≡ length self.now.waiting }
     {
-        self.waiting.len() as u64
+        self.waiting.len()
     }
 
     /// How many were made.
@@ -95,22 +96,15 @@ impl OwnCalls {
         ensures err { OnErr result (self.new ≡ self.old) }
     {
         let key = self.made + 1;
+        self.waiting.make_room()?;
         add_to_both(&mut self.by_caller, &mut self.wanted, caller, key)?;
         let call = OwnCall {
             caller,
             is_withdrawn: false,
         };
-        match self.waiting.insert(key, call) {
-            Ok(_) => {
-                self.made = key;
-                Ok(())
-            }
-            Err(_) => {
-                self.by_caller.remove(caller, key);
-                self.wanted.remove(caller, key);
-                Err(AllocError)
-            }
-        }
+        self.waiting.push(key, call);
+        self.made = key;
+        Ok(())
     }
 
     /// All calls with keys above this one are as if they had never been made.
@@ -140,28 +134,29 @@ impl OwnCalls {
     pub fn get(&self, key: u64) -> Option<OwnCall>
         ensures { result ≡ at key self.now.waiting }
     {
-        self.waiting.get(&key).copied()
+        self.waiting.get(key).copied()
     }
 
     /// Marks the call with this key as withdrawn, where it waits.
     pub fn withdraw(&mut self, key: u64)
         ensures { self.new ≡ record self.old { waiting = changed_at key withdrawn self.old.waiting } }
     {
-        let caller = match self.waiting.get_mut(&key) {
-            Some(call) => {
-                call.is_withdrawn = true;
-                call.caller
-            }
-            None => return,
+        let Some(call) = self.waiting.get(key).copied() else {
+            return;
         };
-        self.wanted.remove(caller, key);
+        let withdrawn = OwnCall {
+            caller: call.caller,
+            is_withdrawn: true,
+        };
+        drop(self.waiting.replace(key, withdrawn));
+        self.wanted.remove(call.caller, key);
     }
 
     /// The call with this key doesn't wait any more.
     pub fn remove(&mut self, key: u64)
         ensures { self.new ≡ record self.old { waiting = without key self.old.waiting } }
     {
-        if let Some(call) = self.waiting.remove(&key) {
+        if let Some(call) = self.waiting.remove(key) {
             self.by_caller.remove(call.caller, key);
             self.wanted.remove(call.caller, key);
         }
@@ -183,7 +178,7 @@ impl OwnCalls {
     {
         let none = OwnCalls {
             made: self.made,
-            waiting: BTreeMap::new(alloc),
+            waiting: NumberWindow::new(alloc),
             by_caller: KeysByCaller::new(alloc),
             wanted: KeysByCaller::new(alloc),
         };
@@ -197,8 +192,8 @@ impl OwnCalls {
         ensures none { result ≡ None → self.new ≡ self.old }
         ensures made { self.new.made ≡ self.old.made }
     {
-        let key = match self.waiting.first_key_value() {
-            Some((key, _)) => *key,
+        let key = match self.waiting.first() {
+            Some(key) => key,
             None => return None,
         };
         self.remove(key);

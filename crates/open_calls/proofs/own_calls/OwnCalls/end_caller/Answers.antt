@@ -1,4 +1,5 @@
 use Rattle.std.proofs.Common.{◌≡◌, ◌<◌, ◌==◌, not, length, ◌∙◌, ap, subst, sym}
+use Rattle.number_windows.specs.Windows.{window_entries}
 use Rattle.number_windows.specs.Numbered.{at, without}
 use Rattle.open_calls.specs.Own.{OwnState, without_caller}
 use Rattle.open_calls.specs.Inner.{is_of, passes}
@@ -8,7 +9,7 @@ use Rattle.open_calls.proofs.own_calls.OwnCalls.end_caller.Goals as goal
 
 pub loop-key-smaller : goal.loop-key-smaller
 loop-key-smaller c =
-    let es = c.self.inside.waiting.entries in
+    let es = window_entries c.self.inside.waiting in
     let key = c.in-Some.key in
     let found = some_of (is_of c.args.caller) (at key es) (sym (c.self.invariant.by_caller c.args.caller key) ∙ c.in-Some.ensures.1) in
     let before : es ≡ c.loop-key.self.waiting = ap (λ (s : OwnState). s.waiting) c.self.view_is in
@@ -18,7 +19,7 @@ loop-key-smaller c =
 
 pub loop-key-preserved : goal.loop-key-preserved
 loop-key-preserved c =
-    let es = c.self.inside.waiting.entries in
+    let es = window_entries c.self.inside.waiting in
     let key = c.in-Some.key in
     let found = some_of (is_of c.args.caller) (at key es) (sym (c.self.invariant.by_caller c.args.caller key) ∙ c.in-Some.ensures.1) in
     let before : es ≡ c.loop-key.self.waiting = ap (λ (s : OwnState). s.waiting) c.self.view_is in
@@ -26,17 +27,17 @@ loop-key-preserved c =
       made = ap (λ (s : OwnState). s.made) c.remove.ensures ∙ c.loop-key.invariant.made;
       rest = ap (λ (s : OwnState). without_caller c.args.caller s.waiting) c.remove.ensures
           ∙ ap (λ fs. without_caller c.args.caller (without key fs)) (sym before)
-          ∙ filter_without (λ e. not (e.1.caller == c.args.caller)) key found.0 es c.self.invariant.ascending found.1 (ap not found.2)
+          ∙ filter_without (λ e. not (e.1.caller == c.args.caller)) key found.0 es c.self.invariant.window.ordered found.1 (ap not found.2)
           ∙ ap (λ fs. without_caller c.args.caller fs) before
           ∙ c.loop-key.invariant.rest;
     }
 
 pub returns : goal.returns
 returns c =
-    let es = c.self.inside.waiting.entries in
+    let es = window_entries c.self.inside.waiting in
     let before : es ≡ c.loop-key.self.waiting = ap (λ (s : OwnState). s.waiting) c.self.view_is in
     let all : without_caller c.args.caller es ≡ es =
-    filter_all (λ e. not (e.1.caller == c.args.caller)) es c.self.invariant.ascending
+    filter_all (λ e. not (e.1.caller == c.args.caller)) es c.self.invariant.window.ordered
     (λ n x is. ap not (ap (passes (is_of c.args.caller)) (sym is) ∙ sym (c.self.invariant.by_caller c.args.caller n) ∙ c.in_default.ensures n (at_above 0 n x es c.self.invariant.positive is))) in
     ap (λ m. state_of m c.loop-key.self.waiting) c.loop-key.invariant.made
     ∙ same_waiting c.args.self.now.made c.loop-key.self.waiting (without_caller c.args.caller c.args.self.now.waiting)

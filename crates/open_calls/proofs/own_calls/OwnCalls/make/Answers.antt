@@ -1,4 +1,5 @@
 use Rattle.std.proofs.Common.{◌≡◌, ◌+◌, ◌++◌, ◌∷◌, [], suc, ◌∙◌, ap, subst, arith}
+use Rattle.number_windows.specs.Windows.{window_entries}
 use Rattle.number_windows.specs.Numbered.{Below, up_to}
 use Rattle.open_calls.specs.Own.{OwnState, new_call, new_calls}
 use Rattle.open_calls.proofs.Own.{state_of, calls_more, calls_undone}
@@ -20,7 +21,7 @@ returns-in-Err-clause-err c =
     let was = c.args.self.now in
     let inside = c.self.inside.made in
     let made : inside ≡ was.made = ap (λ (s : OwnState). s.made) c.self.view_is in
-    let seen : c.self.inside.waiting.entries ≡ was.waiting = ap (λ (s : OwnState). s.waiting) c.self.view_is in
+    let seen : (window_entries c.self.inside.waiting) ≡ was.waiting = ap (λ (s : OwnState). s.waiting) c.self.view_is in
     let under : Below (suc was.made) was.waiting =
     subst (λ n. Below (suc n) was.waiting) made (subst (λ fs. Below (suc inside) fs) seen c.self.invariant.numbered) in
     c.take_back.ensures

@@ -1,37 +1,52 @@
 use Rattle.std.proofs.Common.{◌≡◌, suc, Some, None, ◌∙◌, ◌==◌, not, subst, sym, refl}
+use Rattle.number_windows.specs.Windows.{window_entries}
 use Rattle.number_windows.specs.Numbered.{at, without, Above, Below}
 use Rattle.open_calls.specs.Own.{is_wanted_by}
-use Rattle.open_calls.specs.Inner.{is_of}
-use Rattle.number_windows.proofs.Numbered.{ascending, removed, below_filter, above_filter, at_updates, at-get}
+use Rattle.open_calls.specs.Inner.{is_of, IsKeyIndex}
+use Rattle.number_windows.proofs.Numbered.{below_filter, above_filter}
+use Rattle.number_windows.proofs.Rows.{at_gone, without_missing}
 use Rattle.open_calls.proofs.OwedLemmas.{through}
 use Rattle.open_calls.proofs.Own.{state_of, same_waiting, index_gone, false_and}
 use Rattle.open_calls.proofs.own_calls.OwnCalls.remove.Goals as goal
 
 pub invariant_of-self : goal.invariant_of-self
 invariant_of-self c =
-    let es = c.self.inside.waiting.entries in
+    let es = window_entries c.self.inside.waiting in
+    let now = window_entries c.remove.new.self in
     let call = c.in-Some.call in
-    let is : c.remove.new.self.entries ≡ without c.args.key es = c.remove.ensures.entries ∙ removed c.args.key es c.self.invariant.ascending in
-    let there : at c.args.key es ≡ Some call = sym (at-get c.args.key es) ∙ sym c.in-Some.ensures.value in
-    let changes = at_updates c.self.inside.waiting c.remove.new.self c.args.key None c.in-Some.ensures.updates in
+    let is : now ≡ without c.args.key es = c.remove.ensures.entries in
+    let there : at c.args.key es ≡ Some call = sym c.in-Some.ensures.value in
+    let changes = at_gone c.args.key es now is in
     record {
-      ascending = ascending c.remove.new.self.entries c.remove.ensures.ordered;
+      window = c.remove.ensures.window;
       positive = subst (λ fs. Above 0 fs) (sym is) (above_filter 0 (λ e. not (c.args.key == e.0)) es c.self.invariant.positive);
       numbered = subst (λ fs. Below (suc c.self.inside.made) fs) (sym is) (below_filter (suc c.self.inside.made) (λ e. not (c.args.key == e.0)) es c.self.invariant.numbered);
-      by_caller = index_gone is_of c.self.inside.by_caller c.remove-in-Some.new.self es c.remove.new.self.entries c.args.key call None
+      by_caller = index_gone is_of c.self.inside.by_caller c.remove-in-Some.new.self es now c.args.key call None
           c.remove-in-Some.ensures c.self.invariant.by_caller changes there (λ k. refl) (λ k other. other);
-      wanted = index_gone is_wanted_by c.self.inside.wanted c.remove-in-Some-2.new.self es c.remove.new.self.entries c.args.key call None
+      wanted = index_gone is_wanted_by c.self.inside.wanted c.remove-in-Some-2.new.self es now c.args.key call None
           c.remove-in-Some-2.ensures c.self.invariant.wanted changes there (λ k. refl) (λ k other. false_and (call.caller == k) (not call.is_withdrawn) other);
+    }
+
+pub invariant_of-self-in_default : goal.invariant_of-self-in_default
+invariant_of-self-in_default c =
+    let es = window_entries c.self.inside.waiting in
+    let same : window_entries c.remove.new.self ≡ es = c.remove.ensures.entries ∙ without_missing c.args.key es (sym c.in_default.ensures.value) in
+    record {
+      window = c.remove.ensures.window;
+      positive = subst (λ fs. Above 0 fs) (sym same) c.self.invariant.positive;
+      numbered = subst (λ fs. Below (suc c.self.inside.made) fs) (sym same) c.self.invariant.numbered;
+      by_caller = subst (λ fs. IsKeyIndex c.self.inside.by_caller is_of fs) (sym same) c.self.invariant.by_caller;
+      wanted = subst (λ fs. IsKeyIndex c.self.inside.wanted is_wanted_by fs) (sym same) c.self.invariant.wanted;
     }
 
 pub returns-in-Some : goal.returns-in-Some
 returns-in-Some c =
-    let es = c.self.inside.waiting.entries in
+    let es = window_entries c.self.inside.waiting in
     through (λ s. state_of s.made (without c.args.key s.waiting)) _ _ c.args.self.now c.self.view_is
-    (same_waiting c.self.inside.made c.remove.new.self.entries (without c.args.key es) (c.remove.ensures.entries ∙ removed c.args.key es c.self.invariant.ascending))
+    (same_waiting c.self.inside.made (window_entries c.remove.new.self) (without c.args.key es) c.remove.ensures.entries)
 
 pub returns-in_default : goal.returns-in_default
 returns-in_default c =
-    let es = c.self.inside.waiting.entries in
+    let es = window_entries c.self.inside.waiting in
     through (λ s. state_of s.made (without c.args.key s.waiting)) _ _ c.args.self.now c.self.view_is
-    (same_waiting c.self.inside.made c.remove.new.self.entries (without c.args.key es) (c.remove.ensures.entries ∙ removed c.args.key es c.self.invariant.ascending))
+    (same_waiting c.self.inside.made (window_entries c.remove.new.self) (without c.args.key es) c.remove.ensures.entries)

@@ -1,4 +1,5 @@
 use Rattle.std.proofs.Common.{◌≡◌, ◌-◌, suc, ◌∙◌, ap, subst, sym, arith}
+use Rattle.number_windows.specs.Windows.{window_entries}
 use Rattle.number_windows.specs.Numbered.{without, Below}
 use Rattle.open_calls.specs.Own.{OwnState}
 use Rattle.number_windows.proofs.Numbered.{below_without}
@@ -11,13 +12,13 @@ invariant_of-self c =
     let key = c.self.inside.made in
     let now = c.args.self.now.waiting in
     let made : key ≡ c.args.self.now.made = ap (λ (s : OwnState). s.made) c.self.view_is in
-    let before : c.self.inside.waiting.entries ≡ now = ap (λ (s : OwnState). s.waiting) c.self.view_is in
-    let after : c.self-2.inside.waiting.entries ≡ without key now = ap (λ (s : OwnState). s.waiting) (c.self-2.view_is ∙ c.remove.ensures) in
+    let before : (window_entries c.self.inside.waiting) ≡ now = ap (λ (s : OwnState). s.waiting) c.self.view_is in
+    let after : (window_entries c.self-2.inside.waiting) ≡ without key now = ap (λ (s : OwnState). s.waiting) (c.self-2.view_is ∙ c.remove.ensures) in
     let last : key ≡ suc (key - 1) = omega (arith, c.requires) in
     record {
-      ascending = c.self-2.invariant.ascending;
+      window = c.self-2.invariant.window;
       positive = c.self-2.invariant.positive;
-      numbered = subst (λ n. Below n c.self-2.inside.waiting.entries) last (subst (λ fs. Below key fs) (sym after)
+      numbered = subst (λ n. Below n (window_entries c.self-2.inside.waiting)) last (subst (λ fs. Below key fs) (sym after)
           (below_without key now (subst (λ fs. Below (suc key) fs) before c.self.invariant.numbered)));
       by_caller = c.self-2.invariant.by_caller;
       wanted = c.self-2.invariant.wanted;
@@ -27,7 +28,7 @@ pub returns : goal.returns
 returns c =
     let key = c.self.inside.made in
     let now = c.args.self.now.waiting in
-    let before : c.self.inside.waiting.entries ≡ now = ap (λ (s : OwnState). s.waiting) c.self.view_is in
-    let after : c.self-2.inside.waiting.entries ≡ without key now = ap (λ (s : OwnState). s.waiting) (c.self-2.view_is ∙ c.remove.ensures) in
+    let before : (window_entries c.self.inside.waiting) ≡ now = ap (λ (s : OwnState). s.waiting) c.self.view_is in
+    let after : (window_entries c.self-2.inside.waiting) ≡ without key now = ap (λ (s : OwnState). s.waiting) (c.self-2.view_is ∙ c.remove.ensures) in
     through (λ s. state_of (s.made - 1) (without s.made s.waiting)) _ _ c.args.self.now c.self.view_is
-    (same_waiting (key - 1) c.self-2.inside.waiting.entries (without key c.self.inside.waiting.entries) (after ∙ ap (without key) (sym before)))
+    (same_waiting (key - 1) (window_entries c.self-2.inside.waiting) (without key (window_entries c.self.inside.waiting)) (after ∙ ap (without key) (sym before)))

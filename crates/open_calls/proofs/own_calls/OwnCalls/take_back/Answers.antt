@@ -1,4 +1,5 @@
 use Rattle.std.proofs.Common.{◌≡◌, ◌-◌, suc, ◌∙◌, ap, subst, sym, arith}
+use Rattle.number_windows.specs.Windows.{window_entries}
 use Rattle.number_windows.specs.Numbered.{up_to, Below}
 use Rattle.open_calls.specs.Own.{OwnState}
 use Rattle.number_windows.proofs.Numbered.{up_to_without, up_to_all}
@@ -20,7 +21,7 @@ pub returns : goal.returns
 returns c =
     let now = c.loop-self.self in
     let made : c.self.inside.made ≡ now.made = ap (λ (s : OwnState). s.made) c.self.view_is in
-    let seen : c.self.inside.waiting.entries ≡ now.waiting = ap (λ (s : OwnState). s.waiting) c.self.view_is in
+    let seen : (window_entries c.self.inside.waiting) ≡ now.waiting = ap (λ (s : OwnState). s.waiting) c.self.view_is in
     let last : now.made ≡ c.args.made = omega (arith, c.loop-self-test.false, c.loop-self.invariant.least) in
     let under : Below (suc c.args.made) now.waiting =
     subst (λ n. Below (suc n) now.waiting) (made ∙ last) (subst (λ fs. Below (suc c.self.inside.made) fs) seen c.self.invariant.numbered) in

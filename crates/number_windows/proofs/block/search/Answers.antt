@@ -2,7 +2,7 @@ use Rattle.std.proofs.Common.{◌≡◌, true, false, ap, subst, arith}
 use Rattle.std.proofs.lemmas.List.{get_or_default}
 use Rattle.std.specs.Option.{IsSome}
 use Rattle.number_windows.proofs.Rows.{at_missing}
-use Rattle.number_windows.proofs.block.place.Goals as goal
+use Rattle.number_windows.proofs.block.search.Goals as goal
 
 pub returns-in_default-clause-missing : goal.returns-in_default-clause-missing
 returns-in_default-clause-missing g c =
