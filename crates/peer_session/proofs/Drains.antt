@@ -2,28 +2,44 @@
 use Rattle.std.proofs.Common.{◌≡◌, ℕ, ◌+◌, ◌-◌, ◌<◌, ◌^◌, flat_map, min, List, ◌++◌, [], length, take, Bool, true, false, cond, Option, Some, None, refl, sym, ap, subst, ◌∙◌, append-nil, arith}
 use Rattle.std.proofs.lemmas.List.{take_all}
 use Rattle.std.specs.Io.KnownBytes.{Keeps, Appends}
-use Rattle.lsp_frames.specs.Frames.{written}
 use Rattle.answer_desk.specs.State.{front_texts}
-use Rattle.peer_output.specs.Items.{bytes_of, count_sendings, count_calls}
+use Rattle.peer_output.specs.Items.{count_sendings, count_calls}
 use Rattle.session_state.specs.Core.{Core}
-use Rattle.session_state.specs.Turning.{due_bytes, drained}
+use Rattle.session_state.specs.Turning.{drained}
+use Rattle.stream_framing.specs.Framed.{framed}
+use Rattle.stream_framing.specs.declared.framing.Framing.{Framing}
+use Rattle.stream_framing.specs.declared.framing.Framing.TheVariants.{Frames, Lines}
+use Rattle.peer_session.specs.Framings.{bytes_in, due_in}
 use Rattle.peer_session.specs.declared.writing.Written.{Written}
-use Rattle.peer_session.specs.Events.{due_sendings, drained_session, WritesNothing, WritesSome, FailsToWrite}
+use Rattle.peer_session.specs.Events.{due_sendings, drained_session, StopsIn, WritesSomeIn, FailsToWriteIn}
 use Rattle.peer_session.specs.Inner.Runs.{NothingDue}
 use Rattle.peer_session.specs.Inner.Writing.{Counts, CountsOn}
-use Rattle.peer_session.specs.SessionState.{SessionState, with_core, counted}
+use Rattle.peer_session.specs.SessionState.{SessionState, counted}
 
 -- ---- nothing is written
 
-fails_if : (s : SessionState) (before : Option (List ℕ)) (b : Bool) → b ≡ true → FailsToWrite b s s before before
-fails_if s before true is = record { bytes = refl; after_is = refl }
-fails_if s before false is = cc
+fails_if : (framing : Framing) (s : SessionState) (before : Option (List ℕ)) (b : Bool) → b ≡ true → FailsToWriteIn framing b s s before before
+fails_if framing s before true is = record { bytes = refl; after_is = refl }
+fails_if framing s before false is = cc
 
-pub broken-fails : (s : SessionState) (before : Option (List ℕ)) → s.is_broken ≡ true → FailsToWrite s.is_broken s s before before
-broken-fails s before is = fails_if s before s.is_broken is
+pub broken-fails : (framing : Framing) (s : SessionState) (before : Option (List ℕ)) → s.is_broken ≡ true → FailsToWriteIn framing s.is_broken s s before before
+broken-fails framing s before is = fails_if framing s before s.is_broken is
 
-pub nothing-written : (s : SessionState) (core : Core) (before : Option (List ℕ)) → core ≡ s.core → WritesNothing s (with_core s core) before before
-nothing-written s core before same = record { bytes = refl; after_is = ap (with_core s) same }
+pub failed-before : (framing : Framing) (s : SessionState) (before : Option (List ℕ)) → s.has_failed ≡ true → StopsIn framing s s before before
+failed-before Frames s before is = record { bytes = refl; after_is = refl }
+failed-before Lines s before is = (refl, λ i. record s { has_failed = is i })
+
+-- Without memory the session stays as it was, or has failed.
+abbrev pub left_by : SessionState → Core → Bool → SessionState
+left_by s core failed = record s { core = core; has_failed = failed }
+
+pub none-left : (framing : Framing) (s : SessionState) (core : Core) (before : Option (List ℕ)) (failed : Bool) → s.has_failed ≡ false → (framing ≡ Frames → core ≡ s.core)
+    → (framing ≡ Frames → failed ≡ false) → (framing ≡ Lines → failed ≡ true) → StopsIn framing s (left_by s core failed) before before
+none-left Frames s core before failed well same frames lines = record {
+  bytes = refl;
+  after_is = λ i. record s { core = same refl i; has_failed = (frames refl ∙ sym well) i };
+}
+none-left Lines s core before failed well same frames lines = (refl, λ i. record s { core = core; has_failed = lines refl i })
 
 -- ---- all of it, or some
 
@@ -48,12 +64,12 @@ put-drained s core written all counts answers on is =
     let answered : all.answers ≡ counted (s.answers + length (front_texts s.core.desk)) = on.answers ∙ ap (λ k. counted (s.answers + k)) answers in
     λ i. record s { core = is i; messages = messages i; call_frames = call_frames i; answers = answered i }
 
-fails_else : (s after : SessionState) (before sink : Option (List ℕ)) (b : Bool) → b ≡ false → WritesSome s after before sink → FailsToWrite b s after before sink
-fails_else s after before sink true is some = cc
-fails_else s after before sink false is some = some
+fails_else : (framing : Framing) (s after : SessionState) (before sink : Option (List ℕ)) (b : Bool) → b ≡ false → WritesSomeIn framing s after before sink → FailsToWriteIn framing b s after before sink
+fails_else framing s after before sink true is some = cc
+fails_else framing s after before sink false is some = some
 
-pub some-written : (s after : SessionState) (before sink : Option (List ℕ)) → s.is_broken ≡ false → WritesSome s after before sink → FailsToWrite s.is_broken s after before sink
-some-written s after before sink is some = fails_else s after before sink s.is_broken is some
+pub some-written : (framing : Framing) (s after : SessionState) (before sink : Option (List ℕ)) → s.is_broken ≡ false → WritesSomeIn framing s after before sink → FailsToWriteIn framing s.is_broken s after before sink
+some-written framing s after before sink is some = fails_else framing s after before sink s.is_broken is some
 
 -- ---- what a sink takes
 
@@ -91,8 +107,8 @@ told-false before other false is = refl
 
 -- ---- nothing is due
 
-pub no-bytes : (core : Core) → NothingDue core → due_bytes core ≡ []
-no-bytes core none = ap (λ items. bytes_of items ++ flat_map written (front_texts core.desk)) none.sendings ∙ ap (λ texts. flat_map written texts) none.answers
+pub no-bytes : (framing : Framing) (core : Core) → NothingDue core → due_in framing core ≡ []
+no-bytes framing core none = ap (λ items. bytes_in framing items ++ flat_map (framed framing) (front_texts core.desk)) none.sendings ∙ ap (λ texts. flat_map (framed framing) texts) none.answers
 
 counted-none : (a : ℕ) → a < 2 ^ 64 → a ≡ counted (a + 0)
 counted-none a small = omega (arith, small)

@@ -1,5 +1,5 @@
 -- What is put behind bytes, and counted; and what is noted of it.
-use Rattle.std.proofs.Common.{◌≡◌, ℕ, zero, suc, ◌+◌, ◌-◌, ◌^◌, ◌<◌, ◌≤◌, min, max, List, [], ◌∷◌, ◌++◌, length, map, take, drop, get_or, set, slice_get, codes, decimal, Bool, true, false, cond, Some, None, refl, sym, ap, subst, ◌∙◌, append_assoc, append-nil, arith, length-append}
+use Rattle.std.proofs.Common.{◌≡◌, ℕ, zero, suc, ◌+◌, ◌-◌, ◌^◌, ◌<◌, ◌≤◌, min, max, List, [], ◌∷◌, ◌++◌, length, map, take, drop, get_or, set, slice_get, Bool, true, false, cond, Some, None, refl, sym, ap, subst, ◌∙◌, append_assoc, append-nil, arith, length-append}
 use Rattle.std.proofs.Math.Seq.{map-set_same}
 use Rattle.std.proofs.lemmas.Bool.{ltb-false, le-ltb}
 use Rattle.std.proofs.lemmas.Grind.{flat_map-append}
@@ -7,16 +7,18 @@ use Rattle.std.proofs.lemmas.List.{map-append, length-map, drop-map, drop_all, t
 use Rattle.std.proofs.lemmas.List.Sums.{sum_by-append}
 use Rattle.std.proofs.lemmas.Option.{slice_get_within, get_or_from_slice_get}
 use Rattle.std.specs.List.{count_by}
-use Rattle.lsp_frames.specs.Frames.{written}
 use Rattle.answer_desk.specs.State.{State, front_texts, without_front}
 use Rattle.handler_future.specs.declared.message.Message.{Message}
 use Rattle.handler_future.specs.State.{HandlerState}
 use Rattle.session_stages.specs.declared.stage.Stage.{Stage}
 use Rattle.session_stages.specs.declared.stage.Stage.TheVariants.{Gone, Faulty, Idle, Out, Over, Failed}
 use Rattle.peer_output.specs.Course.{message, withdrawal}
-use Rattle.peer_output.specs.Items.{Item, sent, bytes_of, item_text, count_sendings, count_calls, is_sending, is_call}
+use Rattle.peer_output.specs.Items.{Item, sent, item_text, count_sendings, count_calls, is_sending, is_call}
 use Rattle.session_state.specs.Core.{Core, stage_at, with_stage, unwritten, unwritten_from}
 use Rattle.session_state.specs.Turning.{written_stage}
+use Rattle.stream_framing.specs.Framed.{framed}
+use Rattle.stream_framing.specs.declared.framing.Framing.{Framing}
+use Rattle.peer_session.specs.Framings.{bytes_in}
 use Rattle.peer_session.specs.declared.writing.Written.{Written}
 use Rattle.peer_session.specs.Inner.Runs.{NothingDue, StageFits, has_unwritten, unwritten_numbers_from, unwritten_numbers}
 use Rattle.peer_session.specs.Inner.Writing.{Counts, CountsOn, unwritten_of}
@@ -46,23 +48,18 @@ counts-nothing = record { messages = refl; call_frames = refl }
 
 -- ---- bytes
 
-pub bytes-on : (xs ys : List Item) → bytes_of (xs ++ ys) ≡ bytes_of xs ++ bytes_of ys
-bytes-on xs ys = flat_map-append (λ item. written (item_text item)) xs ys
+pub bytes-on : (framing : Framing) (xs ys : List Item) → bytes_in framing (xs ++ ys) ≡ bytes_in framing xs ++ bytes_in framing ys
+bytes-on framing xs ys = flat_map-append (λ item. framed framing (item_text item)) xs ys
 
-pub put-on : (before between after : List ℕ) (xs ys : List Item) → between ≡ before ++ bytes_of xs → after ≡ between ++ bytes_of ys → after ≡ before ++ bytes_of (xs ++ ys)
-put-on before between after xs ys p q =
-    q ∙ ap (λ l. l ++ bytes_of ys) p ∙ append_assoc before (bytes_of xs) (bytes_of ys) ∙ ap (λ l. before ++ l) (sym (bytes-on xs ys))
+pub put-on : (framing : Framing) (before between after : List ℕ) (xs ys : List Item) → between ≡ before ++ bytes_in framing xs → after ≡ between ++ bytes_in framing ys
+    → after ≡ before ++ bytes_in framing (xs ++ ys)
+put-on framing before between after xs ys p q =
+    q ∙ ap (λ l. l ++ bytes_in framing ys) p ∙ append_assoc before (bytes_in framing xs) (bytes_in framing ys) ∙ ap (λ l. before ++ l) (sym (bytes-on framing xs ys))
 
-frame-behind : (old head digits blank content : List ℕ) → old ++ head ++ digits ++ blank ++ content ≡ old ++ (head ++ digits ++ blank ++ content)
-frame-behind old head digits blank content = simp append_assoc
-
--- one item in a frame
-pub framed : (before text : List ℕ) (item : Item) → text ≡ item_text item
-    → before ++ codes "Content-Length: " ++ decimal (length text) ++ codes "\r\n\r\n" ++ text ≡ before ++ bytes_of (item ∷ [])
-framed before text item is =
-    frame-behind before (codes "Content-Length: ") (decimal (length text)) (codes "\r\n\r\n") text
-    ∙ ap (λ t. before ++ written t) is
-    ∙ ap (λ l. before ++ l) (sym (append-nil (written (item_text item))))
+-- one item
+pub one-put : (framing : Framing) (before text : List ℕ) (item : Item) → text ≡ item_text item → before ++ framed framing text ≡ before ++ bytes_in framing (item ∷ [])
+one-put framing before text item is =
+    ap (λ t. before ++ framed framing t) is ∙ ap (λ l. before ++ l) (sym (append-nil (framed framing (item_text item))))
 
 -- one more of a list
 pub map-more : {X Y : Type 0} (f : X → Y) (xs : List X) (i : ℕ) (x : X) → take (i + 1) xs ≡ take i xs ++ x ∷ [] → map f (take (i + 1) xs) ≡ map f (take i xs) ++ f x ∷ []

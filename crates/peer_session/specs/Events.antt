@@ -12,7 +12,10 @@ use Rattle.rpc_messages.specs.Unit.{SeenUnit}
 use Rattle.peer_output.specs.Items.{Item, count_sendings, count_calls}
 use Rattle.session_state.specs.Core.{Core, unwritten_from}
 use Rattle.session_state.specs.Taking.{Takes}
-use Rattle.session_state.specs.Turning.{Leaves, closed, drained, due_bytes, ready, returned}
+use Rattle.session_state.specs.Turning.{Leaves, closed, drained, ready, returned}
+use Rattle.stream_framing.specs.declared.framing.Framing.{Framing}
+use Rattle.stream_framing.specs.declared.framing.Framing.TheVariants.{Frames, Lines}
+use Rattle.peer_session.specs.Framings.{due_in}
 use Rattle.peer_session.specs.declared.drain_fault.DrainFault.{DrainFault}
 use Rattle.peer_session.specs.declared.drain_fault.DrainFault.TheVariants.{Memory, Write}
 use Rattle.peer_session.specs.declared.taken.Taken.{Taken}
@@ -84,10 +87,10 @@ abbrev pub broken : SessionState → SessionState
 broken s = record s { is_broken = true }
 
 -- All of it was written.
-pub record Writes (s after : SessionState) (before sink : Option (List ℕ)) : Type 0 where
+pub record WritesIn (framing : Framing) (s after : SessionState) (before sink : Option (List ℕ)) : Type 0 where
   pub not_broken : s.is_broken ≡ false
   pub not_failed : s.has_failed ≡ false
-  pub bytes : Appends before sink (due_bytes s.core)
+  pub bytes : Appends before sink (due_in framing s.core)
   pub after_is : after ≡ drained_session s
 
 -- Nothing was written, and the session is unchanged.
@@ -95,24 +98,41 @@ pub record WritesNothing (s after : SessionState) (before sink : Option (List �
   pub bytes : sink ≡ before
   pub after_is : after ≡ s
 
+-- Nothing was written for want of memory. In frames the session is unchanged. In lines it may have let go of what was due: it writes nothing
+-- any more.
+abbrev pub StopsIn : Framing → SessionState → SessionState → Option (List ℕ) → Option (List ℕ) → Type 0
+StopsIn Frames s after before sink = WritesNothing s after before sink
+StopsIn Lines s after before sink = (sink ≡ before) × (after ≡ record s { core = after.core; has_failed = true })
+
 -- The sink failed behind some of the bytes, from their front.
-pub record WritesSome (s after : SessionState) (before sink : Option (List ℕ)) : Type 0 where
+pub record WritesSomeIn (framing : Framing) (s after : SessionState) (before sink : Option (List ℕ)) : Type 0 where
   pub not_broken : s.is_broken ≡ false
   pub not_failed : s.has_failed ≡ false
   pub count : ℕ
-  pub bytes : Appends before sink (take count (due_bytes s.core))
+  pub bytes : Appends before sink (take count (due_in framing s.core))
   pub after_is : after ≡ broken (drained_session s)
 
 -- A sink that failed before gets nothing.
-abbrev pub FailsToWrite : Bool → SessionState → SessionState → Option (List ℕ) → Option (List ℕ) → Type 0
-FailsToWrite true s after before sink = WritesNothing s after before sink
-FailsToWrite false s after before sink = WritesSome s after before sink
+abbrev pub FailsToWriteIn : Framing → Bool → SessionState → SessionState → Option (List ℕ) → Option (List ℕ) → Type 0
+FailsToWriteIn framing true s after before sink = WritesNothing s after before sink
+FailsToWriteIn framing false s after before sink = WritesSomeIn framing s after before sink
 
 -- A drain is refused for memory where a handler has found none, or where there is none for its bytes; it fails where the sink fails, and ever after.
+abbrev pub DrainsIn : {T : Type 0} → Framing → SessionState → Option (List ℕ) → Result T DrainFault → SessionState → Option (List ℕ) → Type 0
+DrainsIn framing s before (Ok done) after sink = WritesIn framing s after before sink
+DrainsIn framing s before (Err Memory) after sink = (s.is_broken ≡ false) × StopsIn framing s after before sink
+DrainsIn framing s before (Err Write) after sink = FailsToWriteIn framing s.is_broken s after before sink
+
+-- ---- the same in frames
+
+abbrev pub Writes : SessionState → SessionState → Option (List ℕ) → Option (List ℕ) → Type 0
+Writes s after before sink = WritesIn Frames s after before sink
+
+abbrev pub WritesSome : SessionState → SessionState → Option (List ℕ) → Option (List ℕ) → Type 0
+WritesSome s after before sink = WritesSomeIn Frames s after before sink
+
 abbrev pub DrainsTo : {T : Type 0} → SessionState → Option (List ℕ) → Result T DrainFault → SessionState → Option (List ℕ) → Type 0
-DrainsTo s before (Ok done) after sink = Writes s after before sink
-DrainsTo s before (Err Memory) after sink = (s.is_broken ≡ false) × WritesNothing s after before sink
-DrainsTo s before (Err Write) after sink = FailsToWrite s.is_broken s after before sink
+DrainsTo s before result after sink = DrainsIn Frames s before result after sink
 
 -- The sink's count of failures rises where it fails in a drain, and in no other case.
 abbrev pub CountsDrain : {T : Type 0} → SessionState → ℕ → Result T DrainFault → ℕ → Type 0

@@ -1,4 +1,5 @@
 pub mod Events
+pub mod Framings
 pub mod Inner
 pub mod Session
 pub mod SessionState

@@ -22,6 +22,7 @@ use crate::hearing::is_ready;
 use crate::spare::Spare;
 use answer_desk::Desk;
 use handler_future::Handler;
+use json_values::Items;
 use method_steps::Table;
 use number_set::NumberSet;
 use rpc_messages::{Id, MOST_NUMBERS, Reply, Unit};
@@ -278,6 +279,15 @@ impl Runs {
         ensures err { OnErr result (self.new ≡ self.old) }
     {
         self.desk.release_to(bytes)
+    }
+
+    /// Takes the answers that are due, as texts.
+    pub(crate) fn release(&mut self) -> Result<Items<Items<u8>>, AllocError>
+        ensures texts { IfOk result (λ texts. texts ≡ front_texts self.old.desk) }
+        ensures ok { OnOk result (self.new ≡ with_desk self.old (without_front self.old.desk)) }
+        ensures err { OnErr result (self.new ≡ self.old) }
+    {
+        self.desk.release()
     }
 
     /// Gives memory back that finished numbers have left.

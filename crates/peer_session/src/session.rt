@@ -5,7 +5,9 @@ ghost use Rattle.std.specs.Io.KnownBytes.{Appends};
 ghost use Rattle.lsp_frames.specs.Devices.{HandsOnAll};
 ghost use Rattle.rpc_messages.specs.Unit.{unit_of};
 ghost use Rattle.session_state.specs.Turning.{due_bytes, ready};
-ghost use Rattle.peer_session.specs.Events.{ended, TakesUnit, LeavesAt, picked, with_job_back, DrainsTo, CountsDrain};
+ghost use Rattle.stream_framing.specs.declared.framing.Framing.TheVariants.{Frames, Lines};
+ghost use Rattle.peer_session.specs.Events.{ended, TakesUnit, LeavesAt, picked, with_job_back, DrainsIn, DrainsTo, CountsDrain};
+ghost use Rattle.peer_session.specs.Framings.{due_in};
 ghost use Rattle.peer_session.specs.SessionState.{SessionState, IsDone, new_session, report_of};
 
 use crate::arrival::numbers_of;
@@ -23,6 +25,7 @@ use lsp_frames::{Frame, Sink, put_all};
 use method_steps::Table;
 use rpc_messages::UnitReader;
 use std::alloc::{AllocError, Global};
+use stream_framing::Framing;
 
 /// So much room for output is kept from one drain to the next, in bytes.
 const KEPT_ROOM: usize = 65_536;
@@ -218,6 +221,26 @@ impl<'a> Session<'a> {
         ensures handed_on { 0 < length (due_bytes (view self.old).core) →
             OnOk result (HandsOnAll (S.handed_on sink.new) (S.bytes_taken sink.new)) }
     {
+        self.drain_in(Framing::Frames, sink)
+    }
+
+    /// The same, with each text as the framing writes it.
+    ///
+    /// # Errors
+    /// As `drain`'s. In lines, where there is no memory for what is due, that may be lost: the session then writes nothing any
+    /// more, as behind a handler that found none.
+    pub fn drain_in<S: Sink>(
+        &mut self,
+        framing: Framing,
+        sink: &mut S,
+    ) -> Result<(), DrainFault>
+        ensures drains { DrainsIn framing (view self.old) (S.bytes_taken sink.old) result
+            (view self.new) (S.bytes_taken sink.new) }
+        ensures cause { CountsDrain (view self.old) (S.failures sink.old) result
+            (S.failures sink.new) }
+        ensures handed_on { 0 < length (due_in framing (view self.old).core) →
+            OnOk result (HandsOnAll (S.handed_on sink.new) (S.bytes_taken sink.new)) }
+    {
         if self.is_broken {
             return Err(DrainFault::Write);
         }
@@ -229,7 +252,9 @@ impl<'a> Session<'a> {
             return Ok(());
         }
         self.output.clear();
-        let Ok(written) = put_due(self.alloc, &mut self.runs, &mut self.output) else {
+        let Ok(written) = put_due(self.alloc, framing, &mut self.runs, &mut self.output) else {
+            // (what lines let go of would be missing from what is written next)
+            self.has_failed = may_lose(framing);
             return Err(DrainFault::Memory);
         };
         self.written = self.written.and(written);
@@ -253,6 +278,14 @@ impl<'a> Session<'a> {
             self.output = Vec::new(self.alloc);
         }
     }
+}
+
+/// Whether what is due may be lost where there is no memory for it.
+fn may_lose(framing: Framing) -> bool
+    ensures frames { framing ≡ Frames → result ≡ false }
+    ensures lines { framing ≡ Lines → result ≡ true }
+{
+    matches!(framing, Framing::Lines)
 }
 
 /// Writes all the bytes and hands them on, where there are any, and tells whether that was done.

@@ -1,21 +1,25 @@
-//! What is due, as frames (LSP 3.17, "Base Protocol").
+//! What is due, in frames (LSP 3.17, "Base Protocol") or in lines.
 
-ghost use Rattle.std.specs.Prelude.{◌≡◌, ◌<◌, ◌^◌, ◌++◌, [], ◌∷◌, All, IfOk, OnOk, OnErr, length, map, drop, true};
+ghost use Rattle.std.specs.Prelude.{◌≡◌, ◌<◌, ◌^◌, ◌++◌, [], ◌∷◌, All, IfOk, OnOk, OnErr, flat_map, length, map, drop, true};
 ghost use Rattle.handler_future.specs.Front.{HasTurnsUpTo};
-ghost use Rattle.answer_desk.specs.State.{front_texts};
+ghost use Rattle.answer_desk.specs.State.{front_texts, without_front};
 ghost use Rattle.peer_output.specs.Course.{message as sends_message, withdrawal};
-ghost use Rattle.peer_output.specs.Items.{sent, message_text, bytes_of};
-ghost use Rattle.session_state.specs.Core.{stage_at, with_stage, unwritten, unwritten_from};
-ghost use Rattle.session_state.specs.Turning.{due_bytes, written_stage, drained};
+ghost use Rattle.peer_output.specs.Items.{sent, message_text};
+ghost use Rattle.session_state.specs.Core.{stage_at, with_desk, with_stage, unwritten, unwritten_from};
+ghost use Rattle.session_state.specs.Turning.{written_stage, drained};
+ghost use Rattle.stream_framing.specs.Framed.{framed};
+ghost use Rattle.stream_framing.specs.declared.framing.Framing.TheVariants.{Frames};
+ghost use Rattle.peer_session.specs.Framings.{bytes_in, due_in};
 ghost use Rattle.peer_session.specs.Inner.Runs.{has_unwritten};
 ghost use Rattle.peer_session.specs.Inner.Writing.{Counts, CountsOn};
 
 use crate::runs::Runs;
 use handler_future::Message;
-use lsp_frames::put_frame;
+use json_values::Items;
 use rpc_messages::{put_call, put_calls, put_notice, put_withdrawal};
 use session_stages::Stage;
 use std::alloc::{AllocError, Global};
+use stream_framing::{Framing, put_text};
 
 /// How many messages and answers were put.
 #[derive(Clone, Copy)]
@@ -74,18 +78,19 @@ impl Written {
 /// answers. All that may fail comes before what was put is noted.
 pub(crate) fn put_due(
     alloc: Global,
+    framing: Framing,
     runs: &mut Runs,
     bytes: &mut Vec<u8>,
 ) -> Result<Written, AllocError>
-    ensures bytes { OnOk result (bytes.new.items ≡ bytes.old.items ++ due_bytes runs.old) }
+    ensures bytes { OnOk result (bytes.new.items ≡ bytes.old.items ++ due_in framing runs.old) }
     ensures counts { IfOk result (λ written. Counts written (unwritten_from 0 runs.old.stages)) }
     ensures answers { IfOk result (λ written.
         written.answers ≡ length (front_texts runs.old.desk)) }
     ensures ok { OnOk result (runs.new ≡ drained runs.old) }
-    ensures err { OnErr result (runs.new ≡ runs.old) }
+    ensures err { framing ≡ Frames → OnErr result (runs.new ≡ runs.old) }
 {
-    let sendings = put_sendings(alloc, runs, bytes)?;
-    let answers = runs.release_to(bytes)? as u64;
+    let sendings = put_sendings(alloc, framing, runs, bytes)?;
+    let answers = put_answers(framing, runs, bytes)? as u64;
     note_written(runs);
     Ok(Written {
         answers,
@@ -93,17 +98,60 @@ pub(crate) fn put_due(
     })
 }
 
-/// Puts what numbers have sent.
-fn put_sendings(alloc: Global, runs: &Runs, bytes: &mut Vec<u8>) -> Result<Written, AllocError>
+/// Puts the answers that are due, and tells how many they are. In lines they are made one by one, so where there is no
+/// memory to put them they are lost.
+fn put_answers(
+    framing: Framing,
+    runs: &mut Runs,
+    bytes: &mut Vec<u8>,
+) -> Result<usize, AllocError>
+    ensures bytes { OnOk result (bytes.new.items ≡ bytes.old.items
+        ++ flat_map (framed framing) (front_texts runs.old.desk)) }
+    ensures count { IfOk result (λ count. count ≡ length (front_texts runs.old.desk)) }
+    ensures ok { OnOk result (runs.new ≡ with_desk runs.old (without_front runs.old.desk)) }
+    ensures err { framing ≡ Frames → OnErr result (runs.new ≡ runs.old) }
+{
+    match framing {
+        Framing::Frames => runs.release_to(bytes),
+        Framing::Lines => {
+            let texts = runs.release()?;
+            put_texts(bytes, framing, texts.as_slice())
+        }
+    }
+}
+
+/// Puts texts, and tells how many they are.
+fn put_texts(
+    bytes: &mut Vec<u8>,
+    framing: Framing,
+    texts: &[Items<u8>],
+) -> Result<usize, AllocError>
     ensures bytes { OnOk result (bytes.new.items ≡
-        bytes.old.items ++ bytes_of (unwritten_from 0 runs.now.stages)) }
+        bytes.old.items ++ flat_map (framed framing) texts.now) }
+    ensures count { IfOk result (λ count. count ≡ length texts.now) }
+{
+    for text in texts {
+        put_text(bytes, framing, text.as_slice())?;
+    }
+    Ok(texts.len())
+}
+
+/// Puts what numbers have sent.
+fn put_sendings(
+    alloc: Global,
+    framing: Framing,
+    runs: &Runs,
+    bytes: &mut Vec<u8>,
+) -> Result<Written, AllocError>
+    ensures bytes { OnOk result (bytes.new.items ≡
+        bytes.old.items ++ bytes_in framing (unwritten_from 0 runs.now.stages)) }
     ensures counts { IfOk result (λ written. Counts written (unwritten_from 0 runs.now.stages)) }
 {
     let mut written = NOTHING;
     let mut text = Vec::new(alloc);
     for place in 0..runs.unwritten_len() {
         if let Some(number) = runs.unwritten_at(place) {
-            written = written.and(put_number(alloc, bytes, &mut text, runs, number)?);
+            written = written.and(put_number(alloc, framing, bytes, &mut text, runs, number)?);
         }
     }
     Ok(written)
@@ -112,27 +160,28 @@ fn put_sendings(alloc: Global, runs: &Runs, bytes: &mut Vec<u8>) -> Result<Writt
 /// Puts what one number has sent.
 fn put_number(
     alloc: Global,
+    framing: Framing,
     bytes: &mut Vec<u8>,
     text: &mut Vec<u8>,
     runs: &Runs,
     number: u32,
 ) -> Result<Written, AllocError>
     ensures bytes { OnOk result (bytes.new.items ≡
-        bytes.old.items ++ bytes_of (map (sent number) (unwritten (stage_at runs.now number)))) }
+        bytes.old.items ++ bytes_in framing (map (sent number) (unwritten (stage_at runs.now number)))) }
     ensures counts { IfOk result (λ written.
         Counts written (map (sent number) (unwritten (stage_at runs.now number)))) }
 {
     match runs.stage(number) {
         Some(Stage::Idle(handler, so_far)) => {
             let messages = behind(handler.messages(), *so_far);
-            put_messages(alloc, bytes, text, number, messages)
+            put_messages(alloc, framing, bytes, text, number, messages)
         }
         Some(Stage::Over(handler, so_far)) => {
             let made = handler.messages().len();
             let messages = behind(handler.messages(), *so_far);
             let turns = behind(handler.waits(), so_far.saturating_sub(made));
-            let written = put_messages(alloc, bytes, text, number, messages)?;
-            Ok(written.and(put_withdrawals(bytes, text, number, turns)?))
+            let written = put_messages(alloc, framing, bytes, text, number, messages)?;
+            Ok(written.and(put_withdrawals(framing, bytes, text, number, turns)?))
         }
         _ => Ok(NOTHING),
     }
@@ -148,6 +197,7 @@ fn behind<T>(items: &[T], count: usize) -> &[T]
 /// Puts messages of a number.
 fn put_messages(
     alloc: Global,
+    framing: Framing,
     bytes: &mut Vec<u8>,
     text: &mut Vec<u8>,
     number: u32,
@@ -155,7 +205,7 @@ fn put_messages(
 ) -> Result<Written, AllocError>
     requires { All (HasTurnsUpTo 1024) messages.now }
     ensures bytes { OnOk result (bytes.new.items ≡
-        bytes.old.items ++ bytes_of (map (sent number) (map sends_message messages.now))) }
+        bytes.old.items ++ bytes_in framing (map (sent number) (map sends_message messages.now))) }
     ensures counts { IfOk result (λ written.
         Counts written (map (sent number) (map sends_message messages.now))) }
 {
@@ -163,7 +213,7 @@ fn put_messages(
     for message in messages {
         text.clear();
         put_message(alloc, text, number, message)?;
-        put_frame(bytes, text.as_slice())?;
+        put_text(bytes, framing, text.as_slice())?;
         written = written.and(Written::of_message(message));
     }
     Ok(written)
@@ -187,20 +237,21 @@ fn put_message(
 
 /// Puts the withdrawals of calls of a number.
 fn put_withdrawals(
+    framing: Framing,
     bytes: &mut Vec<u8>,
     text: &mut Vec<u8>,
     number: u32,
     turns: &[u32],
 ) -> Result<Written, AllocError>
     ensures bytes { OnOk result (bytes.new.items ≡
-        bytes.old.items ++ bytes_of (map (sent number) (map withdrawal turns.now))) }
+        bytes.old.items ++ bytes_in framing (map (sent number) (map withdrawal turns.now))) }
     ensures counts { IfOk result (λ written.
         Counts written (map (sent number) (map withdrawal turns.now))) }
 {
     for turn in turns {
         text.clear();
         put_withdrawal(text, number, *turn)?;
-        put_frame(bytes, text.as_slice())?;
+        put_text(bytes, framing, text.as_slice())?;
     }
     Ok(Written {
         messages: turns.len() as u64,

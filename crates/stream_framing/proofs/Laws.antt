@@ -1,8 +1,8 @@
 -- What is held of more bytes: of lines, and of both framings.
-use Rattle.std.proofs.Common.{◌≡◌, ◌≢◌, ℕ, Bool, true, false, cond, List, [], ◌∷◌, ◌++◌, refl, ap, sym, ◌∙◌, subst, append-nil, arith}
+use Rattle.std.proofs.Common.{subst, ◌≡◌, ℕ, Bool, true, false, cond, List, [], ◌∷◌, ◌++◌, refl, ap, sym, ◌∙◌, append-nil, arith}
 use Rattle.std.proofs.lemmas.Bool.Decides.{nat_tests}
-use Rattle.std.proofs.Common.{◌+◌, ◌≤◌, length, length-append}
-use Rattle.lsp_frames.specs.Contents.{Standing, Open, Broken, IsContents}
+use Rattle.std.proofs.Common.{◌+◌, length, length-append}
+use Rattle.lsp_frames.specs.Contents.{Standing, Open, Broken}
 use Rattle.lsp_frames.specs.Decoding as decoding
 use Rattle.lsp_frames.specs.Decoding.{known, IsOpen}
 use Rattle.lsp_frames.specs.Frames.{front}
@@ -15,7 +15,8 @@ use Rattle.content_streams.specs.Lines.{parts, without_last, ended_lines, fits}
 use Rattle.content_streams.specs.Inner.Cutting.{last_line}
 use Rattle.content_streams.proofs.LineTexts.{parts-are, parts_lead, ended_lead, lead}
 use Rattle.stream_framing.specs.Lines.{HoldsLines, all_fit, whole_contents, line_standing}
-use Rattle.stream_framing.specs.Framed.{Holds}
+use Rattle.lsp_frames.specs.Devices.{Ending, Unfinished, Finished, Failed}
+use Rattle.stream_framing.specs.Framed.{Holds, IsOpenLeft, read_text}
 use Rattle.stream_framing.specs.Inner.Cutting.{ended_contents, text_standing}
 use Rattle.stream_framing.specs.declared.framing.Framing.{Framing}
 use Rattle.stream_framing.specs.declared.framing.Framing.TheVariants.{Frames, Lines}
@@ -135,3 +136,33 @@ open-left limit (Broken fault) is_open = absurd is_open
 pub broken-left : (limit : ℕ) (left : Standing) (fault : FrameFault) → known limit left ≡ decoding.Broken fault → left ≡ Broken fault
 broken-left limit (Open rest) fault is = absurd (cc)
 broken-left limit (Broken other) fault is = let same : other ≡ fault = cc in ap Broken same
+
+-- ---- more bytes, and how an input is closed
+
+pub rest_open : (left : Standing) → IsOpenLeft left → (rest : List ℕ) × (left ≡ Open rest)
+rest_open (Open rest) is_open = (rest, refl)
+rest_open (Broken fault) is_open = absurd is_open
+
+-- More bytes hold the same contents, and perhaps more of them.
+pub held_of_more : (framing : Framing) (limit : ℕ) (bytes more : List ℕ) (frames : List Frame) (standing : Standing) → Holds framing limit bytes frames standing →
+    (later : List Frame) × (after : Standing) × Holds framing limit (bytes ++ more) (frames ++ later) after
+held_of_more framing limit bytes more frames (Broken fault) had =
+    ([], Broken fault, subst (λ all. Holds framing limit (bytes ++ more) all (Broken fault)) (sym (append-nil frames)) (held_keep_a_fault framing limit bytes more frames fault had))
+held_of_more framing limit bytes more frames (Open rest) had =
+    let next = held_exist framing limit (rest ++ more) in
+    (next.0, next.1, held_go_on framing limit bytes more frames rest next.0 next.1 had next.2)
+
+-- What is read of an input is the input and perhaps the LF that ends its last line.
+pub text_of : (framing : Framing) (ending : Ending) (bytes : List ℕ) → (more : List ℕ) × (read_text framing ending bytes ≡ bytes ++ more)
+text_of Frames ending bytes = ([], sym (append-nil bytes))
+text_of Lines Unfinished bytes = ([], sym (append-nil bytes))
+text_of Lines Failed bytes = ([], sym (append-nil bytes))
+text_of Lines Finished bytes = (10 ∷ [], refl)
+
+pub text_unfinished : (framing : Framing) (bytes : List ℕ) → read_text framing Unfinished bytes ≡ bytes
+text_unfinished Frames bytes = refl
+text_unfinished Lines bytes = refl
+
+pub text_failed : (framing : Framing) (bytes : List ℕ) → read_text framing Failed bytes ≡ bytes
+text_failed Frames bytes = refl
+text_failed Lines bytes = refl

@@ -1,12 +1,11 @@
 -- What the bytes of a stream hold, and how texts are written, in each framing.
-use Rattle.std.specs.Prelude.{◌≡◌, ℕ, List, [], ◌∷◌, ◌++◌, Result, Ok, Err, Vec}
+use Rattle.std.specs.Prelude.{◌≡◌, ℕ, List, [], ◌∷◌, ◌++◌}
 use Rattle.lsp_frames.specs.Contents.{Standing, IsContents}
 use Rattle.lsp_frames.specs.Contents as contents
 use Rattle.lsp_frames.specs.Decoding.{known}
 use Rattle.lsp_frames.specs.Devices.{Ending, Unfinished, Finished, Failed}
 use Rattle.lsp_frames.specs.Frames.{written}
 use Rattle.lsp_frames.specs.declared.frame.Frame.{Frame}
-use Rattle.lsp_frames.specs.declared.frame.FrameFault.{FrameFault}
 use Rattle.stream_framing.specs.Lines.{HoldsLines}
 use Rattle.stream_framing.specs.declared.cutter.Cutter.{Cutter}
 use Rattle.stream_framing.specs.declared.cutter.Cutter.TheVariants as cutters

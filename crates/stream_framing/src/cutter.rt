@@ -34,6 +34,15 @@ impl Cutter {
         }
     }
 
+    pub fn framing(&self) -> Framing
+        ensures { result ≡ framing_of self.now }
+    {
+        match self {
+            Cutter::Frames(_) => Framing::Frames,
+            Cutter::Lines(_) => Framing::Lines,
+        }
+    }
+
     /// The contents that this piece completes. `FeedFault::Ended` has those in front of the fault that it found.
     pub fn feed(&mut self, piece: &[u8]) -> Result<Vec<Frame>, FeedFault>
         ensures framing { framing_of self.new ≡ framing_of self.old }

@@ -34,7 +34,7 @@ broken-last (Some c) s after takes = ended-same s after c (takes.1 c refl)
 
 module _ (s : StreamState) (is_open : s.session.close ≡ None) (none : s.waiting ≡ []) (after : SessionState) (takes : TakesLast s.last s.session after) where
   abbrev now : StreamState
-  now = record { decoder = s.decoder; waiting = s.waiting; last = s.last; session = after }
+  now = record { cutter = s.cutter; waiting = s.waiting; last = s.last; session = after }
 
   taken-by : (last : Option Close) → s.last ≡ last → TakesNext s Nothing now
   taken-by None is = record { none_waits = none; is_closed = λ some. absurd (some is) }
@@ -48,9 +48,9 @@ module _ (s : StreamState) (is_open : s.session.close ≡ None) (none : s.waitin
   stands-by : (last : Option Close) → s.last ≡ last → (laws : Known) (fed : Fed) (jobs : ℕ → Option HandlerState) (sink : Option (List ℕ)) → StreamStands fed jobs s sink
       → StreamStands fed jobs now sink
   stands-by None is laws fed jobs sink had =
-      subst (λ x. StreamStands fed jobs (record { decoder = s.decoder; waiting = s.waiting; last = s.last; session = x }) sink) (sym (takes.0 is)) had
+      subst (λ x. StreamStands fed jobs (record { cutter = s.cutter; waiting = s.waiting; last = s.last; session = x }) sink) (sym (takes.0 is)) had
   stands-by (Some c) is laws fed jobs sink had =
-      subst (λ x. StreamStands fed jobs (record { decoder = s.decoder; waiting = s.waiting; last = s.last; session = x }) sink) (sym (takes.1 c is))
+      subst (λ x. StreamStands fed jobs (record { cutter = s.cutter; waiting = s.waiting; last = s.last; session = x }) sink) (sym (takes.1 c is))
       (end-taken laws fed jobs s sink had is_open none c is)
 
   pub last-stands : (laws : Known) (fed : Fed) (jobs : ℕ → Option HandlerState) (sink : Option (List ℕ)) → StreamStands fed jobs s sink → StreamStands fed jobs now sink

@@ -3,17 +3,17 @@ use Rattle.std.proofs.Common.{◌≡◌, ◌≢◌, ℕ, List, [], ◌∷◌, �
 use Rattle.std.specs.Prelude.{IfSome, option_map}
 use Rattle.std.proofs.lemmas.List.{map-append}
 use Rattle.lsp_frames.specs.Contents as contents
-use Rattle.lsp_frames.specs.Contents.{Standing, IsContents, end_of}
-use Rattle.lsp_frames.specs.Decoding.{Decoding, StandsAfter, IsOpen, known}
-use Rattle.lsp_frames.specs.Decoding as decoding
+use Rattle.lsp_frames.specs.Contents.{Standing, end_of}
 use Rattle.lsp_frames.specs.Devices.{Ending, Unfinished, Finished, Failed}
-use Rattle.lsp_frames.specs.Frames.{front}
-use Rattle.lsp_frames.specs.Heads.{head_at, head_from}
 use Rattle.lsp_frames.specs.declared.frame.Frame.{Frame}
 use Rattle.lsp_frames.specs.declared.frame.FrameFault.{FrameFault}
 use Rattle.lsp_frames.specs.declared.frame.End.{End}
 use Rattle.lsp_frames.specs.declared.frame.End.TheVariants as end
-use Rattle.lsp_frames.proofs.Laws.{contents_exist, contents_keep_a_fault, contents_go_on}
+use Rattle.stream_framing.specs.Framed.{Holds, IsOpenLeft, Knows, StandsBehind, framing_of, limit_of, read_text}
+use Rattle.stream_framing.specs.declared.cutter.Cutter.{Cutter}
+use Rattle.stream_framing.specs.declared.framing.Framing.{Framing}
+use Rattle.stream_framing.specs.declared.framing.Framing.TheVariants.{Frames, Lines}
+use Rattle.stream_framing.proofs.Laws.{held_keep_a_fault, held_of_more, nothing-broken, rest_open, text_of}
 use Rattle.rpc_messages.specs.Numbering.{taken, is_cut}
 use Rattle.rpc_messages.specs.Unit.{SeenUnit, unit_of, units_of}
 use Rattle.rpc_messages.proofs.Units.{taken-uncut, taken-cut, is_cut-cut}
@@ -32,7 +32,7 @@ use Rattle.peer_session.specs.declared.taken.Taken.{Taken}
 use Rattle.peer_output.specs.Events.{with_at}
 use Rattle.stream_session.specs.Inner.Known.{Known}
 use Rattle.stream_session.specs.Standing.{SessionStands, close_by}
-use Rattle.stream_session.specs.Stream.{Fed, StreamState, GoesOn, HasClosed, StreamStands, IsTaken, ending_by, fed_nothing, with_end, with_piece}
+use Rattle.stream_session.specs.Stream.{Fed, StreamState, GoesOn, HasClosed, StreamStands, IsTaken, ending_by, fed_nothing, with_end, with_ending, with_line_ended, with_piece}
 use Rattle.stream_session.specs.declared.next.InputEnd.{InputEnd}
 use Rattle.stream_session.proofs.Draining.{appends-none}
 use Rattle.stream_session.proofs.Jobs.{job-back, job-out, none-yet}
@@ -85,42 +85,23 @@ none-known s taken_all is_open = none-by s.last s.session.close taken_all.is_clo
 read-closes : (standing : Standing) (rest : List ℕ) → standing ≡ contents.Open rest → close_of false standing Failed ≡ Some Read
 read-closes standing rest is = ap (λ left. close_of false left Failed) is
 
--- ---- what a decoder knows of what is left
-
-open-left : (limit : ℕ) (left : Standing) → IsOpen (known limit left) → (rest : List ℕ) × (left ≡ contents.Open rest)
-open-left limit (contents.Open rest) is_open = (rest, refl)
-open-left limit (contents.Broken fault) is_open = absurd is_open
-
-broken-left : (limit : ℕ) (left : Standing) (fault : FrameFault) → known limit left ≡ decoding.Broken fault → left ≡ contents.Broken fault
-broken-left limit (contents.Open rest) fault is = absurd (cc)
-broken-left limit (contents.Broken other) fault is = let same : other ≡ fault = cc in ap contents.Broken same
-
 -- ---- more bytes
-
--- More bytes have the same frames, and perhaps more of them.
-pub contents_of_more : (limit : ℕ) (bytes more : List ℕ) (frames : List Frame) (standing : Standing) → IsContents limit bytes frames standing →
-    (later : List Frame) × (after : Standing) × IsContents limit (bytes ++ more) (frames ++ later) after
-contents_of_more limit bytes more frames (contents.Broken fault) had =
-    ([], contents.Broken fault, subst (λ all. IsContents limit (bytes ++ more) all (contents.Broken fault)) (sym (append-nil frames)) (contents_keep_a_fault limit bytes more frames fault had))
-contents_of_more limit bytes more frames (contents.Open rest) had =
-    let next = contents_exist limit (rest ++ more) in
-    (next.0, next.1, contents_go_on limit bytes more frames rest next.0 next.1 had next.2)
 
 pub units-append : (frames later : List Frame) → units_of (frames ++ later) ≡ units_of frames ++ units_of later
 units-append frames later = map-append _ frames later
 
 -- What closed an input closes it with more bytes: it was full, or a fault stays.
-pub record StaysClosed (limits : Limits) (all : List ℕ) (frames : List Frame) (standing : Standing) : Type 0 where
+pub record StaysClosed (framing : Framing) (limits : Limits) (all : List ℕ) (frames : List Frame) (standing : Standing) : Type 0 where
   pub now_frames : List Frame
   pub now_standing : Standing
-  pub contents : IsContents limits.content all now_frames now_standing
+  pub contents : Holds framing limits.content all now_frames now_standing
   pub taken_same : taken limits.numbers (units_of frames) ≡ taken limits.numbers (units_of now_frames)
   pub close_same : close_of (is_cut limits.numbers (units_of frames)) standing Unfinished ≡ close_of (is_cut limits.numbers (units_of now_frames)) now_standing Unfinished
 
-stays-cut : (limits : Limits) (bytes more : List ℕ) (frames : List Frame) (standing : Standing) → IsContents limits.content bytes frames standing
-    → is_cut limits.numbers (units_of frames) ≡ true → StaysClosed limits (bytes ++ more) frames standing
-stays-cut limits bytes more frames standing had cut =
-    let next = contents_of_more limits.content bytes more frames standing had in
+stays-cut : (framing : Framing) (limits : Limits) (bytes more : List ℕ) (frames : List Frame) (standing : Standing) → Holds framing limits.content bytes frames standing
+    → is_cut limits.numbers (units_of frames) ≡ true → StaysClosed framing limits (bytes ++ more) frames standing
+stays-cut framing limits bytes more frames standing had cut =
+    let next = held_of_more framing limits.content bytes more frames standing had in
     let parts = units-append frames next.0 in
     let still : is_cut limits.numbers (units_of (frames ++ next.0)) ≡ true =
     ap (is_cut limits.numbers) parts ∙ is_cut-cut limits.numbers (units_of frames) (units_of next.0) cut in
@@ -132,42 +113,38 @@ stays-cut limits bytes more frames standing had cut =
       close_same = ap (λ b. close_of b standing Unfinished) cut ∙ sym (ap (λ b. close_of b next.1 Unfinished) still);
     }
 
-stays-uncut : (limits : Limits) (bytes more : List ℕ) (frames : List Frame) (standing : Standing) → IsContents limits.content bytes frames standing
+stays-uncut : (framing : Framing) (limits : Limits) (bytes more : List ℕ) (frames : List Frame) (standing : Standing) → Holds framing limits.content bytes frames standing
     → is_cut limits.numbers (units_of frames) ≡ false → close_of (is_cut limits.numbers (units_of frames)) standing Unfinished ≢ None
-    → StaysClosed limits (bytes ++ more) frames standing
-stays-uncut limits bytes more frames (contents.Broken fault) had uncut closed = record {
+    → StaysClosed framing limits (bytes ++ more) frames standing
+stays-uncut framing limits bytes more frames (contents.Broken fault) had uncut closed = record {
   now_frames = frames;
   now_standing = contents.Broken fault;
-  contents = contents_keep_a_fault limits.content bytes more frames fault had;
+  contents = held_keep_a_fault framing limits.content bytes more frames fault had;
   taken_same = refl;
   close_same = refl;
 }
-stays-uncut limits bytes more frames (contents.Open rest) had uncut closed =
+stays-uncut framing limits bytes more frames (contents.Open rest) had uncut closed =
     absurd (closed (ap (λ b. close_of b (contents.Open rest) Unfinished) uncut))
 
-stays-by : (limits : Limits) (bytes more : List ℕ) (frames : List Frame) (standing : Standing) (b : Bool) → is_cut limits.numbers (units_of frames) ≡ b
-    → IsContents limits.content bytes frames standing → close_of (is_cut limits.numbers (units_of frames)) standing Unfinished ≢ None
-    → StaysClosed limits (bytes ++ more) frames standing
-stays-by limits bytes more frames standing true is had closed = stays-cut limits bytes more frames standing had is
-stays-by limits bytes more frames standing false is had closed = stays-uncut limits bytes more frames standing had is closed
+stays-by : (framing : Framing) (limits : Limits) (bytes more : List ℕ) (frames : List Frame) (standing : Standing) (b : Bool) → is_cut limits.numbers (units_of frames) ≡ b
+    → Holds framing limits.content bytes frames standing → close_of (is_cut limits.numbers (units_of frames)) standing Unfinished ≢ None
+    → StaysClosed framing limits (bytes ++ more) frames standing
+stays-by framing limits bytes more frames standing true is had closed = stays-cut framing limits bytes more frames standing had is
+stays-by framing limits bytes more frames standing false is had closed = stays-uncut framing limits bytes more frames standing had is closed
 
-pub stays-closed : (limits : Limits) (bytes more : List ℕ) (frames : List Frame) (standing : Standing) → IsContents limits.content bytes frames standing
-    → close_of (is_cut limits.numbers (units_of frames)) standing Unfinished ≢ None → StaysClosed limits (bytes ++ more) frames standing
-stays-closed limits bytes more frames standing had closed =
-    stays-by limits bytes more frames standing (is_cut limits.numbers (units_of frames)) refl had closed
+pub stays-closed : (framing : Framing) (limits : Limits) (bytes more : List ℕ) (frames : List Frame) (standing : Standing) → Holds framing limits.content bytes frames standing
+    → close_of (is_cut limits.numbers (units_of frames)) standing Unfinished ≢ None → StaysClosed framing limits (bytes ++ more) frames standing
+stays-closed framing limits bytes more frames standing had closed =
+    stays-by framing limits bytes more frames standing (is_cut limits.numbers (units_of frames)) refl had closed
 
 -- ---- before the first byte
 
-nothing-broken : (limit : ℕ) (fault : FrameFault) → IsContents limit [] [] (contents.Broken fault) → ⊥
-unfolding front head_at head_from
-nothing-broken limit fault is = cc
-
-module _ (laws : Known) (table : MethodTable) (limits : Limits) (before : Option (List ℕ)) (decoder : Decoding) (s : SessionState)
-    (limit : decoder.limit ≡ limits.content) (is : s ≡ new_session table limits) where
-  starts-at : (standing : Standing) → IsContents limits.content [] [] standing → decoder.standing ≡ known limits.content standing
-      → StreamStands (fed_nothing table limits before) (λ n. None) (record { decoder = decoder; waiting = []; last = None; session = s }) before
-  starts-at (contents.Open rest) holds stands =
-      subst (λ x. StreamStands (fed_nothing table limits before) (λ n. None) (record { decoder = decoder; waiting = []; last = None; session = x }) before) (sym is) (record {
+module _ (laws : Known) (framing : Framing) (table : MethodTable) (limits : Limits) (before : Option (List ℕ)) (cutter : Cutter) (s : SessionState)
+    (is_framed : framing_of cutter ≡ framing) (limit : limit_of cutter ≡ limits.content) (is : s ≡ new_session table limits) where
+  starts-at : (standing : Standing) → Holds framing limits.content [] [] standing → Knows cutter standing
+      → StreamStands (fed_nothing framing table limits before) (λ n. None) (record { cutter = cutter; waiting = []; last = None; session = s }) before
+  starts-at (contents.Open rest) holds knows =
+      subst (λ x. StreamStands (fed_nothing framing table limits before) (λ n. None) (record { cutter = cutter; waiting = []; last = None; session = x }) before) (sym is) (record {
         frames = [];
         standing = contents.Open rest;
         contents = holds;
@@ -177,15 +154,17 @@ module _ (laws : Known) (table : MethodTable) (limits : Limits) (before : Option
         out_are = λ n. refl;
         session = starts laws table limits;
         wrote = appends-none before;
+        framing = is_framed;
         limit = limit;
-        while_open = λ still. record { parts = refl; uncut = refl; last_is = refl; decodes = stands };
+        while_open = λ still. record { parts = refl; uncut = refl; last_is = refl; knows = knows };
         once_closed = λ closed. absurd (closed refl);
       })
-  starts-at (contents.Broken fault) holds stands = absurd (nothing-broken limits.content fault holds)
+  starts-at (contents.Broken fault) holds knows = absurd (nothing-broken framing limits.content fault holds)
 
-  pub stream-starts : StandsAfter decoder [] []
-      → StreamStands (fed_nothing table limits before) (λ n. None) (record { decoder = decoder; waiting = []; last = None; session = s }) before
-  stream-starts stands = starts-at stands.0 (subst (λ n. IsContents n [] [] stands.0) limit stands.1) (stands.2 ∙ ap (λ n. known n stands.0) limit)
+  pub stream-starts : StandsBehind cutter [] []
+      → StreamStands (fed_nothing framing table limits before) (λ n. None) (record { cutter = cutter; waiting = []; last = None; session = s }) before
+  stream-starts stands =
+      starts-at stands.0 (subst (λ f. Holds f limits.content [] [] stands.0) is_framed (subst (λ n. Holds (framing_of cutter) n [] [] stands.0) limit stands.1)) stands.2
 
 -- ---- one number among others
 
@@ -205,6 +184,7 @@ module _ (laws : Known) (fed : Fed) (jobs : ℕ → Option HandlerState) (s : St
     out_are = λ n. had.out_are n ∙ same n;
     session = had.session;
     wrote = had.wrote;
+    framing = had.framing;
     limit = had.limit;
     while_open = had.while_open;
     once_closed = had.once_closed;
@@ -217,7 +197,7 @@ module _ (laws : Known) (fed : Fed) (jobs : ℕ → Option HandlerState) (s : St
       let over = had.once_closed closed in
       let was : s.session.close ≡ close_of (is_cut fed.limits.numbers (units_of had.frames)) had.standing Unfinished =
       over.close_is ∙ ap (close_of (is_cut fed.limits.numbers (units_of had.frames)) had.standing) goes_on in
-      let now = stays-closed fed.limits fed.bytes piece had.frames had.standing had.contents (λ none. closed (was ∙ none)) in
+      let now = stays-closed fed.framing fed.limits fed.bytes piece had.frames had.standing had.contents (λ none. closed (was ∙ none)) in
       record {
         frames = now.now_frames;
         standing = now.now_standing;
@@ -228,6 +208,7 @@ module _ (laws : Known) (fed : Fed) (jobs : ℕ → Option HandlerState) (s : St
         out_are = had.out_are;
         session = had.session;
         wrote = had.wrote;
+        framing = had.framing;
         limit = had.limit;
         while_open = λ still. absurd (closed still);
         once_closed = λ still. record {
@@ -239,7 +220,7 @@ module _ (laws : Known) (fed : Fed) (jobs : ℕ → Option HandlerState) (s : St
   -- ---- contents that are let go
 
   pub lets-go : s.session.close ≢ None → (waiting : List Frame)
-      → StreamStands fed jobs (record { decoder = s.decoder; waiting = waiting; last = s.last; session = s.session }) sink
+      → StreamStands fed jobs (record { cutter = s.cutter; waiting = waiting; last = s.last; session = s.session }) sink
   lets-go closed waiting = record {
     frames = had.frames;
     standing = had.standing;
@@ -250,62 +231,66 @@ module _ (laws : Known) (fed : Fed) (jobs : ℕ → Option HandlerState) (s : St
     out_are = had.out_are;
     session = had.session;
     wrote = had.wrote;
+    framing = had.framing;
     limit = had.limit;
     while_open = λ still. absurd (closed still);
     once_closed = had.once_closed;
   }
 
   module _ (is_open : s.session.close ≡ None) where
-    abbrev on : GoesOn fed.limits had.frames had.standing fed.ending had.units s.decoder s.waiting s.last
+    abbrev on : GoesOn fed.limits had.frames had.standing fed.ending had.units s.cutter s.waiting s.last
     on = had.while_open is_open
 
-    -- The decoder stands after the bytes.
-    pub decoder-contents : IsContents s.decoder.limit fed.bytes had.frames had.standing
-    decoder-contents = subst (λ n. IsContents n fed.bytes had.frames had.standing) (sym had.limit) had.contents
+    -- The cutter stands behind the bytes.
+    pub cutter-contents : Holds (framing_of s.cutter) (limit_of s.cutter) fed.bytes had.frames had.standing
+    cutter-contents =
+        subst (λ f. Holds f (limit_of s.cutter) fed.bytes had.frames had.standing) (sym had.framing)
+        (subst (λ n. Holds fed.framing n fed.bytes had.frames had.standing) (sym had.limit) had.contents)
 
-    pub decoder-stands : StandsAfter s.decoder fed.bytes had.frames
-    decoder-stands = (had.standing, decoder-contents, on.decodes ∙ ap (λ n. known n had.standing) (sym had.limit))
+    pub cutter-stands : StandsBehind s.cutter fed.bytes had.frames
+    cutter-stands = (had.standing, cutter-contents, on.knows)
 
     all-taken : s.waiting ≡ [] → units_of had.frames ≡ had.units
     all-taken none = on.parts ∙ ap (λ fs. had.units ++ units_of fs) none ∙ append-nil had.units
 
     -- ---- a piece that is cut
 
-    module _ (none : s.waiting ≡ []) (piece : List ℕ) (decoder : Decoding) (given : List Frame) (stands : StandsAfter decoder (fed.bytes ++ piece) (had.frames ++ given))
-        (limit : decoder.limit ≡ s.decoder.limit) (last : Option Close) where
+    module _ (none : s.waiting ≡ []) (piece : List ℕ) (cutter : Cutter) (given : List Frame) (stands : StandsBehind cutter (fed.bytes ++ piece) (had.frames ++ given))
+        (same : framing_of cutter ≡ framing_of s.cutter) (limit : limit_of cutter ≡ limit_of s.cutter) (last : Option Close) where
       pub cut-by : last ≡ close_of false stands.0 fed.ending
-          → StreamStands (with_piece fed piece) jobs (record { decoder = decoder; waiting = given; last = last; session = s.session }) sink
+          → StreamStands (with_piece fed piece) jobs (record { cutter = cutter; waiting = given; last = last; session = s.session }) sink
       cut-by is = record {
         frames = had.frames ++ given;
         standing = stands.0;
-        contents = subst (λ n. IsContents n (fed.bytes ++ piece) (had.frames ++ given) stands.0) (limit ∙ had.limit) stands.1;
+        contents = subst (λ f. Holds f fed.limits.content (fed.bytes ++ piece) (had.frames ++ given) stands.0) (same ∙ had.framing)
+            (subst (λ n. Holds (framing_of cutter) n (fed.bytes ++ piece) (had.frames ++ given) stands.0) (limit ∙ had.limit) stands.1);
         units = had.units;
         items = had.items;
         out = had.out;
         out_are = had.out_are;
         session = had.session;
         wrote = had.wrote;
+        framing = same ∙ had.framing;
         limit = limit ∙ had.limit;
         while_open = λ still. record {
           parts = units-append had.frames given ∙ ap (λ us. us ++ units_of given) (all-taken none);
           uncut = on.uncut;
           last_is = is;
-          decodes = stands.2 ∙ ap (λ n. known n stands.0) (limit ∙ had.limit);
+          knows = stands.2;
         };
         once_closed = λ closed. absurd (closed is_open);
       }
 
-      pub cut-open : IsOpen decoder.standing → fed.ending ≡ Unfinished → last ≡ None
-          → StreamStands (with_piece fed piece) jobs (record { decoder = decoder; waiting = given; last = last; session = s.session }) sink
+      pub cut-open : ((left : Standing) → Knows cutter left → IsOpenLeft left) → fed.ending ≡ Unfinished → last ≡ None
+          → StreamStands (with_piece fed piece) jobs (record { cutter = cutter; waiting = given; last = last; session = s.session }) sink
       cut-open goes_on unfinished is =
-          let left = open-left decoder.limit stands.0 (subst IsOpen stands.2 goes_on) in
+          let left = rest_open stands.0 (goes_on stands.0 stands.2) in
           cut-by (is ∙ sym (ap (λ standing. close_of false standing fed.ending) left.1 ∙ ap (close_of false (contents.Open left.0)) unfinished))
 
-      pub cut-broken : (fault : FrameFault) → decoder.standing ≡ decoding.Broken fault → last ≡ Some (close.Frame fault)
-          → StreamStands (with_piece fed piece) jobs (record { decoder = decoder; waiting = given; last = last; session = s.session }) sink
+      pub cut-broken : (fault : FrameFault) → ((left : Standing) → Knows cutter left → left ≡ contents.Broken fault) → last ≡ Some (close.Frame fault)
+          → StreamStands (with_piece fed piece) jobs (record { cutter = cutter; waiting = given; last = last; session = s.session }) sink
       cut-broken fault broken is =
-          let left = broken-left decoder.limit stands.0 fault (sym stands.2 ∙ broken) in
-          cut-by (is ∙ sym (ap (λ standing. close_of false standing fed.ending) left))
+          cut-by (is ∙ sym (ap (λ standing. close_of false standing fed.ending) (broken stands.0 stands.2)))
 
     -- ---- a content is taken
 
@@ -323,7 +308,7 @@ module _ (laws : Known) (fed : Fed) (jobs : ℕ → Option HandlerState) (s : St
       all-parts : units_of had.frames ≡ all ++ units_of rest
       all-parts = on.parts ∙ ap (λ fs. had.units ++ units_of fs) waits ∙ sym (append_assoc had.units (u ∷ []) (units_of rest))
 
-      goes-on : after.close ≡ None → GoesOn fed.limits had.frames had.standing fed.ending (taken fed.limits.numbers all) s.decoder rest s.last
+      goes-on : after.close ≡ None → GoesOn fed.limits had.frames had.standing fed.ending (taken fed.limits.numbers all) s.cutter rest s.last
       goes-on still =
           let uncut : is_cut fed.limits.numbers all ≡ false = uncut-of (is_cut fed.limits.numbers all) (sym now.1 ∙ still) in
           let same : taken fed.limits.numbers all ≡ all = taken-uncut fed.limits.numbers all uncut in
@@ -331,7 +316,7 @@ module _ (laws : Known) (fed : Fed) (jobs : ℕ → Option HandlerState) (s : St
             parts = all-parts ∙ ap (λ us. us ++ units_of rest) (sym same);
             uncut = ap (is_cut fed.limits.numbers) same ∙ uncut;
             last_is = on.last_is;
-            decodes = on.decodes;
+            knows = on.knows;
           }
 
       is-full : after.close ≢ None → HasClosed fed.limits had.frames had.standing fed.ending (taken fed.limits.numbers all) after.close
@@ -343,7 +328,7 @@ module _ (laws : Known) (fed : Fed) (jobs : ℕ → Option HandlerState) (s : St
                 ∙ sym (ap (λ b. close_of b had.standing fed.ending) (ap (is_cut fed.limits.numbers) all-parts ∙ is_cut-cut fed.limits.numbers all (units_of rest) cut));
           }
 
-      pub content-taken : StreamStands fed jobs (record { decoder = s.decoder; waiting = rest; last = s.last; session = after }) sink
+      pub content-taken : StreamStands fed jobs (record { cutter = s.cutter; waiting = rest; last = s.last; session = after }) sink
       content-taken = record {
         frames = had.frames;
         standing = had.standing;
@@ -354,6 +339,7 @@ module _ (laws : Known) (fed : Fed) (jobs : ℕ → Option HandlerState) (s : St
         out_are = had.out_are;
         session = now.0;
         wrote = had.wrote;
+        framing = had.framing;
         limit = had.limit;
         while_open = goes-on;
         once_closed = is-full;
@@ -362,7 +348,7 @@ module _ (laws : Known) (fed : Fed) (jobs : ℕ → Option HandlerState) (s : St
     -- ---- the end is taken
 
     pub end-taken : s.waiting ≡ [] → (c : Close) → s.last ≡ Some c
-        → StreamStands fed jobs (record { decoder = s.decoder; waiting = s.waiting; last = s.last; session = ended s.session c }) sink
+        → StreamStands fed jobs (record { cutter = s.cutter; waiting = s.waiting; last = s.last; session = ended s.session c }) sink
     end-taken none c is =
         let after = ends laws fed.table fed.limits had.units had.items s.session had.out c is_open had.session in
         let cut : is_cut fed.limits.numbers (units_of had.frames) ≡ false = ap (is_cut fed.limits.numbers) (all-taken none) ∙ on.uncut in
@@ -376,6 +362,7 @@ module _ (laws : Known) (fed : Fed) (jobs : ℕ → Option HandlerState) (s : St
           out_are = had.out_are;
           session = after.0;
           wrote = had.wrote;
+          framing = had.framing;
           limit = had.limit;
           while_open = λ still. absurd (let clash : Some c ≡ None = sym after.1 ∙ still in cc);
           once_closed = λ closed. record {
@@ -388,7 +375,7 @@ module _ (laws : Known) (fed : Fed) (jobs : ℕ → Option HandlerState) (s : St
 
   pub end-told : fed.ending ≡ Unfinished → (e : InputEnd) (last : Option Close)
       → (s.session.close ≡ None → last ≡ close_of false had.standing (ending_by e))
-      → StreamStands (with_end fed e) jobs (record { decoder = s.decoder; waiting = s.waiting; last = last; session = s.session }) sink
+      → StreamStands (with_ending fed e) jobs (record { cutter = s.cutter; waiting = s.waiting; last = last; session = s.session }) sink
   end-told goes_on e last is = record {
     frames = had.frames;
     standing = had.standing;
@@ -399,12 +386,13 @@ module _ (laws : Known) (fed : Fed) (jobs : ℕ → Option HandlerState) (s : St
     out_are = had.out_are;
     session = had.session;
     wrote = had.wrote;
+    framing = had.framing;
     limit = had.limit;
     while_open = λ still. record {
       parts = (had.while_open still).parts;
       uncut = (had.while_open still).uncut;
       last_is = is still;
-      decodes = (had.while_open still).decodes;
+      knows = (had.while_open still).knows;
     };
     once_closed = λ closed.
         let over = had.once_closed closed in
@@ -415,7 +403,7 @@ module _ (laws : Known) (fed : Fed) (jobs : ℕ → Option HandlerState) (s : St
   }
 
   -- that was known before
-  pub end-known : fed.ending ≡ Unfinished → (e : InputEnd) → s.last ≢ None → StreamStands (with_end fed e) jobs s sink
+  pub end-known : fed.ending ≡ Unfinished → (e : InputEnd) → s.last ≢ None → StreamStands (with_ending fed e) jobs s sink
   end-known goes_on e known_end = end-told goes_on e s.last (λ still.
       let on = had.while_open still in
       on.last_is ∙ closed-stays false had.standing fed.ending (ending_by e) goes_on (λ none. known_end (on.last_is ∙ none)))
@@ -429,7 +417,7 @@ module _ (laws : Known) (fed : Fed) (jobs : ℕ → Option HandlerState) (s : St
 
   pub comes-back : (n : ℕ) (job turned : Job) → jobs n ≡ Some job.handler → job.polls ≡ 0 → Turned job turned
       → StreamStands fed (with_at n None jobs)
-      (record { decoder = s.decoder; waiting = s.waiting; last = s.last; session = with_job_back s.session turned.handler turned.outcome turned.polls }) sink
+      (record { cutter = s.cutter; waiting = s.waiting; last = s.last; session = with_job_back s.session turned.handler turned.outcome turned.polls }) sink
   comes-back n job turned out unpolled turns = record {
     frames = had.frames;
     standing = had.standing;
@@ -440,6 +428,7 @@ module _ (laws : Known) (fed : Fed) (jobs : ℕ → Option HandlerState) (s : St
     out_are = λ k. at-both n None had.out jobs k (had.out_are k);
     session = job-back laws fed.table fed.limits had.units had.items s.session had.out had.session n job turned (had.out_are n ∙ out) unpolled turns;
     wrote = had.wrote;
+    framing = had.framing;
     limit = had.limit;
     while_open = had.while_open;
     once_closed = had.once_closed;
@@ -450,7 +439,7 @@ module _ (laws : Known) (fed : Fed) (jobs : ℕ → Option HandlerState) (s : St
     wasnt-out = sym (had.out_are job.number) ∙ ap had.out number
         ∙ none-yet laws fed.table fed.limits had.units had.items s.session had.out had.session pick job after leaves
 
-    pub goes-out : StreamStands fed (with_at job.number (Some job) jobs) (record { decoder = s.decoder; waiting = s.waiting; last = s.last; session = after }) sink
+    pub goes-out : StreamStands fed (with_at job.number (Some job) jobs) (record { cutter = s.cutter; waiting = s.waiting; last = s.last; session = after }) sink
     goes-out =
         let same : after.close ≡ s.session.close = ap (λ (x : SessionState). x.close) leaves.1.2 in
         record {
@@ -463,6 +452,7 @@ module _ (laws : Known) (fed : Fed) (jobs : ℕ → Option HandlerState) (s : St
           out_are = λ k. at-both (picked s.session.core pick) (Some job) had.out jobs k (had.out_are k) ∙ ap (λ m. with_at m (Some job) jobs k) (sym number);
           session = job-out laws fed.table fed.limits had.units had.items s.session had.out had.session pick job after leaves;
           wrote = had.wrote;
+          framing = had.framing;
           limit = had.limit;
           while_open = λ still. had.while_open (sym same ∙ still);
           once_closed = λ closed.
@@ -473,6 +463,58 @@ module _ (laws : Known) (fed : Fed) (jobs : ℕ → Option HandlerState) (s : St
   pub job-given : (pick : ℕ) (r : Option Job) (after : SessionState) → LeavesAt s.session pick (option_map (λ (job : Job). job.handler) r) after
       → IfSome r (λ job. job.handler.number ≡ picked s.session.core pick)
       → IfSome r (λ job. (jobs job.handler.number ≡ None) × StreamStands fed (with_at job.handler.number (Some job.handler) jobs)
-      (record { decoder = s.decoder; waiting = s.waiting; last = s.last; session = after }) sink)
+      (record { cutter = s.cutter; waiting = s.waiting; last = s.last; session = after }) sink)
   job-given pick None after leaves number = tt
   job-given pick (Some job) after leaves number = (wasnt-out pick job.handler number after leaves, goes-out pick job.handler number after leaves)
+
+-- ---- behind an end that is known
+
+open-unknown : (standing : Standing) (ending : Ending) → ending ≡ Unfinished → close_of false standing ending ≢ None → (fault : FrameFault) × (standing ≡ contents.Broken fault)
+open-unknown (contents.Open rest) ending goes_on some = absurd (some (ap (close_of false (contents.Open rest)) goes_on))
+open-unknown (contents.Broken fault) ending goes_on some = (fault, refl)
+
+module _ (laws : Known) (fed : Fed) (jobs : ℕ → Option HandlerState) (s : StreamState) (sink : Option (List ℕ)) (had : StreamStands fed jobs s sink)
+    (goes_on : fed.ending ≡ Unfinished) where
+  -- More bytes change nothing: a fault stays.
+  behind-fault : s.session.close ≡ None → s.last ≢ None → (more : List ℕ) → StreamStands (with_piece fed more) jobs s sink
+  behind-fault is_open known_end more =
+      let on = had.while_open is_open in
+      let broken = open-unknown had.standing fed.ending goes_on (λ none. known_end (on.last_is ∙ none)) in
+      record {
+        frames = had.frames;
+        standing = had.standing;
+        contents = subst (λ left. Holds fed.framing fed.limits.content (fed.bytes ++ more) had.frames left) (sym broken.1)
+            (held_keep_a_fault fed.framing fed.limits.content fed.bytes more had.frames broken.0
+            (subst (Holds fed.framing fed.limits.content fed.bytes had.frames) broken.1 had.contents));
+        units = had.units;
+        items = had.items;
+        out = had.out;
+        out_are = had.out_are;
+        session = had.session;
+        wrote = had.wrote;
+        framing = had.framing;
+        limit = had.limit;
+        while_open = had.while_open;
+        once_closed = λ closed. absurd (closed is_open);
+      }
+
+  behind-end : (close : Option Close) → s.session.close ≡ close → s.last ≢ None → (more : List ℕ) → StreamStands (with_piece fed more) jobs s sink
+  behind-end None is known_end more = behind-fault is known_end more
+  behind-end (Some close) is known_end more = let-go laws fed jobs s sink had (λ none. let clash : Some close ≡ None = sym is ∙ none in cc) goes_on more
+
+  pub end-again : (e : InputEnd) → s.last ≢ None → StreamStands (with_end fed e) jobs s sink
+  end-again e known_end =
+      let text = text_of fed.framing (ending_by e) fed.bytes in
+      subst (λ bytes. StreamStands (record fed { bytes = bytes; ending = ending_by e }) jobs s sink) (sym text.1)
+      (end-known laws (with_piece fed text.0) jobs s sink (behind-end s.session.close refl known_end text.0) goes_on e known_end)
+
+  -- Frames end as they are.
+  pub frames-ended : fed.framing ≡ Frames → StreamStands (with_line_ended fed) jobs s sink
+  frames-ended is =
+      subst (λ framing. StreamStands (record fed { bytes = read_text framing Finished fed.bytes }) jobs s sink) (sym is) had
+
+-- An LF ends a line.
+pub line-ended : (fed : Fed) (jobs : ℕ → Option HandlerState) (s : StreamState) (sink : Option (List ℕ)) → fed.framing ≡ Lines
+    → StreamStands (with_piece fed (10 ∷ [])) jobs s sink → StreamStands (with_line_ended fed) jobs s sink
+line-ended fed jobs s sink is stands =
+    subst (λ framing. StreamStands (record fed { bytes = read_text framing Finished fed.bytes }) jobs s sink) (sym is) stands

@@ -1,4 +1,0 @@
-pub mod Inner
-pub mod Promise
-pub mod Standing
-pub mod Stream

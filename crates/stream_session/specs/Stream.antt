@@ -1,8 +1,7 @@
 -- What a session has done with the bytes that it was fed.
 use Rattle.std.specs.Prelude.{◌≡◌, ◌≢◌, ◌+◌, ℕ, List, [], ◌++◌, length, false, Option, None}
 use Rattle.std.specs.Io.KnownBytes.{Appends}
-use Rattle.lsp_frames.specs.Contents.{Standing, IsContents}
-use Rattle.lsp_frames.specs.Decoding.{Decoding, known}
+use Rattle.lsp_frames.specs.Contents.{Standing}
 use Rattle.lsp_frames.specs.Devices.{Ending, Unfinished}
 use Rattle.lsp_frames.specs.Devices as devices
 use Rattle.lsp_frames.specs.declared.frame.Frame.{Frame}
@@ -14,8 +13,13 @@ use Rattle.peer_session.specs.Session.{view}
 use Rattle.peer_session.specs.SessionState.{SessionState}
 use Rattle.peer_session.specs.declared.limits.Limits.{Limits}
 use Rattle.peer_session.specs.declared.report.Close.{Close}
-use Rattle.peer_output.specs.Items.{Item, bytes_of}
-use Rattle.stream_session.specs.Promise.{IsRunCutShort, close_of}
+use Rattle.peer_output.specs.Items.{Item}
+use Rattle.peer_session.specs.Framings.{bytes_in}
+use Rattle.stream_framing.specs.Framed.{Holds, Knows, framing_of, limit_of, read_text}
+use Rattle.stream_framing.specs.declared.cutter.Cutter.{Cutter}
+use Rattle.stream_framing.specs.declared.framing.Framing.{Framing}
+use Rattle.stream_session.specs.Framings.{IsShortOf}
+use Rattle.stream_session.specs.Promise.{close_of}
 use Rattle.stream_session.specs.Standing.{SessionStands}
 use Rattle.stream_session.specs.declared.next.InputEnd.{InputEnd}
 use Rattle.stream_session.specs.declared.next.InputEnd.TheVariants.{Finished, Failed}
@@ -25,8 +29,9 @@ use Rattle.stream_session.specs.declared.stream.StreamSession.{StreamSession}
 
 -- ---- what it was fed
 
--- The table and the limits, the bytes so far and how they ended, and what the sink had taken before.
+-- The framing, the table and the limits, the text so far and how it ended, and what the sink had taken before.
 pub record Fed : Type 0 where
+  pub framing : Framing
   pub table : MethodTable
   pub limits : Limits
   pub bytes : List ℕ
@@ -34,8 +39,8 @@ pub record Fed : Type 0 where
   pub before : Option (List ℕ)
 
 -- before the first byte
-abbrev pub fed_nothing : MethodTable → Limits → Option (List ℕ) → Fed
-fed_nothing table limits before = record { table = table; limits = limits; bytes = []; ending = Unfinished; before = before }
+abbrev pub fed_nothing : Framing → MethodTable → Limits → Option (List ℕ) → Fed
+fed_nothing framing table limits before = record { framing = framing; table = table; limits = limits; bytes = []; ending = Unfinished; before = before }
 
 -- one piece more
 abbrev pub with_piece : Fed → List ℕ → Fed
@@ -45,9 +50,16 @@ abbrev pub ending_by : InputEnd → Ending
 ending_by Finished = devices.Finished
 ending_by Failed = devices.Failed
 
--- the end of the input
+-- the last line is ended, as where the input was closed
+abbrev pub with_line_ended : Fed → Fed
+with_line_ended fed = record fed { bytes = read_text fed.framing devices.Finished fed.bytes }
+
+abbrev pub with_ending : Fed → InputEnd → Fed
+with_ending fed end = record fed { ending = ending_by end }
+
+-- the end of the input: where lines are closed, an LF ends the last one
 abbrev pub with_end : Fed → InputEnd → Fed
-with_end fed end = record fed { ending = ending_by end }
+with_end fed end = record fed { bytes = read_text fed.framing (ending_by end) fed.bytes; ending = ending_by end }
 
 -- These bytes may come yet, behind others that came to this ending.
 abbrev pub MayFollow : Ending → List ℕ → Type 0
@@ -57,20 +69,20 @@ MayFollow devices.Failed more = more ≡ []
 
 -- It has stopped short, whatever comes yet.
 abbrev pub StopsShort : Fed → Option (List ℕ) → Type 0
-StopsShort fed sink = (more : List ℕ) → MayFollow fed.ending more → IsRunCutShort fed.table fed.limits (fed.bytes ++ more) fed.before sink
+StopsShort fed sink = (more : List ℕ) → MayFollow fed.ending more → IsShortOf fed.framing fed.table fed.limits (fed.bytes ++ more) fed.before sink
 
 -- ---- what it is
 
--- The decoder, the contents that wait, how the input closes behind them once that is known, and the session.
+-- What cuts the contents, those that wait, how the input closes behind them once that is known, and the session.
 pub record StreamState : Type 0 where
-  pub decoder : Decoding
+  pub cutter : Cutter
   pub waiting : List Frame
   pub last : Option Close
   pub session : SessionState
 
 abbrev pub stream_of : StreamSession → StreamState
 stream_of stream = record {
-  decoder = stream.decoder;
+  cutter = stream.cutter;
   waiting = stream.waiting.items;
   last = stream.last;
   session = view stream.session;
@@ -78,34 +90,35 @@ stream_of stream = record {
 
 -- ---- what it has done
 
--- Of the frames these units were taken, and the contents wait; behind them stands what closes the input, once it is known. The decoder
--- stands after all bytes.
-pub record GoesOn (limits : Limits) (frames : List Frame) (standing : Standing) (ending : Ending) (units : List SeenUnit) (decoder : Decoding)
+-- Of the frames these units were taken, and the contents wait; behind them stands what closes the input, once it is known. The
+-- cutter knows what is left of all bytes.
+pub record GoesOn (limits : Limits) (frames : List Frame) (standing : Standing) (ending : Ending) (units : List SeenUnit) (cutter : Cutter)
     (waiting : List Frame) (last : Option Close) : Type 0 where
   pub parts : units_of frames ≡ units ++ units_of waiting
   pub uncut : is_cut limits.numbers units ≡ false
   pub last_is : last ≡ close_of false standing ending
-  pub decodes : decoder.standing ≡ known limits.content standing
+  pub knows : Knows cutter standing
 
 -- All units of the frames were taken, as far as their numbers go, and what stands behind them closed the session.
 pub record HasClosed (limits : Limits) (frames : List Frame) (standing : Standing) (ending : Ending) (units : List SeenUnit) (close : Option Close) : Type 0 where
   pub units_are : units ≡ taken limits.numbers (units_of frames)
   pub close_is : close ≡ close_of (is_cut limits.numbers (units_of frames)) standing ending
 
--- The bytes have these frames, of which these units were taken and these items written, into a sink that has taken this since; these jobs
+-- The bytes hold these contents, of which these units were taken and these items written, into a sink that has taken this since; these jobs
 -- are out.
 pub record StreamStands (fed : Fed) (jobs : ℕ → Option HandlerState) (s : StreamState) (sink : Option (List ℕ)) : Type 0 where
   pub frames : List Frame
   pub standing : Standing
-  pub contents : IsContents fed.limits.content fed.bytes frames standing
+  pub contents : Holds fed.framing fed.limits.content fed.bytes frames standing
   pub units : List SeenUnit
   pub items : List Item
   pub out : ℕ → Option HandlerState
   pub out_are : (n : ℕ) → out n ≡ jobs n
   pub session : SessionStands fed.table fed.limits units items s.session out
-  pub wrote : Appends fed.before sink (bytes_of items)
-  pub limit : s.decoder.limit ≡ fed.limits.content
-  pub while_open : s.session.close ≡ None → GoesOn fed.limits frames standing fed.ending units s.decoder s.waiting s.last
+  pub wrote : Appends fed.before sink (bytes_in fed.framing items)
+  pub framing : framing_of s.cutter ≡ fed.framing
+  pub limit : limit_of s.cutter ≡ fed.limits.content
+  pub while_open : s.session.close ≡ None → GoesOn fed.limits frames standing fed.ending units s.cutter s.waiting s.last
   pub once_closed : s.session.close ≢ None → HasClosed fed.limits frames standing fed.ending units s.session.close
 
 -- ---- what was taken

@@ -1,35 +1,38 @@
 //! The session of a stream of bytes.
 
-ghost use Rattle.std.specs.Prelude.{◌≡◌, ◌≢◌, ◌↔◌, ℕ, ◌<◌, List, length, false, IsTrue, IfOk, IfSome, OnErr, OnOk, is_none, option_map, Option, Some, None};
+ghost use Rattle.std.specs.Prelude.{◌≡◌, ◌≢◌, ◌↔◌, ℕ, ◌<◌, List, length, false, IsTrue, IfOk, IfSome, IsOk, OnErr, OnOk, is_none, option_map, Option, Some, None};
 ghost use Rattle.handler_future.specs.State.{HandlerState};
-ghost use Rattle.lsp_frames.specs.Contents.{Standing, IsContents};
-ghost use Rattle.lsp_frames.specs.Decoding.{StandsAfter};
+ghost use Rattle.lsp_frames.specs.Contents.{Standing};
 ghost use Rattle.lsp_frames.specs.Devices.{Finished, HandsOnAll, Unfinished};
 ghost use Rattle.lsp_frames.specs.declared.frame.Frame.{Frame as FrameOf};
 ghost use Rattle.peer_output.specs.Events.{with_at};
-ghost use Rattle.session_state.specs.Turning.{due_bytes, ready};
+ghost use Rattle.session_state.specs.Turning.{ready};
 ghost use Rattle.peer_session.specs.declared.job.Job.{Job as JobOf};
 ghost use Rattle.peer_session.specs.declared.report.Close.{Close as CloseOf};
-ghost use Rattle.peer_session.specs.Events.{CountsDrain, DrainsTo, LeavesAt, ended, picked, with_job_back};
+ghost use Rattle.peer_session.specs.Events.{CountsDrain, DrainsIn, LeavesAt, ended, picked, with_job_back};
+ghost use Rattle.peer_session.specs.Framings.{due_in};
+ghost use Rattle.stream_framing.specs.Framed.{Holds, Knows, framing_of, limit_of};
+ghost use Rattle.stream_framing.specs.declared.framing.Framing.TheVariants.{Frames};
 ghost use Rattle.stream_session.specs.Promise.{close_of};
 ghost use Rattle.peer_session.specs.Session.{view};
 ghost use Rattle.peer_session.specs.SessionState.{IsDone, report_of};
 ghost use Rattle.peer_session.specs.Turned.{Turned};
 ghost use Rattle.stream_session.specs.Standing.{HasDrained};
-ghost use Rattle.stream_session.specs.Stream.{Fed, IsTaken, StopsShort, StreamStands, TakesNext, fed_nothing, stream_of, with_end, with_piece};
+ghost use Rattle.stream_session.specs.Stream.{Fed, IsTaken, StopsShort, StreamStands, TakesNext, fed_nothing, stream_of, with_end, with_ending, with_line_ended, with_piece};
 
 use crate::known::known;
 use crate::next::{InputEnd, Next};
-use lsp_frames::{Decoder, End, FeedFault, Frame, Sink};
+use lsp_frames::{End, FeedFault, Frame, Sink};
 use method_steps::Table;
 use peer_session::{Close, DrainFault, Job, Limits, Report, Session};
 use std::alloc::{AllocError, Global};
 use std::collections::VecDeque;
+use stream_framing::{Cutter, Framing};
 
 /// A session that is fed bytes. Its owner feeds pieces and takes what they have, content by content; turns the jobs, here
-/// or in other threads; and drains. Of the input it holds the frame under way and the contents that wait.
+/// or in other threads; and drains. Of the input it holds the frame or line under way and the contents that wait.
 pub struct StreamSession<'a> {
-    decoder: Decoder,
+    cutter: Cutter,
     /// The contents that were cut and aren't taken yet.
     waiting: VecDeque<Frame>,
     /// What closes the input behind them, once that is known.
@@ -41,12 +44,12 @@ pub struct StreamSession<'a> {
 impl Drop for StreamSession<'_> {
     fn drop(self) {
         let StreamSession {
-            decoder,
+            cutter,
             waiting,
             last: _,
             session,
         } = self;
-        drop(decoder);
+        drop(cutter);
         drop(waiting);
         drop(session);
     }
@@ -56,15 +59,16 @@ impl<'a> StreamSession<'a> {
     /// A session before the first byte.
     pub fn new(
         alloc: Global,
+        framing: Framing,
         table: &'a Table,
         limits: Limits,
     ) -> Result<StreamSession<'a>, AllocError>
-        ensures stands { (before : Option (List ℕ)) → IfOk result (λ stream.
-            StreamStands (fed_nothing table.now limits before) (λ n. None) (stream_of stream) before) }
+        ensures stands { (before : Option (List ℕ)) → IfOk result (λ stream. StreamStands
+            (fed_nothing framing table.now limits before) (λ n. None) (stream_of stream) before) }
     {
         known();
         Ok(StreamSession {
-            decoder: Decoder::new(alloc, limits.content),
+            cutter: Cutter::new(alloc, framing, limits.content),
             waiting: VecDeque::new(alloc),
             last: None,
             session: Session::new(alloc, table, limits)?,
@@ -95,7 +99,7 @@ impl<'a> StreamSession<'a> {
         if !self.session.is_open() {
             return Ok(());
         }
-        match self.decoder.feed(piece) {
+        match self.cutter.feed(piece) {
             Ok(contents) => self.waiting = VecDeque::from_vec(contents),
             Err(FeedFault::Ended(fault, contents)) => {
                 self.waiting = VecDeque::from_vec(contents.into_vec());
@@ -106,14 +110,59 @@ impl<'a> StreamSession<'a> {
         Ok(())
     }
 
-    /// The input has come to its end; behind the contents that wait it closes the session. Where an end is known already,
-    /// as a fault of the frames, this one changes nothing.
-    pub fn end(&mut self, end: InputEnd)
+    /// The input has come to its end; behind the contents that wait it closes the session. Where lines were closed, the
+    /// last one needs no LF. Where an end is known already, as a fault of the frames, this one changes nothing.
+    ///
+    /// # Errors
+    /// Where there is no memory for the last line; contents that waited may have been taken by then. Frames end in any case.
+    pub fn end(&mut self, end: InputEnd) -> Result<(), AllocError>
         ensures ended { (fed : Fed) (jobs : ℕ → Option HandlerState) (sink : Option (List ℕ)) →
             StreamStands fed jobs (stream_of self.old) sink → fed.ending ≡ Unfinished →
-            StreamStands (with_end fed end) jobs (stream_of self.new) sink }
-        ensures last { (stream_of self.new).last ≢ None }
+            OnOk result (StreamStands (with_end fed end) jobs (stream_of self.new) sink) }
+        ensures refused { (fed : Fed) (jobs : ℕ → Option HandlerState) (sink : Option (List ℕ)) →
+            StreamStands fed jobs (stream_of self.old) sink →
+            OnErr result (StreamStands fed jobs (stream_of self.new) sink) }
+        ensures frames { framing_of (stream_of self.old).cutter ≡ Frames → IsOk result }
+        ensures last { OnOk result ((stream_of self.new).last ≢ None) }
         ensures again { (stream_of self.old).last ≢ None → stream_of self.new ≡ stream_of self.old }
+        ensures broken { (stream_of self.new).session.is_broken
+            ≡ (stream_of self.old).session.is_broken }
+    {
+        known();
+        if self.last.is_some() {
+            return Ok(());
+        }
+        if let InputEnd::Finished = end {
+            self.end_line()?;
+        }
+        self.close(end);
+        Ok(())
+    }
+
+    /// Ends the last line, where lines come: an LF behind a line that has one is passed over.
+    fn end_line(&mut self) -> Result<(), AllocError>
+        ensures ended { (fed : Fed) (jobs : ℕ → Option HandlerState) (sink : Option (List ℕ)) →
+            StreamStands fed jobs (stream_of self.old) sink → fed.ending ≡ Unfinished →
+            OnOk result (StreamStands (with_line_ended fed) jobs (stream_of self.new) sink) }
+        ensures refused { (fed : Fed) (jobs : ℕ → Option HandlerState) (sink : Option (List ℕ)) →
+            StreamStands fed jobs (stream_of self.old) sink →
+            OnErr result (StreamStands fed jobs (stream_of self.new) sink) }
+        ensures frames { framing_of (stream_of self.old).cutter ≡ Frames → IsOk result }
+        ensures broken { (stream_of self.new).session.is_broken
+            ≡ (stream_of self.old).session.is_broken }
+    {
+        match self.cutter.framing() {
+            Framing::Frames => Ok(()),
+            Framing::Lines => self.feed(b"\n"),
+        }
+    }
+
+    /// Notes how the input closes, where that isn't known yet.
+    fn close(&mut self, end: InputEnd)
+        ensures ended { (fed : Fed) (jobs : ℕ → Option HandlerState) (sink : Option (List ℕ)) →
+            StreamStands fed jobs (stream_of self.old) sink → fed.ending ≡ Unfinished →
+            StreamStands (with_ending fed end) jobs (stream_of self.new) sink }
+        ensures last { (stream_of self.new).last ≢ None }
         ensures session { (stream_of self.new).session ≡ (stream_of self.old).session }
     {
         known();
@@ -121,7 +170,7 @@ impl<'a> StreamSession<'a> {
             return;
         }
         self.last = Some(match end {
-            InputEnd::Finished => close_at(&self.decoder),
+            InputEnd::Finished => close_at(&self.cutter),
             InputEnd::Failed => Close::Read,
         });
     }
@@ -226,17 +275,19 @@ impl<'a> StreamSession<'a> {
         ensures short { (fed : Fed) (jobs : ℕ → Option HandlerState) →
             StreamStands fed jobs (stream_of self.old) (S.bytes_taken sink.old) →
             OnErr result (StopsShort fed (S.bytes_taken sink.new)) }
-        ensures drains { DrainsTo (stream_of self.old).session (S.bytes_taken sink.old) result
+        ensures drains { DrainsIn (framing_of (stream_of self.old).cutter)
+            (stream_of self.old).session (S.bytes_taken sink.old) result
             (stream_of self.new).session (S.bytes_taken sink.new) }
         ensures cause { CountsDrain (stream_of self.old).session (S.failures sink.old) result
             (S.failures sink.new) }
-        ensures handed_on { 0 < length (due_bytes (stream_of self.old).session.core) →
+        ensures handed_on { 0 < length (due_in (framing_of (stream_of self.old).cutter)
+            (stream_of self.old).session.core) →
             OnOk result (HandsOnAll (S.handed_on sink.new) (S.bytes_taken sink.new)) }
         ensures stays { stream_of self.new
             ≡ record (stream_of self.old) { session = (stream_of self.new).session } }
     {
         known();
-        self.session.drain(sink)
+        self.session.drain_in(self.cutter.framing(), sink)
     }
 
     /// Whether contents are taken: the input isn't over.
@@ -272,13 +323,13 @@ fn take_last(session: &mut Session<'_>, last: Option<Close>)
     }
 }
 
-/// How an input closes that ends behind what the decoder was fed.
-fn close_at(decoder: &Decoder) -> Close
+/// How an input closes that ends behind what was fed.
+fn close_at(cutter: &Cutter) -> Close
     ensures { (bytes : List ℕ) (frames : List FrameOf) (left : Standing) →
-        StandsAfter decoder.now bytes frames → IsContents decoder.now.limit bytes frames left →
-        close_of false left Finished ≡ Some result }
+        Holds (framing_of cutter.now) (limit_of cutter.now) bytes frames left →
+        Knows cutter.now left → close_of false left Finished ≡ Some result }
 {
-    match decoder.end() {
+    match cutter.end() {
         End::Clean => Close::Clean,
         End::Fault(fault) => Close::Frame(fault),
     }

@@ -1,7 +1,8 @@
 use Rattle.std.proofs.Common.{◌++◌, map, take, ap, sym, subst, ◌∙◌, arith}
 use Rattle.std.proofs.lemmas.List.{take_all}
 use Rattle.std.proofs.lemmas.Option.{slice_get-get_or}
-use Rattle.peer_output.specs.Items.{sent, bytes_of}
+use Rattle.peer_output.specs.Items.{sent}
+use Rattle.peer_session.specs.Framings.{bytes_in}
 use Rattle.session_state.specs.Core.{stage_at, unwritten}
 use Rattle.peer_session.specs.Inner.Runs.{unwritten_numbers}
 use Rattle.peer_session.specs.Inner.Writing.{Counts, unwritten_of}
@@ -20,7 +21,7 @@ loop-place-preserved c =
           let n = w.in-Some.number in
           let more = of-more core ns place n (sym w.in-Some.ensures) in
           rw (w.bytes-is, w.written-is, more) (record {
-            bytes = put-on c.args.bytes.now.items c.loop-place.bytes.items w.put_number.new.bytes.items had (map (sent n) (unwritten (stage_at core n)))
+            bytes = put-on c.args.framing c.args.bytes.now.items c.loop-place.bytes.items w.put_number.new.bytes.items had (map (sent n) (unwritten (stage_at core n)))
                 c.loop-place.invariant.bytes w.in_ok-put_number.ensures.bytes;
             counts = counts-on c.loop-place.written w.in_ok-put_number.field-0 w.and-written.result had (map (sent n) (unwritten (stage_at core n)))
                 c.loop-place.invariant.counts w.in_ok-put_number.ensures.counts w.and-written.ensures;
@@ -34,7 +35,7 @@ pub returns-clause-bytes : goal.returns-clause-bytes
 returns-clause-bytes c =
     let core = c.args.runs.now in
     let all = ap (unwritten_of core) (take_all c.loop-place.place (unwritten_numbers core) (omega (arith, c.loop-place-test.false, c.unwritten_len-place-end.ensures))) ∙ all-of core in
-    c.loop-place.invariant.bytes ∙ ap (λ l. c.args.bytes.now.items ++ bytes_of l) all
+    c.loop-place.invariant.bytes ∙ ap (λ l. c.args.bytes.now.items ++ bytes_in c.args.framing l) all
 
 pub returns-clause-counts : goal.returns-clause-counts
 returns-clause-counts c =

@@ -1,5 +1,6 @@
 use Rattle.std.proofs.Common.{◌≡◌, ◌++◌, take}
-use Rattle.peer_output.specs.Items.{bytes_of}
+use Rattle.peer_output.specs.Items.{}
+use Rattle.peer_session.specs.Framings.{bytes_in}
 use Rattle.peer_session.specs.Inner.Runs.{unwritten_numbers}
 use Rattle.peer_session.specs.Inner.Writing.{Counts, unwritten_of}
 use Rattle.peer_session.proofs.writing.put_sendings.Given as goal
@@ -8,6 +9,6 @@ abbrev pub invariant-loop-place : goal.invariant-loop-place
 invariant-loop-place l =
     let items = unwritten_of l.runs (take l.place (unwritten_numbers l.runs)) in
     record {
-      bytes : l.bytes.items ≡ l.initial.bytes.items ++ bytes_of items;
+      bytes : l.bytes.items ≡ l.initial.bytes.items ++ bytes_in l.framing items;
       counts : Counts l.written items;
     }

@@ -3,7 +3,7 @@ use Rattle.std.proofs.lemmas.List.{take_more, map-append}
 use Rattle.rpc_messages.specs.Texts.{withdraw_text_of}
 use Rattle.peer_output.specs.Course.{withdrawal}
 use Rattle.peer_output.specs.Items.{sent}
-use Rattle.peer_session.proofs.Puts.{map-more, put-on, framed, withdrawn-counts}
+use Rattle.peer_session.proofs.Puts.{map-more, put-on, one-put, withdrawn-counts}
 use Rattle.peer_session.proofs.writing.put_withdrawals.Goals as goal
 
 pub loop-turn-preserved : goal.loop-turn-preserved
@@ -18,8 +18,8 @@ loop-turn-preserved c =
     ap (map (sent n)) (map-more withdrawal ts c.loop-turn.turn-index t taken) ∙ map-append (sent n) (map withdrawal (take c.loop-turn.turn-index ts)) (withdrawal t ∷ []) in
     let text : c.as_slice.result.now ≡ withdraw_text_of n t =
     c.as_slice.ensures.value ∙ c.in_ok-put_withdrawal.ensures.text ∙ ap (λ l. l ++ withdraw_text_of n t) c.clear.ensures.items in
-    rw more (put-on c.args.bytes.now.items c.loop-turn.bytes.items c.put_frame.new.bytes.items had (item ∷ []) c.loop-turn.invariant
-    (c.in_ok-put_frame.ensures.ok ∙ framed c.loop-turn.bytes.items c.as_slice.result.now item text))
+    rw more (put-on c.args.framing c.args.bytes.now.items c.loop-turn.bytes.items c.put_text.new.bytes.items had (item ∷ []) c.loop-turn.invariant
+    (c.in_ok-put_text.ensures.ok ∙ one-put c.args.framing c.loop-turn.bytes.items c.as_slice.result.now item text))
 
 pub returns-clause-counts : goal.returns-clause-counts
 returns-clause-counts c = withdrawn-counts c.args.number c.args.turns.now (omega arith)

@@ -1,10 +1,8 @@
-use Rattle.std.proofs.Common.{◌≡◌, ◌+◌, ◌-◌, ℕ, List, [], ◌∷◌, ◌++◌, length, take, drop, cond, ap, sym, ◌∙◌, append-nil, append_assoc}
+use Rattle.std.proofs.Common.{◌≡◌, ◌+◌, ◌-◌, ℕ, List, [], ◌++◌, length, take, drop, ap, sym, ◌∙◌, append-nil, append_assoc}
 use Rattle.std.proofs.lemmas.List.{take_rest}
-use Rattle.lsp_frames.specs.Contents.{Standing}
 use Rattle.lsp_frames.specs.declared.frame.Frame.{Frame}
 use Rattle.stream_framing.specs.Inner.Cutting.{LineCutting, ended_contents, text_standing, grown}
 use Rattle.stream_framing.proofs.Steps.{cutting, rest_long, rest_goes, rest_ends}
-use Rattle.stream_framing.proofs.Fitting.{kept}
 use Rattle.stream_framing.proofs.line_cutter.cut.Goals as goal
 
 pub returns-then-not-fits_with-clause-given : goal.returns-then-not-fits_with-clause-given

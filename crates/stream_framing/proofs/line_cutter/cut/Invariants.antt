@@ -1,4 +1,4 @@
-use Rattle.std.proofs.Common.{◌≡◌, ℕ, ◌++◌, length}
+use Rattle.std.proofs.Common.{◌≡◌, ◌++◌, length}
 use Rattle.stream_framing.specs.Inner.Cutting.{ended_contents, text_standing}
 use Rattle.stream_framing.proofs.line_cutter.cut.Given as goal
 

@@ -1,4 +1,4 @@
-use Rattle.std.proofs.Common.{◌≡◌, List, ◌++◌, refl, sym, subst}
+use Rattle.std.proofs.Common.{List, ◌++◌, refl, sym, subst}
 use Rattle.lsp_frames.specs.declared.frame.Frame.{Frame}
 use Rattle.stream_framing.specs.Framed.{StandsBehind}
 use Rattle.stream_framing.specs.Lines.{HoldsLines}

@@ -1,8 +1,8 @@
-use Rattle.std.proofs.Common.{cond, ◌≡◌, [], ◌∷◌, refl, ap, sym, ◌∙◌, subst}
+use Rattle.std.proofs.Common.{cond, [], ap, sym, ◌∙◌}
 use Rattle.lsp_frames.specs.Contents.{Open, Broken}
 use Rattle.lsp_frames.specs.declared.frame.FrameFault.TheVariants.{TooLarge}
 use Rattle.stream_framing.specs.Inner.Cutting.{LineCutting}
-use Rattle.stream_framing.proofs.Fitting.{nothing_fits, no_lines, all_fit-yes, none_fit}
+use Rattle.stream_framing.proofs.Fitting.{nothing_fits, no_lines}
 use Rattle.stream_framing.proofs.Steps.{standing_one}
 use Rattle.stream_framing.proofs.cutter.Cutter.new.Goals as goal
 

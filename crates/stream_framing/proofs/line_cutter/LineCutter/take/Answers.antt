@@ -1,10 +1,9 @@
-use Rattle.std.proofs.Common.{◌≡◌, ◌+◌, ◌-◌, ℕ, List, ◌++◌, length, take, drop, set, Vec, Global, [], ◌∷◌, true, false, ap, sym, ◌∙◌, subst}
+use Rattle.std.proofs.Common.{◌≡◌, ◌+◌, ◌-◌, ℕ, List, ◌++◌, length, take, drop, set, Vec, Global, true, false, ap, sym, ◌∙◌}
 use Rattle.std.proofs.lemmas.List.{take_rest}
 use Rattle.lsp_frames.specs.Contents.{Open}
 use Rattle.lsp_frames.specs.declared.frame.Frame.{Frame}
 use Rattle.content_streams.specs.Lines.{fits}
 use Rattle.stream_framing.specs.Inner.Cutting.{LineCutting, standing_at, ended_contents, text_standing}
-use Rattle.stream_framing.proofs.Fitting.{kept}
 use Rattle.stream_framing.proofs.Steps.{cutting, line_known, within_is, held_contents, held_standing, long_contents, long_standing, more_contents, more_standing, whole_seen, one_pushed}
 use Rattle.stream_framing.proofs.line_cutter.LineCutter.take.Goals as goal
 use Rattle.stream_framing.proofs.line_cutter.LineCutter.take.Goals.{in-Some-into_content, in-None}

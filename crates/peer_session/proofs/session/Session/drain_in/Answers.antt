@@ -1,29 +1,33 @@
 -- What is due is put, and then written, all of it or some.
-use Rattle.std.proofs.Common.{◌≡◌, ℕ, ◌+◌, ◌-◌, ◌^◌, ◌<◌, List, ◌++◌, length, min, take, refl, sym, ap, subst, ◌∙◌, arith}
+use Rattle.std.proofs.Common.{◌≡◌, ℕ, ◌+◌, ◌-◌, ◌^◌, ◌<◌, List, ◌++◌, length, min, take, sym, ap, subst, ◌∙◌, arith}
 use Rattle.std.specs.Io.KnownBytes.{Appends}
-use Rattle.session_state.specs.Turning.{due_bytes}
 use Rattle.peer_session.specs.Events.{broken}
+use Rattle.peer_session.specs.Framings.{due_in}
 use Rattle.peer_session.specs.Session.{view}
 use Rattle.peer_session.specs.SessionState.{with_core}
-use Rattle.peer_session.proofs.Drains.{broken-fails, nothing-written, no-bytes, drained-nothing, appends-nothing, put-drained, some-written, still-broken, now-broken, told-true, told-false}
-use Rattle.peer_session.proofs.session.Session.drain.Goals as goal
+use Rattle.peer_session.proofs.Drains.{broken-fails, failed-before, none-left, no-bytes, drained-nothing, appends-nothing, put-drained, some-written, still-broken, now-broken, told-true, told-false}
+use Rattle.peer_session.proofs.session.Session.drain_in.Goals as goal
 
 pub returns-then-self-clause-drains : goal.returns-then-self-clause-drains
 unfolding view
-returns-then-self-clause-drains g c = broken-fails (view c.args.self.now) (g.S.Sink.bytes_taken c.args.sink.now) c.if-self.true
+returns-then-self-clause-drains g c = broken-fails c.args.framing (view c.args.self.now) (g.S.Sink.bytes_taken c.args.sink.now) c.if-self.true
 
 pub returns-then-self-2-clause-drains : goal.returns-then-self-2-clause-drains
 unfolding view
-returns-then-self-2-clause-drains g c = (c.if-self.false, nothing-written (view c.args.self.now) (view c.args.self.now).core (g.S.Sink.bytes_taken c.args.sink.now) refl)
+returns-then-self-2-clause-drains g c = (c.if-self.false, failed-before c.args.framing (view c.args.self.now) (g.S.Sink.bytes_taken c.args.sink.now) c.if-self-2.true)
 
 pub returns-in_default-clause-drains : goal.returns-in_default-clause-drains
 unfolding view
-returns-in_default-clause-drains g c = (c.if-self.false, nothing-written (view c.args.self.now) c.put_due.new.runs (g.S.Sink.bytes_taken c.args.sink.now) c.in_default.ensures.err)
+returns-in_default-clause-drains g c = (
+  c.if-self.false,
+  none-left c.args.framing (view c.args.self.now) c.put_due.new.runs (g.S.Sink.bytes_taken c.args.sink.now) c.may_lose-self.result c.if-self-2.false
+  (λ is. c.in_default.ensures.err is) c.may_lose-self.ensures.frames c.may_lose-self.ensures.lines,
+)
 
 pub returns-then-is_written-clause-drains : goal.returns-then-is_written-clause-drains
 unfolding view
 returns-then-is_written-clause-drains g c =
-    let due = due_bytes c.args.self.now.runs in
+    let due = due_in c.args.framing c.args.self.now.runs in
     let out : c.as_slice.result.now ≡ due = c.as_slice.ensures.value ∙ c.in-Ok.ensures.bytes ∙ ap (λ l. l ++ due) c.clear.ensures.items in
     record {
       not_broken = c.if-self.false;
@@ -36,10 +40,10 @@ returns-then-is_written-clause-drains g c =
 pub returns-else-is_written-clause-drains : goal.returns-else-is_written-clause-drains
 unfolding view
 returns-else-is_written-clause-drains g c =
-    let due = due_bytes c.args.self.now.runs in
+    let due = due_in c.args.framing c.args.self.now.runs in
     let out : c.as_slice.result.now ≡ due = c.as_slice.ensures.value ∙ c.in-Ok.ensures.bytes ∙ ap (λ l. l ++ due) c.clear.ensures.items in
     let part = c.write-is_written.ensures.part c.if-is_written.false in
-    some-written (view c.args.self.now) (broken (with_core (view c.forget_output.new.self) c.shrink.new.self)) (g.S.Sink.bytes_taken c.args.sink.now)
+    some-written c.args.framing (view c.args.self.now) (broken (with_core (view c.forget_output.new.self) c.shrink.new.self)) (g.S.Sink.bytes_taken c.args.sink.now)
     (g.S.Sink.bytes_taken c.write-is_written.new.sink) c.if-self.false
     (record {
       not_broken = c.if-self.false;
@@ -68,7 +72,7 @@ returns-else-is_written-clause-cause g c =
 pub returns-then-is_written-clause-handed_on : goal.returns-then-is_written-clause-handed_on
 unfolding view
 returns-then-is_written-clause-handed_on g c = λ some.
-    let due = due_bytes c.args.self.now.runs in
+    let due = due_in c.args.framing c.args.self.now.runs in
     let out : c.as_slice.result.now ≡ due = c.as_slice.ensures.value ∙ c.in-Ok.ensures.bytes ∙ ap (λ l. l ++ due) c.clear.ensures.items in
     c.write-is_written.ensures.handed_on c.if-is_written.true (subst (λ (l : List ℕ). 0 < length l) (sym out) some)
 
@@ -79,7 +83,7 @@ returns-then-not-has_due-clause-drains g c =
     record {
       not_broken = c.if-self.false;
       not_failed = c.if-self-2.false;
-      bytes = appends-nothing (g.S.Sink.bytes_taken c.args.sink.now) (due_bytes c.args.self.now.runs) (no-bytes c.args.self.now.runs none);
+      bytes = appends-nothing (g.S.Sink.bytes_taken c.args.sink.now) (due_in c.args.framing c.args.self.now.runs) (no-bytes c.args.framing c.args.self.now.runs none);
       after_is = drained-nothing (view c.args.self.now) none c.counts_fit.ensures.messages c.counts_fit.ensures.call_frames c.counts_fit.ensures.answers;
     }
 
@@ -87,4 +91,4 @@ pub returns-then-not-has_due-clause-handed_on : goal.returns-then-not-has_due-cl
 unfolding view
 returns-then-not-has_due-clause-handed_on g c = λ some.
     let none = c.has_due.ensures c.if-not-has_due.true in
-    absurd (omega (arith, some, ap length (no-bytes c.args.self.now.runs none)))
+    absurd (omega (arith, some, ap length (no-bytes c.args.framing c.args.self.now.runs none)))
