@@ -4,7 +4,8 @@ use Rattle.std.proofs.lemmas.Grind.{flat_map-append}
 use Rattle.std.proofs.lemmas.List.{take_more, take-append-drop}
 use Rattle.method_steps.specs.Steps.{MethodTable}
 use Rattle.peer_session.specs.declared.limits.Limits.{Limits}
-use Rattle.stream_session.specs.Promise.{IsRunCutShort}
+use Rattle.stream_framing.specs.declared.framing.Framing.{Framing}
+use Rattle.stream_session.specs.Framings.{IsShortOf}
 use Rattle.peer_player.specs.Player.{StoppedAfter}
 
 abbrev pub bytes_in : List (Vec ℕ Global) → List ℕ
@@ -24,7 +25,7 @@ module _ (pieces : List (Vec ℕ Global)) (i : ℕ) (piece : Vec ℕ Global) (by
       ∙ ap bytes_in (take-append-drop (i + 1) pieces)
 
   -- What stops in the middle of a piece has stopped, whatever pieces come behind.
-  pub stopped-piece : (table : MethodTable) (limits : Limits) (before after : Option (List ℕ)) → StoppedAfter table limits (bytes_in (take i pieces) ++ bytes) before after
-      → IsRunCutShort table limits (bytes_in pieces) before after
-  stopped-piece table limits before after stops =
-      subst (λ all. IsRunCutShort table limits all before after) all-bytes (stops (bytes_in (drop (i + 1) pieces)))
+  pub stopped-piece : (framing : Framing) (table : MethodTable) (limits : Limits) (before after : Option (List ℕ)) → StoppedAfter framing table limits (bytes_in (take i pieces) ++ bytes) before after
+      → IsShortOf framing table limits (bytes_in pieces) before after
+  stopped-piece framing table limits before after stops =
+      subst (λ all. IsShortOf framing table limits all before after) all-bytes (stops (bytes_in (drop (i + 1) pieces)))

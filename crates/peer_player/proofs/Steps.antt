@@ -9,11 +9,15 @@ use Rattle.peer_output.specs.Events.{with_at}
 use Rattle.session_state.specs.Core.{Core}
 use Rattle.session_state.specs.Turning.{Leaves, drained, returned}
 use Rattle.session_state.specs.Turns.{all_turns_left}
-use Rattle.peer_session.specs.Events.{DrainsTo, FailsToWrite, LeavesAt, picked, with_job_back}
+use Rattle.peer_session.specs.Events.{DrainsIn, FailsToWriteIn, LeavesAt, StopsIn, picked, with_job_back}
+use Rattle.stream_framing.specs.Framed.{read_text}
+use Rattle.stream_framing.specs.declared.framing.Framing.{Framing}
+use Rattle.stream_framing.specs.declared.framing.Framing.TheVariants.{Frames, Lines}
+use Rattle.stream_framing.proofs.Laws.{text_of}
 use Rattle.peer_session.specs.SessionState.{SessionState}
 use Rattle.peer_session.specs.declared.drain_fault.DrainFault.{DrainFault}
 use Rattle.peer_session.specs.declared.drain_fault.DrainFault.TheVariants.{Memory, Write}
-use Rattle.stream_session.specs.Promise.{IsRunCutShort}
+use Rattle.stream_session.specs.Framings.{IsShortIn, IsShortOf}
 use Rattle.stream_session.specs.Standing.{HasDrained}
 use Rattle.stream_session.specs.Stream.{Fed, MayFollow, StopsShort, StreamState, with_piece}
 use Rattle.peer_player.specs.Playing.{Plays, HasWritten, KeepsInput}
@@ -21,24 +25,28 @@ use Rattle.peer_player.specs.Player.{StoppedAfter, fed_so_far}
 
 -- ---- a drain
 
-pub drain-same : {T : Type 0} (s after : SessionState) (at sink : Option (List ℕ)) (r : Result T DrainFault) → DrainsTo s at r after sink
+pub drain-same : {T : Type 0} (framing : Framing) (s after : SessionState) (at sink : Option (List ℕ)) (r : Result T DrainFault) → DrainsIn framing s at r after sink
     → OnOk r (after.is_broken ≡ s.is_broken)
-drain-same s after at sink (Ok done) drains = ap (λ (x : SessionState). x.is_broken) drains.after_is
-drain-same s after at sink (Err fault) drains = tt
+drain-same framing s after at sink (Ok done) drains = ap (λ (x : SessionState). x.is_broken) drains.after_is
+drain-same framing s after at sink (Err fault) drains = tt
 
-fails-close : (s after : SessionState) (at sink : Option (List ℕ)) (broken : Bool) → FailsToWrite broken s after at sink → after.close ≡ s.close
-fails-close s after at sink true writes = ap (λ (x : SessionState). x.close) writes.after_is
-fails-close s after at sink false writes = ap (λ (x : SessionState). x.close) writes.after_is
+fails-close : (framing : Framing) (s after : SessionState) (at sink : Option (List ℕ)) (broken : Bool) → FailsToWriteIn framing broken s after at sink → after.close ≡ s.close
+fails-close framing s after at sink true writes = ap (λ (x : SessionState). x.close) writes.after_is
+fails-close framing s after at sink false writes = ap (λ (x : SessionState). x.close) writes.after_is
 
-pub drain-close : (s after : SessionState) (at sink : Option (List ℕ)) (r : Result (Unit {0}) DrainFault) → DrainsTo s at r after sink → after.close ≡ s.close
-drain-close s after at sink (Ok done) drains = ap (λ (x : SessionState). x.close) drains.after_is
-drain-close s after at sink (Err Memory) drains = ap (λ (x : SessionState). x.close) drains.1.after_is
-drain-close s after at sink (Err Write) drains = fails-close s after at sink s.is_broken drains
+stops-close : (framing : Framing) (s after : SessionState) (at sink : Option (List ℕ)) → StopsIn framing s after at sink → after.close ≡ s.close
+stops-close Frames s after at sink stops = ap (λ (x : SessionState). x.close) stops.after_is
+stops-close Lines s after at sink stops = ap (λ (x : SessionState). x.close) stops.1
 
-pub drain-turns : (same_turns : (s : Core) → all_turns_left (drained s).stages ≡ all_turns_left s.stages) (s after : SessionState) (at sink : Option (List ℕ))
-    (r : Result (Unit {0}) DrainFault) → DrainsTo s at r after sink → OnOk r (all_turns_left after.core.stages ≡ all_turns_left s.core.stages)
-drain-turns same_turns s after at sink (Ok done) drains = ap (λ (x : SessionState). all_turns_left x.core.stages) drains.after_is ∙ same_turns s.core
-drain-turns same_turns s after at sink (Err fault) drains = tt
+pub drain-close : (framing : Framing) (s after : SessionState) (at sink : Option (List ℕ)) (r : Result (Unit {0}) DrainFault) → DrainsIn framing s at r after sink → after.close ≡ s.close
+drain-close framing s after at sink (Ok done) drains = ap (λ (x : SessionState). x.close) drains.after_is
+drain-close framing s after at sink (Err Memory) drains = stops-close framing s after at sink drains.1
+drain-close framing s after at sink (Err Write) drains = fails-close framing s after at sink s.is_broken drains
+
+pub drain-turns : (same_turns : (s : Core) → all_turns_left (drained s).stages ≡ all_turns_left s.stages) (framing : Framing) (s after : SessionState) (at sink : Option (List ℕ))
+    (r : Result (Unit {0}) DrainFault) → DrainsIn framing s at r after sink → OnOk r (all_turns_left after.core.stages ≡ all_turns_left s.core.stages)
+drain-turns same_turns framing s after at sink (Ok done) drains = ap (λ (x : SessionState). all_turns_left x.core.stages) drains.after_is ∙ same_turns s.core
+drain-turns same_turns framing s after at sink (Err fault) drains = tt
 
 pub written : (fed : Fed) (s : StreamState) (sink : Option (List ℕ)) (r : Result (Unit {0}) DrainFault)
     → OnOk r (Plays fed s sink × HasDrained fed.table s.session (λ n. None)) → OnOk r (HasWritten fed s sink)
@@ -96,26 +104,35 @@ turn-fewer fewer s between pick job turned outcome polls leaves poll number =
 follows : (fed : Fed) → fed.ending ≡ Finished → MayFollow fed.ending []
 follows fed ends = subst (λ ending. MayFollow ending []) (sym ends) refl
 
-pub cut-at-end : (fed : Fed) (sink : Option (List ℕ)) → fed.ending ≡ Finished → StopsShort fed sink → IsRunCutShort fed.table fed.limits fed.bytes fed.before sink
-cut-at-end fed sink ends stops = subst (λ bytes. IsRunCutShort fed.table fed.limits bytes fed.before sink) (append-nil fed.bytes) (stops [] (follows fed ends))
+pub cut-at-end : (fed : Fed) (sink : Option (List ℕ)) → fed.ending ≡ Finished → StopsShort fed sink → IsShortOf fed.framing fed.table fed.limits fed.bytes fed.before sink
+cut-at-end fed sink ends stops = subst (λ bytes. IsShortOf fed.framing fed.table fed.limits bytes fed.before sink) (append-nil fed.bytes) (stops [] (follows fed ends))
+
+-- before it has come to its end
+pub cut-before-end : (fed : Fed) (sink : Option (List ℕ)) → fed.ending ≡ Unfinished → StopsShort fed sink → IsShortIn fed.framing fed.table fed.limits fed.bytes Finished fed.before sink
+cut-before-end fed sink goes_on stops =
+    let text = text_of fed.framing Finished fed.bytes in
+    subst (λ all. IsShortOf fed.framing fed.table fed.limits all fed.before sink) (sym text.1)
+    (stops text.0 (subst (λ ending. MayFollow ending text.0) (sym goes_on) tt))
 
 -- ---- it stops short
 
-pub stopped-yet : (table : MethodTable) (limits : Limits) (bytes : List ℕ) (before sink : Option (List ℕ)) → StopsShort (fed_so_far table limits bytes before) sink
-    → StoppedAfter table limits bytes before sink
-stopped-yet table limits bytes before sink stops = λ more. stops more tt
+pub stopped-yet : (framing : Framing) (table : MethodTable) (limits : Limits) (bytes : List ℕ) (before sink : Option (List ℕ)) → StopsShort (fed_so_far framing table limits bytes before) sink
+    → StoppedAfter framing table limits bytes before sink
+stopped-yet framing table limits bytes before sink stops = λ more. stops more tt
 
-pub stopped-later : (table : MethodTable) (limits : Limits) (bytes piece : List ℕ) (before sink : Option (List ℕ))
-    → StoppedAfter table limits bytes before sink → StoppedAfter table limits (bytes ++ piece) before sink
-stopped-later table limits bytes piece before sink stops = λ more.
-    subst (λ all. IsRunCutShort table limits all before sink) (sym (append_assoc bytes piece more)) (stops (piece ++ more))
+pub stopped-later : (framing : Framing) (table : MethodTable) (limits : Limits) (bytes piece : List ℕ) (before sink : Option (List ℕ))
+    → StoppedAfter framing table limits bytes before sink → StoppedAfter framing table limits (bytes ++ piece) before sink
+stopped-later framing table limits bytes piece before sink stops = λ more.
+    subst (λ all. IsShortOf framing table limits all before sink) (sym (append_assoc bytes piece more)) (stops (piece ++ more))
 
-pub stopped-here : (table : MethodTable) (limits : Limits) (bytes : List ℕ) (before sink : Option (List ℕ))
-    → StoppedAfter table limits bytes before sink → IsRunCutShort table limits bytes before sink
-stopped-here table limits bytes before sink stops = subst (λ all. IsRunCutShort table limits all before sink) (append-nil bytes) (stops [])
+pub stopped-here : (framing : Framing) (table : MethodTable) (limits : Limits) (bytes : List ℕ) (before sink : Option (List ℕ))
+    → StoppedAfter framing table limits bytes before sink → IsShortIn framing table limits bytes Finished before sink
+stopped-here framing table limits bytes before sink stops =
+    let text = text_of framing Finished bytes in
+    subst (λ all. IsShortOf framing table limits all before sink) (sym text.1) (stops text.0)
 
 -- with a piece that was not taken
 pub short-piece : (fed : Fed) (piece : List ℕ) (sink : Option (List ℕ)) → fed.ending ≡ Unfinished → StopsShort fed sink → StopsShort (with_piece fed piece) sink
 short-piece fed piece sink goes_on stops = λ more follows.
-    subst (λ all. IsRunCutShort fed.table fed.limits all fed.before sink) (sym (append_assoc fed.bytes piece more))
+    subst (λ all. IsShortOf fed.framing fed.table fed.limits all fed.before sink) (sym (append_assoc fed.bytes piece more))
     (stops (piece ++ more) (subst (λ ending. MayFollow ending (piece ++ more)) (sym goes_on) tt))

@@ -5,8 +5,8 @@ ghost use Rattle.lsp_frames.specs.Devices.{Unfinished};
 ghost use Rattle.session_state.specs.Turns.{all_turns_left};
 ghost use Rattle.session_state.specs.Turning.{ready};
 ghost use Rattle.peer_session.specs.Events.{CountsDrain};
-ghost use Rattle.stream_session.specs.Promise.{IsPlay, IsRunCutShort};
 ghost use Rattle.stream_session.specs.Stream.{Fed, IsTaken, StopsShort, stream_of, with_piece};
+ghost use Rattle.peer_player.specs.Player.{IsPlayIn, IsPlayShortIn};
 ghost use Rattle.peer_player.specs.Playing.{Plays, HasWritten, HasSettled, KeepsInput};
 ghost use Rattle.peer_player.specs.Schedule.{TurnsPicked, turns_after};
 
@@ -50,18 +50,18 @@ impl<'a, S: Sink> Playing<'a, S> {
     pub(crate) fn end(&mut self) -> Result<Report, DrainFault>
         ensures ok { (fed : Fed) → fed.ending ≡ Unfinished →
             Plays fed (stream_of self.old.stream) (S.bytes_taken self.old.sink) →
-            IfOk result (IsPlay fed.table fed.limits fed.bytes fed.before
+            IfOk result (IsPlayIn fed.framing fed.table fed.limits fed.bytes fed.before
             (S.bytes_taken self.new.sink)) }
         ensures err { (fed : Fed) → fed.ending ≡ Unfinished →
             Plays fed (stream_of self.old.stream) (S.bytes_taken self.old.sink) →
-            OnErr result (IsRunCutShort fed.table fed.limits fed.bytes fed.before
+            OnErr result (IsPlayShortIn fed.framing fed.table fed.limits fed.bytes fed.before
             (S.bytes_taken self.new.sink)) }
         ensures cause { CountsDrain (stream_of self.old.stream).session (S.failures self.old.sink)
             result (S.failures self.new.sink) }
     {
         what_sessions_wrote();
         what_a_stream_wrote();
-        self.stream.end(InputEnd::Finished);
+        self.stream.end(InputEnd::Finished)?;
         self.take_contents()?;
         self.settle()?;
         Ok(self.stream.report())

@@ -4,6 +4,7 @@ ghost use Rattle.std.specs.Prelude.{◌≡◌, ℕ, List, [], IfOk, IfErr, OnErr
 ghost use Rattle.method_steps.specs.Steps.{MethodTable};
 ghost use Rattle.peer_session.specs.declared.limits.Limits.{Limits as LimitsOf};
 ghost use Rattle.stream_session.specs.Stream.{stream_of};
+ghost use Rattle.stream_framing.specs.declared.framing.Framing.TheVariants.{Frames};
 ghost use Rattle.peer_player.specs.Player.{PlaysAfter};
 ghost use Rattle.peer_session.specs.Events.{CountsDrain};
 ghost use Rattle.stream_session.specs.Promise.{IsPlay, IsRunCutShort, CountsFault};
@@ -14,7 +15,7 @@ use lsp_frames::{MemSink, Sink};
 use method_steps::Table;
 use peer_session::{DrainFault, Limits, Report};
 use std::alloc::Global;
-use stream_session::what_a_stream_wrote;
+use stream_session::{runs_in_frames_are_runs, what_a_stream_wrote};
 
 /// Why nothing was played.
 #[derive(Clone, Copy, Debug, PartialEq, Eq)]
@@ -78,6 +79,7 @@ pub fn play_to<S: Sink>(
         (S.failures stopped.1)) }
 {
     what_a_stream_wrote();
+    runs_in_frames_are_runs();
     let mut player = Player::new(alloc, table, limits, schedule, sink)?;
     match play_all(&mut player, pieces) {
         Ok(report) => Ok((report, player.into_sink())),
@@ -88,18 +90,19 @@ pub fn play_to<S: Sink>(
 /// Feeds the pieces to a new player, and ends the input.
 fn play_all<S: Sink>(player: &mut Player<'_, S>, pieces: &[Vec<u8>]) -> Result<Report, DrainFault>
     ensures ok { (table : MethodTable) (limits : LimitsOf) (before : Option (List ℕ)) →
-        PlaysAfter table limits [] before (stream_of player.old.playing.stream)
+        PlaysAfter Frames table limits [] before (stream_of player.old.playing.stream)
         (S.bytes_taken player.old.playing.sink) →
         IfOk result (λ report. IsPlay table limits (flat_map (λ piece. piece.items) pieces.now)
         before (S.bytes_taken player.new.playing.sink) report) }
     ensures err { (table : MethodTable) (limits : LimitsOf) (before : Option (List ℕ)) →
-        PlaysAfter table limits [] before (stream_of player.old.playing.stream)
+        PlaysAfter Frames table limits [] before (stream_of player.old.playing.stream)
         (S.bytes_taken player.old.playing.sink) →
         OnErr result (IsRunCutShort table limits (flat_map (λ piece. piece.items) pieces.now)
         before (S.bytes_taken player.new.playing.sink)) }
     ensures cause { CountsDrain (stream_of player.old.playing.stream).session
         (S.failures player.old.playing.sink) result (S.failures player.new.playing.sink) }
 {
+    runs_in_frames_are_runs();
     for piece in pieces {
         player.feed(piece.as_slice())?;
     }

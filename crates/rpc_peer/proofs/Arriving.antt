@@ -8,7 +8,11 @@ use Rattle.method_steps.specs.Steps.{MethodTable}
 use Rattle.handler_future.specs.State.{HandlerState}
 use Rattle.peer_session.specs.declared.limits.Limits.{Limits}
 use Rattle.peer_session.specs.declared.report.Close.{Close}
-use Rattle.stream_session.specs.Promise.{IsRunCutShort, close_of}
+use Rattle.stream_framing.specs.Framed.{read_text}
+use Rattle.stream_framing.specs.declared.framing.Framing.{Framing}
+use Rattle.stream_framing.proofs.Laws.{text_of, text_unfinished}
+use Rattle.stream_session.specs.Framings.{IsShortIn, IsShortOf}
+use Rattle.stream_session.specs.Promise.{close_of}
 use Rattle.stream_session.specs.Stream.{Fed, StreamState, StreamStands, StopsShort, MayFollow, IsTaken}
 use Rattle.rpc_peer.specs.Arriving.{bytes_of, ending_of, ending_by}
 use Rattle.rpc_peer.specs.declared.arrival.Arrival.{Arrival}
@@ -41,18 +45,29 @@ pieces-go-on (End e ∷ xs) pieces = absurd (cc)
 
 -- ---- what was fed
 
-module _ (table : MethodTable) (limits : Limits) (arrived : List Arrival) (before : Option (List ℕ)) (pieces : list_all is_piece arrived ≡ true) where
+-- While pieces arrive, the text is their bytes.
+text-pieces : (framing : Framing) (xs : List Arrival) → list_all is_piece xs ≡ true → read_text framing (ending_of xs) (bytes_of xs) ≡ bytes_of xs
+text-pieces framing xs pieces = ap (λ e. read_text framing e (bytes_of xs)) (pieces-go-on xs pieces) ∙ text_unfinished framing (bytes_of xs)
+
+module _ (framing : Framing) (table : MethodTable) (limits : Limits) (arrived : List Arrival) (before : Option (List ℕ)) (pieces : list_all is_piece arrived ≡ true) where
   abbrev fed-as : (bytes : List ℕ) (ending : Ending) → Fed
-  fed-as bytes ending = record { table = table; limits = limits; bytes = bytes; ending = ending; before = before }
+  fed-as bytes ending = record { framing = framing; table = table; limits = limits; bytes = bytes; ending = ending; before = before }
 
   -- what arrives is behind what was fed
-  pub fed-more : (arrival : Arrival) → with_arrival (fed_by table limits arrived before) arrival ≡ fed_by table limits (arrived ++ arrival ∷ []) before
+  pub fed-more : (arrival : Arrival) → with_arrival (fed_by framing table limits arrived before) arrival ≡ fed_by framing table limits (arrived ++ arrival ∷ []) before
   fed-more (Piece bytes) =
-      ap (λ l. fed-as l (ending_of arrived)) (sym (bytes-append arrived (Piece bytes ∷ []) ∙ ap (λ l. bytes_of arrived ++ l) (append-nil bytes)))
-      ∙ ap (fed-as (bytes_of (arrived ++ Piece bytes ∷ []))) (pieces-go-on arrived pieces ∙ sym (ending-pieces arrived (Piece bytes ∷ []) pieces))
+      let all = arrived ++ Piece bytes ∷ [] in
+      let text : read_text framing (ending_of arrived) (bytes_of arrived) ++ bytes ≡ read_text framing (ending_of all) (bytes_of all) =
+      ap (λ l. l ++ bytes) (text-pieces framing arrived pieces)
+      ∙ sym (bytes-append arrived (Piece bytes ∷ []) ∙ ap (λ l. bytes_of arrived ++ l) (append-nil bytes))
+      ∙ sym (text-pieces framing all (pieces-more arrived bytes pieces)) in
+      ap (λ l. fed-as l (ending_of arrived)) text
+      ∙ ap (fed-as (read_text framing (ending_of all) (bytes_of all))) (pieces-go-on arrived pieces ∙ sym (ending-pieces arrived (Piece bytes ∷ []) pieces))
   fed-more (End e) =
-      ap (λ l. fed-as l (ending_by e)) (sym (bytes-append arrived (End e ∷ []) ∙ append-nil (bytes_of arrived)))
-      ∙ ap (fed-as (bytes_of (arrived ++ End e ∷ []))) (sym (ending-pieces arrived (End e ∷ []) pieces))
+      let all = arrived ++ End e ∷ [] in
+      ap (λ l. fed-as (read_text framing (ending_by e) l) (ending_by e))
+      (text-pieces framing arrived pieces ∙ sym (bytes-append arrived (End e ∷ []) ∙ append-nil (bytes_of arrived)))
+      ∙ ap (λ x. fed-as (read_text framing x (bytes_of all)) x) (sym (ending-pieces arrived (End e ∷ []) pieces))
 
 -- ---- an end closes the session
 
@@ -85,19 +100,26 @@ goes-on fed jobs s sink arrived (End e) had taken pieces ends still = absurd (cl
 
 -- ---- it stops short
 
-pub short-more : (table : MethodTable) (limits : Limits) (arrived : List Arrival) (before sink : Option (List ℕ)) (arrival : Arrival)
-    → list_all is_piece arrived ≡ true → StopsShort (fed_by table limits arrived before) sink → IsRunCutShort table limits (bytes_of (arrived ++ arrival ∷ [])) before sink
-short-more table limits arrived before sink arrival pieces stops =
-    subst (λ bytes. IsRunCutShort table limits bytes before sink) (sym (bytes-append arrived (arrival ∷ [])))
-    (stops (bytes_of (arrival ∷ [])) (subst (λ ending. MayFollow ending (bytes_of (arrival ∷ []))) (sym (pieces-go-on arrived pieces)) tt))
+pub short-more : (framing : Framing) (table : MethodTable) (limits : Limits) (arrived : List Arrival) (before sink : Option (List ℕ)) (arrival : Arrival)
+    → list_all is_piece arrived ≡ true → StopsShort (fed_by framing table limits arrived before) sink
+    → IsShortIn framing table limits (bytes_of (arrived ++ arrival ∷ [])) (ending_of (arrived ++ arrival ∷ [])) before sink
+short-more framing table limits arrived before sink arrival pieces stops =
+    let all = arrived ++ arrival ∷ [] in
+    let fed = read_text framing (ending_of arrived) (bytes_of arrived) in
+    let later = bytes_of (arrival ∷ []) in
+    let text = text_of framing (ending_of all) (bytes_of all) in
+    let is : read_text framing (ending_of all) (bytes_of all) ≡ fed ++ (later ++ text.0) =
+    text.1 ∙ ap (λ l. l ++ text.0) (bytes-append arrived (arrival ∷ []) ∙ ap (λ l. l ++ later) (sym (text-pieces framing arrived pieces))) ∙ append_assoc fed later text.0 in
+    subst (λ bytes. IsShortOf framing table limits bytes before sink) (sym is)
+    (stops (later ++ text.0) (subst (λ ending. MayFollow ending (later ++ text.0)) (sym (pieces-go-on arrived pieces)) tt))
 
 follows : (ending : Ending) → MayFollow ending []
 follows Unfinished = tt
 follows Finished = refl
 follows Failed = refl
 
-pub short-here : (fed : Fed) (sink : Option (List ℕ)) → StopsShort fed sink → IsRunCutShort fed.table fed.limits fed.bytes fed.before sink
-short-here fed sink stops = subst (λ bytes. IsRunCutShort fed.table fed.limits bytes fed.before sink) (append-nil fed.bytes) (stops [] (follows fed.ending))
+pub short-here : (fed : Fed) (sink : Option (List ℕ)) → StopsShort fed sink → IsShortOf fed.framing fed.table fed.limits fed.bytes fed.before sink
+short-here fed sink stops = subst (λ bytes. IsShortOf fed.framing fed.table fed.limits bytes fed.before sink) (append-nil fed.bytes) (stops [] (follows fed.ending))
 
 pub was-open : (close : Option Close) (answer : Bool) → answer ≡ is_none close → answer ≡ true → close ≡ None
 was-open None answer is says = refl

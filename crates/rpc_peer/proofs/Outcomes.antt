@@ -3,7 +3,7 @@ use Rattle.std.proofs.Common.{ℕ, List, Option, Result, Ok, Err, IfOk, OnErr}
 use Rattle.std.specs.Prelude.{IfErr}
 use Rattle.rtrb.specs.Ring.{received, SameConsumer}
 use Rattle.peer_session.specs.declared.report.Report.{Report}
-use Rattle.stream_session.specs.Promise.{IsRun, IsRunCutShort}
+use Rattle.stream_session.specs.Framings.{IsRunIn, IsShortIn}
 use Rattle.peer_session.specs.declared.drain_fault.DrainFault.{DrainFault}
 use Rattle.rpc_peer.specs.Arriving.{bytes_of, ending_of}
 use Rattle.rpc_peer.specs.Clerk.{CountsRun}
@@ -17,12 +17,12 @@ module _ {G K : Type 0} (taken : K → Option (List ℕ)) (failures : K → ℕ)
   ring-of (Err fault) finishes stops = stops.ring
 
   pub run-of : (r : Result Report DrainFault) → IfOk r (Finishes taken failures start clerk)
-      → IfOk r (λ report. IsRun start.table start.limits (bytes_of (received clerk.ring)) (ending_of (received clerk.ring)) start.taken (taken clerk.sink) report)
+      → IfOk r (λ report. IsRunIn start.framing start.table start.limits (bytes_of (received clerk.ring)) (ending_of (received clerk.ring)) start.taken (taken clerk.sink) report)
   run-of (Ok report) finishes = finishes.whole
   run-of (Err fault) finishes = tt
 
   pub part-of : (r : Result Report DrainFault) → IfErr r (Stops taken failures start clerk)
-      → OnErr r (IsRunCutShort start.table start.limits (bytes_of (received clerk.ring)) start.taken (taken clerk.sink))
+      → OnErr r (IsShortIn start.framing start.table start.limits (bytes_of (received clerk.ring)) (ending_of (received clerk.ring)) start.taken (taken clerk.sink))
   part-of (Ok report) stops = tt
   part-of (Err fault) stops = stops.short
 

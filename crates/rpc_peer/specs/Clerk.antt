@@ -17,6 +17,6 @@ CountsRun before (Err Write) after = after ≡ min (before + 1) (2 ^ 64 - 1)
 
 -- Nothing has come through its ring, all slots are free, and its session was fed nothing.
 pub record IsNew {G K : Type 0} (clerk : Clerk G K) : Type 0 where
-  pub session : (before : Option (List ℕ)) → StreamStands (fed_nothing clerk.table.now clerk.limits before) (λ n. None) (stream_of clerk.stream) before
+  pub session : (before : Option (List ℕ)) → StreamStands (fed_nothing clerk.framing clerk.table.now clerk.limits before) (λ n. None) (stream_of clerk.stream) before
   pub empty : received clerk.ring ≡ []
   pub free : looks_of clerk.seat ≡ replicate (slot_count clerk.slots.now) Free

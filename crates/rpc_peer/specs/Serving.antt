@@ -8,7 +8,8 @@ use Rattle.method_steps.specs.Steps.{MethodTable}
 use Rattle.job_slots.specs.Seats.{looks_of}
 use Rattle.peer_session.specs.declared.limits.Limits.{Limits}
 use Rattle.peer_session.specs.declared.report.Report.{Report}
-use Rattle.stream_session.specs.Promise.{IsRun, IsRunCutShort}
+use Rattle.stream_framing.specs.declared.framing.Framing.{Framing}
+use Rattle.stream_session.specs.Framings.{IsRunIn, IsShortIn}
 use Rattle.peer_session.specs.declared.drain_fault.DrainFault.{DrainFault}
 use Rattle.stream_session.specs.Stream.{stream_of}
 use Rattle.session_state.specs.Core.{Core}
@@ -20,8 +21,9 @@ use Rattle.rpc_peer.specs.Clerk.{CountsRun}
 use Rattle.rpc_peer.specs.Serves.{ServesAfter}
 use Rattle.rpc_peer.specs.declared.clerk.Clerk.{Clerk}
 
--- What a run begins with: the table and the limits, the ring, and what its sink has taken and how often it has failed.
+-- What a run begins with: the framing, the table and the limits, the ring, and what its sink has taken and how often it has failed.
 pub record Start : Type 0 where
+  pub framing : Framing
   pub table : MethodTable
   pub limits : Limits
   pub ring : Consumer Arrival Global AnyItems
@@ -31,20 +33,20 @@ pub record Start : Type 0 where
 module _ {G K : Type 0} (taken : K → Option (List ℕ)) (failures : K → ℕ) (start : Start) (clerk : Clerk G K) where
   -- All that has arrived was served, and the sink has not failed.
   pub record Serves : Type 0 where
-    pub after : ServesAfter start.table start.limits (received clerk.ring) start.taken (stream_of clerk.stream) (looks_of clerk.seat)
+    pub after : ServesAfter start.framing start.table start.limits (received clerk.ring) start.taken (stream_of clerk.stream) (looks_of clerk.seat)
         (taken clerk.sink)
     pub ring : SameConsumer start.ring clerk.ring
     pub unfailing : failures clerk.sink ≡ start.failures
 
   -- It has stopped short, for this fault.
   pub record Stops (fault : DrainFault) : Type 0 where
-    pub short : IsRunCutShort start.table start.limits (bytes_of (received clerk.ring)) start.taken (taken clerk.sink)
+    pub short : IsShortIn start.framing start.table start.limits (bytes_of (received clerk.ring)) (ending_of (received clerk.ring)) start.taken (taken clerk.sink)
     pub ring : SameConsumer start.ring clerk.ring
     pub cause : CountsRun start.failures (Err fault) (failures clerk.sink)
 
   -- It has done all, and tells so.
   pub record Finishes (report : Report) : Type 0 where
-    pub whole : IsRun start.table start.limits (bytes_of (received clerk.ring)) (ending_of (received clerk.ring)) start.taken (taken clerk.sink) report
+    pub whole : IsRunIn start.framing start.table start.limits (bytes_of (received clerk.ring)) (ending_of (received clerk.ring)) start.taken (taken clerk.sink) report
     pub ring : SameConsumer start.ring clerk.ring
     pub unfailing : failures clerk.sink ≡ start.failures
 

@@ -3,6 +3,7 @@ use Rattle.std.specs.Prelude.{◌≡◌, ◌≢◌, ℕ, List, Option}
 use Rattle.lsp_frames.specs.Devices.{Unfinished}
 use Rattle.handler_future.specs.State.{HandlerState}
 use Rattle.stream_session.specs.Stream.{Fed, StreamState, StreamStands, with_piece}
+use Rattle.stream_framing.specs.Framed.{read_text}
 use Rattle.rpc_peer.specs.Arriving.{ending_by}
 use Rattle.rpc_peer.specs.declared.arrival.Arrival.{Arrival}
 use Rattle.rpc_peer.specs.declared.arrival.Arrival.TheVariants.{Piece, End}
@@ -10,7 +11,7 @@ use Rattle.rpc_peer.specs.declared.arrival.Arrival.TheVariants.{Piece, End}
 -- a piece, or the end
 abbrev pub with_arrival : Fed → Arrival → Fed
 with_arrival fed (Piece bytes) = with_piece fed bytes
-with_arrival fed (End end) = record fed { ending = ending_by end }
+with_arrival fed (End end) = record fed { bytes = read_text fed.framing (ending_by end) fed.bytes; ending = ending_by end }
 
 -- An end is the source's own. A reader that found no memory has none to tell.
 abbrev pub EndsInput : Arrival → Type 0

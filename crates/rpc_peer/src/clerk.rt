@@ -13,11 +13,13 @@ use peer_session::{DrainFault, Limits, Report};
 use rtrb::Consumer;
 use std::alloc::{AllocError, Global};
 use std::sync::{Arc, Wait};
+use stream_framing::Framing;
 use stream_session::StreamSession;
 
 /// The owner of the session of a server.
 #[derive(Drop)]
 pub struct Clerk<'a, G: Gate, K> {
+    pub(crate) framing: Framing,
     pub(crate) table: &'a Table,
     pub(crate) limits: Limits,
     pub(crate) stream: StreamSession<'a>,
@@ -46,7 +48,7 @@ impl<'a, G: Gate, K: Sink> Clerk<'a, G, K> {
     ghost use Rattle.rtrb.specs.Ring.{received, SameConsumer};
     ghost use Rattle.job_slots.specs.declared.view.Look.TheVariants.{Free};
     ghost use Rattle.rpc_peer.specs.Arriving.{bytes_of, ending_of};
-    ghost use Rattle.stream_session.specs.Promise.{IsRun, IsRunCutShort};
+    ghost use Rattle.stream_session.specs.Framings.{IsRunIn, IsShortIn};
     ghost use Rattle.rpc_peer.specs.Clerk.{CountsRun, IsNew};
     ghost use Rattle.job_slots.specs.Seats.{looks_of, slot_count};
 
@@ -56,6 +58,7 @@ impl<'a, G: Gate, K: Sink> Clerk<'a, G, K> {
     /// Where there is no memory. The sink comes back as it was.
     pub fn new(
         alloc: Global,
+        framing: Framing,
         table: &'a Table,
         limits: Limits,
         gate: Arc<G, Global>,
@@ -70,6 +73,7 @@ impl<'a, G: Gate, K: Sink> Clerk<'a, G, K> {
         requires seat { IsClerkOf slots.now seat }
         requires free { looks_of seat ≡ replicate (slot_count slots.now) Free }
         ensures new { IfOk result IsNew }
+        ensures framing { IfOk result (λ clerk. clerk.framing ≡ framing) }
         ensures table { IfOk result (λ clerk. clerk.table.now ≡ table.now) }
         ensures limits { IfOk result (λ clerk. clerk.limits ≡ limits) }
         ensures ring { IfOk result (λ clerk. clerk.ring ≡ ring) }
@@ -79,8 +83,9 @@ impl<'a, G: Gate, K: Sink> Clerk<'a, G, K> {
         let Ok(gates) = one_for_each_slot(alloc, &gate) else {
             return Err(sink);
         };
-        match StreamSession::new(alloc, table, limits) {
+        match StreamSession::new(alloc, framing, table, limits) {
             Ok(stream) => Ok(Clerk {
+                framing,
                 table,
                 limits,
                 stream,
@@ -108,11 +113,12 @@ impl<'a, G: Gate, K: Sink> Clerk<'a, G, K> {
     pub fn run<R: Wait>(self, rt: &R) -> Served<K>
         requires { IsNew self }
         ensures ring { SameConsumer self.entry.ring result.ring }
-        ensures ok { IfOk result.outcome (λ report. IsRun self.entry.table.now self.entry.limits
+        ensures ok { IfOk result.outcome (λ report. IsRunIn self.entry.framing
+            self.entry.table.now self.entry.limits
             (bytes_of (received result.ring)) (ending_of (received result.ring))
             (K.bytes_taken self.entry.sink) (K.bytes_taken result.sink) report) }
-        ensures err { OnErr result.outcome (IsRunCutShort self.entry.table.now self.entry.limits
-            (bytes_of (received result.ring))
+        ensures err { OnErr result.outcome (IsShortIn self.entry.framing self.entry.table.now
+            self.entry.limits (bytes_of (received result.ring)) (ending_of (received result.ring))
             (K.bytes_taken self.entry.sink) (K.bytes_taken result.sink)) }
         ensures cause { CountsRun (K.failures self.entry.sink) result.outcome
             (K.failures result.sink) }

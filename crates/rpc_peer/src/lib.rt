@@ -25,6 +25,7 @@
 //!
 //! - `serve` serves a source and a sink by several threads; `serve_with` holds each handler at a gate before its turns, and
 //!   `serve_by` chooses its crew too.
+//! - `serve_lines` serves whole lines in place of frames.
 //! - `play` plays a whole input and keeps what is written; `play_to` writes it to a sink as it goes.
 //! - A `Player` is fed its input piece by piece.
 //! - A `Session` is what a player stands on, for who brings contents in and handlers to their turns by himself.
@@ -54,4 +55,7 @@ pub use gate::{Gate, OpenGate};
 pub use gated::Gated;
 pub use peer_player::{Picks, PlayFault, Player, Schedule, play, play_to};
 pub use peer_session::{Close, DrainFault, Job, Limits, Report, Session, Taken};
-pub use server::{MOST_WORKERS, limit_of_workers_in_figures, serve, serve_by, serve_with};
+pub use server::{
+    MOST_WORKERS, limit_of_workers_in_figures, serve, serve_by, serve_lines, serve_with,
+};
+pub use stream_framing::Framing;

@@ -9,6 +9,9 @@ ghost use Rattle.rpc_peer.specs.Arriving.{Reads};
 ghost use Rattle.rpc_peer.specs.declared.server.TheConstants.{MOST_WORKERS};
 ghost use Rattle.rpc_peer.specs.declared.fault.ServeFault.TheVariants.{Workers};
 ghost use Rattle.rpc_peer.specs.Inner.Threads.{HasServed};
+ghost use Rattle.stream_framing.specs.declared.framing.Framing.{Framing as FramingOf};
+ghost use Rattle.stream_framing.specs.declared.framing.Framing.TheVariants.{Lines};
+ghost use Rattle.stream_session.specs.Framings.{IsServedIn, IsServedInPartIn};
 ghost use Rattle.stream_session.specs.Promise.{IsServed, IsServedInPart};
 ghost use Rattle.rpc_peer.specs.Serve.{IsImpossible, CountsFault};
 
@@ -18,7 +21,9 @@ use crate::clerk::{Clerk, Served};
 use crate::crew::Crew;
 use crate::fault::ServeFault;
 use crate::gate::{Gate, OpenGate};
-use crate::law::{nothing_is_served_in_part, what_arrives_was_given};
+use crate::law::{
+    nothing_is_served_in_part, served_in_frames_is_served, what_arrives_was_given,
+};
 use crate::threads::run_threads;
 use job_slots::{ClerkSeat, JobSlots, MOST_SLOTS, Turns, WorkerSeat};
 use lsp_frames::{Sink, Source};
@@ -28,6 +33,7 @@ use rtrb::{Producer, RingBuffer};
 use std::alloc::{AllocError, Global};
 use std::sync::{Arc, Wait};
 use std::thread::Threads;
+use stream_framing::Framing;
 
 /// The most workers that a server may have.
 pub const MOST_WORKERS: u32 = 64;
@@ -70,6 +76,7 @@ where
         (K.failures failed.1)) }
 {
     nothing_is_served_in_part::<S>();
+    served_in_frames_is_served::<S>();
     if !is_possible(workers) {
         return Err((ServeFault::Workers, sink));
     }
@@ -154,11 +161,104 @@ where
     ensures cause { IfErr result (λ failed. CountsFault (K.failures sink) failed.0
         (K.failures failed.1)) }
 {
+    served_in_frames_is_served::<S>();
+    serve_in(
+        rt,
+        alloc,
+        Framing::Frames,
+        table,
+        limits,
+        crew,
+        gate,
+        source,
+        sink,
+    )
+}
+
+/// Serves an input of whole lines to its end, with gates that are open: each line is a content, and each text that is
+/// written is a line. Only an LF ends a line, a CR belongs to it, and a line without a byte is passed over. Where the source
+/// has no more, its last line needs no LF.
+pub fn serve_lines<S, K, R>(
+    rt: &R,
+    alloc: Global,
+    table: &Table,
+    limits: Limits,
+    workers: u32,
+    source: S,
+    sink: K,
+) -> Result<(Report, K), (ServeFault, K)>
+where
+    S: Source + Drop + Send,
+    K: Sink + Drop,
+    R: Threads + Wait + Sync,
+    ensures ok { IfOk result (λ done. IsServedIn Lines table.now limits (S.gave source)
+        (K.bytes_taken sink) (K.bytes_taken done.1) done.0) }
+    ensures in_part { IfErr result (λ failed. IsServedInPartIn Lines table.now limits
+        (S.gave source) (K.bytes_taken sink) (K.bytes_taken failed.1)) }
+
+    // No number of workers is refused but an impossible one, and of that nothing comes but the refusal.
+    ensures refused { IfErr result (λ failed. (failed.0 ≡ Workers) ↔ IsImpossible workers) }
+    ensures impossible { IsImpossible workers → IsErr result }
+    ensures untouched { IfErr result (λ failed. failed.0 ≡ Workers → failed.1 ≡ sink) }
+
+    // The sink's failures are counted.
+    ensures failures { IfOk result (λ done. K.failures done.1 ≡ K.failures sink) }
+    ensures cause { IfErr result (λ failed. CountsFault (K.failures sink) failed.0
+        (K.failures failed.1)) }
+{
+    nothing_is_served_in_part::<S>();
+    if !is_possible(workers) {
+        return Err((ServeFault::Workers, sink));
+    }
+    let Ok(gate) = Arc::new(alloc, OpenGate) else {
+        return Err((ServeFault::Memory, sink));
+    };
+    serve_in(
+        rt,
+        alloc,
+        Framing::Lines,
+        table,
+        limits,
+        Crew::of(workers),
+        gate,
+        source,
+        sink,
+    )
+}
+
+/// Serves an input in a framing.
+fn serve_in<S, K, G, R>(
+    rt: &R,
+    alloc: Global,
+    framing: Framing,
+    table: &Table,
+    limits: Limits,
+    crew: Crew,
+    gate: Arc<G, Global>,
+    source: S,
+    sink: K,
+) -> Result<(Report, K), (ServeFault, K)>
+where
+    S: Source + Drop + Send,
+    K: Sink + Drop,
+    G: Gate + Send + Sync,
+    R: Threads + Wait + Sync,
+    ensures ok { IfOk result (λ done. IsServedIn framing table.now limits (S.gave source)
+        (K.bytes_taken sink) (K.bytes_taken done.1) done.0) }
+    ensures in_part { IfErr result (λ failed. IsServedInPartIn framing table.now limits
+        (S.gave source) (K.bytes_taken sink) (K.bytes_taken failed.1)) }
+    ensures refused { IfErr result (λ failed. (failed.0 ≡ Workers) ↔ IsImpossible crew.workers) }
+    ensures impossible { IsImpossible crew.workers → IsErr result }
+    ensures untouched { IfErr result (λ failed. failed.0 ≡ Workers → failed.1 ≡ sink) }
+    ensures failures { IfOk result (λ done. K.failures done.1 ≡ K.failures sink) }
+    ensures cause { IfErr result (λ failed. CountsFault (K.failures sink) failed.0
+        (K.failures failed.1)) }
+{
     nothing_is_served_in_part::<S>();
     if !is_possible(crew.workers) {
         return Err((ServeFault::Workers, sink));
     }
-    match run_crew(rt, alloc, table, limits, crew, gate, source, sink) {
+    match run_crew(rt, alloc, framing, table, limits, crew, gate, source, sink) {
         Ok((served, ring)) => tell::<S, K>(served, ring),
         Err(sink) => Err((ServeFault::Memory, sink)),
     }
@@ -169,6 +269,7 @@ where
 fn run_crew<S, K, G, R>(
     rt: &R,
     alloc: Global,
+    framing: Framing,
     table: &Table,
     limits: Limits,
     crew: Crew,
@@ -181,8 +282,8 @@ where
     K: Sink + Drop,
     G: Gate + Send + Sync,
     R: Threads + Wait + Sync,
-    ensures served { IfOk result (λ done. HasServed K.bytes_taken K.failures table.now limits sink
-        done.0) }
+    ensures served { IfOk result (λ done. HasServed K.bytes_taken K.failures framing table.now
+        limits sink done.0) }
     ensures pair { IfOk result (λ done. IsPair done.1 done.0.ring) }
     ensures reads { IfOk result (λ done. Reads (S.gave source) (sent done.1)) }
     ensures refused { IfErr result (λ back. back ≡ sink) }
@@ -199,6 +300,7 @@ where
     let bells = Bells::new(crew.workers);
     let clerk = match Clerk::new(
         alloc,
+        framing,
         table,
         limits,
         gate,
@@ -259,22 +361,22 @@ fn tell<S: Source, K: Sink>(
     producer: Producer<Arrival>,
 ) -> Result<(Report, K), (ServeFault, K)>
     requires { IsPair producer served.ring }
-    ensures ok { (table : MethodTable) (limits : LimitsOf) (source : S) (sink : K) →
-        Reads (S.gave source) (sent producer) →
-        HasServed K.bytes_taken K.failures table limits sink served →
-        IfOk result (λ done. IsServed table limits (S.gave source)
+    ensures ok { (framing : FramingOf) (table : MethodTable) (limits : LimitsOf) (source : S)
+        (sink : K) → Reads (S.gave source) (sent producer) →
+        HasServed K.bytes_taken K.failures framing table limits sink served →
+        IfOk result (λ done. IsServedIn framing table limits (S.gave source)
         (K.bytes_taken sink) (K.bytes_taken done.1) done.0) }
-    ensures in_part { (table : MethodTable) (limits : LimitsOf) (source : S) (sink : K) →
-        Reads (S.gave source) (sent producer) →
-        HasServed K.bytes_taken K.failures table limits sink served →
-        IfErr result (λ failed. IsServedInPart table limits (S.gave source)
+    ensures in_part { (framing : FramingOf) (table : MethodTable) (limits : LimitsOf) (source : S)
+        (sink : K) → Reads (S.gave source) (sent producer) →
+        HasServed K.bytes_taken K.failures framing table limits sink served →
+        IfErr result (λ failed. IsServedInPartIn framing table limits (S.gave source)
         (K.bytes_taken sink) (K.bytes_taken failed.1)) }
     ensures possible { IfErr result (λ failed. failed.0 ≢ Workers) }
-    ensures failures { (table : MethodTable) (limits : LimitsOf) (sink : K) →
-        HasServed K.bytes_taken K.failures table limits sink served →
+    ensures failures { (framing : FramingOf) (table : MethodTable) (limits : LimitsOf) (sink : K) →
+        HasServed K.bytes_taken K.failures framing table limits sink served →
         IfOk result (λ done. K.failures done.1 ≡ K.failures sink) }
-    ensures cause { (table : MethodTable) (limits : LimitsOf) (sink : K) →
-        HasServed K.bytes_taken K.failures table limits sink served →
+    ensures cause { (framing : FramingOf) (table : MethodTable) (limits : LimitsOf) (sink : K) →
+        HasServed K.bytes_taken K.failures framing table limits sink served →
         IfErr result (λ failed. CountsFault (K.failures sink) failed.0
         (K.failures failed.1)) }
 {

@@ -43,7 +43,7 @@ fn take_end(stream: &mut StreamSession<'_>, end: InputEnd) -> Result<(), AllocEr
     ensures taken { OnOk result (IsTaken (stream_of stream.new)) }
     ensures ends { OnOk result (EndsInput (EndOf end)) }
 {
-    stream.end(told_end(end)?);
+    stream.end(told_end(end)?)?;
     stream.take_all()
 }
 

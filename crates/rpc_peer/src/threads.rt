@@ -106,8 +106,8 @@ where
     requires seats { All (IsWorkerOf slots.now) seats.items }
     requires clerk { IsNew clerk }
     requires ring { sent ring ≡ [] }
-    ensures served { IfOk result (λ done. HasServed K.bytes_taken K.failures clerk.entry.table.now
-        clerk.entry.limits clerk.entry.sink done.0) }
+    ensures served { IfOk result (λ done. HasServed K.bytes_taken K.failures clerk.entry.framing
+        clerk.entry.table.now clerk.entry.limits clerk.entry.sink done.0) }
     ensures consumer { IfOk result (λ done. SameConsumer clerk.entry.ring done.0.ring) }
     ensures producer { IfOk result (λ done. SameProducer ring done.1) }
     ensures reads { IfOk result (λ done. Reads (S.gave source) (sent done.1)) }
@@ -121,7 +121,7 @@ where
             requires clerk { IsNew clerk }
             requires ring { sent ring ≡ [] }
             ensures served { IfOk result (λ done. HasServed K.bytes_taken K.failures
-                clerk.entry.table.now clerk.entry.limits clerk.entry.sink done.0) }
+                clerk.entry.framing clerk.entry.table.now clerk.entry.limits clerk.entry.sink done.0) }
             ensures consumer { IfOk result (λ done. SameConsumer clerk.entry.ring done.0.ring) }
             ensures producer { IfOk result (λ done. SameProducer ring done.1) }
             ensures reads { IfOk result (λ done. Reads (S.gave source) (sent done.1)) }

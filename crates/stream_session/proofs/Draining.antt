@@ -1,7 +1,8 @@
 -- What is due is written, and counted.
-use Rattle.std.proofs.Common.{◌≡◌, ℕ, suc, ◌+◌, ◌-◌, ◌^◌, min, List, [], ◌∷◌, ◌++◌, map, length, Bool, false, cond, Option, Some, None, is_some, refl, sym, ap, ◌∙◌, arith, append_assoc, append-nil}
+use Rattle.std.proofs.Common.{flat_map, ◌≡◌, ℕ, suc, ◌+◌, ◌-◌, ◌^◌, min, List, [], ◌∷◌, ◌++◌, map, length, Bool, false, cond, Option, Some, None, is_some, refl, sym, ap, ◌∙◌, arith, append_assoc, append-nil}
 use Rattle.std.specs.Prelude.{count_by}
 use Rattle.std.specs.Io.KnownBytes.{Appends}
+use Rattle.std.proofs.lemmas.Grind.{flat_map-append}
 use Rattle.std.proofs.lemmas.List.{length-append}
 use Rattle.std.proofs.lemmas.List.Sums.{sum_by-cons, sum_by-append}
 use Rattle.rpc_messages.specs.Dues.{Due}
@@ -17,6 +18,10 @@ use Rattle.session_state.specs.Core.{unwritten, unwritten_from}
 use Rattle.session_state.specs.Stands.{StandsAfter}
 use Rattle.session_state.specs.Turning.{drained, due_bytes}
 use Rattle.peer_session.specs.Events.{drained_session}
+use Rattle.peer_session.specs.Framings.{bytes_in, due_in}
+use Rattle.peer_output.specs.Items.{item_text}
+use Rattle.stream_framing.specs.Framed.{framed}
+use Rattle.stream_framing.specs.declared.framing.Framing.{Framing}
 use Rattle.peer_session.specs.SessionState.{SessionState, counted}
 use Rattle.stream_session.specs.Inner.Known.{Known}
 use Rattle.stream_session.specs.Standing.{SessionStands}
@@ -65,6 +70,11 @@ length-texts : (dues : List Due) → length (map (λ (due : Due). due.text) dues
 length-texts [] = refl
 length-texts (due ∷ dues) = ap (λ k. suc k) (length-texts dues)
 
+-- the texts of answers, as they are written
+answered-bytes : (framing : Framing) (dues : List Due) → bytes_in framing (map answered dues) ≡ flat_map (framed framing) (map (λ (due : Due). due.text) dues)
+answered-bytes framing [] = refl
+answered-bytes framing (due ∷ dues) = ap (λ l. framed framing due.text ++ l) (answered-bytes framing dues)
+
 pub counted-more : (n k : ℕ) → min (min n (2 ^ 64 - 1) + k) (2 ^ 64 - 1) ≡ min (n + k) (2 ^ 64 - 1)
 counted-more n k = omega arith
 
@@ -100,6 +110,13 @@ module _ (laws : Known) (table : MethodTable) (limits : Limits) (units : List Se
       length-append (answers_in (items ++ due_items)) (answers_in (map answered dues)) in
       let texts : length (answers_in (map answered dues)) ≡ length (front_texts s.core.desk) = ap length (dues-answers dues) ∙ sym (length-texts dues) ∙ ap length stands-drained.2 in
       ap length split ∙ sum ∙ ap (λ l. length l + length (answers_in (map answered dues))) front ∙ ap (λ k. length (answers_in items) + k) texts
+
+  pub drained-bytes : (framing : Framing) → bytes_in framing all_items ≡ bytes_in framing items ++ due_in framing s.core
+  drained-bytes framing =
+      flat_map-append (λ item. framed framing (item_text item)) (items ++ due_items) (map answered dues)
+      ∙ ap (λ l. l ++ bytes_in framing (map answered dues)) (flat_map-append (λ item. framed framing (item_text item)) items due_items)
+      ∙ ap (λ l. (bytes_in framing items ++ bytes_in framing due_items) ++ l) (answered-bytes framing dues ∙ ap (flat_map (framed framing)) stands-drained.2)
+      ∙ append_assoc (bytes_in framing items) (bytes_in framing due_items) (flat_map (framed framing) (front_texts s.core.desk))
 
   pub serves-drained : s.has_failed ≡ false → SessionStands table limits units all_items (drained_session s) jobs
   serves-drained well = record {

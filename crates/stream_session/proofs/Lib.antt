@@ -7,3 +7,4 @@ pub mod Streams
 pub mod Unfailing
 pub mod Units
 pub mod Written
+pub mod OfFrames

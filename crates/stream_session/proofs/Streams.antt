@@ -67,6 +67,10 @@ pub was-none : (last : Option Close) (answer : Bool) → answer ≡ is_some last
 was-none None answer is says = refl
 was-none (Some c) answer is says = absurd (cc)
 
+pub was-some : (last : Option Close) (answer : Bool) → answer ≡ is_some last → answer ≡ true → last ≢ None
+was-some None answer is says none = cc
+was-some (Some c) answer is says none = cc
+
 pub was-open : (close : Option Close) (answer : Bool) → answer ≡ is_none close → answer ≡ true → close ≡ None
 was-open None answer is says = refl
 was-open (Some c) answer is says = absurd (cc)

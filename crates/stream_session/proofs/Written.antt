@@ -7,19 +7,21 @@ use Rattle.method_steps.specs.Steps.{MethodTable}
 use Rattle.handler_future.specs.State.{HandlerState}
 use Rattle.peer_session.specs.declared.limits.Limits.{Limits}
 use Rattle.peer_session.specs.declared.report.Close.{Close}
-use Rattle.peer_session.specs.Events.{Writes, WritesSome}
+use Rattle.peer_session.specs.Events.{WritesIn, WritesSomeIn}
+use Rattle.peer_session.specs.Framings.{bytes_in, due_in}
+use Rattle.stream_framing.specs.declared.framing.Framing.{Framing}
 use Rattle.peer_session.specs.SessionState.{SessionState, IsDone, new_session, report_of, counted, count_numbers}
 use Rattle.peer_output.specs.Cancelled.{Begins}
-use Rattle.peer_output.specs.Items.{Item, bytes_of, count_calls}
+use Rattle.peer_output.specs.Items.{Item, count_calls}
 use Rattle.peer_output.specs.Later.{MayBecome}
 use Rattle.peer_output.specs.Output.{IsPartialOutput}
 use Rattle.session_state.specs.Core.{Core, stage_at}
 use Rattle.session_state.specs.Polls.{PollsWithin}
 use Rattle.session_state.specs.Stands.{StandsAfter}
-use Rattle.session_state.specs.Turning.{drained, due_bytes, ready}
+use Rattle.session_state.specs.Turning.{drained, ready}
 use Rattle.stream_session.specs.Inner.Known.{Known}
 use Rattle.stream_session.specs.Standing.{SessionStands, HasDrained, IsWhole}
-use Rattle.stream_session.proofs.Draining.{appends_both, all_items, stands-drained, serves-drained}
+use Rattle.stream_session.proofs.Draining.{appends_both, all_items, drained-bytes, stands-drained, serves-drained}
 use Rattle.stream_session.proofs.Failing.{ready-drained}
 use Rattle.stream_session.proofs.Unfailing.{start-not}
 use Rattle.stream_session.proofs.Units.{numbers-taken}
@@ -55,16 +57,16 @@ module _ (laws : Known) (table : MethodTable) (limits : Limits) (units : List Se
   abbrev pub now_items : List Item
   now_items = all_items laws table limits units items s jobs had
 
-  now-bytes : bytes_of now_items ≡ bytes_of items ++ due_bytes s.core
-  now-bytes = (stands-drained laws table limits units items s jobs had).3
+  now-bytes : (framing : Framing) → bytes_in framing now_items ≡ bytes_in framing items ++ due_in framing s.core
+  now-bytes framing = drained-bytes laws table limits units items s jobs had framing
 
-  module _ (before at sink : Option (List ℕ)) (wrote : Appends before at (bytes_of items)) (after : SessionState) where
-    pub drains : Writes s after at sink → (all : List Item) × SessionStands table limits units all after jobs × Appends before sink (bytes_of all) × HasDrained table after jobs
+  module _ (framing : Framing) (before at sink : Option (List ℕ)) (wrote : Appends before at (bytes_in framing items)) (after : SessionState) where
+    pub drains : WritesIn framing s after at sink → (all : List Item) × SessionStands table limits units all after jobs × Appends before sink (bytes_in framing all) × HasDrained table after jobs
     drains writes = (
       now_items,
       subst (λ x. SessionStands table limits units now_items x jobs) (sym writes.after_is)
           (serves-drained laws table limits units items s jobs had writes.not_failed),
-      subst (Appends before sink) (sym now-bytes) (appends_both before at sink (bytes_of items) (due_bytes s.core) wrote writes.bytes),
+      subst (Appends before sink) (sym (now-bytes framing)) (appends_both before at sink (bytes_in framing items) (due_in framing s.core) wrote writes.bytes),
       subst (λ x. HasDrained table x jobs) (sym writes.after_is) (record {
         core = s.core;
         units = units;
@@ -78,18 +80,18 @@ module _ (laws : Known) (table : MethodTable) (limits : Limits) (units : List Se
       }),
     )
 
-    pub begins-to-drain : (later : List SeenUnit) → WritesSome s after at sink → MayBecome (is_some s.close) units later
-        → (all : List Item) × (bytes : List ℕ) × IsPartialOutput table later all × Begins bytes (bytes_of all) × Appends before sink bytes
+    pub begins-to-drain : (later : List SeenUnit) → WritesSomeIn framing s after at sink → MayBecome (is_some s.close) units later
+        → (all : List Item) × (bytes : List ℕ) × IsPartialOutput table later all × Begins bytes (bytes_in framing all) × Appends before sink bytes
     begins-to-drain later some becomes = (
       now_items,
-      bytes_of items ++ take some.count (due_bytes s.core),
+      bytes_in framing items ++ take some.count (due_in framing s.core),
       laws.is_partial table (is_some s.close) (drained s.core) jobs units later now_items (stands-drained laws table limits units items s jobs had).1 becomes,
       record {
-        rest = drop some.count (due_bytes s.core);
-        joined = now-bytes ∙ ap (λ l. bytes_of items ++ l) (sym (take-append-drop some.count (due_bytes s.core)))
-            ∙ sym (append_assoc (bytes_of items) (take some.count (due_bytes s.core)) (drop some.count (due_bytes s.core)));
+        rest = drop some.count (due_in framing s.core);
+        joined = now-bytes framing ∙ ap (λ l. bytes_in framing items ++ l) (sym (take-append-drop some.count (due_in framing s.core)))
+            ∙ sym (append_assoc (bytes_in framing items) (take some.count (due_in framing s.core)) (drop some.count (due_in framing s.core)));
       },
-      appends_both before at sink (bytes_of items) (take some.count (due_bytes s.core)) wrote some.bytes,
+      appends_both before at sink (bytes_in framing items) (take some.count (due_in framing s.core)) wrote some.bytes,
     )
 
   -- ---- all is done

@@ -1,0 +1,5 @@
+pub mod Framings
+pub mod Inner
+pub mod Promise
+pub mod Standing
+pub mod Stream

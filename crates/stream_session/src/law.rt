@@ -20,6 +20,11 @@ ghost use Rattle.peer_session.specs.declared.taken.Taken.{Taken as TakenOf};
 ghost use Rattle.peer_session.specs.Events.{TakesUnit, LeavesAt, Writes, WritesSome, ended, picked, with_job_back};
 ghost use Rattle.peer_session.specs.SessionState.{SessionState, IsDone, new_session, report_of};
 ghost use Rattle.peer_session.specs.Turned.{Turned};
+ghost use Rattle.lsp_frames.specs.Devices.{Ending};
+ghost use Rattle.peer_session.specs.declared.report.Report.{Report as ReportOf};
+ghost use Rattle.stream_framing.specs.declared.framing.Framing.{Framing as FramingOf};
+ghost use Rattle.stream_framing.specs.declared.framing.Framing.TheVariants.{Frames};
+ghost use Rattle.stream_session.specs.Framings.{IsRunIn, IsRunOf, IsShortIn, IsShortOf};
 ghost use Rattle.stream_session.specs.Promise.{IsRun, IsRunCutShort};
 ghost use Rattle.stream_session.specs.Standing.{SessionStands, HasDrained, IsWhole, close_by};
 ghost use Rattle.stream_session.specs.Stream.{Fed, StreamState, StreamStands, StopsShort};
@@ -99,13 +104,26 @@ pub fn what_a_stream_wrote()
         (sink : Option (List ℕ)) → StreamStands fed jobs s sink → StopsShort fed sink }
     ensures whole { (fed : Fed) (jobs : ℕ → Option HandlerState) (s : StreamState)
         (sink : Option (List ℕ)) → StreamStands fed jobs s sink → IsDone s.session →
-        IsRun fed.table fed.limits fed.bytes fed.ending fed.before
+        IsRunOf fed.framing fed.table fed.limits fed.bytes fed.ending fed.before
         sink (report_of s.session) }
     ensures jobs { (fed : Fed) (jobs others : ℕ → Option HandlerState) (s : StreamState)
         (sink : Option (List ℕ)) → StreamStands fed jobs s sink →
         ((n : ℕ) → jobs n ≡ others n) → StreamStands fed others s sink }
-    ensures nothing { (table : MethodTable) (limits : LimitsOf) (input : List ℕ)
-        (before : Option (List ℕ)) → IsRunCutShort table limits input before before }
+    ensures nothing { (framing : FramingOf) (table : MethodTable) (limits : LimitsOf)
+        (text : List ℕ) (before : Option (List ℕ)) → IsShortOf framing table limits text before
+        before }
 {
     known();
 }
+
+/// A run in frames is a run.
+pub fn runs_in_frames_are_runs()
+    ensures run { (table : MethodTable) (limits : LimitsOf) (input : List ℕ) (ending : Ending)
+        (before after : Option (List ℕ)) (report : ReportOf) →
+        IsRunIn Frames table limits input ending before after report →
+        IsRun table limits input ending before after report }
+    ensures cut_short { (table : MethodTable) (limits : LimitsOf) (input : List ℕ) (ending : Ending)
+        (before after : Option (List ℕ)) →
+        IsShortIn Frames table limits input ending before after →
+        IsRunCutShort table limits input before after }
+{}

@@ -6,6 +6,8 @@ mod law;
 mod next;
 mod stream;
 
-pub use law::{sessions_go_on_standing, what_a_stream_wrote, what_sessions_wrote};
+pub use law::{
+    runs_in_frames_are_runs, sessions_go_on_standing, what_a_stream_wrote, what_sessions_wrote,
+};
 pub use next::{InputEnd, Next};
 pub use stream::StreamSession;

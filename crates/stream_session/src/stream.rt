@@ -132,8 +132,9 @@ impl<'a> StreamSession<'a> {
         if self.last.is_some() {
             return Ok(());
         }
-        if let InputEnd::Finished = end {
-            self.end_line()?;
+        match end {
+            InputEnd::Finished => self.end_line()?,
+            InputEnd::Failed => {}
         }
         self.close(end);
         Ok(())

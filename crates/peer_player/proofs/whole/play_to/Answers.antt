@@ -2,6 +2,8 @@
 use Rattle.std.proofs.Common.{◌∙◌, ap, sym, subst, IfErr}
 use Rattle.std.proofs.lemmas.Result.{err_from_is_err_and}
 use Rattle.peer_session.specs.declared.drain_fault.DrainFault.{DrainFault}
+use Rattle.lsp_frames.specs.Devices.{Unfinished}
+use Rattle.stream_framing.specs.declared.framing.Framing.TheVariants.{Frames}
 use Rattle.stream_session.specs.Promise.{IsRunCutShort}
 use Rattle.peer_player.proofs.Pieces.{bytes_in}
 use Rattle.peer_player.proofs.whole.play_to.Goals as goal
@@ -13,4 +15,5 @@ returns-in_err-player-clause-err g c =
     (sym refused.1)
     (subst (λ sink. IsRunCutShort c.args.table.now c.args.limits (bytes_in c.args.pieces.now) (g.S.Sink.bytes_taken c.args.sink) (g.S.Sink.bytes_taken sink))
     (sym (ap (λ (fault : DrainFault × g.row.S.Denot). fault.1) refused.2 ∙ c.in_err-player.ensures.err.1))
-    (c.what_a_stream_wrote.ensures.nothing c.args.table.now c.args.limits (bytes_in c.args.pieces.now) (g.S.Sink.bytes_taken c.args.sink)))
+    (c.runs_in_frames_are_runs.ensures.cut_short c.args.table.now c.args.limits (bytes_in c.args.pieces.now) Unfinished (g.S.Sink.bytes_taken c.args.sink) (g.S.Sink.bytes_taken c.args.sink)
+    (c.what_a_stream_wrote.ensures.nothing Frames c.args.table.now c.args.limits (bytes_in c.args.pieces.now) (g.S.Sink.bytes_taken c.args.sink))))

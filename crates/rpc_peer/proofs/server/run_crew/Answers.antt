@@ -10,10 +10,10 @@ returns-clause-served g c =
     let taken = g.K.Sink.bytes_taken in
     let failures = g.K.Sink.failures in
     let clerk = c.in-Ok-new.clerk in
-    IfOk-weaker c.run_threads.result (λ done. HasServed taken failures clerk.table.now clerk.limits clerk.sink done.0)
-    (λ done. HasServed taken failures c.args.table.now c.args.limits c.args.sink done.0)
-    (λ done. served-for taken failures clerk.table.now c.args.table.now clerk.limits c.args.limits clerk.sink c.args.sink done.0
-    c.in-Ok-new.ensures.table c.in-Ok-new.ensures.limits c.in-Ok-new.ensures.sink)
+    IfOk-weaker c.run_threads.result (λ done. HasServed taken failures clerk.framing clerk.table.now clerk.limits clerk.sink done.0)
+    (λ done. HasServed taken failures c.args.framing c.args.table.now c.args.limits c.args.sink done.0)
+    (λ done. served-for taken failures clerk.framing c.args.framing clerk.table.now c.args.table.now clerk.limits c.args.limits clerk.sink c.args.sink done.0
+    c.in-Ok-new.ensures.framing c.in-Ok-new.ensures.table c.in-Ok-new.ensures.limits c.in-Ok-new.ensures.sink)
     c.run_threads.ensures.served
 
 pub returns-clause-pair : goal.returns-clause-pair

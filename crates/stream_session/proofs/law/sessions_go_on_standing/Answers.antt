@@ -1,4 +1,5 @@
 -- Each call is an event of the session's state, and keeps its counts.
+use Rattle.stream_framing.specs.declared.framing.Framing.TheVariants.{Frames}
 use Rattle.stream_session.proofs.Jobs.{job-back, job-out, none-yet}
 use Rattle.stream_session.proofs.Units.{ends, unit-taken}
 use Rattle.stream_session.proofs.Written.{starts, drains}
@@ -26,4 +27,4 @@ returns-clause-back c = λ table limits units items s jobs n job turned had out 
 
 pub returns-clause-drain : goal.returns-clause-drain
 returns-clause-drain c = λ table limits units items s after jobs before at sink had wrote writes.
-    drains c.known.ensures table limits units items s jobs had before at sink wrote after writes
+    drains c.known.ensures table limits units items s jobs had Frames before at sink wrote after writes

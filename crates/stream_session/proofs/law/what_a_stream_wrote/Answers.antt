@@ -13,4 +13,4 @@ pub returns-clause-jobs : goal.returns-clause-jobs
 returns-clause-jobs c = λ fed jobs others s sink had same. same-jobs c.known.ensures fed jobs s sink had others same
 
 pub returns-clause-nothing : goal.returns-clause-nothing
-returns-clause-nothing c = λ table limits input before. nothing-short c.known.ensures table limits input before
+returns-clause-nothing c = λ framing table limits text before. nothing-short c.known.ensures framing table limits text before

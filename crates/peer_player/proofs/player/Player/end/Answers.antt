@@ -6,14 +6,14 @@ use Rattle.peer_player.proofs.Steps.{stopped-here}
 use Rattle.peer_player.proofs.player.Player.end.Goals as goal
 
 pub returns-in_err-begin-clause-err : goal.returns-in_err-begin-clause-err
-returns-in_err-begin-clause-err g c = λ table limits bytes before had.
+returns-in_err-begin-clause-err g c = λ framing table limits bytes before had.
     on-err c.from_residual.result
-    (stopped-here table limits bytes before (g.S.Sink.bytes_taken c.begin.new.self.playing.sink) (c.in_err-begin.ensures.stopped table limits bytes before had))
+    (stopped-here framing table limits bytes before (g.S.Sink.bytes_taken c.begin.new.self.playing.sink) (c.in_err-begin.ensures.stopped framing table limits bytes before had))
 
 pub returns-clause-ok : goal.returns-clause-ok
-returns-clause-ok g c = λ table limits bytes before had.
-    c.end.ensures.ok (fed_so_far table limits bytes before) refl (c.in_ok-begin.ensures.plays table limits bytes before had)
+returns-clause-ok g c = λ framing table limits bytes before had.
+    c.end.ensures.ok (fed_so_far framing table limits bytes before) refl (c.in_ok-begin.ensures.plays framing table limits bytes before had)
 
 pub returns-clause-err : goal.returns-clause-err
-returns-clause-err g c = λ table limits bytes before had.
-    c.end.ensures.err (fed_so_far table limits bytes before) refl (c.in_ok-begin.ensures.plays table limits bytes before had)
+returns-clause-err g c = λ framing table limits bytes before had.
+    c.end.ensures.err (fed_so_far framing table limits bytes before) refl (c.in_ok-begin.ensures.plays framing table limits bytes before had)

@@ -11,7 +11,7 @@ returns-clause-ring g c =
     let taken = g.K.Sink.bytes_taken in
     let failures = g.K.Sink.failures in
     ring-of taken failures
-    (record { table = clerk.table.now; limits = clerk.limits; ring = clerk.ring; taken = taken clerk.sink; failures = failures clerk.sink })
+    (record { framing = clerk.framing; table = clerk.table.now; limits = clerk.limits; ring = clerk.ring; taken = taken clerk.sink; failures = failures clerk.sink })
     c.serve-outcome.new.self c.serve-outcome.result
     (c.serve-outcome.ensures.ok _ (record { after = starts-new clerk c.requires (taken clerk.sink); ring = same-ring clerk.ring; unfailing = refl }))
     (c.serve-outcome.ensures.err _ (record { after = starts-new clerk c.requires (taken clerk.sink); ring = same-ring clerk.ring; unfailing = refl }))
@@ -22,7 +22,7 @@ returns-clause-ok g c =
     let taken = g.K.Sink.bytes_taken in
     let failures = g.K.Sink.failures in
     run-of taken failures
-    (record { table = clerk.table.now; limits = clerk.limits; ring = clerk.ring; taken = taken clerk.sink; failures = failures clerk.sink })
+    (record { framing = clerk.framing; table = clerk.table.now; limits = clerk.limits; ring = clerk.ring; taken = taken clerk.sink; failures = failures clerk.sink })
     c.serve-outcome.new.self c.serve-outcome.result
     (c.serve-outcome.ensures.ok _ (record { after = starts-new clerk c.requires (taken clerk.sink); ring = same-ring clerk.ring; unfailing = refl }))
 
@@ -32,7 +32,7 @@ returns-clause-err g c =
     let taken = g.K.Sink.bytes_taken in
     let failures = g.K.Sink.failures in
     part-of taken failures
-    (record { table = clerk.table.now; limits = clerk.limits; ring = clerk.ring; taken = taken clerk.sink; failures = failures clerk.sink })
+    (record { framing = clerk.framing; table = clerk.table.now; limits = clerk.limits; ring = clerk.ring; taken = taken clerk.sink; failures = failures clerk.sink })
     c.serve-outcome.new.self c.serve-outcome.result
     (c.serve-outcome.ensures.err _ (record { after = starts-new clerk c.requires (taken clerk.sink); ring = same-ring clerk.ring; unfailing = refl }))
 
@@ -42,7 +42,7 @@ returns-clause-cause g c =
     let taken = g.K.Sink.bytes_taken in
     let failures = g.K.Sink.failures in
     cause-of taken failures
-    (record { table = clerk.table.now; limits = clerk.limits; ring = clerk.ring; taken = taken clerk.sink; failures = failures clerk.sink })
+    (record { framing = clerk.framing; table = clerk.table.now; limits = clerk.limits; ring = clerk.ring; taken = taken clerk.sink; failures = failures clerk.sink })
     c.serve-outcome.new.self c.serve-outcome.result
     (c.serve-outcome.ensures.ok _ (record { after = starts-new clerk c.requires (taken clerk.sink); ring = same-ring clerk.ring; unfailing = refl }))
     (c.serve-outcome.ensures.err _ (record { after = starts-new clerk c.requires (taken clerk.sink); ring = same-ring clerk.ring; unfailing = refl }))

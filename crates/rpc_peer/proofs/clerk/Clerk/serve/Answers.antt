@@ -1,7 +1,7 @@
 -- Each round goes on with what the last has left; once all is done it is a whole run.
 use Rattle.std.proofs.Common.{sym, subst}
 use Rattle.rtrb.specs.Ring.{received}
-use Rattle.stream_session.specs.Promise.{IsRun}
+use Rattle.stream_session.specs.Framings.{IsRunIn}
 use Rattle.stream_session.specs.Stream.{stream_of}
 use Rattle.rpc_peer.specs.Arriving.{bytes_of, ending_of}
 use Rattle.rpc_peer.specs.Serves.{fed_by}
@@ -13,8 +13,8 @@ returns-then-is_done-clause-ok g c = λ start had.
     let self = c.settle.new.self in
     let sink = g.K.Sink.bytes_taken self.sink in
     record {
-      whole = subst (IsRun start.table start.limits (bytes_of (received self.ring)) (ending_of (received self.ring)) start.taken sink) (sym c.report.ensures)
-          (c.what_a_stream_wrote.ensures.whole (fed_by start.table start.limits (received self.ring) start.taken) now.after.jobs (stream_of self.stream) sink
+      whole = subst (IsRunIn start.framing start.table start.limits (bytes_of (received self.ring)) (ending_of (received self.ring)) start.taken sink) (sym c.report.ensures)
+          (c.what_a_stream_wrote.ensures.whole (fed_by start.framing start.table start.limits (received self.ring) start.taken) now.after.jobs (stream_of self.stream) sink
           now.after.stands (c.is_done.ensures.0 c.if-is_done.true));
       ring = now.ring;
       unfailing = now.unfailing;

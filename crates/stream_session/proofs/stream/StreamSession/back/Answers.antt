@@ -9,5 +9,5 @@ use Rattle.stream_session.proofs.stream.StreamSession.back.Goals as goal
 pub returns-clause-back : goal.returns-clause-back
 returns-clause-back c = λ fed jobs sink n sent had out unpolled turns.
     let s = stream_of c.args.self.now in
-    subst (λ x. StreamStands fed (with_at n None jobs) (record { decoder = s.decoder; waiting = s.waiting; last = s.last; session = x }) sink) (sym c.back.ensures)
+    subst (λ x. StreamStands fed (with_at n None jobs) (record { cutter = s.cutter; waiting = s.waiting; last = s.last; session = x }) sink) (sym c.back.ensures)
     (comes-back c.known.ensures fed jobs s sink had n sent c.args.job out unpolled turns)
