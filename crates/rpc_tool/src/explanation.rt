@@ -34,7 +34,7 @@ impl<'a> Asked<'a> {
                 explain: options.explain,
                 table: options.table,
                 workers: Some(options.workers),
-                lines: false,
+                lines: options.lines,
                 limits: Some(options.limits),
             },
             Subcommand::Play(options) => Asked {

@@ -4,7 +4,6 @@
 mod command_line;
 mod drawing;
 mod explanation;
-mod input;
 mod limits;
 mod noted;
 mod output;

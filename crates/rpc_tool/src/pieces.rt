@@ -1,9 +1,10 @@
 //! A stream of bytes, played in pieces of one size.
 ghost use Rattle.std.specs.Prelude.{◌<◌};
 
+use crate::reading::Taker;
 use lsp_frames::MemSink;
 use method_steps::Table;
-use rpc_peer::{DrainFault, Limits, Player, Report, Schedule};
+use rpc_peer::{DrainFault, Framing, Limits, Player, Report, Schedule};
 use std::alloc::{AllocError, Global};
 
 /// Bytes that are played in pieces of one size as they come; the last piece may be shorter. What is written is kept.
@@ -17,9 +18,10 @@ pub struct Pieces<'a> {
 }
 
 impl<'a> Pieces<'a> {
-    /// No bytes yet, to be played in pieces of `size` bytes by a peer with the methods of this table.
+    /// No bytes yet, to be played in this framing and in pieces of `size` bytes, by a peer with the methods of this table.
     pub fn new(
         alloc: Global,
+        framing: Framing,
         table: &'a Table,
         limits: Limits,
         schedule: &'a Schedule,
@@ -28,7 +30,7 @@ impl<'a> Pieces<'a> {
         requires { 0 < size }
     {
         let sink = MemSink::new(alloc, None);
-        match Player::new(alloc, table, limits, schedule, sink) {
+        match Player::in_framing(alloc, framing, table, limits, schedule, sink) {
             Ok(player) => Ok(Pieces {
                 player,
                 last: Vec::new(alloc),
@@ -76,6 +78,12 @@ impl<'a> Pieces<'a> {
         player.feed(last.as_slice()).map_err(no_memory)?;
         let report = player.end().map_err(no_memory)?;
         Ok((player.into_sink().into_vec(), report))
+    }
+}
+
+impl Taker for Pieces<'_> {
+    fn take(&mut self, bytes: &[u8]) -> Result<(), AllocError> {
+        self.add(bytes)
     }
 }
 

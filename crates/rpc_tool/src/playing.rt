@@ -2,9 +2,8 @@
 ghost use Rattle.std.specs.Prelude.{◌<◌};
 
 use crate::command_line::PlayOptions;
-use crate::input::InputStream;
 use crate::limits::limits_of;
-use crate::output::{write_frames, write_lines};
+use crate::output::{write_all, write_lines};
 use crate::pieces::Pieces;
 use crate::reading::read_all;
 use crate::run_failure::RunFailure;
@@ -12,7 +11,7 @@ use crate::run_notes::TableNotes;
 use crate::table_file::table_in;
 use method_steps::Table;
 use program_edge::Failure;
-use rpc_peer::{Close, Picks, Report, Schedule};
+use rpc_peer::{Close, Framing, Picks, Report, Schedule};
 use std::alloc::Global;
 use std::io::{Read, Write};
 use std::rt::Files;
@@ -31,14 +30,14 @@ pub fn play<R: Files + AllocGlobal, I: Read + Drop, W: Write>(
     let table = table_in(rt, options.table, notes)?;
     let (bytes, report) = played(rt.alloc(), &table, options, input)?;
     if options.lines {
-        write_lines(rt.alloc(), bytes.as_slice(), output)?;
+        write_lines(bytes.as_slice(), output)?;
     } else {
-        write_frames(bytes.as_slice(), output)?;
+        write_all(bytes.as_slice(), output)?;
     }
     Ok(report.end)
 }
 
-/// What is written for the input as frames, cut into pieces. Nothing of it goes out before the input has ended.
+/// What is written for the input, cut into pieces. Nothing of it goes out before the input has ended.
 fn played<I: Read + Drop>(
     alloc: Global,
     table: &Table,
@@ -47,15 +46,15 @@ fn played<I: Read + Drop>(
 ) -> Result<(Vec<u8>, Report), Failure> {
     let schedule = schedule_of(options);
     let limits = limits_of(options.limits)?;
-    let pieces = Pieces::new(alloc, table, limits, &schedule, size_of(options))?;
-    let mut intake = if options.lines {
-        InputStream::of_lines(alloc, pieces)
+    let framing = if options.lines {
+        Framing::Lines
     } else {
-        InputStream::of_frames(alloc, pieces)
+        Framing::Frames
     };
+    let mut pieces = Pieces::new(alloc, framing, table, limits, &schedule, size_of(options))?;
     let mut room = [0u8; INPUT_PIECE];
-    read_all(&mut input, &mut room, &mut intake)?;
-    Ok(intake.finish()?)
+    read_all(&mut input, &mut room, &mut pieces)?;
+    Ok(pieces.finish()?)
 }
 
 /// The size of a piece in bytes, at least 1.

@@ -6,7 +6,7 @@ use crate::run_notes::TableNotes;
 use crate::table_file::table_in;
 use lsp_frames::{StdSink, StdSource};
 use program_edge::Failure;
-use rpc_peer::{Close, ServeFault, serve};
+use rpc_peer::{Close, ServeFault, serve, serve_lines};
 use std::io::{Read, Write};
 use std::rt::Files;
 use std::sync::Wait;
@@ -28,15 +28,13 @@ where
     let table = table_in(rt, options.table, notes)?;
     let limits = limits_of(options.limits)?;
     let (source, sink) = (StdSource::new(input), StdSink::new(output));
-    match serve(
-        rt,
-        rt.alloc(),
-        &table,
-        limits,
-        options.workers,
-        source,
-        sink,
-    ) {
+    let (alloc, workers) = (rt.alloc(), options.workers);
+    let served = if options.lines {
+        serve_lines(rt, alloc, &table, limits, workers, source, sink)
+    } else {
+        serve(rt, alloc, &table, limits, workers, source, sink)
+    };
+    match served {
         Ok((report, _)) => Ok(report.end),
         Err((fault, _)) => Err(RunFailure::Program(failure_of(fault))),
     }

@@ -19,6 +19,7 @@ const SERVE: ProgramCommand = ProgramCommand {
     options: &[
         CommandOption::Text(TABLE),
         CommandOption::Number(WORKERS),
+        CommandOption::Flag(LINES),
         CommandOption::Number(CONTENT),
         CommandOption::Number(CALLS),
         CommandOption::Flag(EXPLAIN),

@@ -20,7 +20,7 @@ Status and standard error:
   1  failed: Memory                  There was no memory, or a thread of serve could not be made
   1  failed: Write                   Standard output failed
   1  failed: Read                    The input of play failed or took more than 1000000 reads; nothing is played
-  1  failed: Long                    With --lines, an answer has more than 16777216 bytes
+  1  failed: Long                    With play --lines, an answer has more than 16777216 bytes
   2  table: cannot be read           The file of the table can't be opened or read, or takes more than 1000000 reads
   2  table: K, method M, step S      The table has the fault K there, counted from 1; 0 is outside a method or a step
   2  error: ..                       The command line is refused
@@ -32,5 +32,6 @@ Standard streams:
 
 Lines:
   With --lines a line ends before its LF, and a CR before the LF is part of it. So a blank line that ends with
-  CR LF is a content, which is unreadable and gets an answer. A line without any byte is passed over.
-  An answer of more than 16777216 bytes can't be a line: the run ends as Long. Frames have no such limit.";
+  CR LF is a content, which is unreadable and gets an answer. A line without any byte is passed over. The last
+  line needs no LF where the input was closed. With play --lines an answer of more than 16777216 bytes ends the
+  run as Long; serve --lines and frames have no such limit.";

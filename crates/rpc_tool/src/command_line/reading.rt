@@ -28,6 +28,7 @@ fn serve_options<'a>(words: &Words<'a>) -> ServeOptions<'a> {
     ServeOptions {
         table: words.text(&TABLE),
         workers: words.number(&WORKERS),
+        lines: words.flag(&LINES),
         limits: limit_options(words),
         explain: words.flag(&EXPLAIN),
     }

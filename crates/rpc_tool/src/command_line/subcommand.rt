@@ -27,6 +27,8 @@ pub struct ServeOptions<'a> {
     pub table: Option<&'a str>,
     /// How many threads run methods, from 1 to 64.
     pub workers: u32,
+    /// Whether each line of the input is one content, and each content written is one line.
+    pub lines: bool,
     pub limits: LimitOptions,
     /// Whether standard error says more than one line.
     pub explain: bool,

@@ -10,13 +10,13 @@ use Rattle.peer_player.proofs.playing.Playing.end.Goals as goal
 pub returns-in_err-end-clause-err : goal.returns-in_err-end-clause-err
 returns-in_err-end-clause-err g c = λ fed goes_on had.
     let at = g.S.Sink.bytes_taken c.args.self.now.sink in
-    on-err c.from_residual-in_err-end.result
+    on-err c.from_residual.result
     (cut-before-end fed at goes_on
     (c.what_a_stream_wrote.ensures.short fed (λ n. None) (stream_of c.end.new.self) at (c.in_err-end.ensures.refused fed (λ n. None) at had)))
 
 pub returns-in_err-take_contents-clause-err : goal.returns-in_err-take_contents-clause-err
 returns-in_err-take_contents-clause-err g c = λ fed goes_on had.
-    on-err c.from_residual.result
+    on-err c.from_residual-in_err-take_contents.result
     (cut-at-end (with_end fed Finished) (g.S.Sink.bytes_taken c.take_contents.new.self.sink) refl
     (c.in_err-take_contents.ensures.err (with_end fed Finished)
     (c.in_ok-end.ensures.ended fed (λ n. None) (g.S.Sink.bytes_taken c.args.self.now.sink) had goes_on)))

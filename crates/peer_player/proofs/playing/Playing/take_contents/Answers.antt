@@ -8,3 +8,9 @@ pub returns-in_err-take_next-clause-err : goal.returns-in_err-take_next-clause-e
 returns-in_err-take_next-clause-err g c = λ fed had.
     on-err c.from_residual.result
     (c.what_a_stream_wrote.ensures.short fed (λ n. None) (stream_of c.loop-self.self.stream) (g.S.Sink.bytes_taken c.loop-self.self.sink) (c.loop-self.invariant.0 fed had))
+
+pub returns-in_err-settle_if_eager-clause-err : goal.returns-in_err-settle_if_eager-clause-err
+returns-in_err-settle_if_eager-clause-err g c = λ fed had.
+    on-err c.from_residual-in_err-settle_if_eager.result
+    (c.in_err-settle_if_eager.ensures.err fed
+    (c.in_ok-take_next.ensures.stands fed (λ n. None) (g.S.Sink.bytes_taken c.loop-self.self.sink) (c.loop-self.invariant.0 fed had)))
