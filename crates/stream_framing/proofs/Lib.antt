@@ -1,3 +1,4 @@
 pub mod Fitting
 pub mod Steps
 pub mod Laws
+pub mod Wholes

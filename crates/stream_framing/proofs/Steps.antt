@@ -94,7 +94,7 @@ standing_behind limit bytes more all =
     ∙ ap (λ line. cond (all_fit limit (parts (last_line (parts bytes) ++ more))) (Open line) (Broken TooLarge)) (last_behind bytes more)
 
 -- the parts of a piece behind the last line of a text
-last_leads : (bytes piece : List ℕ) → parts (last_line (parts bytes) ++ piece) ≡ lead (last_line (parts bytes)) (parts piece)
+pub last_leads : (bytes piece : List ℕ) → parts (last_line (parts bytes) ++ piece) ≡ lead (last_line (parts bytes)) (parts piece)
 last_leads bytes piece = parts-append (last_line (parts bytes)) piece ∙ ap (λ lines. meet lines (parts piece)) (last_is_one bytes)
 
 piece_contents : (limit : ℕ) (bytes piece line : List ℕ) → Open line ≡ text_standing limit bytes

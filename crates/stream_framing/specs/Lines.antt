@@ -2,6 +2,7 @@
 use Rattle.std.specs.Prelude.{◌≡◌, ℕ, Bool, true, false, not, List, [], ◌∷◌, map, filter, take_while, if◌then◌else◌}
 use Rattle.std.specs.List.{list_all}
 use Rattle.lsp_frames.specs.Contents.{Standing, Open, Broken}
+use Rattle.lsp_frames.specs.Frames.{HasNoLf}
 use Rattle.lsp_frames.specs.declared.frame.Frame.{Frame}
 use Rattle.lsp_frames.specs.declared.frame.FrameFault.TheVariants.{TooLarge}
 use Rattle.content_streams.specs.Lines.{parts, ended_lines, fits}
@@ -28,3 +29,9 @@ line_standing limit lines = if all_fit limit lines then Open (last_line lines) e
 abbrev pub HoldsLines : ℕ → List ℕ → List Frame → Standing → Type 0
 HoldsLines limit bytes frames standing =
     (frames ≡ whole_contents limit (ended_lines bytes)) × (standing ≡ line_standing limit (parts bytes))
+
+-- The text is a line: it has a byte and no LF, and isn't too long.
+pub record IsLine (limit : ℕ) (text : List ℕ) : Type 0 where
+  pub one : HasNoLf text
+  pub some : is_empty text ≡ false
+  pub short : fits limit text ≡ true

@@ -4,11 +4,13 @@
 
 mod cutter;
 mod framing;
+mod law;
 
 mod line_cutter;
 mod writing;
 
 pub use cutter::Cutter;
 pub use framing::Framing;
+pub use law::{closed_lines_are_whole, written_lines_are_read_back};
 pub use line_cutter::LineCutter;
 pub use writing::put_text;
