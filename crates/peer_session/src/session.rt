@@ -229,11 +229,7 @@ impl<'a> Session<'a> {
     /// # Errors
     /// As `drain`'s. In lines, where there is no memory for what is due, that may be lost: the session then writes nothing any
     /// more, as behind a handler that found none.
-    pub fn drain_in<S: Sink>(
-        &mut self,
-        framing: Framing,
-        sink: &mut S,
-    ) -> Result<(), DrainFault>
+    pub fn drain_in<S: Sink>(&mut self, framing: Framing, sink: &mut S) -> Result<(), DrainFault>
         ensures drains { DrainsIn framing (view self.old) (S.bytes_taken sink.old) result
             (view self.new) (S.bytes_taken sink.new) }
         ensures cause { CountsDrain (view self.old) (S.failures sink.old) result

@@ -100,11 +100,7 @@ pub(crate) fn put_due(
 
 /// Puts the answers that are due, and tells how many they are. In lines they are made one by one, so where there is no
 /// memory to put them they are lost.
-fn put_answers(
-    framing: Framing,
-    runs: &mut Runs,
-    bytes: &mut Vec<u8>,
-) -> Result<usize, AllocError>
+fn put_answers(framing: Framing, runs: &mut Runs, bytes: &mut Vec<u8>) -> Result<usize, AllocError>
     ensures bytes { OnOk result (bytes.new.items ≡ bytes.old.items
         ++ flat_map (framed framing) (front_texts runs.old.desk)) }
     ensures count { IfOk result (λ count. count ≡ length (front_texts runs.old.desk)) }

@@ -1,6 +1,8 @@
 -- What each event makes of all that was served.
 use Rattle.std.proofs.Common.{◌≡◌, ℕ, zero, suc, ◌+◌, ◌-◌, ◌^◌, min, List, [], ◌∷◌, ◌++◌, Bool, true, false, cond, Option, Some, None, Result, Ok, Err, OnOk, OnErr, refl, sym, ap, subst, ◌∙◌}
 use Rattle.std.specs.Prelude.{slice_get, slice_set, replicate, IfErr}
+use Rattle.lsp_frames.specs.Devices.{Unfinished}
+use Rattle.stream_framing.proofs.Laws.{text_unfinished}
 use Rattle.method_steps.specs.Steps.{MethodTable}
 use Rattle.job_slots.specs.declared.view.Look.{Look}
 use Rattle.job_slots.specs.declared.view.Look.TheVariants.{Free, In}
@@ -124,7 +126,8 @@ module _ {G K : Type 0} (clerk : Clerk G K) (new : IsNew clerk) (before : Option
   starts-at : ServesAfter clerk.framing clerk.table.now clerk.limits [] before (stream_of clerk.stream) (replicate {A = Look (Gated G)} (slot_count clerk.slots.now) Free) before
   starts-at = record {
     jobs = λ n. None;
-    stands = new.session before;
+    stands = subst (λ (bytes : List ℕ). StreamStands (record { framing = clerk.framing; table = clerk.table.now; limits = clerk.limits; bytes = bytes; ending = Unfinished; before = before })
+        (λ n. None) (stream_of clerk.stream) before) (sym (text_unfinished clerk.framing [])) (new.session before);
     goes_on = λ still. refl;
     are_out = record {
       each = λ slot gated there. absurd (none-out (slot_count clerk.slots.now) slot gated there);

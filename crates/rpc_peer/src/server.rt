@@ -21,9 +21,7 @@ use crate::clerk::{Clerk, Served};
 use crate::crew::Crew;
 use crate::fault::ServeFault;
 use crate::gate::{Gate, OpenGate};
-use crate::law::{
-    nothing_is_served_in_part, served_in_frames_is_served, what_arrives_was_given,
-};
+use crate::law::{nothing_is_served_in_part, served_in_frames_is_served, what_arrives_was_given};
 use crate::threads::run_threads;
 use job_slots::{ClerkSeat, JobSlots, MOST_SLOTS, Turns, WorkerSeat};
 use lsp_frames::{Sink, Source};

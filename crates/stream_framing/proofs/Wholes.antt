@@ -54,6 +54,6 @@ read-back limit (text ∷ texts) lines =
     let rest = read-back limit texts (All-tail (IsLine limit) text texts lines) in
     let cut : parts ((text ++ 10 ∷ []) ++ later) ≡ text ∷ parts later = ap parts (append_assoc text (10 ∷ []) later) ∙ line-first text later line.one in (
       sym (ap (λ ls. whole_contents limit (without_last ls)) cut ∙ ended_first limit text (parts later) (parts-some later) line.short
-      ∙ ap (λ t. cond t [] (plain text ∷ []) ++ whole_contents limit (without_last (parts later))) line.some ∙ ap (λ fs. plain text ∷ fs) (sym rest.0)),
+          ∙ ap (λ t. cond t [] (plain text ∷ []) ++ whole_contents limit (without_last (parts later))) line.some ∙ ap (λ fs. plain text ∷ fs) (sym rest.0)),
       sym (ap (line_standing limit) cut ∙ standing_cons limit text (parts later) (parts-some later) line.short ∙ sym rest.1),
     )

@@ -5,7 +5,6 @@
 mod cutter;
 mod framing;
 mod law;
-
 mod line_cutter;
 mod writing;
 

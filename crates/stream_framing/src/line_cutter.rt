@@ -200,11 +200,7 @@ fn cut(
 }
 
 /// Puts a content behind the others, unless it is empty.
-fn push_content(
-    alloc: Global,
-    contents: &mut Vec<Frame>,
-    content: &[u8],
-) -> Result<(), AllocError>
+fn push_content(alloc: Global, contents: &mut Vec<Frame>, content: &[u8]) -> Result<(), AllocError>
     ensures { OnOk result (contents.new.items ≡
         contents.old.items ++ (if is_empty content.now then [] else plain content.now ∷ [])) }
 {

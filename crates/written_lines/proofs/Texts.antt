@@ -51,6 +51,7 @@ letter-is x = go ((x == 34) || (x == 92)) refl (x == 8) (x == 12) (x == 10) (x =
     quote true b is one other = let here : x ≡ 34 = grind (arith, nat_tests) in ap isnt_lf here
     quote false true is one other = let here : x ≡ 92 = grind (arith, nat_tests) in ap isnt_lf here
     quote false false is one other = cc
+
     go : (q : Bool) → ((x == 34) || (x == 92)) ≡ q → (b f n r t : Bool)
         → isnt_lf (cond q x (cond b 98 (cond f 102 (cond n 110 (cond r 114 (cond t 116 0)))))) ≡ true
     go true is b f n r t = quote (x == 34) (x == 92) is refl refl
@@ -96,6 +97,7 @@ onto-is (suc k) n acc none = go (n / 10 == 0)
   where
     more : HasNoLf (digit_glyph false (n % 10) ∷ acc)
     more = behind (digit_glyph false (n % 10)) acc (glyph-is (n % 10)) none
+
     go : (t : Bool) → HasNoLf (cond t (digit_glyph false (n % 10) ∷ acc) (digits_onto k 10 false (n / 10) (digit_glyph false (n % 10) ∷ acc)))
     go true = more
     go false = onto-is k (n / 10) (digit_glyph false (n % 10) ∷ acc) more

@@ -21,7 +21,7 @@ unfolding view
 returns-in_default-clause-drains g c = (
   c.if-self.false,
   none-left c.args.framing (view c.args.self.now) c.put_due.new.runs (g.S.Sink.bytes_taken c.args.sink.now) c.may_lose-self.result c.if-self-2.false
-  (λ is. c.in_default.ensures.err is) c.may_lose-self.ensures.frames c.may_lose-self.ensures.lines,
+      (λ is. c.in_default.ensures.err is) c.may_lose-self.ensures.frames c.may_lose-self.ensures.lines,
 )
 
 pub returns-then-is_written-clause-drains : goal.returns-then-is_written-clause-drains

@@ -21,10 +21,10 @@ returns-clause-ended c = λ fed jobs sink had goes_on.
       | in-Finished+in_ok-end_line-in-Finished w ↦
           let ended = subst (λ (s : StreamSession). StreamStands (with_line_ended fed) jobs (stream_of s) sink) (sym w.self-is) (w.in_ok-end_line-in-Finished.ensures.ended fed jobs sink had goes_on) in
           subst (λ (e : InputEnd). StreamStands (with_end fed e) jobs after sink) (sym w.in-Finished.is)
-              (subst (λ (e : InputEnd). StreamStands (with_ending (with_line_ended fed) e) jobs after sink) w.in-Finished.is (c.close.ensures.ended (with_line_ended fed) jobs sink ended goes_on))
+          (subst (λ (e : InputEnd). StreamStands (with_ending (with_line_ended fed) e) jobs after sink) w.in-Finished.is (c.close.ensures.ended (with_line_ended fed) jobs sink ended goes_on))
       | in-Failed w ↦
           let same = subst (λ (s : StreamSession). StreamStands fed jobs (stream_of s) sink) (sym w.self-is) had in
           subst (λ (e : InputEnd). StreamStands (with_end fed e) jobs after sink) (sym w.in-Failed.is)
-              (subst (λ bytes. StreamStands (with_ending (record fed { bytes = bytes }) Failed) jobs after sink) (sym (text_failed fed.framing fed.bytes))
-              (subst (λ (e : InputEnd). StreamStands (with_ending fed e) jobs after sink) w.in-Failed.is (c.close.ensures.ended fed jobs sink same goes_on)))
+          (subst (λ bytes. StreamStands (with_ending (record fed { bytes = bytes }) Failed) jobs after sink) (sym (text_failed fed.framing fed.bytes))
+          (subst (λ (e : InputEnd). StreamStands (with_ending fed e) jobs after sink) w.in-Failed.is (c.close.ensures.ended fed jobs sink same goes_on)))
     ]
