@@ -39,7 +39,9 @@ LINES: list[tuple[str, list[str], bytes, bytes, str]] = [
 ]
 
 
-@pytest.mark.parametrize("command", (["play"], ["play", "--piece=1"], ["serve"], ["serve", "--workers=1"]), ids=" ".join)
+@pytest.mark.parametrize(
+    "command", (["play"], ["play", "--piece=1"], ["serve"], ["serve", "--workers=1"]), ids=" ".join
+)
 @pytest.mark.parametrize("row", named(LINES))
 def test_line(row: tuple[str, list[str], bytes, bytes, str], command: list[str]) -> None:
     _, words, given, output, end = row
@@ -130,5 +132,7 @@ asyncio.run(main())
 def test_session_of_the_client_in_python() -> None:
     words = [ran.BUILT, "serve", "--lines", *table()]
     path = {**os.environ, "PYTHONPATH": os.path.join(ran.TOP, "bindings", "python")}
-    got = subprocess.run([sys.executable, "-c", SESSION, *words], capture_output=True, timeout=60, env=path, check=False)
+    got = subprocess.run(
+        [sys.executable, "-c", SESSION, *words], capture_output=True, timeout=60, env=path, check=False
+    )
     same((got.returncode, got.stdout, got.stderr), (0, b"5\nTrue False\nTrue\n-32601\nstatus 0\n", b""))

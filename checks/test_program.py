@@ -309,7 +309,7 @@ def test_help_tells_the_usage() -> None:
 
 OPTIONS = {
     "play": (b"--table <F>", b"--lazy", b"--last", b"--piece <N>", b"--lines", b"--content <BYTES>", b"--calls <N>"),
-    "serve": (b"--table <F>", b"--workers <N>", b"--content <BYTES>", b"--calls <N>"),
+    "serve": (b"--table <F>", b"--workers <N>", b"--lines", b"--content <BYTES>", b"--calls <N>"),
 }
 
 

@@ -1,20 +1,20 @@
 -- Lines that are closed, and lines that are written.
-use Rattle.std.proofs.Common.{◌≡◌, ℕ, Bool, true, false, cond, not, ◌&&◌, List, [], ◌∷◌, ◌++◌, All, flat_map, map, refl, ap, sym, ◌∙◌, subst, append_assoc}
-use Rattle.std.specs.Prelude.{IsTrue, ◌==◌}
+use Rattle.std.proofs.Common.{◌≡◌, ℕ, Bool, true, false, cond, not, ◌&&◌, List, [], ◌∷◌, ◌++◌, All, flat_map, map, refl, ap, sym, ◌∙◌, append_assoc}
+use Rattle.std.specs.Prelude.{◌==◌}
 use Rattle.std.specs.List.{list_all, onto_first}
 use Rattle.std.proofs.lemmas.List.Elements.{All-head, All-tail}
-use Rattle.lsp_frames.specs.Contents.{Standing, Open, Broken}
+use Rattle.lsp_frames.specs.Contents.{Open, Broken}
 use Rattle.lsp_frames.specs.Frames.{HasNoLf}
 use Rattle.lsp_frames.specs.declared.frame.Frame.{Frame}
 use Rattle.lsp_frames.specs.declared.frame.FrameFault.TheVariants.{TooLarge}
-use Rattle.content_streams.specs.Lines.{is_lf, parts, without_last, fits}
+use Rattle.content_streams.specs.Lines.{is_lf, parts, without_last}
 use Rattle.content_streams.specs.Streams.{plain}
 use Rattle.content_streams.specs.Inner.Cutting.{last_line}
 use Rattle.content_streams.proofs.LineTexts.{parts-some, last_behind}
 use Rattle.stream_framing.specs.Framed.{framed}
-use Rattle.stream_framing.specs.Lines.{HoldsLines, IsLine, is_empty, whole_contents, line_standing}
+use Rattle.stream_framing.specs.Lines.{HoldsLines, IsLine, whole_contents, line_standing}
 use Rattle.stream_framing.specs.declared.framing.Framing.TheVariants.{Lines}
-use Rattle.stream_framing.proofs.Fitting.{kept, no_lines, nothing_fits}
+use Rattle.stream_framing.proofs.Fitting.{no_lines, nothing_fits}
 use Rattle.stream_framing.proofs.Steps.{ended_first, last_leads, standing_cons, standing_is, standing_one}
 
 -- ---- a closed input

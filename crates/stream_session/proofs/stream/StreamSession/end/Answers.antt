@@ -1,7 +1,7 @@
 -- An end is known already; or the last line is ended, and then the input.
-use Rattle.std.proofs.Common.{◌≡◌, ◌≢◌, true, Some, None, is_some, sym, subst, ap, ◌∙◌}
+use Rattle.std.proofs.Common.{sym, subst}
 use Rattle.stream_framing.proofs.Laws.{text_failed}
-use Rattle.stream_session.specs.Stream.{Fed, StreamStands, stream_of, with_end, with_ending, with_line_ended}
+use Rattle.stream_session.specs.Stream.{StreamStands, stream_of, with_end, with_ending, with_line_ended}
 use Rattle.stream_session.specs.declared.next.InputEnd.{InputEnd}
 use Rattle.stream_session.specs.declared.next.InputEnd.TheVariants.{Failed}
 use Rattle.stream_session.specs.declared.stream.StreamSession.{StreamSession}
