@@ -10,7 +10,6 @@ use Rattle.session_state.specs.Core.{Core}
 use Rattle.session_state.specs.Turning.{Leaves, drained, returned}
 use Rattle.session_state.specs.Turns.{all_turns_left}
 use Rattle.peer_session.specs.Events.{DrainsIn, FailsToWriteIn, LeavesAt, StopsIn, picked, with_job_back}
-use Rattle.stream_framing.specs.Framed.{read_text}
 use Rattle.stream_framing.specs.declared.framing.Framing.{Framing}
 use Rattle.stream_framing.specs.declared.framing.Framing.TheVariants.{Frames, Lines}
 use Rattle.stream_framing.proofs.Laws.{text_of}
