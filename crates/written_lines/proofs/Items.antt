@@ -6,7 +6,9 @@ use Rattle.lsp_frames.specs.Frames.{HasNoLf}
 use Rattle.message_ids.specs.declared.id.Id.{Id}
 use Rattle.rpc_messages.specs.Dues.{Due, SeenAnswer, text_of, unit_text, unit_answers, unit_kind, unit_requests, unit_dues, due_if, dues}
 use Rattle.rpc_messages.specs.Numbering.{unit_numbers}
-use Rattle.rpc_messages.specs.Texts.{answer_of, batch_text_of}
+use Rattle.serde_json.specs.Data.{array}
+use Rattle.serde_json.specs.View.{items_of}
+use Rattle.rpc_messages.specs.Texts.{answer_of, batch_text_of, call_of, calls_of, notice_of, withdrawal_of}
 use Rattle.rpc_messages.specs.Unit.{SeenUnit}
 use Rattle.rpc_messages.specs.declared.kind.Kind.{Kind}
 use Rattle.rpc_messages.specs.declared.kind.Kind.TheVariants.{Single, Batch}
@@ -50,13 +52,13 @@ front-are (due ∷ front) rest all = All-cons IsLine due front (All-head IsLine 
 -- ---- items
 
 message-is : (n : ℕ) (m : Message) → HasNoLf (message_text n m)
-message-is n (messages.Call t outgoing) = text-is _
-message-is n (messages.Calls t outgoings) = text-is _
-message-is n (messages.Notice outgoing) = text-is _
+message-is n (messages.Call t outgoing) = text-is (call_of n t outgoing)
+message-is n (messages.Calls t outgoings) = text-is (array (items_of (calls_of n t outgoings)))
+message-is n (messages.Notice outgoing) = text-is (notice_of outgoing)
 
 sending-is : (n : ℕ) (s : Sending) → HasNoLf (sending_text n s)
 sending-is n (message m) = message-is n m
-sending-is n (withdrawal t) = text-is _
+sending-is n (withdrawal t) = text-is (withdrawal_of n t)
 
 abbrev pub ItemIsLine : Item → Type 0
 ItemIsLine item = HasNoLf (item_text item)

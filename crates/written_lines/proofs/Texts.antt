@@ -1,5 +1,5 @@
 -- A compact text of JSON has no LF.
-use Rattle.std.proofs.Common.{◌≡◌, ℕ, zero, suc, ◌+◌, ◌/◌, ◌%◌, ◌<◌, ◌≤◌, Bool, true, false, cond, not, ◌&&◌, ◌||◌, List, [], ◌∷◌, ◌++◌, flat_map, refl, ap, sym, ◌∙◌, subst, arith, common_steps}
+use Rattle.std.proofs.Common.{◌≡◌, ℕ, zero, suc, ◌+◌, ◌/◌, ◌%◌, ◌<◌, ◌≤◌, Bool, true, false, cond, not, ◌&&◌, ◌||◌, List, [], ◌∷◌, ◌++◌, flat_map, refl, ap, sym, ◌∙◌, subst, arith}
 use Rattle.std.specs.Prelude.{◌==◌, nat_lt, pos, negsuc, ℤ}
 use Rattle.std.specs.List.{list_all, join_with_byte}
 use Rattle.std.specs.Char.{digit_char}
@@ -93,14 +93,15 @@ glyph-is d = go (nat_lt d 10)
 
 onto-is : (k n : ℕ) (acc : List ℕ) → HasNoLf acc → HasNoLf (digits_onto k 10 false n acc)
 onto-is zero n acc none = none
-onto-is (suc k) n acc none = go (n / 10 == 0)
+onto-is (suc k) n acc none = go (n / 10 == 0) (λ h. onto-is k (n / 10) (digit_glyph false (n % 10) ∷ acc) h)
   where
     more : HasNoLf (digit_glyph false (n % 10) ∷ acc)
     more = behind (digit_glyph false (n % 10)) acc (glyph-is (n % 10)) none
 
-    go : (t : Bool) → HasNoLf (cond t (digit_glyph false (n % 10) ∷ acc) (digits_onto k 10 false (n / 10) (digit_glyph false (n % 10) ∷ acc)))
-    go true = more
-    go false = onto-is k (n / 10) (digit_glyph false (n % 10) ∷ acc) more
+    go : (t : Bool) → (HasNoLf (digit_glyph false (n % 10) ∷ acc) → HasNoLf (digits_onto k 10 false (n / 10) (digit_glyph false (n % 10) ∷ acc)))
+        → HasNoLf (cond t (digit_glyph false (n % 10) ∷ acc) (digits_onto k 10 false (n / 10) (digit_glyph false (n % 10) ∷ acc)))
+    go true again = more
+    go false again = again more
 
 decimal-is : (n : ℕ) → HasNoLf (decimal n)
 unfolding digits
