@@ -1,9 +1,8 @@
 -- No text of an output has an LF.
-use Rattle.std.proofs.Common.{◌≡◌, ℕ, ◌+◌, Bool, List, [], ◌∷◌, ◌++◌, map, codes, All, Option, Some, None, refl, sym, subst}
+use Rattle.std.proofs.Common.{ℕ, ◌+◌, List, [], ◌∷◌, ◌++◌, map, codes, All, refl, sym, subst}
 use Rattle.std.specs.List.{join_with_byte}
 use Rattle.std.proofs.lemmas.List.Elements.{All-append, All-cons, All-head, All-nil, All-tail}
 use Rattle.lsp_frames.specs.Frames.{HasNoLf}
-use Rattle.message_ids.specs.declared.id.Id.{Id}
 use Rattle.rpc_messages.specs.Dues.{Due, SeenAnswer, text_of, unit_text, unit_answers, unit_kind, unit_requests, unit_dues, due_if, dues}
 use Rattle.rpc_messages.specs.Numbering.{unit_numbers}
 use Rattle.serde_json.specs.Data.{array}
@@ -16,7 +15,6 @@ use Rattle.rpc_messages.specs.declared.reply.Reply.{Reply}
 use Rattle.handler_future.specs.declared.message.Message.{Message}
 use Rattle.handler_future.specs.declared.message.Message.TheVariants as messages
 use Rattle.method_steps.specs.Steps.{MethodTable}
-use Rattle.peer_output.specs.Cancelled.{Begins}
 use Rattle.peer_output.specs.Course.{Sending, message, withdrawal}
 use Rattle.peer_output.specs.Items.{Item, sent, answered, answers_in, item_text, message_text, sending_text}
 use Rattle.peer_output.specs.Output.{IsOutput, IsPartialOutput}
