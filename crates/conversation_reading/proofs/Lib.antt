@@ -1,4 +1,5 @@
 pub mod Agreeing
 pub mod Digits
 pub mod Elements
+pub mod Sizes
 pub mod Texts

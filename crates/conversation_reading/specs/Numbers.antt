@@ -17,10 +17,14 @@ is_point b = b == 46
 abbrev pub are_zeros : List ℕ → Bool
 are_zeros digits = list_all (λ b. b == 48) digits
 
+-- what a digit counts
+abbrev pub digit_of : ℕ → ℕ
+digit_of b = b - 48
+
 -- the number that digits write, behind those of another
 abbrev pub number_after : ℕ → List ℕ → ℕ
 number_after n [] = n
-number_after n (digit ∷ digits) = number_after (10 * n + (digit - 48)) digits
+number_after n (digit ∷ digits) = number_after (10 * n + digit_of digit) digits
 
 abbrev pub number_of : List ℕ → ℕ
 number_of digits = number_after 0 digits

@@ -5,7 +5,10 @@ use Rattle.std.specs.Str.{bytes_eq, is_utf8}
 use Rattle.json.specs.Json.{Json, null, number, string, array, object, Items, no_items, item}
 use Rattle.json.specs.Find.{get, as_str, as_number}
 use Rattle.json_texts.specs.Texts.{json_text, value_of}
+use Rattle.conversation_reading.specs.Fronts.{is_json, front_of}
+use Rattle.conversation_reading.specs.Huge.{has_huge}
 use Rattle.conversation_reading.specs.Numbers.{is_whole}
+use Rattle.conversation_reading.specs.Targets.{target_in}
 use Rattle.conversation_reading.specs.declared.entry.Entry.{Entry}
 use Rattle.conversation_reading.specs.declared.entry.Faults.{Faults}
 use Rattle.conversation_reading.specs.declared.entry.Kind.{Kind}
@@ -14,7 +17,7 @@ use Rattle.conversation_reading.specs.declared.entry.There.{There}
 use Rattle.conversation_reading.specs.declared.entry.WrittenId.{WrittenId}
 use Rattle.conversation_reading.specs.declared.entry.WrittenId.TheVariants.{Null, Text, Number}
 use Rattle.conversation_reading.specs.declared.reading.Reading.{Reading}
-use Rattle.conversation_reading.specs.declared.reading.Reading.TheVariants.{Foreign, NotText, NotJson, Single, Array}
+use Rattle.conversation_reading.specs.declared.reading.Reading.TheVariants.{Foreign, NotText, NotJson, TooDeep, HalfPair, Single, Array}
 use Rattle.conversation_reading.specs.declared.reading.TheConstants.{MOST_DEPTH}
 
 -- ---- members: null is there, and of a name that stands twice the last counts
@@ -106,7 +109,7 @@ is_message BrokenAnswer = false
 is_message Invalid = false
 
 abbrev pub entry_of : Json → Entry
-entry_of j = record { kind = kind_of (there_in j) (has_fault (faults_of j)); there = there_in j; faults = faults_of j; id = id_in j; method = method_in j; params = option_map json_text (get (codes "params") j); code = option_and_then code_in (get (codes "error") j) }
+entry_of j = record { kind = kind_of (there_in j) (has_fault (faults_of j)); there = there_in j; faults = faults_of j; id = id_in j; method = method_in j; params = option_map json_text (get (codes "params") j); code = option_and_then code_in (get (codes "error") j); target = target_in j; has_huge = has_huge j }
 
 abbrev pub entries_of : Items → List Entry
 entries_of no_items = []
@@ -118,11 +121,19 @@ abbrev pub value_reading : Json → Reading
 value_reading (array js) = Array (entries_of js)
 value_reading j = Single (entry_of j)
 
-abbrev pub json_reading : Option Json → Reading
-json_reading None = NotJson
-json_reading (Some j) = value_reading j
+-- why a text has no value: it nests too deep, and is JSON up to there; or it is JSON all the same, with half of a pair
+abbrev pub unreadable_with : List ℕ → Option (List ℕ) → Reading
+unreadable_with text (Some front) = if is_json front then TooDeep else NotJson
+unreadable_with text None = if is_json text then HalfPair else NotJson
+
+abbrev pub unreadable : List ℕ → Reading
+unreadable text = unreadable_with text (front_of text)
+
+abbrev pub json_reading : List ℕ → Option Json → Reading
+json_reading text None = unreadable text
+json_reading text (Some j) = value_reading j
 
 -- A content whose frame is foreign isn't looked into. JSON is a text in UTF-8 (RFC 8259, section 8.1).
 abbrev pub reading_of : Bool → List ℕ → Reading
 reading_of true content = Foreign
-reading_of false content = if is_utf8 content then json_reading (value_of MOST_DEPTH content) else NotText
+reading_of false content = if is_utf8 content then json_reading content (value_of MOST_DEPTH content) else NotText

@@ -64,4 +64,10 @@ pub struct Entry {
     pub params: Option<Text>,
     /// The code of its error, where that is a number, with each digit that it has.
     pub code: Option<Text>,
+    /// The id that it cancels by its method, whatever kind it is: of `$/cancelRequest` (LSP) the `id` of its params, and of
+    /// `notifications/cancelled` (MCP) their `requestId`, where a `reason` is a string or isn't there. It is a string or a
+    /// whole number; there is none where its params aren't a cancel's.
+    pub target: Option<WrittenId>,
+    /// Whether a number in it is beyond a float's range, as 1e400.
+    pub has_huge: bool,
 }

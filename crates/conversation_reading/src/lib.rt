@@ -3,10 +3,14 @@
 #![tactic(auto)]
 
 mod entry;
+mod front;
+mod huge;
 mod law;
 mod number;
 mod read;
 mod reading;
+mod target;
+mod whole;
 
 pub use entry::{Entry, Faults, Kind, There, WrittenId};
 pub use law::{
@@ -14,6 +18,7 @@ pub use law::{
 };
 pub use number::is_whole;
 pub use reading::{MOST_DEPTH, Reading, StrictReader, limit_of_depth_in_figures};
+pub use whole::{Whole, whole_of};
 
 #[cfg(test)]
 mod tests;

@@ -2,10 +2,7 @@
 
 ghost use Rattle.std.specs.Prelude.{◌≡◌, ◌+◌, ◌-◌, ◌*◌, ◌^◌, min, drop};
 ghost use Rattle.std.specs.Prelude.{position};
-ghost use Rattle.conversation_reading.specs.Numbers.{parts_at, is_mark, is_point, are_zeros, number_of, without_minus, last_of, is_whole_moved, is_whole_with, is_whole};
-
-/// A place that no text reaches.
-const BEYOND: u64 = 1 << 63;
+ghost use Rattle.conversation_reading.specs.Numbers.{parts_at, is_mark, is_point, are_zeros, digit_of, number_of, without_minus, last_of, is_whole_moved, is_whole_with, is_whole};
 
 /// Whether a number of JSON (RFC 8259, section 6) is whole by its value, as `1.0` and `10e-1` are.
 pub fn is_whole(number: &str) -> bool
@@ -32,19 +29,19 @@ fn is_whole_with(mantissa: &[u8], power: &[u8]) -> bool
     }
 }
 
-fn place_of_mark(number: &[u8]) -> Option<usize>
+pub(crate) fn place_of_mark(number: &[u8]) -> Option<usize>
     ensures { result ≡ position is_mark number.now }
 {
     number.iter().position(|b| *b == b'e' || *b == b'E')
 }
 
-fn place_of_point(mantissa: &[u8]) -> Option<usize>
+pub(crate) fn place_of_point(mantissa: &[u8]) -> Option<usize>
     ensures { result ≡ position is_point mantissa.now }
 {
     mantissa.iter().position(|b| *b == b'.')
 }
 
-fn without_minus(digits: &[u8]) -> &[u8]
+pub(crate) fn without_minus(digits: &[u8]) -> &[u8]
     ensures { result.now ≡ without_minus digits.now }
 {
     match digits.split_first() {
@@ -92,9 +89,9 @@ fn are_zeros(digits: &[u8]) -> bool
     digits.iter().all(|b| *b == b'0')
 }
 
-/// The number that digits write, or the place that no text reaches, where it is larger.
-fn number_of(digits: &[u8]) -> u64
-    ensures { result ≡ min (number_of digits.now) (2 ^ 63) }
+/// The number that digits write, or the largest of 64 bits, where it is larger. No text is as long.
+pub(crate) fn number_of(digits: &[u8]) -> u64
+    ensures { result ≡ min (number_of digits.now) (2 ^ 64 - 1) }
 {
     let mut number = 0;
     for digit in digits {
@@ -104,8 +101,14 @@ fn number_of(digits: &[u8]) -> u64
 }
 
 fn more(number: u64, digit: u8) -> u64
-    ensures { result ≡ min (10 * number + (digit - 48)) (2 ^ 63) }
+    ensures { result ≡ min (10 * number + digit_of digit) (2 ^ 64 - 1) }
 {
-    let digit = u64::from(digit.saturating_sub(b'0'));
-    number.saturating_mul(10).saturating_add(digit).min(BEYOND)
+    number.saturating_mul(10).saturating_add(digit_of(digit))
+}
+
+/// What a digit counts.
+pub(crate) fn digit_of(digit: u8) -> u64
+    ensures { result ≡ digit_of digit }
+{
+    u64::from(digit.saturating_sub(b'0'))
 }

@@ -10,7 +10,9 @@ ghost use Rattle.conversation_reading.specs.Numbers.{is_whole};
 ghost use Rattle.conversation_reading.specs.Strictly.{has, there_in, is_object, is_version_2, written_id, id_in, method_in, are_unfit, code_in, is_error, is_unfit_error, call_faults, answer_faults, faults_of, has_fault, kind_of, entry_of, entries_of};
 
 use crate::entry::{Entry, Faults, Kind, There, WrittenId};
+use crate::huge::has_huge;
 use crate::number::is_whole;
+use crate::target::read_target;
 use json::Value;
 use json_texts::text_of;
 use json_values::Text;
@@ -43,6 +45,8 @@ pub(crate) fn read_entry(alloc: Global, value: &Value<'_>) -> Result<Entry, Allo
         method: copied(alloc, method_in(value))?,
         params: read_params(alloc, value.get("params"))?,
         code: copied(alloc, error_code(value))?,
+        target: read_target(alloc, value)?,
+        has_huge: has_huge(value),
     })
 }
 
@@ -175,7 +179,7 @@ fn has_id(value: &Value<'_>) -> bool
     }
 }
 
-fn method_in<'v>(value: &'v Value<'_>) -> Option<&'v str>
+pub(crate) fn method_in<'v>(value: &'v Value<'_>) -> Option<&'v str>
     ensures { option_map (λ s. s.now) result ≡ method_in (value_view value.now) }
 {
     value.get("method")?.as_str()

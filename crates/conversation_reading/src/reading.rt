@@ -1,13 +1,15 @@
 //! From contents to readings.
 
-ghost use Rattle.std.specs.Prelude.{◌≡◌, IfOk};
+ghost use Rattle.std.specs.Prelude.{◌≡◌, IfOk, option_map};
 ghost use Rattle.json.specs.Tree.{HasNumbers};
 ghost use Rattle.json.specs.Value.{value_view};
 ghost use Rattle.json_texts.specs.Texts.{value_of};
-ghost use Rattle.conversation_reading.specs.Strictly.{value_reading, json_reading, reading_of};
+ghost use Rattle.conversation_reading.specs.Fronts.{is_json};
+ghost use Rattle.conversation_reading.specs.Strictly.{value_reading, unreadable, json_reading, reading_of};
 ghost use Rattle.conversation_reading.specs.declared.reading.TheConstants.{MOST_DEPTH};
 
 use crate::entry::Entry;
+use crate::front::{front_of, without_halves};
 use crate::read::{read_entries, read_entry};
 use json::{Scratch, Value};
 use json_texts::{read_str, utf8_text};
@@ -32,8 +34,12 @@ pub enum Reading {
     Foreign,
     /// It isn't UTF-8.
     NotText,
-    /// It isn't JSON of at most 127 levels whose strings have both halves of each surrogate pair.
+    /// It isn't JSON.
     NotJson,
+    /// Arrays and objects nest deeper than 127 in it, before anything else in it is wrong.
+    TooDeep,
+    /// It is JSON, and a string in it has half of a surrogate pair.
+    HalfPair,
     /// One entry.
     Single(Entry),
     /// The elements of an array, which may have none.
@@ -72,7 +78,7 @@ impl StrictReader {
 
     fn read_text(&mut self, text: &str) -> Result<Reading, AllocError>
         ensures { IfOk result
-            (λ reading. reading ≡ json_reading (value_of MOST_DEPTH text.now)) }
+            (λ reading. reading ≡ json_reading text.now (value_of MOST_DEPTH text.now)) }
     {
         let mut scratch = self.take_scratch()?;
         let reading = read_json(self.alloc, text, &mut scratch);
@@ -93,11 +99,63 @@ impl StrictReader {
 }
 
 fn read_json(alloc: Global, text: &str, scratch: &mut Scratch) -> Result<Reading, AllocError>
-    ensures { IfOk result (λ reading. reading ≡ json_reading (value_of MOST_DEPTH text.now)) }
+    ensures { IfOk result (λ reading. reading ≡ json_reading text.now (value_of MOST_DEPTH text.now)) }
+{
+    match read_readable(alloc, text, scratch)? {
+        Some(reading) => Ok(reading),
+        None => read_unreadable(alloc, text.as_bytes(), scratch),
+    }
+}
+
+/// What a content with a value is.
+fn read_readable(
+    alloc: Global,
+    text: &str,
+    scratch: &mut Scratch,
+) -> Result<Option<Reading>, AllocError>
+    ensures { IfOk result (λ reading. reading ≡ option_map value_reading (value_of MOST_DEPTH text.now)) }
 {
     match read_str(alloc, text, MOST_DEPTH, scratch)? {
-        Some(value) => read_value(alloc, &value),
-        None => Ok(Reading::NotJson),
+        Some(value) => Ok(Some(read_value(alloc, &value)?)),
+        None => Ok(None),
+    }
+}
+
+/// Why a content has no value.
+#[cold]
+#[inline(never)]
+fn read_unreadable(alloc: Global, text: &[u8], scratch: &mut Scratch) -> Result<Reading, AllocError>
+    ensures { IfOk result (λ reading. reading ≡ unreadable text.now) }
+{
+    match front_of(alloc, text)? {
+        Some(front) => {
+            if is_json(alloc, front.as_slice(), scratch)? {
+                Ok(Reading::TooDeep)
+            } else {
+                Ok(Reading::NotJson)
+            }
+        }
+        None => {
+            if is_json(alloc, text, scratch)? {
+                Ok(Reading::HalfPair)
+            } else {
+                Ok(Reading::NotJson)
+            }
+        }
+    }
+}
+
+/// Whether bytes are JSON by its grammar, of at most 127 levels.
+fn is_json(alloc: Global, text: &[u8], scratch: &mut Scratch) -> Result<bool, AllocError>
+    ensures { IfOk result (λ is. is ≡ is_json text.now) }
+{
+    let whole = without_halves(alloc, text)?;
+    match json_texts::read_value(alloc, whole.as_slice(), MOST_DEPTH, scratch)? {
+        Some(value) => {
+            drop(value);
+            Ok(true)
+        }
+        None => Ok(false),
     }
 }
 

@@ -1,0 +1,78 @@
+//! The id that a cancel names.
+
+ghost use Rattle.std.specs.Prelude.{◌≡◌, IfOk, codes, option_map, option_and_then};
+ghost use Rattle.json.specs.Value.{value_view};
+ghost use Rattle.conversation_reading.specs.Targets.{target_as, target_named, has_fit_reason, target_by, target_in};
+
+use crate::entry::WrittenId;
+use crate::number::is_whole;
+use crate::read::method_in;
+use json::Value;
+use json_values::Text;
+use std::alloc::{AllocError, Global};
+
+/// The id that an entry cancels, by its method. There is none where its params aren't a cancel's.
+pub(crate) fn read_target(alloc: Global, value: &Value<'_>) -> Result<Option<WrittenId>, AllocError>
+    ensures { IfOk result (λ target. target ≡ target_in (value_view value.now)) }
+{
+    match (method_in(value), value.get("params")) {
+        (Some(method), Some(params)) => target_by(alloc, method, params),
+        _ => Ok(None),
+    }
+}
+
+fn target_by(
+    alloc: Global,
+    method: &str,
+    params: &Value<'_>,
+) -> Result<Option<WrittenId>, AllocError>
+    ensures { IfOk result (λ target. target ≡ target_by method.now (value_view params.now)) }
+{
+    if method == "$/cancelRequest" {
+        target_named(alloc, "id", params)
+    } else if method == "notifications/cancelled" && has_fit_reason(params) {
+        target_named(alloc, "requestId", params)
+    } else {
+        Ok(None)
+    }
+}
+
+/// Whether a reason is a string, where there is one.
+fn has_fit_reason(params: &Value<'_>) -> bool
+    ensures { result ≡ has_fit_reason (value_view params.now) }
+{
+    match params.get("reason") {
+        Some(reason) => reason.as_str().is_some(),
+        None => true,
+    }
+}
+
+fn target_named(
+    alloc: Global,
+    name: &str,
+    params: &Value<'_>,
+) -> Result<Option<WrittenId>, AllocError>
+    ensures { IfOk result (λ target. target ≡ target_named name.now (value_view params.now)) }
+{
+    match params.get(name) {
+        Some(target) => target_as(alloc, target),
+        None => Ok(None),
+    }
+}
+
+/// A string, or a number that is whole by its value.
+fn target_as(alloc: Global, target: &Value<'_>) -> Result<Option<WrittenId>, AllocError>
+    ensures { IfOk result (λ id. id ≡ target_as (value_view target.now)) }
+{
+    match target {
+        Value::String(text) => Ok(Some(WrittenId::Text(Text::copy_of(alloc, text)?))),
+        Value::Number(number) => {
+            if is_whole(number) {
+                Ok(Some(WrittenId::Number(Text::copy_of(alloc, number)?)))
+            } else {
+                Ok(None)
+            }
+        }
+        _ => Ok(None),
+    }
+}
