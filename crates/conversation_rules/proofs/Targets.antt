@@ -6,7 +6,9 @@ use Rattle.std.proofs.lemmas.List.Quantifiers.{position-Some}
 use Rattle.std.proofs.lemmas.Option.{slice_get-get_or}
 use Rattle.conversation_reading.specs.declared.entry.WrittenId.{WrittenId}
 use Rattle.conversation_rules.specs.Owed.{Owed, Due, is_expected, may_have}
-use Rattle.conversation_rules.specs.Matching.{Target, entry_of, whole_of, later, place_in, oldest, or_else, is_request_for, named_in, named_target, IsFor, takes}
+use Rattle.conversation_rules.specs.declared.found.Target.{Target}
+use Rattle.conversation_rules.specs.declared.found.Target.TheVariants.{EntryOf, WholeOf}
+use Rattle.conversation_rules.specs.Matching.{later, place_in, oldest, or_else, is_request_for, named_in, named_target, IsFor, takes}
 
 -- what stands at the place that `position` gives
 position-is : (fits : Owed → Bool) (entries : List Owed) (place : ℕ) → position fits entries ≡ Some place → IsSomeAnd (slice_get entries place) (λ owed. fits owed ≡ true)
@@ -26,15 +28,15 @@ place_in-is batches fits due place is = by_kind (if batches then due.is_batch el
 
 -- one content more stands before it
 later-is : (fits : Owed → Bool) (due : Due) (dues : List Due) (target : Target) → IsFor fits dues target → IsFor fits (due ∷ dues) (later target)
-later-is fits due dues (entry_of content place) is = is
-later-is fits due dues (whole_of content) is = is
+later-is fits due dues (EntryOf content place) is = is
+later-is fits due dues (WholeOf content) is = is
 
 IfSome-later : (fits : Owed → Bool) (due : Due) (dues : List Due) (found : Option Target) → IfSome found (λ target. IsFor fits dues target) → IfSome (option_map later found) (λ target. IsFor fits (due ∷ dues) target)
 IfSome-later fits due dues None is = is
 IfSome-later fits due dues (Some target) is = later-is fits due dues target is
 
 oldest-by_place : (batches : Bool) (fits : Owed → Bool) (due : Due) (dues : List Due) → IfSome (oldest batches fits dues) (λ target. IsFor fits dues target) → (found : Option ℕ) →
-    place_in batches fits due ≡ found → IfSome (option_map_or (λ place. Some (entry_of 0 place)) found (option_map later (oldest batches fits dues))) (λ target. IsFor fits (due ∷ dues) target)
+    place_in batches fits due ≡ found → IfSome (option_map_or (λ place. Some (EntryOf 0 place)) found (option_map later (oldest batches fits dues))) (λ target. IsFor fits (due ∷ dues) target)
 oldest-by_place batches fits due dues others (Some place) is = place_in-is batches fits due place is
 oldest-by_place batches fits due dues others None is = IfSome-later fits due dues (oldest batches fits dues) others
 
@@ -67,8 +69,8 @@ due-weaker f g weaker place (Some due) is = entry-weaker f g weaker (slice_get d
 
 IsFor-weaker : (f g : Owed → Bool) → ((owed : Owed) → f owed ≡ true → g owed ≡ true) → (dues : List Due) (found : Option Target) → IfSome found (λ target. IsFor f dues target) → IfSome found (λ target. IsFor g dues target)
 IsFor-weaker f g weaker dues None is = is
-IsFor-weaker f g weaker dues (Some (entry_of content place)) is = due-weaker f g weaker place (slice_get dues content) is
-IsFor-weaker f g weaker dues (Some (whole_of content)) is = is
+IsFor-weaker f g weaker dues (Some (EntryOf content place)) is = due-weaker f g weaker place (slice_get dues content) is
+IsFor-weaker f g weaker dues (Some (WholeOf content)) is = is
 
 IfSome-or_else : (P : Target → Type 0) (one other : Option Target) → IfSome one P → IfSome other P → IfSome (or_else one other) P
 IfSome-or_else P (Some target) other is others = is

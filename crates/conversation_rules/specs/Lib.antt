@@ -1,5 +1,13 @@
 pub mod Amounts
+pub mod Answers
+pub mod Contents
+pub mod Dues
+pub mod Entries
+pub mod Judging
 pub mod Matching
 pub mod Owed
 pub mod Protocols
 pub mod Rows
+pub mod Runs
+pub mod Speakers
+pub mod Used

@@ -5,11 +5,8 @@ use Rattle.std.specs.Option.{option_map_or}
 use Rattle.conversation_reading.specs.declared.entry.WrittenId.{WrittenId}
 use Rattle.conversation_rules.specs.Amounts.{same_id, is_null}
 use Rattle.conversation_rules.specs.Owed.{Owed, Due, is_expected, may_have}
-
--- an entry of what is owed on a content, or the whole of it, by their places
-pub data Target : Type 0 where
-  entry_of : ℕ → ℕ → Target
-  whole_of : ℕ → Target
+use Rattle.conversation_rules.specs.declared.found.Target.{Target}
+use Rattle.conversation_rules.specs.declared.found.Target.TheVariants.{EntryOf, WholeOf}
 
 -- ---- the oldest that fits
 
@@ -17,13 +14,13 @@ abbrev pub place_in : Bool → (Owed → Bool) → Due → Option ℕ
 place_in batches fits due = if (if batches then due.is_batch else not due.is_batch) then position fits due.entries else None
 
 abbrev pub later : Target → Target
-later (entry_of content place) = entry_of (suc content) place
-later (whole_of content) = whole_of (suc content)
+later (EntryOf content place) = EntryOf (suc content) place
+later (WholeOf content) = WholeOf (suc content)
 
 -- in single contents, or in batches
 abbrev pub oldest : Bool → (Owed → Bool) → List Due → Option Target
 oldest batches fits [] = None
-oldest batches fits (due ∷ dues) = option_map_or (λ place. Some (entry_of 0 place)) (place_in batches fits due) (option_map later (oldest batches fits dues))
+oldest batches fits (due ∷ dues) = option_map_or (λ place. Some (EntryOf 0 place)) (place_in batches fits due) (option_map later (oldest batches fits dues))
 
 abbrev pub or_else : Option Target → Option Target → Option Target
 or_else (Some target) other = Some target
@@ -61,16 +58,18 @@ null_in false batches dues = or_else (oldest batches is_null_request dues) (or_e
 -- where the rules have no batches, an error may refuse a whole one
 abbrev pub refused_batch : Bool → List Due → Option Target
 refused_batch false dues = None
-refused_batch true dues = option_map whole_of (position (λ due. due.is_batch) dues)
+refused_batch true dues = option_map WholeOf (position (λ due. due.is_batch) dues)
 
 abbrev pub null_target : Bool → Bool → List Due → Option Target
 null_target says_invalid may_refuse dues = or_else (null_in says_invalid false dues) (or_else (refused_batch may_refuse dues) (null_in says_invalid true dues))
 
--- -32700: an unreadable content, else a request with the id null, else a batch that is refused
+-- -32700: an unreadable content, else a request with the id null, else a content with a number beyond a float's range (RFC
+-- 8259, section 6: a reader may have limits), else a batch that is refused
 abbrev pub parse_error_target : Bool → List Due → Option Target
 parse_error_target may_refuse dues =
-    or_else (option_map whole_of (position (λ due. due.is_unreadable) dues))
-    (or_else (oldest false is_null_request dues) (or_else (oldest true is_null_request dues) (refused_batch may_refuse dues)))
+    or_else (option_map WholeOf (position (λ due. due.is_unreadable) dues))
+    (or_else (or_else (oldest false is_null_request dues) (oldest true is_null_request dues))
+    (or_else (option_map WholeOf (position (λ due. due.has_huge) dues)) (refused_batch may_refuse dues)))
 
 -- ---- the answers in an array
 
@@ -120,8 +119,8 @@ batch_target (id ∷ ids) unnamed dues = option_map_or Some (position (is_just (
 
 -- it is an entry that is owed something, and that fits
 abbrev pub IsFor : (Owed → Bool) → List Due → Target → Type 0
-IsFor fits dues (entry_of content place) = IsSomeAnd (slice_get dues content) (λ due. IsSomeAnd (slice_get due.entries place) (λ owed. fits owed ≡ true))
-IsFor fits dues (whole_of content) = ⊥
+IsFor fits dues (EntryOf content place) = IsSomeAnd (slice_get dues content) (λ due. IsSomeAnd (slice_get due.entries place) (λ owed. fits owed ≡ true))
+IsFor fits dues (WholeOf content) = ⊥
 
 -- it may have this id
 abbrev pub takes : WrittenId → Owed → Bool

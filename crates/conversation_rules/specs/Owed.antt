@@ -9,7 +9,8 @@ use Rattle.conversation_reading.specs.declared.entry.Kind.TheVariants.{Request, 
 use Rattle.conversation_reading.specs.declared.entry.WrittenId.{WrittenId}
 use Rattle.conversation_reading.specs.declared.entry.WrittenId.TheVariants.{Null}
 use Rattle.conversation_rules.specs.Amounts.{same_id, is_odd, is_null}
-use Rattle.conversation_rules.specs.Protocols.{Protocol}
+use Rattle.conversation_rules.specs.Protocols.{may_leave_null}
+use Rattle.conversation_rules.specs.declared.protocol.Protocol.{Protocol}
 
 -- What an entry may be answered by.
 pub record Owed : Type 0 where
@@ -28,9 +29,16 @@ pub record Owed : Type 0 where
 
 -- What is owed on a content.
 pub record Due : Type 0 where
+  -- the how-manieth content of its side it is, from 1, and the offset of its first byte
+  pub number : ℕ
+  pub offset : ℕ
   pub entries : List Owed
   pub is_batch : Bool
   pub is_unreadable : Bool
+  -- whether a number in it is beyond a float's range
+  pub has_huge : Bool
+  -- whether a content that couldn't be read came behind it, which may have been its answer
+  pub may_be_answered : Bool
 
 abbrev pub has_id : WrittenId → Option WrittenId → Bool
 has_id id other = option_map_or (same_id id) other false
@@ -47,7 +55,7 @@ may_have id owed = has_id id owed.own || (owed.may_be_null && is_null id)
 abbrev pub request_owed : Protocol → ℕ → Option WrittenId → Owed
 request_owed rules place id =
     if option_map_or is_odd id false then record { place = place; must = false; expected = Some Null; own = id; may_be_null = true; is_request = false; is_cancelled = false }
-    else record { place = place; must = not (rules.may_leave_null && option_map_or is_null id false); expected = id; own = id; may_be_null = false; is_request = true; is_cancelled = false }
+    else record { place = place; must = not (may_leave_null rules && option_map_or is_null id false); expected = id; own = id; may_be_null = false; is_request = true; is_cancelled = false }
 
 -- what needn't be answered, and may be by null or by its own id
 abbrev pub may_be_left : ℕ → Option WrittenId → Option WrittenId → Owed
@@ -83,13 +91,21 @@ abbrev pub all_owed : Protocol → ℕ → List Entry → List Owed
 all_owed rules place [] = []
 all_owed rules place (entry ∷ entries) = option_map_or (λ owed. owed ∷ all_owed rules (suc place) entries) (owed_on rules place entry) (all_owed rules (suc place) entries)
 
-abbrev pub unreadable_due : Due
-unreadable_due = record { entries = []; is_batch = false; is_unreadable = true }
+-- a content on which nothing is owed yet
+abbrev pub new_due : ℕ → ℕ → Bool → Bool → Due
+new_due number offset batch huge = record { number = number; offset = offset; entries = []; is_batch = batch; is_unreadable = false; has_huge = huge; may_be_answered = false }
 
-abbrev pub single_due : Protocol → Entry → Due
-single_due rules entry = record { entries = option_to_list (owed_on rules 0 entry); is_batch = false; is_unreadable = false }
+-- one that can't be read
+abbrev pub unreadable_due : ℕ → ℕ → Due
+unreadable_due number offset = record { number = number; offset = offset; entries = []; is_batch = false; is_unreadable = true; has_huge = false; may_be_answered = false }
 
--- an array without entries is one that is invalid
-abbrev pub array_due : Protocol → List Entry → Due
-array_due rules [] = record { entries = may_be_left 0 (Some Null) None ∷ []; is_batch = false; is_unreadable = false }
-array_due rules (entry ∷ entries) = record { entries = all_owed rules 1 (entry ∷ entries); is_batch = true; is_unreadable = false }
+abbrev pub single_due : ℕ → ℕ → Bool → Protocol → Entry → Due
+single_due number offset huge rules entry = record (new_due number offset false huge) { entries = option_to_list (owed_on rules 0 entry) }
+
+-- `[]` is one entry, which is invalid
+abbrev pub empty_array_owed : Owed
+empty_array_owed = may_be_left 0 (Some Null) None
+
+abbrev pub array_due : ℕ → ℕ → Bool → Protocol → List Entry → Due
+array_due number offset huge rules [] = record (new_due number offset false huge) { entries = empty_array_owed ∷ [] }
+array_due number offset huge rules (entry ∷ entries) = record (new_due number offset true huge) { entries = all_owed rules 1 (entry ∷ entries) }

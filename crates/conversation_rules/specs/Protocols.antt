@@ -1,32 +1,54 @@
 -- What differs between the protocols: JSON-RPC 2.0, LSP 3.17, and MCP of 2025-06-18 and 2025-03-26.
-use Rattle.std.specs.Prelude.{List, ℕ, Option, Some, None, Bool, true, false, codes}
+use Rattle.std.specs.Prelude.{ℕ, List, Option, Some, None, Bool, true, false, codes}
 use Rattle.conversation_rules.specs.declared.level.Level.{Level}
 use Rattle.conversation_rules.specs.declared.level.Level.TheVariants.{Must, Should, Note}
+use Rattle.conversation_rules.specs.declared.protocol.Protocol.{Protocol}
+use Rattle.conversation_rules.specs.declared.protocol.Protocol.TheVariants.{JsonRpc, Lsp, Mcp, McpWithBatches}
 
--- a cancel: its method, and the member of its params that names a request
-pub record Cancel : Type 0 where
-  pub method : List ℕ
-  pub target : List ℕ
+-- how bad a batch is, where the rules have none (LSP has no word on them; MCP, changes of 2025-06-18)
+abbrev pub batch_level : Protocol → Option Level
+batch_level JsonRpc = None
+batch_level Lsp = Some Note
+batch_level Mcp = Some Must
+batch_level McpWithBatches = None
 
-pub record Protocol : Type 0 where
-  -- how bad a batch is, where the rules have none
-  pub batch : Option Level
-  -- how bad an id is that is null or has a fraction
-  pub odd_id : Level
-  -- whether a request with the id null may be left unanswered
-  pub may_leave_null : Bool
-  pub cancel : Option Cancel
-  -- whether a request whose cancel was seen needn't be answered any more
-  pub cancel_settles : Bool
+-- whether an error may refuse a whole batch: where the rules have none
+abbrev pub has_batches : Protocol → Bool
+has_batches JsonRpc = true
+has_batches Lsp = false
+has_batches Mcp = false
+has_batches McpWithBatches = true
 
-abbrev pub jsonrpc : Protocol
-jsonrpc = record { batch = None; odd_id = Should; may_leave_null = false; cancel = None; cancel_settles = false }
+-- how bad an id is that is null or has a fraction (JSON-RPC 4; MCP, messages)
+abbrev pub odd_id_level : Protocol → Level
+odd_id_level JsonRpc = Should
+odd_id_level Lsp = Should
+odd_id_level Mcp = Must
+odd_id_level McpWithBatches = Must
 
-abbrev pub lsp : Protocol
-lsp = record { batch = Some Note; odd_id = Should; may_leave_null = true; cancel = Some (record { method = codes "$/cancelRequest"; target = codes "id" }); cancel_settles = false }
+-- whether a request with the id null may be left unanswered
+abbrev pub may_leave_null : Protocol → Bool
+may_leave_null JsonRpc = false
+may_leave_null Lsp = true
+may_leave_null Mcp = true
+may_leave_null McpWithBatches = true
 
-abbrev pub mcp : Protocol
-mcp = record { batch = Some Must; odd_id = Must; may_leave_null = true; cancel = Some (record { method = codes "notifications/cancelled"; target = codes "requestId" }); cancel_settles = true }
+abbrev pub is_lsp : Protocol → Bool
+is_lsp JsonRpc = false
+is_lsp Lsp = true
+is_lsp Mcp = false
+is_lsp McpWithBatches = false
 
-abbrev pub mcp_with_batches : Protocol
-mcp_with_batches = record mcp { batch = None }
+-- whether it is MCP: no id is used twice, and a request whose cancel was seen needn't be answered any more
+abbrev pub is_mcp : Protocol → Bool
+is_mcp JsonRpc = false
+is_mcp Lsp = false
+is_mcp Mcp = true
+is_mcp McpWithBatches = true
+
+-- the method of a cancel
+abbrev pub cancel_method : Protocol → Option (List ℕ)
+cancel_method JsonRpc = None
+cancel_method Lsp = Some (codes "$/cancelRequest")
+cancel_method Mcp = Some (codes "notifications/cancelled")
+cancel_method McpWithBatches = Some (codes "notifications/cancelled")

@@ -1,14 +1,19 @@
 //! What the definitions say of worked rows. Each law is the contract of a function that does nothing.
 
-ghost use Rattle.std.specs.Prelude.{◌≡◌, ◌∷◌, [], List, true, false, Some, None, IfSome, codes};
+ghost use Rattle.std.specs.Prelude.{◌≡◌, ◌∷◌, [], List, ◌++◌, true, false, Some, None, IfSome, codes};
 ghost use Rattle.json.specs.Json.{array, no_items, number};
 ghost use Rattle.conversation_reading.specs.Rows.{id, message, method, outcome};
 ghost use Rattle.conversation_reading.specs.declared.entry.WrittenId.{WrittenId};
 ghost use Rattle.conversation_reading.specs.declared.entry.WrittenId.TheVariants.{Null, Text, Number};
 ghost use Rattle.conversation_rules.specs.Amounts.{same_id, is_plain};
-ghost use Rattle.conversation_rules.specs.Matching.{IsFor, takes, entry_of, whole_of, named_target, null_target, parse_error_target, batch_target};
+ghost use Rattle.content_streams.specs.declared.framing.Framing.{Framing};
+ghost use Rattle.conversation_rules.specs.Judging.{Seen, findings_of, findings_from, state_of};
+ghost use Rattle.conversation_rules.specs.declared.finding.Limits.{Limits as LimitsOf};
+ghost use Rattle.conversation_rules.specs.declared.protocol.Protocol.{Protocol as ProtocolOf};
+ghost use Rattle.conversation_rules.specs.Matching.{IsFor, takes, named_target, null_target, parse_error_target, batch_target};
 ghost use Rattle.conversation_rules.specs.Owed.{Due, unreadable_due};
-ghost use Rattle.conversation_rules.specs.Protocols.{jsonrpc, lsp, mcp};
+ghost use Rattle.conversation_rules.specs.declared.protocol.Protocol.TheVariants.{JsonRpc, Lsp, Mcp};
+ghost use Rattle.conversation_rules.specs.declared.found.Target.TheVariants.{EntryOf, WholeOf};
 ghost use Rattle.conversation_rules.specs.Rows.{request, old_request, null_request, request_without_params, must_be_answered, expected_of, single, batch};
 
 /// A single answer with an id that isn't null is for an entry that may have this id, by its value and its type; or for
@@ -18,20 +23,27 @@ pub fn answers_are_for_their_id()
         IfSome (named_target id dues) (λ target. IsFor (takes id) dues target) }
 {}
 
+/// Findings only grow at the end: nothing that is seen later takes one back.
+pub fn findings_only_grow()
+    ensures { (protocol : ProtocolOf) (framing : Framing) (limits : LimitsOf) (seen more : List Seen) →
+        findings_of protocol framing limits (seen ++ more)
+        ≡ findings_of protocol framing limits seen ++ findings_from protocol (state_of protocol framing limits seen) more }
+{}
+
 /// What is owed on an entry.
 pub fn owed_entries()
-    ensures request { must_be_answered jsonrpc (request (codes "7")) ≡ true }
+    ensures request { must_be_answered JsonRpc (request (codes "7")) ≡ true }
     ensures notification { expected_of (message (method ∷ [])) ≡ None }
     ensures answer { expected_of (message (id (codes "7") ∷ outcome ∷ [])) ≡ None }
-    ensures null_id { must_be_answered jsonrpc null_request ≡ true }
-    ensures null_id_in_lsp { must_be_answered lsp null_request ≡ false }
-    ensures null_id_in_mcp { must_be_answered mcp null_request ≡ false }
-    ensures odd_id { must_be_answered jsonrpc (request (codes "1.0")) ≡ false }
+    ensures null_id { must_be_answered JsonRpc null_request ≡ true }
+    ensures null_id_in_lsp { must_be_answered Lsp null_request ≡ false }
+    ensures null_id_in_mcp { must_be_answered Mcp null_request ≡ false }
+    ensures odd_id { must_be_answered JsonRpc (request (codes "1.0")) ≡ false }
     ensures odd_id_is_refused { expected_of (request (codes "1.0")) ≡ Some (Some Null) }
     ensures invalid { expected_of (old_request (codes "7")) ≡ Some (Some Null) }
     ensures no_object { expected_of (array no_items) ≡ Some (Some Null) }
     ensures null_params { expected_of (request_without_params (codes "7")) ≡ Some (Some (Number (codes "7"))) }
-    ensures null_params_may_be_left { must_be_answered jsonrpc (request_without_params (codes "7")) ≡ false }
+    ensures null_params_may_be_left { must_be_answered JsonRpc (request_without_params (codes "7")) ≡ false }
     ensures broken_answer { expected_of (message (outcome ∷ [])) ≡ Some None }
 {}
 
@@ -51,28 +63,28 @@ pub fn amounts()
 /// A single answer is for a single entry first, and for the oldest one.
 pub fn single_answers()
     ensures oldest { named_target (Number (codes "7"))
-        (single (request (codes "7")) ∷ single (request (codes "7")) ∷ []) ≡ Some (entry_of 0 0) }
+        (single (request (codes "7")) ∷ single (request (codes "7")) ∷ []) ≡ Some (EntryOf 0 0) }
     ensures request_first { named_target (Number (codes "7"))
-        (single (old_request (codes "7")) ∷ single (request (codes "7")) ∷ []) ≡ Some (entry_of 1 0) }
+        (single (old_request (codes "7")) ∷ single (request (codes "7")) ∷ []) ≡ Some (EntryOf 1 0) }
     ensures own_id { named_target (Number (codes "7")) (single (old_request (codes "7")) ∷ [])
-        ≡ Some (entry_of 0 0) }
+        ≡ Some (EntryOf 0 0) }
     ensures batch_last { named_target (Number (codes "7"))
         (batch (request (codes "8")) (request (codes "7")) ∷ single (request (codes "7")) ∷ [])
-        ≡ Some (entry_of 1 0) }
+        ≡ Some (EntryOf 1 0) }
     ensures in_a_batch { named_target (Number (codes "7"))
-        (batch (request (codes "8")) (request (codes "7")) ∷ []) ≡ Some (entry_of 0 1) }
+        (batch (request (codes "8")) (request (codes "7")) ∷ []) ≡ Some (EntryOf 0 1) }
     ensures another_type { named_target (Text (codes "7")) (single (request (codes "7")) ∷ []) ≡ None }
 {}
 
 /// An answer with the id null is for what its code says.
 pub fn null_answers()
     ensures invalid { null_target true false
-        (single (request (codes "7")) ∷ single (number (codes "1")) ∷ []) ≡ Some (entry_of 1 0) }
+        (single (request (codes "7")) ∷ single (number (codes "1")) ∷ []) ≡ Some (EntryOf 1 0) }
     ensures request_is_named { null_target false false (single (request (codes "7")) ∷ []) ≡ None }
-    ensures unreadable { parse_error_target false (unreadable_due ∷ []) ≡ Some (whole_of 0) }
+    ensures unreadable { parse_error_target false (unreadable_due 1 0 ∷ []) ≡ Some (WholeOf 0) }
     ensures good_json { parse_error_target false (single (number (codes "1")) ∷ []) ≡ None }
     ensures refused_batch { null_target true true
-        (batch (request (codes "7")) (request (codes "8")) ∷ []) ≡ Some (whole_of 0) }
+        (batch (request (codes "7")) (request (codes "8")) ∷ []) ≡ Some (WholeOf 0) }
     ensures batches_are_known { null_target true false
         (batch (request (codes "7")) (request (codes "8")) ∷ []) ≡ None }
 {}

@@ -1,5 +1,5 @@
 /// How bad a finding is.
-#[derive(Debug, Clone, Copy)]
+#[derive(Debug, Clone, Copy, PartialEq, Eq)]
 pub enum Level {
     /// The standard forbids it.
     Must,

@@ -1,12 +1,27 @@
-//! What the sides of a conversation owe one another, and which answer is for what, as definitions and laws. There is no code
-//! here that runs.
+//! The rules of a conversation, as definitions and laws: what was seen, what the sides owe one another, which answer is
+//! for what, and what is found. There is no code here that runs.
 #![tactic(auto)]
 
+mod finding;
+mod found;
 mod law;
 mod level;
+mod protocol;
+mod reply;
+mod side;
+mod worked;
 
+pub use finding::{Finding, Limits, Message, Rule};
+pub use found::{Fit, Found, Target, Unanswered};
 pub use law::{
-    amounts, answers_are_for_their_id, answers_of_a_batch, null_answers, owed_entries,
-    single_answers,
+    amounts, answers_are_for_their_id, answers_of_a_batch, findings_only_grow, null_answers,
+    owed_entries, single_answers,
 };
 pub use level::Level;
+pub use protocol::Protocol;
+pub use reply::{Reply, Sight, Stray};
+pub use side::Side;
+pub use worked::{
+    answers_in_arrays, answers_that_are_owed, answers_that_may_come, cancels, ends_of_sides,
+    good_json, ids_of_requests, names_and_codes,
+};

@@ -1,0 +1,40 @@
+-- What is kept of a side.
+use Rattle.std.specs.Prelude.{ℕ, List, [], Bool, true, false, ◌∷◌}
+use Rattle.conversation_rules.specs.Owed.{Due}
+use Rattle.conversation_rules.specs.Used.{Used, none_used}
+use Rattle.conversation_rules.specs.declared.finding.Finding.{Finding}
+use Rattle.conversation_rules.specs.declared.finding.Message.{Message}
+use Rattle.conversation_rules.specs.declared.finding.Rule.{Rule}
+use Rattle.conversation_rules.specs.declared.level.Level.{Level}
+
+pub record Speaker : Type 0 where
+  -- how many contents it has
+  pub count : ℕ
+  -- what the other side owes on them, the oldest first
+  pub owed : List Due
+  -- the ids that its requests had, and those of `initialize`
+  pub used : Used
+  pub initialize : Used
+  -- whether it sent the notification `exit` of LSP
+  pub has_exited : Bool
+  -- whether a content of it couldn't be read
+  pub has_unreadable : Bool
+  -- whether the judge reads its stream no further
+  pub is_over : Bool
+  pub has_ended : Bool
+
+abbrev pub new_speaker : ℕ → Speaker
+new_speaker most = record { count = 0; owed = []; used = none_used most; initialize = none_used most; has_exited = false; has_unreadable = false; is_over = false; has_ended = false }
+
+-- the side that is seen, and the other one
+pub record Pair : Type 0 where
+  pub own : Speaker
+  pub other : Speaker
+
+-- a finding of an entry of a content, or of the whole of it
+abbrev pub found : Message → ℕ → Rule → Level → Finding
+found message entry rule level = record { side = message.side; rule = rule; level = level; number = message.number; offset = message.offset; entry = entry }
+
+abbrev pub found_if : Bool → Finding → List Finding
+found_if true finding = finding ∷ []
+found_if false finding = []
