@@ -1,0 +1,5 @@
+pub mod Having
+pub mod Numbers
+pub mod Running
+pub mod Steps
+pub mod Values
