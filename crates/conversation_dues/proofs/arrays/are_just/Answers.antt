@@ -1,0 +1,26 @@
+use Rattle.std.proofs.Common.{◌∙◌, ap, subst, sym, map, true, false}
+use Rattle.std.specs.Prelude.{not}
+use Rattle.std.specs.List.{slice_get}
+use Rattle.conversation_dues.specs.Left.{choice, all_taken, ids_of, IsTaken, expects_any}
+use Rattle.conversation_dues.specs.declared.arrays.Which.TheVariants.{Expected}
+use Rattle.conversation_dues.proofs.Left.{not_these, if_none_left, none_taken, some_taken, any-left}
+use Rattle.conversation_dues.proofs.arrays.are_just.Goals as goal
+
+pub returns-then-not-take_all : goal.returns-then-not-take_all
+returns-then-not-take_all c =
+    let entries = c.args.entries.now in
+    let ids = c.args.ids.now in
+    let at = slice_get entries in
+    not_these ids entries
+    (none_taken at c.take_all.new.places.items (all_taken (choice Expected) (ids_of Expected ids) entries)
+    (subst (λ all. IsTaken at c.take_all.new.places.items all (all_taken (choice Expected) (ids_of Expected ids) entries)) c.if-not-take_all.true (c.take_all.ensures entries c.in_ok-places.ensures)))
+
+pub returns : goal.returns
+returns c =
+    let entries = c.args.entries.now in
+    let ids = c.args.ids.now in
+    let at = slice_get entries in
+    let all = some_taken at c.take_all.new.places.items (all_taken (choice Expected) (ids_of Expected ids) entries)
+    (subst (λ all. IsTaken at c.take_all.new.places.items all (all_taken (choice Expected) (ids_of Expected ids) entries)) c.if-not-take_all.false (c.take_all.ensures entries c.in_ok-places.ensures)) in
+    ap not (c.any_expects.ensures ∙ any-left expects_any at c.as_slice.result.now all.0 (ap (map at) c.as_slice.ensures.value ∙ all.1.1))
+    ∙ if_none_left ids entries all.0 all.1.0

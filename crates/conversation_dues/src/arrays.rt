@@ -1,0 +1,437 @@
+ghost use Rattle.std.specs.Prelude.{◌≡◌, ◌++◌, ◌∷◌, [], List, Option, Some, false, position, remove, drop, count_by, slice_get, is_some, option_map, option_and_then, IfOk, OnOk};
+ghost use Rattle.std.specs.List.{list_any};
+ghost use Rattle.std.specs.Option.{option_map_or, is_none};
+ghost use Rattle.conversation_reading.specs.declared.entry.WrittenId.{WrittenId};
+ghost use Rattle.conversation_rules.specs.Dues.{ids_read, array_target, array_fits, fits_of, fit_of, in_order, first_or_none};
+ghost use Rattle.conversation_rules.specs.Matching.{taken_by, left_by, nulls_last, leaves_no_request, same_ids, is_just, can_be_answered};
+ghost use Rattle.conversation_rules.specs.Owed.{Owed as OwedValue, is_expected, may_have};
+ghost use Rattle.conversation_dues.specs.Left.{IsLeftOf, IsTaken, all_taken, choice, ids_of, is_of, expects_any, expected_of, left_after, left_of};
+ghost use Rattle.conversation_dues.specs.Ways.{fits};
+
+use crate::due::Due;
+use crate::owed::{Owed, is_null};
+use crate::ways::Way;
+use conversation_reading::WrittenId;
+use conversation_rules::Fit;
+use std::alloc::{AllocError, Global};
+
+/// Which of the answers in an array take entries, and of which.
+#[derive(Clone, Copy)]
+pub(crate) enum Which {
+    /// Each one takes an entry that is expected to have its id.
+    Expected,
+    /// Those whose id isn't null take what fits best.
+    Named,
+    /// Those whose id is null do.
+    Nulls,
+}
+
+impl Which {
+    fn is_of(self, id: &WrittenId) -> bool
+        ensures { result ≡ is_of self id.now }
+    {
+        match self {
+            Which::Expected => true,
+            Which::Named => !is_null(id),
+            Which::Nulls => is_null(id),
+        }
+    }
+}
+
+/// The place of the batch that an array of answers with these ids is for: the oldest from which just these are expected, else
+/// the oldest whose answer they can be.
+pub(crate) fn array_target(
+    alloc: Global,
+    dues: &[Due],
+    ids: &[Option<WrittenId>],
+) -> Result<Option<usize>, AllocError>
+    ensures { IfOk result (λ target. target ≡ array_target ids.now dues.now) }
+{
+    if !has_named(ids) {
+        return Ok(None);
+    }
+    match just_these(alloc, dues, ids)? {
+        Some(content) => Ok(Some(content)),
+        None => answerable(alloc, dues, ids),
+    }
+}
+
+/// Whether any id can be read.
+fn has_named(ids: &[Option<WrittenId>]) -> bool
+    ensures { result ≡ list_any is_some ids.now }
+{
+    ids.iter().any(|id| id.is_some())
+}
+
+/// The oldest batch from which just these ids are expected.
+fn just_these(
+    alloc: Global,
+    dues: &[Due],
+    ids: &[Option<WrittenId>],
+) -> Result<Option<usize>, AllocError>
+    ensures { IfOk result (λ target. target ≡ position (is_just (ids_read ids.now)) dues.now) }
+{
+    for (content, due) in dues.iter().enumerate() {
+        if is_just(alloc, due, ids)? {
+            return Ok(Some(content));
+        }
+    }
+    Ok(None)
+}
+
+/// The oldest batch whose answer they can be.
+fn answerable(
+    alloc: Global,
+    dues: &[Due],
+    ids: &[Option<WrittenId>],
+) -> Result<Option<usize>, AllocError>
+    ensures { IfOk result (λ target. target ≡
+        position (can_be_answered (ids_read ids.now) (count_by is_none ids.now)) dues.now) }
+{
+    let unnamed = ids.iter().filter(|id| id.is_none()).count();
+    for (content, due) in dues.iter().enumerate() {
+        if can_be_answered(alloc, due, ids, unnamed)? {
+            return Ok(Some(content));
+        }
+    }
+    Ok(None)
+}
+
+/// Whether just these ids are expected from a batch, each as often.
+fn is_just(alloc: Global, due: &Due, ids: &[Option<WrittenId>]) -> Result<bool, AllocError>
+    ensures { IfOk result (λ b. b ≡ is_just (ids_read ids.now) due.now) }
+{
+    if due.is_batch() {
+        are_just(alloc, due.entries(), ids)
+    } else {
+        Ok(false)
+    }
+}
+
+fn are_just(alloc: Global, entries: &[Owed], ids: &[Option<WrittenId>]) -> Result<bool, AllocError>
+    ensures { IfOk result (λ b. b ≡ same_ids (ids_read ids.now) (expected_of entries.now)) }
+{
+    let mut places = all_places(alloc, entries)?;
+    if !take_all(Which::Expected, ids, entries, &mut places) {
+        return Ok(false);
+    }
+    Ok(!any_expects(entries, places.as_slice()))
+}
+
+/// Whether an answer is expected of any entry that is left.
+fn any_expects(entries: &[Owed], places: &[usize]) -> bool
+    ensures { result ≡ list_any (λ place. option_map_or expects_any (slice_get entries.now place) false) places.now }
+{
+    places.iter().any(|place| expects_at(entries, *place))
+}
+
+fn expects_at(entries: &[Owed], place: usize) -> bool
+    ensures { result ≡ option_map_or expects_any (slice_get entries.now place) false }
+{
+    match entries.get(place) {
+        Some(owed) => owed.expects_any(),
+        None => false,
+    }
+}
+
+/// Whether answers with these ids, and so many whose id can't be read, can be the answer of a batch.
+fn can_be_answered(
+    alloc: Global,
+    due: &Due,
+    ids: &[Option<WrittenId>],
+    unnamed: usize,
+) -> Result<bool, AllocError>
+    ensures { IfOk result (λ b. b ≡ can_be_answered (ids_read ids.now) unnamed due.now) }
+{
+    if due.is_batch() {
+        leave_no_request(alloc, due.entries(), ids, unnamed)
+    } else {
+        Ok(false)
+    }
+}
+
+fn leave_no_request(
+    alloc: Global,
+    entries: &[Owed],
+    ids: &[Option<WrittenId>],
+    unnamed: usize,
+) -> Result<bool, AllocError>
+    ensures { IfOk result (λ b. b ≡ option_map_or (leaves_no_request unnamed)
+        (left_by (nulls_last (ids_read ids.now)) entries.now) false) }
+{
+    let mut places = all_places(alloc, entries)?;
+    if !take_all(Which::Named, ids, entries, &mut places) {
+        return Ok(false);
+    }
+    if !take_all(Which::Nulls, ids, entries, &mut places) {
+        return Ok(false);
+    }
+    Ok(must_count(entries, places.as_slice()) <= unnamed)
+}
+
+/// How many of the entries that are left must be answered.
+fn must_count(entries: &[Owed], places: &[usize]) -> usize
+    ensures { result ≡ count_by (λ place. option_map_or (λ owed. owed.must) (slice_get entries.now place) false) places.now }
+{
+    places
+        .iter()
+        .filter(|place| must_at(entries, **place))
+        .count()
+}
+
+fn must_at(entries: &[Owed], place: usize) -> bool
+    ensures { result ≡ option_map_or (λ owed. owed.must) (slice_get entries.now place) false }
+{
+    match entries.get(place) {
+        Some(owed) => owed.must(),
+        None => false,
+    }
+}
+
+/// The places of all entries.
+fn all_places(alloc: Global, entries: &[Owed]) -> Result<Vec<usize>, AllocError>
+    ensures { IfOk result (λ places. IsLeftOf (slice_get entries.now) places.items entries.now) }
+{
+    let mut places = Vec::new(alloc);
+    for (place, _) in entries.iter().enumerate() {
+        places.push(place)?;
+    }
+    Ok(places)
+}
+
+/// Takes an entry for each of these ids. Answers whether each has one.
+fn take_all(
+    which: Which,
+    ids: &[Option<WrittenId>],
+    entries: &[Owed],
+    places: &mut Vec<usize>,
+) -> bool
+    ensures { (left : List OwedValue) → IsLeftOf (slice_get entries.now) places.old.items left →
+        IsTaken (slice_get entries.now) places.new.items result (all_taken (choice which) (ids_of which ids.now) left) }
+{
+    for id in ids {
+        if !take_one(which, id, entries, places) {
+            return false;
+        }
+    }
+    true
+}
+
+/// Takes an entry for this id, if it is one of these. Answers whether it has one.
+fn take_one(which: Which, id: &Option<WrittenId>, entries: &[Owed], places: &mut Vec<usize>) -> bool
+    ensures { (left : List OwedValue) → IsLeftOf (slice_get entries.now) places.old.items left →
+        IsTaken (slice_get entries.now) places.new.items result (all_taken (choice which) (ids_of which (id.now ∷ [])) left) }
+{
+    match id {
+        Some(id) => !which.is_of(id) || take_chosen(which, id, entries, places),
+        None => true,
+    }
+}
+
+fn take_chosen(which: Which, id: &WrittenId, entries: &[Owed], places: &mut Vec<usize>) -> bool
+    ensures { (left : List OwedValue) → IsLeftOf (slice_get entries.now) places.old.items left →
+        IsTaken (slice_get entries.now) places.new.items result (all_taken (choice which) (id.now ∷ []) left) }
+{
+    match choice(which, id, entries, places.as_slice()) {
+        Some(index) => {
+            drop(take_place(places, index));
+            true
+        }
+        None => false,
+    }
+}
+
+/// Takes a place out, and answers it.
+fn take_place(places: &mut Vec<usize>, index: usize) -> Option<usize>
+    ensures places { places.new.items ≡ remove places.old.items index }
+    ensures place { result ≡ slice_get places.old.items index }
+{
+    if index < places.len() {
+        Some(places.remove(index))
+    } else {
+        None
+    }
+}
+
+/// Which of the places that are left an answer with this id takes.
+fn choice(which: Which, id: &WrittenId, entries: &[Owed], places: &[usize]) -> Option<usize>
+    ensures { (left : List OwedValue) → IsLeftOf (slice_get entries.now) places.now left →
+        result ≡ choice which id.now left }
+{
+    match which {
+        Which::Expected => place_of(entries, places, Way::Expects, id),
+        Which::Named | Which::Nulls => taken_by(id, entries, places),
+    }
+}
+
+fn taken_by(id: &WrittenId, entries: &[Owed], places: &[usize]) -> Option<usize>
+    ensures { (left : List OwedValue) → IsLeftOf (slice_get entries.now) places.now left →
+        result ≡ taken_by id.now left }
+{
+    match place_of(entries, places, Way::MustHave, id) {
+        Some(index) => Some(index),
+        None => taken_rather(id, entries, places),
+    }
+}
+
+/// One that is expected to have the id, rather than one that may have it.
+fn taken_rather(id: &WrittenId, entries: &[Owed], places: &[usize]) -> Option<usize>
+    ensures { (left : List OwedValue) → IsLeftOf (slice_get entries.now) places.now left →
+        result ≡ option_map_or Some (position (is_expected id.now) left) (position (may_have id.now) left) }
+{
+    match place_of(entries, places, Way::Expects, id) {
+        Some(index) => Some(index),
+        None => place_of(entries, places, Way::MayHave, id),
+    }
+}
+
+/// Which of these places is the first whose entry fits.
+fn place_of(entries: &[Owed], places: &[usize], way: Way, id: &WrittenId) -> Option<usize>
+    ensures { result ≡ position (λ place. option_map_or (fits way id.now) (slice_get entries.now place) false) places.now }
+{
+    places
+        .iter()
+        .position(|place| fits_at(entries, *place, way, id))
+}
+
+fn fits_at(entries: &[Owed], place: usize, way: Way, id: &WrittenId) -> bool
+    ensures { result ≡ option_map_or (fits way id.now) (slice_get entries.now place) false }
+{
+    match entries.get(place) {
+        Some(owed) => way.fits(id, owed),
+        None => false,
+    }
+}
+
+/// What is told of the entries that the answers of an array take, in the order of the answers.
+pub(crate) fn array_fits(
+    alloc: Global,
+    due: &Due,
+    ids: &[Option<WrittenId>],
+) -> Result<Vec<Option<Fit>>, AllocError>
+    ensures { IfOk result (λ fits. fits.items ≡ array_fits ids.now due.now) }
+{
+    let mut places = all_places(alloc, due.entries())?;
+    let mut named = Vec::new(alloc);
+    put_fits(Which::Named, ids, due, &mut places, &mut named)?;
+    let mut nulls = Vec::new(alloc);
+    put_fits(Which::Nulls, ids, due, &mut places, &mut nulls)?;
+    in_order(alloc, ids, named.as_slice(), nulls.as_slice())
+}
+
+/// Takes an entry for each of these ids that has one, and puts behind the others what is told of it.
+fn put_fits(
+    which: Which,
+    ids: &[Option<WrittenId>],
+    due: &Due,
+    places: &mut Vec<usize>,
+    fits: &mut Vec<Option<Fit>>,
+) -> Result<(), AllocError>
+    ensures { OnOk result ((left : List OwedValue) → IsLeftOf (slice_get due.now.entries) places.old.items left →
+        IsLeftOf (slice_get due.now.entries) places.new.items (left_of (ids_of which ids.now) left)
+        × (fits.new.items ≡ fits.old.items ++ fits_of due.now (ids_of which ids.now) left)) }
+{
+    for id in ids {
+        put_fit(which, id, due, places, fits)?;
+    }
+    Ok(())
+}
+
+fn put_fit(
+    which: Which,
+    id: &Option<WrittenId>,
+    due: &Due,
+    places: &mut Vec<usize>,
+    fits: &mut Vec<Option<Fit>>,
+) -> Result<(), AllocError>
+    ensures { OnOk result ((left : List OwedValue) → IsLeftOf (slice_get due.now.entries) places.old.items left →
+        IsLeftOf (slice_get due.now.entries) places.new.items (left_of (ids_of which (id.now ∷ [])) left)
+        × (fits.new.items ≡ fits.old.items ++ fits_of due.now (ids_of which (id.now ∷ [])) left)) }
+{
+    match id {
+        Some(id) => {
+            if !which.is_of(id) {
+                return Ok(());
+            }
+            let fit = fit_taken(id, due, places);
+            fits.push(fit)?;
+            Ok(())
+        }
+        None => Ok(()),
+    }
+}
+
+/// Takes the entry that an answer with this id takes of those that are left, and tells of it.
+fn fit_taken(id: &WrittenId, due: &Due, places: &mut Vec<usize>) -> Option<Fit>
+    ensures left { (left : List OwedValue) → IsLeftOf (slice_get due.now.entries) places.old.items left →
+        IsLeftOf (slice_get due.now.entries) places.new.items (left_after (taken_by id.now left) left) }
+    ensures fit { (left : List OwedValue) → IsLeftOf (slice_get due.now.entries) places.old.items left →
+        result ≡ option_and_then (λ place. option_map (fit_of due.now) (slice_get left place)) (taken_by id.now left) }
+{
+    match taken_by(id, due.entries(), places.as_slice()) {
+        Some(index) => match take_place(places, index) {
+            Some(place) => due.fit(place),
+            None => None,
+        },
+        None => None,
+    }
+}
+
+/// Puts what is told of the ids that aren't null, and of those that are, into the order of the answers.
+fn in_order(
+    alloc: Global,
+    ids: &[Option<WrittenId>],
+    named: &[Option<Fit>],
+    nulls: &[Option<Fit>],
+) -> Result<Vec<Option<Fit>>, AllocError>
+    ensures { IfOk result (λ fits. fits.items ≡ in_order ids.now named.now nulls.now) }
+{
+    let mut fits = Vec::new(alloc);
+    let (mut left_named, mut left_nulls) = (named, nulls);
+    for id in ids {
+        let (fit, next_named, next_nulls) = next_fit(id, left_named, left_nulls);
+        fits.push(fit)?;
+        left_named = next_named;
+        left_nulls = next_nulls;
+    }
+    Ok(fits)
+}
+
+/// What is told of this answer, and of the others.
+fn next_fit<'a>(
+    id: &Option<WrittenId>,
+    named: &'a [Option<Fit>],
+    nulls: &'a [Option<Fit>],
+) -> (Option<Fit>, &'a [Option<Fit>], &'a [Option<Fit>])
+    ensures { (ids : List (Option WrittenId)) → in_order (id.now ∷ ids) named.now nulls.now ≡
+        result.0 ∷ in_order ids result.1.now result.2.now }
+{
+    match id {
+        Some(id) => {
+            if is_null(id) {
+                (first_or_none(nulls), named, behind_first(nulls))
+            } else {
+                (first_or_none(named), behind_first(named), nulls)
+            }
+        }
+        None => (None, named, nulls),
+    }
+}
+
+fn first_or_none(fits: &[Option<Fit>]) -> Option<Fit>
+    ensures { result ≡ first_or_none fits.now }
+{
+    match fits.first() {
+        Some(fit) => *fit,
+        None => None,
+    }
+}
+
+fn behind_first(fits: &[Option<Fit>]) -> &[Option<Fit>]
+    ensures { result.now ≡ drop 1 fits.now }
+{
+    match fits.split_first() {
+        Some((_, rest)) => rest,
+        None => fits,
+    }
+}
