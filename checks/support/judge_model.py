@@ -13,6 +13,8 @@ SIDES = ("client", "server")
 OTHER = {"client": "server", "server": "client"}
 MOST_CONTENT = 16_777_216
 MOST_IDS = 1_000_000
+MOST_ODD = 1_000  # of numbers that aren't whole, or whose size is larger
+SIZES = range(-(2**64) + 1, 2**64)
 MOST_WORDS = 200
 PARSE_ERROR, INVALID_REQUEST, CANCELLED = -32700, -32600, -32800
 
@@ -86,7 +88,7 @@ class Used:
     """The ids that a side's requests had: whole numbers as runs, and each other one."""
 
     def __init__(self, most: int) -> None:
-        self.most, self.ids, self.wholes, self.runs = most, set[Id](), set[int](), 0
+        self.most, self.ids, self.wholes, self.runs, self.odd = most, set[Id](), set[int](), 0, 0
         self.is_full = False
 
     def __contains__(self, id_: Id) -> bool:
@@ -96,12 +98,14 @@ class Used:
         """Keeps an id, and says whether this is the first for which there is no room."""
         if id_ in self.ids or id_ is None or self.is_full:
             return False
-        whole = id_.within(WHOLE) if isinstance(id_, Decimal) else None
+        whole = id_.within(SIZES) if isinstance(id_, Decimal) else None
+        is_odd = whole is None and isinstance(id_, Decimal)
         more = 1 if whole is None else 1 - (whole - 1 in self.wholes) - (whole + 1 in self.wholes)
-        if self.runs + more > self.most:
+        if self.runs + more > self.most or (is_odd and self.odd == MOST_ODD):
             self.is_full = True
             return True
         self.runs += more
+        self.odd += is_odd
         self.ids.add(id_)
         if whole is not None:
             self.wholes.add(whole)
@@ -134,6 +138,7 @@ class Answer(NamedTuple):
     entry: Entry
     place: Place
     words: str
+    is_uncalled: bool  # it says that its request was cancelled, where no cancel of it was seen before this content
 
 
 class Judge:
@@ -231,7 +236,7 @@ class Judge:
             where = place._replace(entry=at if unit.is_array else 0)
             self.take_entry(side, entry, where, words, due)
             if entry.is_answer:
-                answers.append(Answer(entry, where, words))
+                answers.append(Answer(entry, where, words, self.is_uncalled(side, entry)))
         if not due.entries and not due.has_huge:
             self.settle_whole(OTHER[side], due)
         if unit.is_array:
@@ -469,13 +474,16 @@ class Judge:
         if due in self.sides[side].dues:
             self.sides[side].dues.remove(due)
 
+    def is_uncalled(self, side: str, entry: Entry) -> bool:
+        code = entry.code.within(WHOLE) if entry.code is not None else None
+        is_cancelled = any(it.is_cancelled for it in self.owed_with(side, entry.id))
+        return self.rules.name == "lsp" and code == CANCELLED and not is_cancelled
+
     def take_cancelled(self, side: str, answer: Answer, owed: Optional[Owed]) -> None:
         """What an answer breaks by a cancel, or by there being none."""
         if owed is None or not owed.is_request or answer.entry.kind != "answer":
             return
-        is_cancelled = any(it.is_cancelled for it in self.owed_with(side, answer.entry.id))
-        code = answer.entry.code.within(WHOLE) if answer.entry.code is not None else None
-        if self.rules.name == "lsp" and code == CANCELLED and not is_cancelled:
+        if answer.is_uncalled:
             level = NOTE if self.sides[OTHER[side]].has_unreadable else self.or_note(SHOULD)
             self.find(side, "cancelled-code", level, answer.place, answer.words)
         if self.rules.cancel_settles and owed.is_cancelled:

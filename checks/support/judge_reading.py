@@ -8,9 +8,8 @@ from typing import Any, Iterator, NamedTuple, Optional
 
 from support import connection_reading, reading
 from support.connection_reading import Members, Number
-from support.reading import ABSENT, DEPTH, HEAD, WHOLE
+from support.reading import ABSENT, DEPTH, WHOLE
 
-LONG_LENGTH = re.compile(rb"^content-length:[ \t]*[0-9]{11,}[ \t]*\r$", re.I | re.M)
 NUMBER = re.compile(r"(-?)([0-9]+)(?:\.([0-9]+))?(?:[eE]([+-]?[0-9]+))?")
 BRACKETS = {"[": "]", "{": "}"}
 
@@ -83,9 +82,9 @@ class Stream:
         return None, 0
 
     def is_beyond(self, fault: str) -> bool:
-        """Whether a fault is a limit of the judge's."""
-        is_long = fault == "BadLength" and LONG_LENGTH.search(self.rest[:HEAD]) is not None
-        return is_long or fault in ("TooLarge", "HeadTooLong")
+        """Whether a fault is a limit of the judge's, or may be one: a length of more than 10 digits isn't told from one
+        that is no number."""
+        return fault in ("BadLength", "TooLarge", "HeadTooLong")
 
     def closed(self) -> Optional[Content]:
         """What the close leaves: a line without its LF, or a frame that isn't whole."""

@@ -237,8 +237,8 @@ WRONGS = (
         "isinstance(code, Number) and decimal_of(code.text).is_whole",
         'isinstance(code, Number) and "." not in code.text',
     ),
-    Wrong("a length of 11 digits is a fault", "judge_reading", "[0-9]{11,}", "[0-9]{12,}"),
-    Wrong("a long head is a fault", "judge_reading", 'fault in ("TooLarge", "HeadTooLong")', 'fault in ("TooLarge",)'),
+    Wrong("a length of 11 digits is a fault", "judge_reading", 'fault in ("BadLength", "TooLarge",', 'fault in ("TooLarge",'),
+    Wrong("a long head is a fault", "judge_reading", '"TooLarge", "HeadTooLong")', '"TooLarge")'),
     Wrong("a blank last line is a content", "judge_reading", "return None if is_blank else", "return"),
     Wrong(
         "a line may be one shorter",
