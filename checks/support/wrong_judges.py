@@ -237,7 +237,12 @@ WRONGS = (
         "isinstance(code, Number) and decimal_of(code.text).is_whole",
         'isinstance(code, Number) and "." not in code.text',
     ),
-    Wrong("a length of 11 digits is a fault", "judge_reading", 'fault in ("BadLength", "TooLarge",', 'fault in ("TooLarge",'),
+    Wrong(
+        "a length of 11 digits is a fault",
+        "judge_reading",
+        'fault in ("BadLength", "TooLarge",',
+        'fault in ("TooLarge",',
+    ),
     Wrong("a long head is a fault", "judge_reading", '"TooLarge", "HeadTooLong")', '"TooLarge")'),
     Wrong("a blank last line is a content", "judge_reading", "return None if is_blank else", "return"),
     Wrong(
