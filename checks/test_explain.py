@@ -467,7 +467,11 @@ def test_help_tells_of_each_end(row: tuple[str, str]) -> None:
 
 
 @pytest.mark.parametrize(
-    "text", named(("must be blocking", "CR LF is a content", "as Long. Frames have no such limit", "--explain"), str)
+    "text",
+    named(
+        ("must be blocking", "CR LF is a content", "as Long; serve --lines and frames have no such limit", "--explain"),
+        str,
+    ),
 )
 def test_help_says(text: str) -> None:
     told = ran.run(["--help"])[1].decode()
