@@ -30,7 +30,7 @@ THERE_AND_BACK = ("a request", "one after 5 ms", "8 MB, unknown method", *LONG)
 THERE_AND_BACK_WITH_CALLS = ("a call back", "a cancel", "a reply of 8 MB", "a param of 8 MB")
 HOSTED = ("requests", "requests with blanks", "batches of 100", "open calls")
 HOSTED_THERE_AND_BACK = ("a request", "a call back", "a cancel", "a param of 8 MB", *LONG)
-HOSTED_WHOLE = (*HOVERS, *LONG, "adds", "adds with blanks", "cancels")
+HOSTED_WHOLE = (*HOVERS, *LONG, "adds", "adds with blanks", "adds in batches", "cancels")
 HOSTED_MEMORY = ("a small request", "an unknown method", "a notification")
 
 # A request with small params and its answer ask for memory so often at most, where nothing but reading and writing is
@@ -38,7 +38,7 @@ HOSTED_MEMORY = ("a small request", "an unknown method", "a notification")
 MOST_REQUESTS = 8
 
 count = ran.Count()
-BENCH, HOST = (count.built(it, ran.gates_program(it)) for it in ("peer_bench", "connection_bench"))
+BENCH, HOST = (count.built(it, ran.gates_program(it)) for it in ("peer_bench", "script_host"))
 
 
 def check_work(words, name, number, outcome):

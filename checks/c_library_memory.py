@@ -2,8 +2,9 @@
 
 What the C library does with memory. Two million calls come to a connection, and the most memory that is resident is the
 same as after the first 100,000; where a host closes no notification it is seen to grow. The longest batch of invalid
-entries takes at most 160 bytes for each of its bytes, and leaves 64 KiB at most. Under valgrind, where it is installed, rows, random sessions and all examples have no error and lose nothing. The same by AddressSanitizer, where
-clang has it."""
+entries takes at most 160 bytes for each of its bytes, one that is too long 3. It leaves 64 KiB at most, and so does a
+message of 4 MB in each spelling. Under valgrind, where it is installed, rows, random sessions and all examples have no
+error and lose nothing. The same by AddressSanitizer, where clang has it."""
 import argparse
 import os
 import re
@@ -37,6 +38,10 @@ CALLS, FEW_CALLS = 2_000_000, 200_000
 FLAT, GROWN = 512, 2_000
 # The longest content, and for each byte of a batch of invalid entries so many bytes at most; so many are held in the end.
 LONGEST, DEAREST, LEFT = 16_777_216, 160, 65_536
+# The same of a batch that is too long: it is held as its bytes came, in room that may grow to the double, and no more.
+OF_CONTENT = 3
+# A message of so many bytes leaves no more than those batches.
+LARGE = 4_000_000
 SESSIONS, FEW = 150, 25
 SANITIZED = [
     "clang",
@@ -77,6 +82,20 @@ def check_invalid_batch(count: ran.Count, library: str, room: str) -> None:
         length, most, left = map(int, got[1].split()) if got[0] == 0 else (1, 1 << 60, 1 << 60)
         print(f"a batch of {length:,} bytes in {framing}: {most / length:.0f} for each, {left:,} left", flush=True)
         count.check(f"a batch of invalid entries, in {framing}", most <= DEAREST * length and left <= LEFT, f"{got}")
+        got = said([program, str(LONGEST), *([framing] if framing == "frames" else []), "limited"])
+        length, most, left = map(int, got[1].split()) if got[0] == 0 else (1, 1 << 60, 1 << 60)
+        print(f"the same, where it is too long: {most / length:.1f} for each, {left:,} left", flush=True)
+        count.check(f"a batch that is too long, in {framing}", most <= OF_CONTENT * length and left <= LEFT, f"{got}")
+
+
+def check_large_message(count: ran.Count, library: str, room: str) -> None:
+    """Each spelling is read another way: as it came, once it is made compact, and by its tokens."""
+    program = build(count, library, room, f"{SUPPORT}/large_message.c", "static")
+    for spelling in ("compact", "blanks", "escapes"):
+        got = said([program, spelling, str(LARGE)])
+        length, left = map(int, got[1].split()) if got[0] == 0 else (0, 1 << 60)
+        print(f"a message of {length:,} bytes, {spelling}: {left:,} left", flush=True)
+        count.check(f"what a large message took is given back: {spelling}", length >= LARGE and left <= LEFT, f"{got}")
 
 
 def sessions(cases: int) -> list[rows.Row]:
@@ -163,6 +182,7 @@ def main(words: list[str]) -> None:
     with tempfile.TemporaryDirectory(prefix="c-library-") as room:
         check_steady(count, library, room)
         check_invalid_batch(count, library, room)
+        check_large_message(count, library, room)
     count.end()
 
 

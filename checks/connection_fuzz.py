@@ -25,7 +25,7 @@ def words_of(words: Iterable[str]) -> argparse.Namespace:
     parser = argparse.ArgumentParser(usage=__doc__.partition("\n\n")[0].removeprefix("usage: "))
     parser.add_argument("--cases", type=int)
     parser.add_argument("--seed", type=int, default=1)
-    parser.add_argument("--program", default=ran.gates_program("connection_bench"))
+    parser.add_argument("--program", default=ran.gates_program("script_host"))
     parser.add_argument("--how", default="script", help="the program's word (play_script.c knows `together` too)")
     parser.add_argument("--replay")
     return parser.parse_args([*words])
@@ -46,7 +46,7 @@ def main(words: list[str]) -> None:
         player = partial(fuzzing.play_by_program, options.program, how=options.how)
         again += f" --program {options.program} --how {options.how}"
     else:
-        print("SKIPPED: sessions by connection_bench, which isn't built; the model is tried by itself", flush=True)
+        print("SKIPPED: sessions by script_host, which isn't built; the model is tried by itself", flush=True)
     if options.replay:
         with open(options.replay, encoding="ascii") as it:
             why = fuzzing.breaks(player, script.read(it.read()))

@@ -1,4 +1,4 @@
-"""Refuses each request for memory of the proved program `connection_bench` in turn, one alone and then all from it on.
+"""Refuses each request for memory of the proved program `script_host` in turn, one alone and then all from it on.
 
 Of a script one action gives `refused memory`, or the program ends with `failed: Memory` and has written a front of what
 the row has. Where an action is refused, it has changed nothing: made again, it gives what the row has, and so does all
@@ -128,7 +128,7 @@ class Tries:
 
 def main() -> None:
     count = ran.Count()
-    program = count.built("connection_bench", ran.gates_program("connection_bench"))
+    program = count.built("script_host", ran.gates_program("script_host"))
     if program is None or ran.lacks("cc", refusals.WHY):
         count.end()
     tries = Tries(program)

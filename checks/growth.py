@@ -4,15 +4,12 @@ Nor is any kept for what is over: a million runs of a method take as much as a t
 
 Instructions are callgrind's, so that a busy machine changes nothing. What a size costs beside its start, the program's
 own beginning, is left out. Why by instructions: docs/decisions/tests_and_releases.md#measuring."""
-import os
-import re
-import subprocess
-import tempfile
 from functools import partial
 
 from support import ran
 from support import refusals
 from support import rows
+from support.callgrind import instructions
 
 MOST = 2.2
 # A request for more bytes is a large one: the program reads in pieces of so many at most.
@@ -142,17 +139,6 @@ CONNECTION = [
 ]
 
 
-def instructions(words, given=b""):
-    """How many instructions a run takes, by callgrind."""
-    with tempfile.TemporaryDirectory() as room:
-        tool = ["valgrind", "--tool=callgrind", f"--callgrind-out-file={os.path.join(room, 'out')}", *words]
-        ended = subprocess.run(
-            tool, input=given, stdout=subprocess.DEVNULL, stderr=subprocess.PIPE, timeout=900, check=False
-        )
-    found = re.search(rb"Collected : (\d+)", ended.stderr)
-    return int(found[1]) if found and ended.returncode == 0 else None
-
-
 def inputs():
     """What is measured of the program: a label, the greater size, and what gives the instructions of a size."""
     for name, size, options in INPUTS:
@@ -190,7 +176,7 @@ def check_all(count):
     """Counts the instructions of all sizes, as many side by side as there are processors, and compares them."""
     if ran.lacks("valgrind", "it counts the instructions"):
         return
-    bench, connection = (count.built(it, ran.gates_program(it)) for it in ("peer_bench", "connection_bench"))
+    bench, connection = (count.built(it, ran.gates_program(it)) for it in ("peer_bench", "script_host"))
     measured = [*inputs(), *(orders(bench) if bench else ()), *(connections(connection) if connection else ())]
     counts = iter(
         ran.side_by_side(partial(counted, it) for _, size, counted in measured for it in (0, size // 2, size))

@@ -29,7 +29,7 @@ MOST, CONTROL, SEED = 20_000, 3_000, 4
 # A control is a bug that changes nothing.
 NOTHING = "the unchanged sources"
 CHOSEN = (
-    "answer_desk/mark_on_the_cancels_own_number",
+    "open_numbers/mark_on_the_cancels_own_number",
     "handler_future/batch_ended_by_its_first_error",
     "handler_future/reply_heard_at_the_first_awaited_turn",
     "lsp_frames/byte_of_a_head_forgotten_between_two_feeds",
@@ -40,7 +40,7 @@ CHOSEN = (
     "peer_session/cancel_reaches_one_request",
     "peer_session/missing_reply_ends_the_hearing",
     "peer_session/reply_before_its_call_is_kept",
-    "peer_session/reply_goes_to_another_call",
+    "session_runs/reply_goes_to_another_call",
     "peer_session/sendings_dropped_at_the_end",
     "peer_session/withdrawal_of_a_call_whose_reply_is_there",
     "rpc_messages/calls_of_a_batch_share_a_turn",

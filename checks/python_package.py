@@ -32,7 +32,8 @@ WITHOUT_PROCESSES += [
     "test_faults.Open",
 ]
 WITHOUT_PROCESSES += ["test_language_server", "test_middleware", "test_tool_server", "test_mcp"]
-FEWEST, FEWEST_WITHOUT_PROCESSES = 440, 275
+WITHOUT_PROCESSES += ["test_judge_life", "test_judge_report.Reports", "test_judge_recordings"]
+FEWEST, FEWEST_WITHOUT_PROCESSES = 520, 295
 SECONDS = 900
 # What a test says that is left out here, and runs apart.
 APART = "it holds a bound on time, and runs apart"

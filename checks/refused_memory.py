@@ -1,7 +1,8 @@
 """Refuses each request for memory in turn, one alone and then all from it on, until a run meets no refusal: what is
 written is then the row's bytes, or a prefix of them with `failed: Memory`; where the table found none, nothing is
-written. So it is for `play`, for `serve` and for `check`; and tests that the gate built, run so, pass or name want of
-memory, and nothing else. Why by a script: docs/decisions/tests_and_releases.md#refused-memory-and-devices-that-fail."""
+written. So it is for `play`, for `serve`, for `check` and for `judge`; and tests that the gate built, run so, pass or
+name want of memory, and nothing else. Why by a script:
+docs/decisions/tests_and_releases.md#refused-memory-and-devices-that-fail."""
 from collections.abc import Callable
 
 from support import ran
@@ -113,6 +114,31 @@ def checked(refused: Refused) -> None:
         )
 
 
+RECORDING = """\
+judge 1 jsonrpc lines
+> 7b226a736f6e727063223a22322e30222c226964223a372c226d6574686f64223a2261227d0a
+< 7b226a736f6e727063223a22322e30222c226964223a2237222c22726573756c74223a317d0a
+< closed
+"""
+FOUND = b"""\
+must: server, message 1 at byte 0: not-owed (JSON-RPC 4.1, 5)
+must: server, client's message 1 at byte 0: unanswered (JSON-RPC 5; LSP, Cancellation Support)
+found: 2 must, 0 should, 0 note
+"""
+
+
+def judged(refused: Refused) -> None:
+    """A recording. A finding is written whole, or not at all."""
+    fronts = [b"".join(FOUND.splitlines(keepends=True)[:it]) for it in range(4)]
+
+    def is_well(status: int, wrote: bytes, said: bytes, was_refused: bool) -> bool:
+        if (status, wrote, said) == (1, FOUND, b"judged: 2 must\n"):
+            return True
+        return was_refused and (status, said) == (1, NO_MEMORY) and wrote in fronts
+
+    refused.each("a recording", [ran.BUILT, "judge"], RECORDING.encode(), is_well)
+
+
 PICTURE = b"""\
 ok: 0 methods
 
@@ -214,7 +240,7 @@ def check_all(count: ran.Count) -> None:
     if ran.lacks("cc", refusals.WHY):
         return
     refused = Refused(count)
-    for it in (played, checked, drawn, served, explained):
+    for it in (played, checked, judged, drawn, served, explained):
         it(refused)
     for name in GO_ON:
         refused.test(name, lambda status, *_: status == 0, WAYS[:1])

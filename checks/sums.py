@@ -2,13 +2,10 @@
 instructions, by callgrind, and how often the program asks for memory for it. Both are the difference of 3,000 sums and
 1,000, so what the program's own start takes is left out, and no load of the machine moves them."""
 import os
-import re
-import subprocess
 import sys
-import tempfile
 from typing import Callable
 
-from support import ran
+from support import callgrind, ran
 from support import refusals
 
 sys.path.insert(0, os.path.join(ran.TOP, "bench"))
@@ -17,7 +14,7 @@ from measures import inputs  # noqa: E402 (it stands in bench/)
 
 FEW, MANY = 1_000, 3_000
 PLAY = ("play", "--table", os.path.join(ran.TOP, "bench", "baseline", "methods.toml"))
-# What was reached (the figures of docs/performance.md), by the way that sums come: instructions, and requests for
+# What was reached (docs/performance.md has it among what is held), by the way that sums come: instructions, and requests for
 # memory.
 REACHED = {"single": (inputs.adds, 8_182, 4.1), "in batches of 100": (inputs.batches_of_adds, 7_529, 3.3)}
 # So much more is taken for a change of the C library or of the compiler, and not for one of ours.
@@ -25,14 +22,7 @@ SPARE = 1.05
 
 
 def instructions(given: bytes) -> int | None:
-    """How many instructions a run takes, by callgrind; None where it fails."""
-    with tempfile.TemporaryDirectory() as room:
-        tool = ["valgrind", "--tool=callgrind", f"--callgrind-out-file={os.path.join(room, 'out')}", ran.BUILT, *PLAY]
-        ended = subprocess.run(
-            tool, input=given, stdout=subprocess.DEVNULL, stderr=subprocess.PIPE, timeout=900, check=False
-        )
-    found = re.search(rb"Collected : (\d+)", ended.stderr)
-    return int(found[1]) if found and ended.returncode == 0 else None
+    return callgrind.instructions([ran.BUILT, *PLAY], given)
 
 
 def requests(given: bytes) -> int | None:

@@ -1,4 +1,4 @@
-"""The proved program `connection_bench`, by its command `host`, hosts over pipes as docs/connection.md says, with
+"""The proved program `script_host`, by its command `host`, hosts over pipes as docs/connection.md says, with
 methods in its own code: sums, calls back, unknown methods, notifications, cancels, batches, broken contents, inputs
 that end early, and devices that fail. Each row is worked out by hand from the page, and is played whole, cut, and while
 the other side waits for each line."""
@@ -65,7 +65,7 @@ IN_FORM = pytest.mark.parametrize(
 
 @pytest.fixture(scope="session")
 def program() -> str:
-    return needing.gates_program("connection_bench")
+    return needing.gates_program("script_host")
 
 
 def streams(row: Row, form: str) -> tuple[bytes, bytes]:

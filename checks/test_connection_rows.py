@@ -1,4 +1,4 @@
-"""The proved program `connection_bench`, by its command `script`, gives what the rows of checks/connection_rows have,
+"""The proved program `script_host`, by its command `script`, gives what the rows of checks/connection_rows have,
 which are worked out by hand from docs/connection.md, and what a host without methods gives for the rows of the peer
 without methods; also where each feed of frames and lines comes byte by byte, or is cut at any one place. It refuses
 lines that can't be read, and what it said before one goes out."""
@@ -19,7 +19,7 @@ UNREAD = b"a line cannot be read\n"
 
 @pytest.fixture(scope="session")
 def program() -> str:
-    return needing.gates_program("connection_bench")
+    return needing.gates_program("script_host")
 
 
 def gives(program: str, row: rows.Row) -> None:
@@ -110,7 +110,7 @@ def test_content_of_5_MB(program: str) -> None:
 @pytest.mark.parametrize("words", named((["--help"], *([it, "--help"] for it in COMMANDS), ["--version"]), " ".join))
 def test_words_that_are_answered(program: str, words: list[str]) -> None:
     status, output, errors = ran.run(words, program=program)
-    check(status == 0 and b"connection_bench" in output and errors == b"", f"{status}, {errors!r}")
+    check(status == 0 and b"script_host" in output and errors == b"", f"{status}, {errors!r}")
 
 
 REFUSED: tuple[list[str], ...] = (

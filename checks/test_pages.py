@@ -98,6 +98,7 @@ def test_decisions_have_dates(page: str) -> None:
 
 EXAMPLES, SERVERS = "checks/test_examples.py", "bindings/python/tests/test_docs.py"
 NODE, HERE = "bindings/node/tests/docs.test.js", "checks/test_pages.py"
+JUDGING = "bindings/python/tests/test_judge_docs.py"
 READ_BY = {
     "CONTRIBUTING.md": dict.fromkeys(("rust", "console", "toml"), HERE),
     "README.md": {"": HERE, **dict.fromkeys(("sh", "out", "python", "toml"), EXAMPLES)},
@@ -114,6 +115,7 @@ READ_BY = {
     "docs/editors.md": dict.fromkeys(("text", "lua", "elisp"), "checks/test_pages_of_editors.py"),
     "docs/embedding.md": dict.fromkeys(("sh", "out", "c"), "checks/test_embedding.py"),
     "docs/job_slots.md": {"text": HERE},
+    "docs/judging.md": dict.fromkeys(("python", "sh", "out", "lua", "elisp", "json", "text"), JUDGING),
     "docs/language_servers.md": {
         **dict.fromkeys(("python", "sh", "out", "lua", "text"), SERVERS),
         "elisp": "checks/test_pages_of_editors.py",
@@ -234,7 +236,8 @@ def test_picture_of_the_wings() -> None:
     head, _, floor = pictures_of("docs/architecture.md")[0].partition(" ---")
     shown = dict[str, str]()
     for line in head.splitlines()[1:]:
-        for it in re.finditer(r"(\w+)(?:,[ \w]*)?(?:  +|$)", line):
+        # (what the library for C stands on is told in a sentence)
+        for it in re.finditer(r"(\w+)(?: \S+)*", "" if " stands on " in line else line):
             before = [wing for wing in wings.WINGS if it.start() > head.index(wing) - 16]
             shown[it[1]] = before[-1] if before else wings.WINGS[0]
     group = ""
@@ -312,12 +315,8 @@ def test_picture_of_a_frame() -> None:
 def test_figures_of_sums() -> None:
     """What sums.py holds the program to are the figures of the page."""
     reached = re.findall(r"inputs\.\w+, ([\d_]+), ([\d.]+)\)", ran.text_of("checks", "sums.py"))
-    row = re.search(r"requests for memory \| \| ([\d.]+); ([\d.]+) \|", ran.text_of("docs", "performance.md"))
-    instructions = re.findall(
-        r"\| one sum .* \| instructions \| [\d,]+ \| ([\d,]+) \|", ran.text_of("docs", "performance.md")
-    )
-    same([it.replace("_", ",") for it, _ in reached], instructions)
-    same(row and row.groups(), tuple(it for _, it in reached))
+    rows = re.findall(r"^\| .* \| ([\d.,]+); ([\d.,]+) \| 5 % more \|", ran.text_of("docs", "performance.md"), re.M)
+    same([*zip(*rows)], [(instructions.replace("_", ","), requests) for instructions, requests in reached])
 
 
 DEFINITIONS = ("crates/stream_session/specs/Promise.antt", "crates/connection/specs/Connections.antt")

@@ -100,7 +100,7 @@ def check_edits(count: ran.Count, copy: Copy, every: list[str]) -> None:
     def longer(text: bytes) -> bytes:
         return text + b"\n"
 
-    for crate in (every[0], "answer_desk", "session_state"):
+    for crate in (every[0], "answer_desk", "peer_events"):
         for part, ending in (("src", ".rt"), ("specs", ".antt")):
             told = edited(copy, copy.first(f"crates/{crate}/{part}", ending), longer)
             check_held(count, f"an edit of {part} in {crate}", told, without(*listing().above([crate])))

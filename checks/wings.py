@@ -13,7 +13,7 @@ from tools.repository import Listing, read_text  # noqa: E402 (the folder of the
 
 FLOOR = ["values", "streams", "messages"]
 WINGS = ["the table peer", "the connection", "the judge"]
-TOPS = ["programs", "tests"]
+TOPS = ["the library for C", "programs", "tests"]
 
 
 def groups_of(text: str) -> tuple[dict[str, Optional[str]], list[str]]:

@@ -1,4 +1,5 @@
-/* One end of a JSON-RPC 2.0 conversation whose methods are your own code: a connection.
+/* One end of a JSON-RPC 2.0 conversation whose methods are your own code: a connection. And a judge of conversations,
+ * which is told what two sides wrote, and tells which of them broke which rule (bm_judge_new and its neighbours).
  *
  * A connection does no input and no output, starts no thread and reads no clock. You feed it the bytes that you have
  * read, ask it for events, answer and call, and take the bytes that are to be written, in whatever order you like. What
@@ -8,19 +9,21 @@
  *
  * Memory. All bytes are copied within the call: the library keeps no pointer of yours, and lends you none of its own.
  *   It takes memory by malloc, realloc and free of the C library.
- * Pointers. None is NULL, with one exception: in the calls of BM_HAS_TOGETHER (below) a pointer to bytes or sayings may
- *   be NULL where their length or count is 0. A pointer to a struct or a number is aligned as C aligns it. What a call
- *   writes to (an event, a room, a key, a count) overlaps with nothing else that is passed to it.
+ * Pointers. None is NULL, with one exception: in the calls of BM_HAS_TOGETHER and of BM_HAS_JUDGE (below) a pointer to
+ *   bytes, sayings or findings may be NULL where their length or count is 0. A pointer to a struct or a number is
+ *   aligned as C aligns it. What a call writes to (an event, a room, a key, a count) overlaps with nothing else that is
+ *   passed to it.
  * Lengths. They count bytes, unless it is said otherwise. A text that you pass needs no zero byte at its end.
- * Threads. Make one call at a time on one connection. Which thread makes it doesn't matter, as long as something orders
- *   the calls, such as a lock. Hold it until you have noted the key of a call of yours, so that no other thread is told
- *   of its reply before. Calls on different connections may be made at the same time. Make no call in a signal handler,
- *   nor in the child of fork() where the process has other threads.
+ * Threads. Make one call at a time on one connection, or on one judge. Which thread makes it doesn't matter, as long as
+ *   something orders the calls, such as a lock. Hold it until you have noted the key of a call of yours, so that no
+ *   other thread is told of its reply before. Calls on different ones may be made at the same time. Make no call in a
+ *   signal handler, nor in the child of fork() where the process has other threads.
  * Answers. A call that gives an int32_t gives one of the codes below. If it isn't BM_OK, the call has told you nothing,
  *   has said nothing for you, and has written nothing to what you passed, unless it is said otherwise. A call may give
- *   BM_NO_MEMORY whatever else is wrong with it, and may then be made again. If several other codes apply, the first of
- *   these is given: BM_SETTINGS, BM_NOT_OPEN, BM_NOT_WAITING, BM_NOT_TEXT, BM_NOT_JSON, BM_OVER, BM_EMPTY, BM_FULL.
- *   In a batch a method that isn't text comes before params that aren't JSON, whichever call has them.
+ *   BM_NO_MEMORY whatever else is wrong with it, and may then be made again, but for those of a judge. If several other
+ *   codes apply, the first of these is given: BM_SETTINGS, BM_NOT_OPEN, BM_NOT_WAITING, BM_NOT_TEXT, BM_NOT_JSON,
+ *   BM_OVER, BM_EMPTY, BM_FULL. In a batch a method that isn't text comes before params that aren't JSON, whichever
+ *   call has them.
  *
  * JSON is one JSON value in UTF-8, at most 120 levels deep. It is told and written compactly: without blanks, with the
  * members in their order, and with numbers digit for digit. Half of a surrogate pair, as in "\ud800", isn't JSON, be it
@@ -119,7 +122,8 @@ enum {
 /* What bm_has() tells of. */
 enum {
     BM_HAS_TOGETHER = 1, /* bm_tell, bm_fed, bm_say_all, bm_taken and bm_close_call */
-    BM_HAS_OPEN          /* bm_open, bm_fault_at, BM_BROKEN and the cancels of MCP */
+    BM_HAS_OPEN,         /* bm_open, bm_fault_at, BM_BROKEN and the cancels of MCP */
+    BM_HAS_JUDGE         /* bm_judge_new, bm_judge_saw, bm_judge_ended, bm_judge_next and bm_judge_free */
 };
 
 /* Why bm_tell or bm_fed tells no more events. */
@@ -142,6 +146,64 @@ enum {
     BM_SAY_CANCEL      /* bm_cancel: number */
 };
 
+/* The judge: whose rules a conversation is held against. */
+enum {
+    BM_RULES_JSONRPC,       /* JSON-RPC 2.0 alone */
+    BM_RULES_LSP,           /* the Language Server Protocol */
+    BM_RULES_MCP,           /* the Model Context Protocol of 2025-06-18 */
+    BM_RULES_MCP_2025_03_26 /* that of 2025-03-26, which has batches */
+};
+
+/* The two that talk: the one that started the other, and the other. */
+enum { BM_CLIENT, BM_SERVER };
+
+/* How bad a finding is. */
+enum {
+    BM_MUST,   /* the standard forbids it */
+    BM_SHOULD, /* the standard advises against it */
+    BM_NOTE    /* allowed, but worth a look; or the judge can't know who is wrong */
+};
+
+/* Who keeps a rule. */
+enum {
+    BM_WHOSE_CONNECTION, /* a connection of this library, whatever its host does */
+    BM_WHOSE_HOST,       /* its host */
+    BM_WHOSE_NOBODY      /* it is no rule: BM_RULE_NOT_JUDGED */
+};
+
+/* The rules: docs/judge.md tells of each what breaks it. */
+enum {
+    BM_RULE_HEAD,
+    BM_RULE_NOT_JSON,
+    BM_RULE_CHARSET,
+    BM_RULE_CUT_OFF,
+    BM_RULE_LINE_END,
+    BM_RULE_OBJECT,
+    BM_RULE_VERSION,
+    BM_RULE_METHOD,
+    BM_RULE_PARAMS,
+    BM_RULE_ID,
+    BM_RULE_OUTCOME,
+    BM_RULE_ERROR,
+    BM_RULE_EMPTY_ARRAY,
+    BM_RULE_BATCH,
+    BM_RULE_NOT_OWED,
+    BM_RULE_NOT_AS_ARRAY,
+    BM_RULE_ID_FRACTION,
+    BM_RULE_ID_NULL,
+    BM_RULE_ID_FORM,
+    BM_RULE_ID_AGAIN,
+    BM_RULE_RPC_NAME,
+    BM_RULE_CODE,
+    BM_RULE_CANCELLED_CODE,
+    BM_RULE_CANCEL_PARAMS,
+    BM_RULE_CANCEL_UNKNOWN,
+    BM_RULE_CANCEL_INITIALIZE,
+    BM_RULE_AFTER_CANCEL,
+    BM_RULE_UNANSWERED,
+    BM_RULE_NOT_JUDGED /* no rule: the judge can't tell, or can't go on */
+};
+
 /* What a connection is made with. All zero is a good start: frames, answers as soon as they can go out, no cancels, and
  * the greatest limits. */
 typedef struct {
@@ -159,8 +221,11 @@ typedef struct {
     uint32_t order;   /* BM_AS_ANSWERED or BM_AS_CAME */
     uint32_t cancels; /* BM_CANCELS_NONE or one of its neighbours */
     uint32_t broken;  /* 1 where BM_BROKEN is to be told, else 0 */
-    uint32_t content; /* as in bm_settings */
+    uint32_t content; /* how many bytes a content may have, at most 2,147,483,647; 0 is 16,777,216 */
     uint64_t calls;   /* as in bm_settings */
+    uint32_t entries; /* how many entries a batch may have; 0 is 100,000, and UINT32_MAX any number. One of more is a
+                       * single invalid entry: it is answered once, none of its calls is told, its replies are lost */
+    uint32_t null_params; /* 1 where params that are null are told as the text null, else 0: they are none then */
 } bm_options;
 
 /* A connection. A copy of this struct is the same connection. */
@@ -174,7 +239,8 @@ typedef struct {
  * lengths of 0 too. What isn't named for a kind is 0.
  *
  *   BM_CALL        number; flags: BM_REQUEST or 0; name: the method; text: the params as JSON, of length 0 where there
- *                  are none; id: as JSON, of length 0 where it is a notification
+ *                  are none, or where they are null and bm_options don't say that such are told; id: as JSON, of length
+ *                  0 where it is a notification
  *   BM_CANCELLED   number: that of the request, which you may have answered since it came
  *   BM_REPLIED     key: that of your call; flags: BM_ERROR or 0; text: the result as JSON. Where it is an error: code;
  *                  name: its message; text: its data as JSON, of length 0 where there are none. An error that is null
@@ -240,10 +306,38 @@ typedef struct {
     size_t pending; /* what bm_pending gives then */
 } bm_said;
 
+/* What bm_judge_new makes a judge with. All zero but the size is a good start: JSON-RPC, frames, and usual limits. */
+typedef struct {
+    uint32_t size;    /* sizeof(bm_judge_options) */
+    uint32_t rules;   /* BM_RULES_JSONRPC or one of its neighbours */
+    uint32_t framing; /* BM_FRAMES, BM_LINES or BM_CONTENTS, for both sides */
+    uint32_t content; /* how many bytes a content may have, at most 16,777,216; 0 is this greatest value */
+    uint32_t ids;     /* how many used ids of a side are kept, a run of whole numbers counted once; 0 is 1,000,000 */
+} bm_judge_options;
+
+/* A judge. A copy of this struct is the same judge. */
+typedef struct {
+    void *at;
+} bm_judge;
+
+/* That a side broke a rule, and in which message. The message is one of that side's, but for BM_RULE_UNANSWERED, where
+ * it is the request of the other side. The words at fault aren't in it, since the judge keeps none of what has passed:
+ * you have them at the offset. */
+typedef struct {
+    uint32_t side;   /* BM_CLIENT or BM_SERVER: who broke it */
+    uint32_t rule;   /* BM_RULE_HEAD or one of its neighbours */
+    uint32_t level;  /* BM_MUST or one of its neighbours */
+    uint32_t whose;  /* BM_WHOSE_CONNECTION or one of its neighbours */
+    uint64_t number; /* the how-manieth content of its side's stream, from 1 */
+    uint64_t offset; /* of the content's first byte in that stream, from 0; of a fault, of its frame or line */
+    uint64_t entry;  /* the entry's place in its array, from 1; 0 where it is no array, or all of it is meant */
+} bm_finding;
+
 /* The version of the library's calls: compare it with BM_INTERFACE before any other call. */
 uint32_t bm_interface(void);
 
-/* Whether the library has an addition: BM_HAS_TOGETHER, BM_HAS_OPEN. Of a number that it doesn't know it has none. */
+/* Whether the library has an addition: BM_HAS_TOGETHER or one of its neighbours. Of a number that it doesn't know
+ * it has none. */
 bool bm_has(uint32_t addition);
 
 /* Makes a connection and writes it to *at, as in
@@ -256,7 +350,8 @@ int32_t bm_new(const bm_settings *settings, void **at);
 /* The same, with what bm_settings can't say, as in
  *     bm_options options = {.size = sizeof options, .framing = BM_LINES, .cancels = BM_CANCELS_MCP, .broken = 1};
  *     int32_t code = bm_open(&options, &connection.at);
- * bm_new is bm_open with the same numbers, BM_CANCELS_LSP or none, and without BM_BROKEN.
+ * bm_new is bm_open with the same numbers, BM_CANCELS_LSP or none, batches with any number of entries, and without
+ * BM_BROKEN and params that are null.
  * BM_SETTINGS: there are no such options, or none of this size. BM_NO_MEMORY. */
 int32_t bm_open(const bm_options *options, void **at);
 
@@ -384,6 +479,31 @@ bool bm_is_done(bm_connection *connection);
 /* Writes what has happened so far. */
 void bm_counts(bm_connection *connection, bm_report *report);
 
+/* Makes a judge, which has seen nothing, and writes it to *at, as in
+ *     bm_judge_options options = {.size = sizeof options, .rules = BM_RULES_LSP};
+ *     int32_t code = bm_judge_new(&options, &judge.at);
+ * *at needn't hold anything before, and is written where the code is BM_OK. Give the judge back by bm_judge_free.
+ * BM_SETTINGS: there are no such options, or none of this size. BM_NO_MEMORY. */
+int32_t bm_judge_new(const bm_judge_options *options, void **at);
+
+/* Frees the judge with all that it holds. No call on it may follow, nor one on a copy of the struct. */
+void bm_judge_free(bm_judge judge);
+
+/* Says that a side wrote these bytes, cut as they were seen; with BM_CONTENTS each call is one content. Say what is
+ * seen in the order in which it came, and before the other side can have read it: an answer is judged by what was asked
+ * before it. Behind the end of its side it counts nothing.
+ * BM_SETTINGS: there is no such side. BM_NO_MEMORY: it is as if the bytes hadn't been seen, and nothing more is: from
+ * then on this call and bm_judge_ended give BM_NO_MEMORY. What was found before is still told. */
+int32_t bm_judge_saw(bm_judge *judge, uint32_t side, const uint8_t *bytes, size_t length);
+
+/* Says that a side's stream ended: BM_CLOSED or BM_READ_FAILED. A second end of a side counts nothing.
+ * BM_SETTINGS: there is no such side, or no such end. BM_NO_MEMORY, as in bm_judge_saw. */
+int32_t bm_judge_ended(bm_judge *judge, uint32_t side, uint32_t how);
+
+/* Moves the first findings that weren't told to the room, which has room for `most`, and gives how many they are. The
+ * others come the next time, in their order: make it until it gives less than `most`. It takes no memory. */
+size_t bm_judge_next(bm_judge *judge, bm_finding *findings, size_t most);
+
 /* What a code says, in English. */
 static inline const char *bm_code_text(int32_t code)
 {
@@ -419,6 +539,73 @@ static inline const char *bm_over_text(uint32_t flags)
         "more calls came than the setting allows",
     };
     return flags < sizeof texts / sizeof *texts ? texts[flags] : "another end";
+}
+
+/* A rule's name, by which docs/judge.md tells of it. */
+static inline const char *bm_rule_name(uint32_t rule)
+{
+    static const char *const names[] = {
+        "head",           "not-json",
+        "charset",        "cut-off",
+        "line-end",       "object",
+        "version",        "method",
+        "params",         "id",
+        "outcome",        "error",
+        "empty-array",    "batch",
+        "not-owed",       "not-as-array",
+        "id-fraction",    "id-null",
+        "id-form",        "id-again",
+        "rpc-name",       "code",
+        "cancelled-code", "cancel-params",
+        "cancel-unknown", "cancel-initialize",
+        "after-cancel",   "unanswered",
+        "not-judged",
+    };
+    return rule < sizeof names / sizeof *names ? names[rule] : "another rule";
+}
+
+/* Where a rule stands: in which sections of which standards. */
+static inline const char *bm_rule_section(uint32_t rule)
+{
+    static const char *const sections[] = {
+        "LSP, Base Protocol",
+        "JSON-RPC 4; RFC 8259; MCP, stdio",
+        "LSP, Base Protocol",
+        "LSP, Base Protocol; MCP, stdio",
+        "MCP, stdio",
+        "JSON-RPC 4",
+        "JSON-RPC 4, 5",
+        "JSON-RPC 4",
+        "JSON-RPC 4.2",
+        "JSON-RPC 4, 5",
+        "JSON-RPC 4, 5",
+        "JSON-RPC 5.1",
+        "JSON-RPC 6",
+        "LSP has no word on them; MCP 2025-06-18, changes",
+        "JSON-RPC 4.1, 5",
+        "JSON-RPC 6",
+        "JSON-RPC 4; MCP, messages",
+        "JSON-RPC 4; MCP, messages",
+        "JSON-RPC 4",
+        "JSON-RPC 6; MCP, messages",
+        "JSON-RPC 4",
+        "JSON-RPC 5.1; LSP, ErrorCodes",
+        "LSP, Cancellation Support",
+        "LSP, Cancellation Support; MCP, cancellation",
+        "LSP, Cancellation Support; MCP, cancellation",
+        "MCP, cancellation",
+        "MCP, cancellation",
+        "JSON-RPC 5; LSP, Cancellation Support",
+        "",
+    };
+    return rule < sizeof sections / sizeof *sections ? sections[rule] : "";
+}
+
+/* What a level says, in English. */
+static inline const char *bm_level_text(uint32_t level)
+{
+    static const char *const texts[] = {"must", "should", "note"};
+    return level < sizeof texts / sizeof *texts ? texts[level] : "another level";
 }
 
 #ifdef __cplusplus

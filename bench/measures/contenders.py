@@ -26,7 +26,7 @@ RELEASED = os.path.join(TOP, "release", "rpc_tool")
 # The table of the methods that are built into the baseline.
 METHODS = ("--table", os.path.join(FOLDER, "methods.toml"))
 # By `host` it hosts over a connection.
-HOSTING = os.path.join(TOP, "crates", "connection_bench", "out", "connection_bench")
+HOSTING = os.path.join(TOP, "crates", "script_host", "out", "script_host")
 # By `answer` it reads and writes, and does nothing else.
 READING = os.path.join(TOP, "crates", "peer_bench", "out", "peer_bench")
 

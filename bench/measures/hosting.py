@@ -1,4 +1,4 @@
-"""The tables of a host, whose methods are its own code: loads in bulk and round trips, by `connection_bench host`, by the
+"""The tables of a host, whose methods are its own code: loads in bulk and round trips, by `script_host host`, by the
 baseline's host and by the limit, each on one thread; inputs that stand there whole; and how often each asks for memory
 for one small request."""
 import os
@@ -7,7 +7,7 @@ from typing import List
 
 from measures.behind import Behind
 from measures.contenders import BASELINE, TOP, Contender, limits
-from measures.inputs import add, add_with_blanks, cancel, frame, frames, request
+from measures.inputs import KEPT, TEXTS, add, add_with_blanks, cancel, frame, frames, request
 from measures.loads import FIRST, Load, Round, added, batches, bulk, cancelled, load, numbers, result, text_of
 from measures.playing import hosts_table
 from measures.serving import LONG_MESSAGES, Row, show_bulks, show_trips_of
@@ -80,10 +80,6 @@ def long_param(length: int) -> Load:
     return load(rounds, 2, [confirm(FIRST, text)], [result(FIRST, text)])
 
 
-KEPT = "what came and what is said are texts of their own, and each call has a place until it is answered"
-TEXTS = (
-    "what came and what is said are texts of their own, each read and written compactly; the baseline's are one value"
-)
 BULKS = (
     Row("requests", requests, 200_000, KEPT),
     Row("requests with blanks", requests_with_blanks, 200_000, KEPT),
@@ -95,7 +91,7 @@ TRIPS = (
     Row("a call back", calls_back, 5_000, KEPT),
     Row("a cancel", cancels, 5_000, KEPT),
     Row("a param of 8 MB", long_param, 8_000_000, TEXTS),
-    *LONG_MESSAGES,
+    *(it._replace(why=TEXTS) for it in LONG_MESSAGES),
 )
 SMALL = {
     "a small request": add(1),

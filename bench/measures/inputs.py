@@ -125,10 +125,15 @@ class Input(NamedTuple):
 
 
 DESK = "each request has a place at the desk and a stage in the session, and its call is shared by both"
-SCRATCH = "the kit's reader clears a scratch as long as the content, and the baseline has none"
+COPIED = "a content is copied out of the pieces that were read, and its strings out of it"
 STEPS = "a method is steps of a table, run by a handler that is parked, turned and taken back; the baseline calls a function"
 
 VALUES = "each value of a message is read, checked and kept by itself; the baseline keeps them in one tree"
+# Of hosts.
+KEPT = "what came and what is said are texts of their own, and each call has a place until it is answered"
+TEXTS = (
+    "what came and what is said are texts of their own, each read and written compactly; the baseline's are one value"
+)
 
 HOVERS = (
     Input("hovers", hovers, 100_000, DESK),
@@ -139,15 +144,16 @@ ADDS = (
     Input("adds", adds, 200_000, STEPS, has_methods=True),
     Input("adds with blanks", adds_with_blanks, 200_000, STEPS, has_methods=True),
 )
+ADDS_IN_BATCHES = Input("adds in batches", batches_of_adds, 200_000, STEPS, has_methods=True)
 CANCELS = Input("cancels", cancels, 100_000, STEPS, has_methods=True, has_calls=True)
 INPUTS: Tuple[Input, ...] = (
     Input("single requests", singles, 200_000, DESK),
     Input("batches of 100", batches, 200_000, DESK),
     *HOVERS,
-    Input("one param of 8 MB", long_text, 8_000_000, SCRATCH, length=8_000_000),
+    Input("one param of 8 MB", long_text, 8_000_000, COPIED, length=8_000_000),
     *LONG,
     *ADDS,
-    Input("adds in batches", batches_of_adds, 200_000, STEPS, has_methods=True),
+    ADDS_IN_BATCHES,
     Input("calls back", calls_back, 100_000, STEPS, has_methods=True, has_calls=True),
     Input("the same in batches", batches_of_calls_back, 100_000, STEPS, has_methods=True, has_calls=True),
     CANCELS,
@@ -155,7 +161,9 @@ INPUTS: Tuple[Input, ...] = (
 # What is read and answered alone.
 READ: Tuple[Input, ...] = tuple(it for it in INPUTS if not it.has_methods)
 # What hosts answer too, as a `play` does: there the ids of calls are keys.
-HOSTED: Tuple[Input, ...] = (*HOVERS, *LONG, *ADDS, CANCELS)
+HOSTED: Tuple[Input, ...] = tuple(
+    it._replace(why=TEXTS if it.length else KEPT) for it in (*HOVERS, *LONG, *ADDS, ADDS_IN_BATCHES, CANCELS)
+)
 
 # Each method, replied to with a result, an error and not at all, in a batch and alone, and cancelled: it is compared,
 # and not measured.

@@ -7,7 +7,7 @@ from typing import Callable, Dict, List, NamedTuple, Sequence
 from measures import loads, rounds
 from measures.behind import Behind
 from measures.contenders import Contender, Programs
-from measures.inputs import SCRATCH, VALUES
+from measures.inputs import COPIED, VALUES
 from measures.messages import LENGTH, MESSAGES
 from measures.rounds import Played
 
@@ -50,12 +50,12 @@ TRIPS = (
     Row("a call back", loads.calls_back, 5_000, HAND_OVERS, has_calls=True),
     Row("a cancel", loads.cancels, 5_000, HAND_OVERS, has_calls=True),
 )
-COPIES = f"{SCRATCH}; and a method's call takes copies of the param"
+COPIES = f"{COPIED}; and a method's call takes copies of the param"
 # Each is sent once the one before is answered.
 LONG_MESSAGES = tuple(Row(it.name, partial(loads.messages, it), 8 * LENGTH, VALUES) for it in MESSAGES)
 LONG = (
-    Row("8 MB, unknown method", loads.long_unknown, 8_000_000, SCRATCH),
-    Row("a reply of 8 MB", loads.long_reply, 8_000_000, SCRATCH, has_calls=True),
+    Row("8 MB, unknown method", loads.long_unknown, 8_000_000, COPIED),
+    Row("a reply of 8 MB", loads.long_reply, 8_000_000, COPIED, has_calls=True),
     Row("a param of 8 MB", loads.long_param, 8_000_000, COPIES, has_calls=True),
     *LONG_MESSAGES,
 )

@@ -145,9 +145,11 @@ static void options(void)
         {.size = SIZE, .cancels = UINT32_MAX},
         {.size = SIZE, .broken = 2},
         {.size = SIZE, .broken = UINT32_MAX},
-        {.size = SIZE, .content = (1 << 24) + 1},
+        {.size = SIZE, .content = 1U << 31},
         {.size = SIZE, .content = UINT32_MAX},
-        {.size = SIZE, .framing = 3, .order = 2, .cancels = 3, .broken = 2, .content = UINT32_MAX},
+        {.size = SIZE, .null_params = 2},
+        {.size = SIZE, .null_params = UINT32_MAX},
+        {.size = SIZE, .framing = 3, .order = 2, .cancels = 3, .broken = 2, .content = UINT32_MAX, .null_params = 2},
     };
     static char untouched;
     for (size_t i = 0; i < sizeof wrong / sizeof *wrong; i++) {
@@ -158,12 +160,55 @@ static void options(void)
     static const bm_options right[] = {
         {.size = SIZE},
         {.size = SIZE, .cancels = BM_CANCELS_LSP, .content = 1 << 24, .calls = UINT64_MAX},
-        {SIZE, BM_CONTENTS, BM_AS_CAME, BM_CANCELS_MCP, 1, 1, 1},
+        {.size = SIZE, .content = (1 << 24) + 1},
+        {.size = SIZE, .content = INT32_MAX, .entries = UINT32_MAX, .null_params = 1},
+        {SIZE, BM_CONTENTS, BM_AS_CAME, BM_CANCELS_MCP, 1, 1, 1, 1, 1},
     };
     for (size_t i = 0; i < sizeof right / sizeof *right; i++) {
         bm_connection made;
         check(bm_open(&right[i], &made.at) == BM_OK, __LINE__, "bm_open");
         bm_free(made);
+    }
+}
+
+static void options_of_a_judge(void)
+{
+    enum { WHOLE = sizeof(bm_judge_options) };
+    static const bm_judge_options wrong[] = {
+        {.size = 0},
+        {.size = WHOLE - 1},
+        {.size = WHOLE + 4},
+        {.size = UINT32_MAX},
+        {.size = WHOLE, .rules = 4},
+        {.size = WHOLE, .rules = UINT32_MAX},
+        {.size = WHOLE, .framing = 3},
+        {.size = WHOLE, .content = (1 << 24) + 1},
+        {.size = WHOLE, .content = UINT32_MAX},
+    };
+    static char untouched;
+    for (size_t i = 0; i < sizeof wrong / sizeof *wrong; i++) {
+        void *at = &untouched;
+        check(bm_judge_new(&wrong[i], &at) == BM_SETTINGS && at == &untouched, __LINE__, "bm_judge_new");
+        refusals[BM_SETTINGS]++;
+    }
+    static const bm_judge_options right[] = {
+        {.size = WHOLE},
+        {.size = WHOLE,
+         .rules = BM_RULES_MCP_2025_03_26,
+         .framing = BM_CONTENTS,
+         .content = 1 << 24,
+         .ids = UINT32_MAX},
+        {WHOLE, BM_RULES_LSP, BM_LINES, 1, 1},
+    };
+    for (size_t i = 0; i < sizeof right / sizeof *right; i++) {
+        bm_judge made;
+        check(bm_judge_new(&right[i], &made.at) == BM_OK, __LINE__, "bm_judge_new");
+        check(bm_judge_saw(&made, BM_SERVER + 1, NULL, 0) == BM_SETTINGS, __LINE__, "bm_judge_saw");
+        check(bm_judge_ended(&made, BM_CLIENT, BM_READ_FAILED + 1) == BM_SETTINGS, __LINE__, "bm_judge_ended");
+        check(bm_judge_saw(&made, BM_CLIENT, NULL, 0) == BM_OK, __LINE__, "bm_judge_saw");
+        check(bm_judge_next(&made, NULL, 0) == 0, __LINE__, "bm_judge_next");
+        bm_judge_free(made);
+        refusals[BM_SETTINGS] += 2;
     }
 }
 
@@ -211,6 +256,111 @@ static void places(void)
             tell(i ? BM_INPUT_OVER : BM_BROKEN);
     }
     end_both();
+}
+
+static void counted(uint64_t calls, uint64_t invalid, uint64_t waiting)
+{
+    bm_report report;
+    bm_counts(&tried, &report);
+    check(report.calls == calls, __LINE__, "another number of calls");
+    check(report.invalid == invalid, __LINE__, "another number of invalid entries");
+    check(report.waiting == waiting, __LINE__, "another number of calls that wait");
+}
+
+/* A batch of more entries than the option says is one invalid entry: its calls aren't told, and its replies are lost.
+ */
+static void long_batches(void)
+{
+    uint64_t key;
+    open_both((bm_options){.framing = BM_LINES, .broken = 1, .entries = 2});
+    BOTH(bm_call, 0, TEXT("a"), NONE, &key);
+    BOTH(bm_feed, TEXT("[{\"id\":1,\"jsonrpc\":\"2.0\",\"result\":1},{\"jsonrpc\":\"2.0\",\"method\":\"m\"},3]\n"));
+    tell(BM_BROKEN);
+    tell(BM_NONE);
+    counted(0, 1, 1);
+    BOTH(bm_feed, TEXT("[ {\"id\":1,\"jsonrpc\":\"2.0\",\"result\":1}, 2 ]\n"));
+    tell(BM_BROKEN);
+    tell(BM_REPLIED);
+    counted(0, 2, 0);
+    BOTH(bm_end, BM_CLOSED);
+    tell(BM_INPUT_OVER);
+    end_both();
+}
+
+/* An array of so many numbers. */
+static size_t numbers(uint8_t *text, size_t count)
+{
+    for (size_t i = 0; i < count; i++) {
+        text[2 * i] = i ? ',' : '[';
+        text[2 * i + 1] = '1';
+    }
+    text[2 * count] = ']';
+    return 2 * count + 1;
+}
+
+/* Where the options say nothing, a batch may have 100,000 entries; with bm_new, and where they say so, any number. */
+static void usual_batches(void)
+{
+    enum { MOST = 100000 };
+    static uint8_t text[2 * MOST + 3];
+    open_both((bm_options){.framing = BM_CONTENTS});
+    BOTH(bm_feed, text, numbers(text, MOST));
+    tell(BM_NONE);
+    counted(0, MOST, 0);
+    BOTH(bm_feed, text, numbers(text, MOST + 1));
+    tell(BM_NONE);
+    counted(0, MOST + 1, 0);
+    bm_free(tried);
+    bm_free(twin);
+    open_both((bm_options){.framing = BM_CONTENTS, .entries = UINT32_MAX});
+    bm_free(twin);
+    bm_settings settings = {.framing = BM_CONTENTS};
+    check(bm_new(&settings, &twin.at) == BM_OK, __LINE__, "bm_new");
+    BOTH(bm_feed, text, numbers(text, MOST + 1));
+    tell(BM_NONE);
+    counted(0, MOST + 1, 0);
+    look_alike(__LINE__);
+    bm_free(tried);
+    bm_free(twin);
+}
+
+/* A content of a byte more than 16,777,216 is taken where the options say so, and not where they say nothing. */
+static void long_contents(void)
+{
+    enum { MOST = 1 << 24 };
+    uint8_t *text = malloc(MOST + 1);
+    check(text != NULL, __LINE__, "no memory");
+    memset(text, ' ', MOST + 1);
+    text[0] = '1';
+    for (uint32_t content = 0; content < 2; content++) {
+        open_both((bm_options){.framing = BM_CONTENTS, .content = content ? INT32_MAX : 0});
+        BOTH(bm_feed, text, MOST + 1);
+        tell(content ? BM_NONE : BM_INPUT_OVER);
+        counted(0, content, 0);
+        bm_free(tried);
+        bm_free(twin);
+    }
+    free(text);
+}
+
+/* Params that are null are none, and null where the options say so. */
+static void null_params(void)
+{
+    for (uint32_t told = 0; told < 2; told++) {
+        open_both((bm_options){.framing = BM_LINES, .null_params = told});
+        BOTH(bm_feed,
+             TEXT("{\"jsonrpc\":\"2.0\",\"method\":\"m\",\"params\":null}\n{\"jsonrpc\":\"2.0\",\"method\":\"m\"}\n"));
+        for (uint32_t is_null = told, i = 0; i < 2; is_null = 0, i++) {
+            uint8_t room[16];
+            bm_event event;
+            check(bm_next(&tried, &event, room, sizeof room) == BM_OK, __LINE__, "bm_next");
+            check(event.kind == BM_CALL && event.flags == 0, __LINE__, "another event");
+            check(event.text_len == (is_null ? 4 : 0), __LINE__, "other params");
+            check(!is_null || !memcmp(room + 2, "null", 5), __LINE__, "other params");
+        }
+        bm_free(tried);
+        bm_free(twin);
+    }
 }
 
 /* Bytes that aren't UTF-8: a byte alone, cut short, over-long, a surrogate, over U+10FFFF. */
@@ -575,14 +725,19 @@ static void small_rooms_together(void)
 
 int main(void)
 {
-    check(bm_has(BM_HAS_TOGETHER) && bm_has(BM_HAS_OPEN), __LINE__, "bm_has");
-    check(!bm_has(0) && !bm_has(3) && !bm_has(UINT32_MAX), __LINE__, "bm_has");
+    check(bm_has(BM_HAS_TOGETHER) && bm_has(BM_HAS_OPEN) && bm_has(BM_HAS_JUDGE), __LINE__, "bm_has");
+    check(!bm_has(0) && !bm_has(4) && !bm_has(UINT32_MAX), __LINE__, "bm_has");
     sayings();
     small_rooms_together();
     settings();
     options();
+    options_of_a_judge();
     cancels_of_mcp();
     places();
+    long_batches();
+    usual_batches();
+    long_contents();
+    null_params();
     texts();
     numbers_and_keys();
     batches();

@@ -9,7 +9,7 @@ from support import ran
 HEADER = os.path.join(ran.TOP, "include", "bullmyrtle.h")
 MAP = os.path.join(ran.TOP, "include", "bullmyrtle.map")
 CRATES = os.path.join(ran.TOP, "crates")
-EXPORTS = os.path.join(CRATES, "bullmyrtle", "src", "lib.rt")
+EXPORTS = [os.path.join(CRATES, "bullmyrtle", "src", it) for it in ("lib.rt", "judging.rt")]
 RUST = os.path.join(ran.TOP, "bindings", "rust", "src", "sys.rs")
 
 # What stands in C for a type of an export's parameter, or of its result.
@@ -25,6 +25,11 @@ IN_C = {
     "&mut Told": ["bm_told *"],
     "&mut [Saying]": ["bm_saying *", "size_t"],
     "&mut AllSaid": ["bm_said *"],
+    "JudgeHandle": ["bm_judge"],
+    "&mut JudgeHandle": ["bm_judge *"],
+    "*mut JudgeHandle": ["void **"],
+    "&JudgeOptions": ["const bm_judge_options *"],
+    "&mut [HostFinding]": ["bm_finding *", "size_t"],
     "&[u8]": ["const uint8_t *", "size_t"],
     "&mut [u8]": ["uint8_t *", "size_t"],
     "&[usize]": ["const size_t *", "size_t"],
@@ -49,6 +54,10 @@ IN_RUST = {
     "*mut bm_told": "bm_told *",
     "*mut bm_saying": "bm_saying *",
     "*mut bm_said": "bm_said *",
+    "bm_judge": "bm_judge",
+    "*mut bm_judge": "bm_judge *",
+    "*const bm_judge_options": "const bm_judge_options *",
+    "*mut bm_finding": "bm_finding *",
     "*mut *mut c_void": "void **",
     "*const u8": "const uint8_t *",
     "*mut u8": "uint8_t *",
@@ -72,6 +81,8 @@ STRUCTS = {
     "bm_told": ("host_calls/src/telling.rt", "Told"),
     "bm_saying": ("host_calls/src/sayings.rt", "Saying"),
     "bm_said": ("host_calls/src/sayings.rt", "AllSaid"),
+    "bm_judge_options": ("judge_calls/src/options.rt", "JudgeOptions"),
+    "bm_finding": ("judge_calls/src/finding.rt", "HostFinding"),
 }
 # What hosts that were built with the first header rely on: its calls, the sizes of its structs and the places of their fields, and the values of
 # its names. They stay.
@@ -182,7 +193,8 @@ def names_in_header() -> dict[str, int]:
 
 
 def in_exports() -> dict[str, tuple[str, list[str]]]:
-    found = re.findall(r'pub (?:unsafe )?extern "C" fn (bm_\w+)\(([^)]*)\)(?: -> (\w+))?', text_of(EXPORTS))
+    text = "".join(map(text_of, EXPORTS))
+    found = re.findall(r'pub (?:unsafe )?extern "C" fn (bm_\w+)\(([^)]*)\)(?: -> (\w+))?', text)
     made = {}
     for name, takes, gives in found:
         kinds = [it.split(":", 1)[1].strip() for it in takes.split(",") if it.strip()]

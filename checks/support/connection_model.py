@@ -11,7 +11,8 @@ PARSE_ERROR = Error(-32700, "Parse error")
 INVALID_REQUEST = Error(-32600, "Invalid Request")
 CANCELLED = Error(-32800, "Request cancelled")
 MOST_KEYS = 2**53 - 1
-MOST_CONTENT = 16_777_216
+MOST_CONTENT = 2_147_483_647
+USUAL_CONTENT = 16_777_216  # where nothing else is asked for
 MOST_CALLS = 2**64 - 1
 MOST_PLACE = 2**64 - 1
 # So many bytes of a broken content are told.
@@ -26,9 +27,11 @@ class Settings(NamedTuple):
     framing: str  # frames, lines, contents
     order: str  # as-answered, as-came
     cancels: Optional[str]  # whose: lsp, mcp, or none
-    content: int = MOST_CONTENT
+    content: int = USUAL_CONTENT
     calls: int = MOST_CALLS
     tells_broken: bool = False
+    entries: Optional[int] = None  # how many a batch may have; None: any number
+    null_params: bool = False  # whether params that are null are told
 
 
 # Events. Params, ids, results and data are compact JSON texts, or None where there are none.
@@ -235,7 +238,7 @@ class Model:
         return self.events[self.told - 1]
 
     def take_content(self, content: Content) -> None:
-        unit = reading.unit_of(content, self.settings.cancels)
+        unit = reading.unit_of(content, self.settings.cancels, self.settings.entries, self.settings.null_params)
         if len(self.calls) + sum(it.kind == "call" for it in unit.entries) > self.settings.calls:
             self.end_now("Full")
             return

@@ -22,6 +22,10 @@ class Number:
     text: str
 
 
+# Params that are null, where such are told: by their text.
+TOLD_NULL = Number("null")
+
+
 class Members(list[tuple[str, Any]]):
     """The members of an object, in their order; a name may stand twice."""
 
@@ -139,21 +143,27 @@ def said_by(reply: Members) -> Any:
     return Error(code, message, error.get("data", ABSENT))
 
 
-def entry_of(value: Any, cancels: Optional[str]) -> Entry:
+def entry_of(value: Any, cancels: Optional[str], null_params: bool = False) -> Entry:
     if not isinstance(value, Members) or not {"method", "result", "error"} & {name for name, _ in value}:
         return Entry("invalid")
     if "method" in value:
         if not is_call(value):
             return Entry("invalid")
-        call = Entry("call", value.get("id", ABSENT), value.get("method"), value.get("params"))
+        params = value.get("params", ABSENT)
+        if params is None and null_params:
+            params = TOLD_NULL
+        call = Entry("call", value.get("id", ABSENT), value.get("method"), None if params is ABSENT else params)
         target = target_of(call, cancels)
         return call if target is ABSENT else Entry("cancel", target)
     key = whole_of(value.get("id"))
     return Entry("reply", key=key, said=said_by(value)) if key is not None and key > 0 else Entry("stray")
 
 
-def unit_of(content: "Content", cancels: Optional[str]) -> Unit:
-    """What a content is, where these are the conversation's cancels, if it has any."""
+def unit_of(
+    content: "Content", cancels: Optional[str], entries: Optional[int] = None, null_params: bool = False
+) -> Unit:
+    """What a content is, where these are the conversation's cancels, if it has any, and how many entries a batch may have,
+    if that is limited."""
     try:
         value = value_of(content.data)
     except ValueError:
@@ -161,7 +171,10 @@ def unit_of(content: "Content", cancels: Optional[str]) -> Unit:
     if content.is_foreign:
         return Unit("unreadable")
     is_batch = isinstance(value, list) and not isinstance(value, Members) and value != []
-    return Unit("batch" if is_batch else "single", [entry_of(it, cancels) for it in (value if is_batch else [value])])
+    if is_batch and entries is not None and len(value) > entries:
+        return Unit("single", [Entry("invalid")])
+    values = value if is_batch else [value]
+    return Unit("batch" if is_batch else "single", [entry_of(it, cancels, null_params) for it in values])
 
 
 # Framings

@@ -2,7 +2,7 @@
 
 row_language.py has their language. The ways of a row are the settings of its connection: a framing, and what is other
 than in STANDARD, as in `a content that is too long: lines content 30`, or in `.. : lines mcp broken`, where cancels are
-MCP's and broken contents are told. With `settings` for its ways a row begins with
+MCP's and broken contents are told, or `.. : lines nulls entries=2`. With `settings` for its ways a row begins with
 an action of that name. What comes in is fed, in the connection's framing; what goes out is all that a `take` gives.
 Beside these a row has an action a line, in the language of connection_script.py. After ` => ` stands what the action
 gives; where nothing stands there, that is `ok`:
@@ -72,6 +72,13 @@ UNREADABLE = (
     "settings frames as-came lsp 1 1",
     "settings frames as-came mcp 1 1 more",
     "settings frames as-came mcp 1 1 broken broken",
+    "settings frames as-came mcp 1 1 nulls broken",
+    "settings frames as-came mcp 1 1 entries",
+    "settings frames as-came mcp 1 1 entries=",
+    "settings frames as-came mcp 1 1 entries=0",
+    "settings frames as-came mcp 1 1 entries=01",
+    "settings frames as-came mcp 1 1 entries=1 broken",
+    "settings frames as-came mcp 1 1 entries=1 entries=1",
     "settings frames as-came broken 1 1",
     "fault_place 1",
     "fault-place",
@@ -163,8 +170,8 @@ def settings_of(ways: list[str]) -> list[str]:
             order = it
         elif it in script.CANCELS:
             cancels = it
-        elif it in script.TELLING:
-            told = [it]
+        elif it in script.TELLING or script.ENTRIES.fullmatch(it):
+            told.append(it)
         elif it == "content":
             content = next(rest, "")
         elif it == "calls":

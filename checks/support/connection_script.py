@@ -7,10 +7,10 @@ isn't the same as an empty text.
 
     action                                                      gives
     settings FRAMING ORDER CANCELS CONTENT CALLS                ok | refused settings
-    settings FRAMING ORDER CANCELS CONTENT CALLS broken
+    settings FRAMING ORDER CANCELS CONTENT CALLS [broken] [nulls] [entries=MOST]
         FRAMING: frames, lines, contents; ORDER: as-answered, as-came; CANCELS: cancels (LSP's), mcp, no-cancels.
-        CONTENT (1 to 16777216) and CALLS (1 to 18446744073709551615) are the limits.
-        With `broken` broken contents are told.
+        CONTENT (1 to 2147483647) and CALLS (1 to 18446744073709551615) are the limits.
+        With `broken` broken contents are told, with `nulls` params that are null, and a batch may have MOST entries, 1 or more.
         Begins a connection, and drops the one before.
     feed HEX                                                    ok | refused over
     end closed    end failed                                    ok | refused over
@@ -59,7 +59,9 @@ HEX = re.compile(r"\.|(?:[0-9a-f]{2})+")
 FRAMINGS, ORDERS = ("frames", "lines", "contents"), ("as-answered", "as-came")
 # Whose cancels a conversation has.
 CANCELS = {"cancels": "lsp", "mcp": "mcp", "no-cancels": None}
-TELLING = ("broken",)
+# What may stand behind the limits, each once and in this order: what is told, and how many entries a batch may have.
+TELLING = ("broken", "nulls")
+ENTRIES = re.compile(r"entries=([1-9][0-9]*)")
 
 
 # Words
@@ -105,6 +107,23 @@ def one_of(words: Collection[str], word: str) -> str:
     if word not in words:
         raise ValueError(f"{word!r} is none of {[*words]}")
     return word
+
+
+def entries_of(word: str) -> int:
+    found = ENTRIES.fullmatch(word)
+    if found is None:
+        raise ValueError(f"{word!r} is no limit of entries")
+    return number_of(found[1])
+
+
+def check_more(words: list[str]) -> None:
+    """Whether these words may stand behind the limits of settings."""
+    told = [it for it in TELLING if it in words]
+    rest = words[len(told) :]
+    if words[: len(told)] != told or len(rest) > 1:
+        raise ValueError(f"{words} can't be read")
+    for word in rest:
+        entries_of(word)
 
 
 def text(words: Optional[str]) -> str:
@@ -162,8 +181,10 @@ def action_of(line: str) -> Action:
     name, *words = line.split(" ")
     if name == "batch" and len(words) % 2 == 1:
         forms: tuple[Word, ...] = (number_of, *(bytes_of, bytes_or_none) * (len(words) // 2))
-    elif name == "settings" and len(words) == len(FORMS[name]) + 1:
-        forms = (*FORMS[name], one_word_of(TELLING))
+    elif name == "settings" and len(words) > len(FORMS[name]):
+        more = words[len(FORMS[name]) :]
+        check_more(more)
+        forms = (*FORMS[name], *[str] * len(more))
     elif name in FORMS and len(FORMS[name]) == len(words):
         forms = FORMS[name]
     else:
@@ -210,9 +231,13 @@ class Runner:
         self.model: Optional[Model] = None
         self.is_begun = False
 
-    def settings(self, framing: str, order: str, cancels: str, content: int, calls: int, told: str = "") -> str:
+    def settings(self, framing: str, order: str, cancels: str, content: int, calls: int, *more: str) -> str:
         self.model, self.is_begun = None, True
-        self.model = self.kind(Settings(framing, order, CANCELS[cancels], content, calls, told in TELLING))
+        entries = entries_of(more[-1]) if more and more[-1] not in TELLING else None
+        tells_broken, null_params = [it in more for it in TELLING]
+        self.model = self.kind(
+            Settings(framing, order, CANCELS[cancels], content, calls, tells_broken, entries, null_params)
+        )
         return "ok"
 
     def do(self, action: Action) -> str:

@@ -8,7 +8,7 @@ from dataclasses import dataclass
 from typing import Any, Callable, Optional
 
 from support import grammar
-from support.connection_model import MOST_CALLS, MOST_CONTENT
+from support.connection_model import MOST_CALLS, USUAL_CONTENT
 from support.connection_reading import CANCELS as NAMES_OF_CANCELS
 from support.connection_reading import Input
 from support.connection_script import FRAMINGS, ORDERS, TELLING, Action, Runner
@@ -280,11 +280,13 @@ class Maker:
             self.do(name)
 
     def made(self) -> Session:
-        content = MOST_CONTENT if self.chance.random() < 0.9 else self.chance.randint(50, 300)
+        content = USUAL_CONTENT if self.chance.random() < 0.9 else self.chance.randint(50, 300)
         calls = self.chance.choice((1000, MOST_CALLS)) if self.chance.random() < 0.9 else self.chance.randint(1, 8)
         cancels = self.chance.choices(("cancels", "mcp", "no-cancels"), (9, 9, 2))[0]
-        told = TELLING if self.chance.random() < 0.5 else ()
-        self.do("settings", self.framing, self.chance.choice(ORDERS), cancels, content, calls, *told)
+        more = [it for it, how_often in zip(TELLING, (0.5, 0.2)) if self.chance.random() < how_often]
+        if self.chance.random() < 0.2:
+            more.append(f"entries={self.chance.randint(1, 3)}")
+        self.do("settings", self.framing, self.chance.choice(ORDERS), cancels, content, calls, *more)
         for _ in range(self.chance.randint(5, MOST_STEPS)):
             self.step()
         self.finish()

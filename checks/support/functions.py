@@ -64,7 +64,9 @@ def owner_of(header: str) -> tuple[str, str]:
         return trait[1], trait[1]
     parameters, rest = after_parameters(header.split(" where ")[0].split("{")[0].strip())
     if " for " not in rest:
-        return last_name(rest), last_name(rest)
+        # (an impl of `DenseWindow<Option<T>>` is called `DenseWindow+Option+T`, one of `DenseWindow<P>` just by its type)
+        is_special = not {*re.findall(r"[A-Za-z_]\w*", re.sub(r"'\w+|\w+::", "", rest))[1:]} <= parameters
+        return last_name(rest), last_name(rest) + (r"(?:\+\w+)+" if is_special else "")
     of, kind = rest.split(" for ", 1)
     words = re.findall(r"[A-Za-z_]\w*", re.sub(r"'\w+|\w+::", "", of))
     words = [it[0].upper() + it[1:] for it in words if it not in parameters]

@@ -1,8 +1,9 @@
-/* usage: invalid_batch BYTES [frames]
+/* usage: invalid_batch BYTES [frames] [limited]
  *
  * Has one batch of so many bytes come, in lines or in frames, of the shortest invalid entries, `[1,1,..]`: each is
- * answered with 80 bytes. Prints the length of the batch, how many bytes more than before were resident at most until
- * its answer was written, and how many more the library holds once it is taken. */
+ * answered with 80 bytes. With `limited` a batch may have 100,000 entries, and this one gets one answer. Prints the
+ * length of the batch, how many bytes more than before were resident at most until its answer was written, and how many
+ * more the library holds once it is taken. */
 #include "bullmyrtle.h"
 
 #include <malloc.h>
@@ -55,11 +56,13 @@ static uint8_t *batch_of(size_t most, size_t *length)
 int main(int count, char **words)
 {
     static uint8_t room[1 << 16];
-    check(count == 2 || count == 3, "usage: invalid_batch BYTES [frames]");
-    bool in_frames = count == 3 && !strcmp(words[2], "frames");
-    bm_settings settings = {.framing = in_frames ? BM_FRAMES : BM_LINES};
+    check(count >= 2 && count <= 4, "usage: invalid_batch BYTES [frames] [limited]");
+    bool in_frames = count > 2 && !strcmp(words[2], "frames");
+    bool is_limited = count > 2 && !strcmp(words[count - 1], "limited");
+    bm_options options = {.size = sizeof options, .framing = in_frames ? BM_FRAMES : BM_LINES};
+    options.entries = is_limited ? 0 : UINT32_MAX;
     bm_connection connection;
-    check(bm_new(&settings, &connection.at) == BM_OK, "bm_new");
+    check(bm_open(&options, &connection.at) == BM_OK, "bm_open");
     size_t length;
     uint8_t *batch = batch_of(strtoull(words[1], NULL, 10), &length);
     char head[64];
@@ -77,7 +80,7 @@ int main(int count, char **words)
     uint64_t written = 0;
     for (size_t taken; (taken = bm_take(&connection, room, sizeof room));)
         written += taken;
-    check(written / 40 >= length - 2, "an answer for each entry");
+    check(is_limited ? written < 200 : written / 40 >= length - 2, "an answer for each entry, or one");
     printf("%zu %llu %llu\n", length, (unsigned long long)most, (unsigned long long)(held() - held_before));
     bm_free(connection);
     return 0;

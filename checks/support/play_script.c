@@ -227,10 +227,36 @@ static uint32_t one_of(const char *it, const char *const *names, uint32_t count)
     return 0;
 }
 
+/* Whether the next word is this one; it is passed over then. */
+static bool takes(char **line, const char *name)
+{
+    size_t length = strlen(name);
+    if (!*line || strncmp(*line, name, length) || ((*line)[length] && (*line)[length] != ' '))
+        return false;
+    word(line);
+    return true;
+}
+
+/* How many entries a batch may have, by the word `entries=MOST`; where no word is left, any number. */
+static uint32_t most_entries(char **line)
+{
+    static const char name[] = "entries=";
+    if (!*line)
+        return UINT32_MAX;
+    const char *it = word(line);
+    if (strncmp(it, name, sizeof name - 1))
+        give_up();
+    uint64_t most = number(it + sizeof name - 1);
+    if (!most)
+        give_up();
+    return most > UINT32_MAX ? UINT32_MAX : (uint32_t)most;
+}
+
 /* By bm_open; where bm_new has the settings too, half of the connections are made by that one. */
 static int32_t made(const bm_options *options)
 {
-    if (options->broken || options->cancels == BM_CANCELS_MCP || options->calls % 2)
+    if (options->broken || options->null_params || options->entries != UINT32_MAX ||
+        options->cancels == BM_CANCELS_MCP || options->content > 1 << 24 || options->calls % 2)
         return bm_open(options, &connection.at);
     bm_settings settings = {.framing = options->framing,
                             .order = options->order,
@@ -245,15 +271,15 @@ static void begin(char *line)
     static const char *const framings[] = {"frames", "lines", "contents"};
     static const char *const orders[] = {"as-answered", "as-came"};
     static const char *const cancels[] = {"no-cancels", "cancels", "mcp"};
-    static const char *const telling[] = {"broken"};
     bm_options options = {.size = sizeof options};
     options.framing = one_of(word(&line), framings, 3);
     options.order = one_of(word(&line), orders, 2);
     options.cancels = one_of(word(&line), cancels, 3);
     uint64_t content = number(word(&line));
     options.calls = number(word(&line));
-    if (line)
-        options.broken = 1 + one_of(word(&line), telling, 1);
+    options.broken = takes(&line, "broken");
+    options.null_params = takes(&line, "nulls");
+    options.entries = most_entries(&line);
     no_more(line);
     has_begun = true;
     if (has_connection)

@@ -38,7 +38,8 @@ async function edit() {
   connection.listen()
 
   const textDocument = { uri: URI }
-  await connection.sendRequest('initialize', { processId: process.pid, rootUri: null, capabilities: {} })
+  const capabilities = { window: { workDoneProgress: true } }
+  await connection.sendRequest('initialize', { processId: process.pid, rootUri: null, capabilities })
   connection.sendNotification('initialized', {})
   const opened = { uri: URI, languageId: 'text', version: 1, text: TEXT }
   connection.sendNotification('textDocument/didOpen', { textDocument: opened })

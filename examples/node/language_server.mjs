@@ -12,6 +12,7 @@ const connection = createMessageConnection(process.stdin, process.stdout)
 const texts = new Map() // of the open documents, by their URIs
 let status = 1 // 0 once the server is shut down
 let counts = 0
+let hasProgress = false // whether the editor shows it
 
 /** What matches in a document's lines, with its range. Columns are in UTF-16 in JavaScript, as in LSP. */
 function find(pattern, { uri }) {
@@ -41,11 +42,14 @@ function pause(seconds, token) {
   })
 }
 
-connection.onRequest('initialize', () => ({
-  capabilities: {
-    textDocumentSync: 1, hoverProvider: true, codeActionProvider: true, executeCommandProvider: { commands: ['count'] }
+connection.onRequest('initialize', params => {
+  hasProgress = params.capabilities?.window?.workDoneProgress === true
+  return {
+    capabilities: {
+      textDocumentSync: 1, hoverProvider: true, codeActionProvider: true, executeCommandProvider: { commands: ['count'] }
+    }
   }
-}))
+})
 connection.onNotification('textDocument/didOpen', changed)
 connection.onNotification('textDocument/didChange', changed)
 
@@ -71,8 +75,10 @@ connection.onRequest('textDocument/codeAction', ({ textDocument, range: { start 
 connection.onRequest('workspace/executeCommand', async ({ command, arguments: [seconds] = [0] }, cancellation) => {
   if (command !== 'count') throw new ResponseError(ErrorCodes.InvalidParams, `unknown command: ${command}`)
   const token = `count ${++counts}`
-  await connection.sendRequest('window/workDoneProgress/create', { token })
-  const tell = (kind, more) => connection.sendProgress(new ProgressType(), token, { kind, ...more })
+  if (hasProgress) await connection.sendRequest('window/workDoneProgress/create', { token })
+  const tell = (kind, more) => {
+    if (hasProgress) connection.sendProgress(new ProgressType(), token, { kind, ...more })
+  }
   tell('begin', { title: 'Counting', cancellable: true })
   try {
     for (const uri of [...texts.keys()]) {

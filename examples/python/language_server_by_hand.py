@@ -8,6 +8,7 @@ from bullmyrtle import InvalidParams, Server
 server = Server(protocol="lsp")
 texts = {}  # of the open documents, by their URIs
 ending = {"status": 1}  # 0 once the server is shut down
+editor = {"has_progress": False}
 WORD, REPEATED = r"\w+", r"\b(\w+)\s+\1\b"
 
 
@@ -24,6 +25,8 @@ def find(pattern, document):
 
 @server.method("initialize")
 def initialize(params: dict):
+    window = params.get("capabilities", {}).get("window", {})
+    editor["has_progress"] = window.get("workDoneProgress") is True
     capabilities = {"textDocumentSync": 1, "hoverProvider": True, "codeActionProvider": True}
     return {"capabilities": {**capabilities, "executeCommandProvider": {"commands": ["count"]}}}
 
@@ -64,10 +67,12 @@ async def count(params: dict, request):
     if params["command"] != "count":
         raise InvalidParams(f"unknown command: {params['command']}")
     token = f"count {request.id}"
-    await request.call("window/workDoneProgress/create", {"token": token})
+    if editor["has_progress"]:
+        await request.call("window/workDoneProgress/create", {"token": token})
 
     def tell(kind, **more):
-        request.notify("$/progress", {"token": token, "value": {"kind": kind, **more}})
+        if editor["has_progress"]:
+            request.notify("$/progress", {"token": token, "value": {"kind": kind, **more}})
 
     tell("begin", title="Counting", cancellable=True)
     try:

@@ -173,7 +173,7 @@ static void forget(napi_env env, void *data, void *hint)
 
 /* What a connection is made with. */
 typedef struct {
-    uint32_t framing, order, cancels, content, broken;
+    uint32_t framing, order, cancels, content, broken, entries, null_params;
     uint64_t calls;
 } ways;
 
@@ -185,6 +185,8 @@ static int32_t make(const ways *it, void **at)
     options.broken = it->broken;
     options.content = it->content;
     options.calls = it->calls;
+    options.entries = it->entries;
+    options.null_params = it->null_params;
     return bm_open(&options, at);
 }
 
@@ -201,11 +203,11 @@ static int32_t make(const ways *it, void **at)
 
 #endif
 
-/* open(framing, order, cancels, content, calls, broken): a handle, or a code */
+/* open(framing, order, cancels, content, calls, broken, entries, nullParams): a handle, or a code */
 static napi_value open_one(napi_env env, napi_callback_info info)
 {
-    napi_value given[6], made = NULL;
-    size_t count = 6;
+    napi_value given[8], made = NULL;
+    size_t count = 8;
     int64_t now;
     ways asked = {0};
     napi_get_cb_info(env, info, &count, given, NULL, NULL);
@@ -215,6 +217,8 @@ static napi_value open_one(napi_env env, napi_callback_info info)
     napi_get_value_uint32(env, given[3], &asked.content);
     asked.calls = whole(env, given[4]);
     asked.broken = flag(env, given[5]);
+    napi_get_value_uint32(env, given[6], &asked.entries);
+    asked.null_params = flag(env, given[7]);
     connection *it = calloc(1, sizeof *it);
     if (it == NULL)
         return number(env, BM_NO_MEMORY);

@@ -58,7 +58,10 @@ function cancelsOf(value) {
   return it
 }
 
-/** A limit as the addon takes it. There 0 is the greatest, and here it is none. */
+/** The greatest number of entries, which stands for any. */
+const ANY_ENTRIES = 2n ** 32n - 1n
+
+/** A limit as the addon takes it. There 0 is the usual one, and here it is none. */
 function limit(value, name, greatest) {
   if (value === undefined) return 0
   const it = BigInt(whole(value, name))
@@ -118,11 +121,17 @@ class Connection {
   #handle
   #framing
 
-  constructor({ framing = 'frames', order = 'as-answered', cancels = 'lsp', content, calls, broken = false } = {}) {
+  constructor({
+    framing = 'frames', order = 'as-answered', cancels = 'lsp', content, calls, broken = false, entries,
+    nullParams = false
+  } = {}) {
     if (broken) checkOpen('broken: true')
+    if (entries !== undefined) checkOpen('entries')
+    if (nullParams) checkOpen('nullParams: true')
     const made = native.open(
       oneOf(FRAMINGS, framing, 'framing'), oneOf(ORDERS, order, 'order'), cancelsOf(cancels),
-      Number(limit(content, 'content', 2n ** 32n - 1n)), limit(calls, 'calls', LARGEST - 1n), !!broken
+      Number(limit(content, 'content', 2n ** 32n - 1n)), limit(calls, 'calls', LARGEST - 1n), !!broken,
+      Number(limit(entries, 'entries', ANY_ENTRIES)), !!nullParams
     )
     if (typeof made === 'number') check(made)
     this.#handle = made

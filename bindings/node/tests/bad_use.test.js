@@ -183,7 +183,7 @@ test('codes of errors that no number of JavaScript holds', async () => {
 test('settings that there cannot be', () => {
   const make = options => () => bullmyrtle.createMessageConnection(new PassThrough(), new PassThrough(), undefined, options)
   for (const it of [{ protocol: 'dap' }, { protocol: '__proto__' }, { framing: 'contents' }, { order: 'random' }]) assert.throws(make(it), TypeError)
-  for (const it of [{ content: 16_777_217 }]) assert.throws(make(it), RangeError)
+  for (const it of [{ content: 2 ** 31 }]) assert.throws(make(it), RangeError)
   assert.throws(() => bullmyrtle.createMessageConnection(undefined, undefined), TypeError)
   assert.throws(() => bullmyrtle.createMessageConnection(5, new PassThrough()), TypeError)
   make(null)()

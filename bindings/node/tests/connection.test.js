@@ -114,7 +114,7 @@ test('what is refused has changed nothing', () => {
   refused(() => it.feed(Buffer.from('x')), 'InputOver')
   assert.deepEqual([it.pending, it.counts().open, it.events().length], [0, 1, 1])
   refused(() => it.call(0, 'm'), 'InputOver')
-  for (const settings of [{ content: 0 }, { content: 16_777_217 }, { calls: 0 }]) refused(() => new Connection(settings), 'BadSettings')
+  for (const settings of [{ content: 0 }, { content: 2 ** 31 }, { calls: 0 }, { entries: 0 }]) refused(() => new Connection(settings), 'BadSettings')
 })
 
 test('what has another type is a TypeError', () => {
@@ -240,6 +240,24 @@ test('broken input is told, alone and with others, one by one and together', { s
   assert.deepEqual(new Connection({ framing: 'lines' }).fed(bytes).length, 13)
 })
 
+test('a batch has at most so many entries', { skip }, () => {
+  const array = count => Buffer.from(`[${Array(count).fill('1')}]\n`)
+  for (const [entries, count, invalid] of [
+    [2, 2, 2], [2, 3, 1], [1n, 2, 1], [undefined, 100_000, 100_000], [undefined, 100_001, 1],
+    [2 ** 32 - 1, 100_001, 100_001]
+  ]) {
+    const it = new Connection({ framing: 'lines', entries })
+    assert.deepEqual([it.fed(array(count)), it.counts().invalid], [[], invalid])
+  }
+})
+
+test('params that are null', { skip }, () => {
+  const call = Buffer.from('{"jsonrpc":"2.0","method":"m","params":null}\n')
+  for (const [nullParams, params] of [[false, undefined], [true, 'null']]) {
+    assert.equal(new Connection({ framing: 'lines', nullParams }).fed(call)[0].params, params)
+  }
+})
+
 test('where a fault lies', { skip }, () => {
   const it = new Connection({ framing: 'lines', content: 10 })
   it.feed(Buffer.from('{}\n{}\n'))
@@ -252,6 +270,7 @@ test('what an older library lacks is told', { skip: HAS_OPEN && 'the library lac
   const needs = ' needs an addon whose library has bm_open, as bullmyrtle 0.3.0 does, and this one is older'
   for (const [name, act] of [
     ["cancels: 'mcp'", () => new Connection({ cancels: 'mcp' })], ['broken: true', () => new Connection({ broken: true })],
+    ['entries', () => new Connection({ entries: 7 })], ['nullParams: true', () => new Connection({ nullParams: true })],
     ['faultOffset', () => new Connection().faultOffset]
   ]) assert.throws(act, { message: `${name}${needs}` })
 })

@@ -69,16 +69,30 @@ function eventLine(it) {
 const defectOf = it => (it.what === 'Invalid' ? `invalid ${it.entry} ${it.entries}` : 'unreadable')
 const CANCELS = { cancels: 'lsp', mcp: 'mcp', 'no-cancels': null }
 
-function settings(framing, order, cancels, content, calls, broken) {
+/** Whether the first of the words is this one; it is passed over then. */
+function takes(words, word) {
+  return words[0] === word && words.shift() !== undefined
+}
+
+/** How many entries a batch may have, by the word `entries=MOST`; where there is no word, any number. */
+function mostEntries(word) {
+  if (word === undefined) return 2 ** 32 - 1
+  return number(matched(/^entries=[1-9][0-9]*$/, word).slice('entries='.length))
+}
+
+function settings(framing, order, cancels, content, calls, ...more) {
   oneOf(['frames', 'lines', 'contents'], framing)
   oneOf(['as-answered', 'as-came'], order)
   oneOf(Object.keys(CANCELS), cancels)
-  oneOf([undefined, 'broken'], broken)
+  const broken = takes(more, 'broken')
+  const nullParams = takes(more, 'nulls')
+  const entries = mostEntries(more.shift())
+  oneOf([0], more.length)
   const limits = { content: number(content), calls: number(calls) }
   hasBegun = true
   connection?.close()
   connection = undefined
-  connection = new Connection({ framing, order, cancels: CANCELS[cancels], broken: broken === 'broken', ...limits })
+  connection = new Connection({ framing, order, cancels: CANCELS[cancels], broken, nullParams, entries, ...limits })
   return 'ok'
 }
 
@@ -101,7 +115,7 @@ const ACTIONS = {
 }
 
 function read(name, words) {
-  if (name === 'settings' && (words.length === 5 || words.length === 6)) return () => settings(...words)
+  if (name === 'settings' && words.length >= 5) return () => settings(...words)
   if (name === 'batch' && words.length % 2 === 1) {
     const of = number(words[0])
     const calls = []

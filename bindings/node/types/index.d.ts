@@ -581,7 +581,7 @@ export interface ConnectionOptions {
   /** In place of the protocol's: behind a head with its Content-Length, or one content a line. */
   framing?: 'frames' | 'lines'
   order?: 'as-answered' | 'as-came'
-  /** How many bytes a content may have, at most 16,777,216. */
+  /** How many bytes a content may have, at most 2,147,483,647; 16,777,216 where it is absent. */
   content?: number
   /** How many calls may come. */
   calls?: number
@@ -749,10 +749,15 @@ export interface ConnectionSettings {
   order?: 'as-answered' | 'as-came'
   /** Whose: `$/cancelRequest`, `notifications/cancelled`, or none; 'lsp' where it is absent. */
   cancels?: 'lsp' | 'mcp' | boolean | null
+  /** How many bytes a content may have, at most 2,147,483,647; 16,777,216 where it is absent. */
   content?: number
   calls?: number | bigint
   /** Whether broken input is told. */
   broken?: boolean
+  /** How many entries a batch may have: 100,000 where it is absent, and 4,294,967,295 or more is any number. */
+  entries?: number | bigint
+  /** Whether params that are null are told as the text null; else they are none. */
+  nullParams?: boolean
 }
 export declare class Connection {
   constructor(settings?: ConnectionSettings)

@@ -1,4 +1,4 @@
-"""usage: compare.py [--requests N] [--rounds N]
+"""usage: compare.py [--requests N] [--rounds N] [--processor N]
 
 How fast a server of this package is, beside python3-pylsp-jsonrpc where that is installed. Both have the same methods in
 Python. They are measured in turn, and the best of the rounds is told, since what else the machine does only adds to it:
@@ -10,7 +10,9 @@ Python. They are measured in turn, and the best of the rounds is told, since wha
   start      milliseconds from the start of the process to its first answer, beside a process that imports
              json and asyncio alone
 
-The machine's load stands before and behind the figures.
+Behind them stand the ratios: how many requests at once we answer for each of theirs, and how long a ping and a call back
+take for each of theirs. The machine's load stands before and behind the figures. With --processor N all runs on this one
+processor, so that nothing else that runs there moves one of them alone.
 """
 import json
 import os
@@ -151,6 +153,8 @@ def number(words, name, default):
 
 def main(words):
     requests, rounds = number(words, "--requests", 20_000), number(words, "--rounds", 5)
+    if "--processor" in words:
+        os.sched_setaffinity(0, {number(words, "--processor", 0)})
     os.environ["PYTHONPATH"] = os.pathsep.join([PACKAGE, *filter(None, [os.environ.get("PYTHONPATH")])])
     servers = {"bullmyrtle": OURS}
     if (
@@ -167,12 +171,22 @@ def main(words):
         for name, code in servers.items():
             found[name].append(measured(code, requests))
         starts.append(start_of("import json, asyncio"))
+    best = {}
     for name, all_ in found.items():
-        best = {what: (max if what == "at once" else min)(it[what] for it in all_) for what in all_[0]}
+        best[name] = it = {
+            what: (max if what == "at once" else min)(one[what] for one in all_) for what in all_[0]
+        }
         print(
-            f"{name:14} at once {best['at once']:9,.0f} requests/s   processor {best['processor']:5.1f} us   "
-            f"ping {best['ping']:6.1f} us   call back {best['call back']:6.1f} us   start {best['start']:5.0f} ms"
+            f"{name:14} at once {it['at once']:9,.0f} requests/s   processor {it['processor']:5.1f} us   "
+            f"ping {it['ping']:6.1f} us   call back {it['call back']:6.1f} us   start {it['start']:5.0f} ms"
         )
+    if len(best) == 2:
+        ours, theirs = best.values()
+        ratios = (
+            f"{what} {ours[what] / theirs[what]:.2f}"
+            for what in ("at once", "processor", "ping", "call back")
+        )
+        print(f"{'ours by theirs':14} {', '.join(ratios)}")
     print(f"{'import':14} json, asyncio: {min(starts):.0f} ms")
     print(f"load {os.getloadavg()[0]:.1f}")
 

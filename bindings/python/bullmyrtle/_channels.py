@@ -184,10 +184,7 @@ class Descriptors(Channel):
     def waiting(self) -> int:
         return len(self._rest)
 
-    def write(self) -> None:
-        self._write_on(False)
-
-    def _write_on(self, is_later: bool) -> None:
+    def write(self, is_later: bool = False) -> None:
         if self._is_waiting and not is_later:
             self._pause_where_much_waits()
             return
@@ -234,7 +231,7 @@ class Descriptors(Channel):
             self._is_waiting = True
             assert self._sink is not None
             try:
-                self._loop.add_writer(self._sink, self._write_on, True)
+                self._loop.add_writer(self._sink, self.write, True)
             except OSError:
                 self._loop.call_soon(self._write_file)
         self._pause_where_much_waits()
@@ -246,7 +243,7 @@ class Descriptors(Channel):
 
     def _write_file(self) -> None:
         if self._is_waiting:
-            self._write_on(True)
+            self.write(True)
             self._loop.call_soon(self._write_file)
 
     def _written(self) -> None:

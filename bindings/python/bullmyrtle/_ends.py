@@ -68,7 +68,7 @@ _FAULTS = {
     "Truncated": "the input ended inside a message",
 }
 
-_CONTENT = "the setting content= takes up to 16,777,216"
+_CONTENT = "the setting content= takes up to 2,147,483,647"
 
 
 def is_fault(how: str) -> bool:

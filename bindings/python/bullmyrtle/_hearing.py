@@ -13,7 +13,7 @@ from . import _json, events
 from ._answering import VALUES, id_wanted, log_surely
 from ._asking import AROUND, words_of_error
 from ._channels import Channel
-from ._params import Methods
+from ._params import Method, Methods
 from ._talking import Talking
 from .connection import Notes
 from .errors import INTERNAL_ERROR, Error, InputOver, NoMemory, NotOpen, Unanswered
@@ -89,7 +89,6 @@ class Hearing(Talking):
             self.watch.read(data, told)
             if self._cancels or self._takes_tool_cancels:
                 self._note_cancels(told)
-            self._events += told
         except InputOver:
             return
         except (KeyboardInterrupt, SystemExit):
@@ -97,8 +96,10 @@ class Hearing(Talking):
         except BaseException as fault:
             self._fail_to_read(fault)
             return
-        if not self._is_going:
-            self._go_on()
+        if len(told) != 1 or not self._goes_on_with(told[0]):
+            self._events += told
+            if not self._is_going:
+                self._go_on()
 
     def input_ended(self, failed: bool) -> None:
         """The end of the input."""
@@ -334,6 +335,68 @@ class Hearing(Talking):
             self._flush_soon()  # (whatever goes on now may have more to say)
         else:
             self._flush()
+
+    def _begin_quickly(self, method: Method, event: events.Call) -> bool:
+        """What most calls are. `_go_on` has the same in its loop, since of many calls one function more each is felt."""
+        number, name, params, id_ = event
+        loads, dumps = self._json
+        try:
+            given = None if params is None else loads(params)
+            if method.fit is not None:
+                given = method.fit(given, "params")
+        except (KeyboardInterrupt, SystemExit):
+            raise
+        except BaseException as fault:
+            self._doesnt_fit(event, fault)
+            return False
+        try:
+            result = method.function(given) if method.takes else method.function()
+        except (KeyboardInterrupt, SystemExit):
+            raise
+        except BaseException as error:
+            self._raised(number, name, error, None)
+            return False
+        if id_ is not None and type(result) in VALUES:
+            try:
+                text = dumps(result)
+                self._said += AROUND + len(text)
+                self._answer_quickly(number, text)
+                return False
+            except (NoMemory, KeyboardInterrupt, SystemExit):
+                raise
+            except BaseException:
+                pass  # (what is below finds it again, and says so)
+        return self._returned_plainly(method, result, event, None)
+
+    def _goes_on_with(self, event: Event) -> bool:
+        """Takes an event that came alone, where nothing waits before it and it is what most calls are; says whether it
+        was taken. `_go_on` does the same in more steps."""
+        if type(event) is not events.Call or self._is_going or self._events or self._held or self._gone:
+            return False
+        method = self._methods.get(event[1])
+        if method is None or not method.is_quick or event[1] == self._cancel_by or self._is_choosy:
+            return False
+        if self._pauses or self._said > _MUCH:
+            return False
+        has_begun, self._is_going = False, True
+        try:
+            has_begun = self._begin_quickly(method, event)
+        except (KeyboardInterrupt, SystemExit):
+            raise
+        except BaseException as fault:
+            self._went_wrong(event, fault)
+        finally:
+            # (as in `_go_on`; more may have come meanwhile)
+            self._is_going = bool(self._events) or has_begun and not self._channel.takes_turns
+            if self._is_going:
+                self.loop.call_soon(self._go_on, True)
+        if self._events:
+            self._pause_while_many_wait()
+        if has_begun:
+            self._flush_soon()
+        else:
+            self._flush()
+        return True
 
     def _pause_while_many_wait(self) -> None:
         if len(self._events) > _MANY:

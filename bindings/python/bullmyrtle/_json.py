@@ -137,7 +137,7 @@ def _interpreters_bound() -> int:
     return 0 if bound is None else int(bound())
 
 
-def _writer() -> Dumps:
+def _writer() -> Callable[[Any], str]:
     """What writes a value. A JSONEncoder makes its inner encoder anew for each value, which takes longest."""
     write = json.JSONEncoder(
         ensure_ascii=False, allow_nan=False, separators=(",", ":"), default=_default
@@ -152,19 +152,10 @@ def _writer() -> Dumps:
     except (AttributeError, TypeError):
         is_as_known = False
 
-    def quick(value: Any) -> bytes:
-        try:
-            return "".join(inner(value, 0)).encode()
-        except RecursionError:
-            raise ValueError("it nests too deep") from None
+    def quick(value: Any) -> str:
+        return "".join(inner(value, 0))
 
-    def plain(value: Any) -> bytes:
-        try:
-            return write(value).encode()
-        except RecursionError:
-            raise ValueError("it nests too deep") from None
-
-    return quick if is_as_known else plain
+    return quick if is_as_known else write
 
 
 _write = _writer()
@@ -191,7 +182,9 @@ def _plain(digits: int) -> Tuple[Loads, Dumps]:
 
     def dumps(value: Any) -> bytes:
         try:
-            text = _write(value)
+            text = _write(value).encode()
+        except RecursionError:
+            raise ValueError("it nests too deep") from None
         except ValueError:
             if not 0 < _interpreters_bound() < digits:
                 raise

@@ -17,6 +17,8 @@ FRAMINGS = ("frames", "lines", "contents")
 ORDERS = ("as-answered", "as-came")
 #: Whose cancels there are.
 CANCELS = (None, "lsp", "mcp")
+#: Whose rules the judge knows.
+RULES = ("jsonrpc", "lsp", "mcp", "mcp:2025-03-26")
 CLOSED, READ_FAILED = 0, 1
 CALL, CANCELLED, REPLIED, UNANSWERED, INPUT_OVER, BROKEN = 1, 2, 3, 4, 5, 6
 # By the flags of BROKEN.
@@ -57,6 +59,8 @@ class Options(ctypes.Structure):
         ("broken", c_uint32),
         ("content", c_uint32),
         ("calls", c_uint64),
+        ("entries", c_uint32),
+        ("null_params", c_uint32),
     ]
 
 
@@ -108,10 +112,30 @@ class Said(ctypes.Structure):
     _fields_ = [("refused", c_size_t), ("taken", c_size_t), ("pending", c_size_t)]
 
 
+class JudgeOptions(ctypes.Structure):
+    """The settings of the addition JUDGE."""
+
+    _fields_ = [(name, c_uint32) for name in ("size", "rules", "framing", "content", "ids")]
+
+
+class Found(ctypes.Structure):
+    """A finding of the judge's, as numbers."""
+
+    _fields_ = [
+        ("side", c_uint32),
+        ("rule", c_uint32),
+        ("level", c_uint32),
+        ("whose", c_uint32),
+        ("number", c_uint64),
+        ("offset", c_uint64),
+        ("entry", c_uint64),
+    ]
+
+
 # Why no more events are told.
 NO_EVENT, NO_ROOM, NO_MORE, NO_MEMORY_LEFT = range(4)
-# The additions: bm_tell and bm_fed; and bm_open with MCP's cancels, broken input told, and where a fault lies.
-TOGETHER, OPEN = 1, 2
+# The additions: bm_tell and bm_fed; bm_open with MCP's cancels, broken input told, and where a fault lies; the judge.
+TOGETHER, OPEN, JUDGE = 1, 2, 3
 
 
 class Counts(ctypes.Structure):
@@ -164,6 +188,14 @@ CALLS: Dict[str, Tuple[Any, List[Any]]] = {
 CALLS_OF_OPEN: Dict[str, Tuple[Any, List[Any]]] = {
     "bm_open": (c_int32, [POINTER(Options), POINTER(c_void_p)]),
     "bm_fault_at": (c_bool, [_AT, POINTER(c_uint64)]),
+}
+# The same of the addition JUDGE.
+CALLS_OF_JUDGE: Dict[str, Tuple[Any, List[Any]]] = {
+    "bm_judge_new": (c_int32, [POINTER(JudgeOptions), POINTER(c_void_p)]),
+    "bm_judge_saw": (c_int32, [_AT, c_uint32, *_BYTES]),
+    "bm_judge_ended": (c_int32, [_AT, c_uint32, c_uint32]),
+    "bm_judge_next": (c_size_t, [_AT, POINTER(Found), c_size_t]),
+    "bm_judge_free": (None, [Handle]),
 }
 
 _loaded: Any = None
@@ -233,6 +265,8 @@ def declare(library: Any) -> None:
         raise LibraryError("the library is older than this package")
     if library.bm_has(OPEN):
         _declare(library, CALLS_OF_OPEN)
+    if library.bm_has(JUDGE):
+        _declare(library, CALLS_OF_JUDGE)
 
 
 def library() -> Any:
@@ -263,6 +297,15 @@ def check_open(wanted: str) -> None:
     if not has_open():
         raise LibraryError(
             f"{wanted} needs a library that has bm_open, as bullmyrtle 0.3.0 does, and the one that is loaded is older"
+        )
+
+
+def check_judge() -> None:
+    """Refuses to judge, where the library lacks the addition JUDGE."""
+    if not library().bm_has(JUDGE):
+        raise LibraryError(
+            "judging needs a library that has bm_judge_new, as bullmyrtle 0.3.0 does, and the one that is loaded is "
+            "older"
         )
 
 

@@ -11,7 +11,11 @@ from ._json import FEWEST_DIGITS
 from .errors import BadSettings
 
 #: The greatest content that the library takes, in bytes, and the most calls.
-MOST_CONTENT, MOST_CALLS = 16_777_216, (1 << 64) - 1
+MOST_CONTENT, MOST_CALLS = (1 << 31) - 1, (1 << 64) - 1
+#: The greatest content where nothing else is asked for.
+USUAL_CONTENT = 16_777_216
+#: The greatest setting `entries`, which stands for any number.
+ANY_ENTRIES = (1 << 32) - 1
 
 
 def refuse(name: str, value: Any, there_is: str) -> NoReturn:

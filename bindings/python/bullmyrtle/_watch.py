@@ -4,13 +4,12 @@ from __future__ import annotations
 import asyncio
 import contextlib
 import time
-from collections import deque
-from typing import Any, Callable, Deque, List, Mapping, Optional, Protocol, Sequence, Tuple, Union
+from typing import Any, Callable, List, Mapping, Optional, Protocol, Sequence, Tuple, Union
 
 from . import _ends, _library
 from ._ends import SHOWN, End, Late, Place
 from ._log import log
-from ._settings import MOST_CONTENT
+from ._settings import USUAL_CONTENT
 from ._trace import Traced
 from .connection import Cancels, Connection, Counts, Notes
 from .errors import Closed, Refused
@@ -19,6 +18,8 @@ from .events import Broken, Event, Over
 # How much of the stream's beginning is kept, and of what was read last, for the first bytes of the frame at fault; and
 # how often a line of counts may come.
 _KEPT, _SECONDS = 8192, 1.0
+# How many pieces may wait to be looked into, and how long each of them may be.
+_PIECES, _SHORT = 64, 1024
 
 
 class Process(Protocol):
@@ -67,25 +68,6 @@ class _Lines:
         return start, (first + data[at : at + SHOWN])[:SHOWN]
 
 
-class _Recent:
-    """What was read last, 8,192 bytes at least where there were so many."""
-
-    def __init__(self) -> None:
-        self._pieces: Deque[bytes] = deque()
-        self.size = 0
-
-    def add(self, data: bytes) -> None:
-        data = data[-_KEPT:]
-        self._pieces.append(data)
-        self.size += len(data)
-        while self.size - len(self._pieces[0]) >= _KEPT:
-            self.size -= len(self._pieces.popleft())
-
-    @property
-    def data(self) -> bytes:
-        return b"".join(self._pieces)
-
-
 class Watch:
     """Sees each piece of the input, and what was told of it."""
 
@@ -94,9 +76,14 @@ class Watch:
         self._connection: Union[Connection, Traced, None] = None
         self._notes = Notes()
         self._is_busy: Callable[[], bool] = lambda: False
+        # The pieces that weren't looked into yet: few and short, since to do so at each one takes longer.
+        self._pieces: List[bytes] = []
         self._fed = 0
         self._kept = b""
-        self._recent = _Recent() if settings["framing"] == "frames" and _library.has_open() else None
+        # Whether each message that couldn't be read is told, so that nothing is to be looked for besides.
+        self._is_told = _library.has_open()
+        # What was read last, 8,192 bytes where there were so many.
+        self._recent = b"" if settings["framing"] == "frames" and self._is_told else None
         self._lines = _Lines() if settings["framing"] == "lines" else None
         self._how: Optional[str] = None
         self._place: Optional[Place] = None
@@ -120,27 +107,41 @@ class Watch:
         """A piece was read, and these events were told of it."""
         if self._how is not None:
             return
-        if len(self._kept) < _KEPT:
-            self._kept += data[: _KEPT - len(self._kept)]
         if told and type(told[-1]) is Over:
+            self._look_into_pieces()
+            self._keep(data)
             self._how = told[-1].how
             self._is_meant = self.is_finished
             if _ends.is_fault(self._how):
                 self._place = self._find(data)
-        elif not told or self._notes.broken is not self._seen or time.monotonic() >= self._next:
-            self._look()
-        if self._lines is not None:
-            self._lines.add(data)
-        elif self._recent is not None:
-            self._recent.add(data)
-        self._fed += len(data)
+            return
+        self._pieces.append(data)
+        if len(self._pieces) > _PIECES or len(data) > _SHORT:
+            self._look_into_pieces()
+        if self._notes.broken is not self._seen or not self._is_told:
+            if self._is_told or not told or time.monotonic() >= self._next:
+                self._look()
+
+    def _look_into_pieces(self) -> None:
+        for data in self._pieces:
+            self._keep(data)
+            if self._lines is not None:
+                self._lines.add(data)
+            elif self._recent is not None:
+                self._recent = data[-_KEPT:] if len(data) >= _KEPT else (self._recent + data)[-_KEPT:]
+            self._fed += len(data)
+        self._pieces.clear()
+
+    def _keep(self, data: bytes) -> None:
+        if len(self._kept) < _KEPT:
+            self._kept += data[: _KEPT - len(self._kept)]
 
     # The place of a fault
 
     def _find(self, data: bytes) -> Place:
         piece = self._fed, data[:SHOWN]
         if self._lines is not None:
-            most = self._settings["content"] or MOST_CONTENT
+            most = self._settings["content"] or USUAL_CONTENT
             return Place(*self._lines.fault(data, most), *piece)
         if self._settings["framing"] == "contents":
             return Place(self._fed, data[:SHOWN], *piece)
@@ -162,9 +163,9 @@ class Watch:
     def _bytes_at(self, offset: int, data: bytes) -> Optional[bytes]:
         """The first bytes from an offset on, where they are in what is kept."""
         assert self._recent is not None
-        start = self._fed - self._recent.size
+        start = self._fed - len(self._recent)
         if offset >= start:
-            return (self._recent.data + data)[offset - start :][:SHOWN]
+            return (self._recent + data)[offset - start :][:SHOWN]
         return self._kept[offset:][:SHOWN] or None
 
     def _frame_at_fault(self, fed: int) -> Optional[int]:
@@ -223,6 +224,7 @@ class Watch:
             self._look()
 
     def _counted(self, counts: Counts) -> str:
+        self._look_into_pieces()
         parts: List[str] = []
         for count, one, many in (
             (counts.unreadable, "that couldn't be read (-32700)", "that couldn't be read (-32700)"),

@@ -71,6 +71,8 @@ class Connection:
         content: Optional[int] = None,
         calls: Optional[int] = None,
         broken: bool = False,
+        entries: Optional[int] = None,
+        null_params: bool = False,
     ) -> None:
         """Make a connection.
 
@@ -78,11 +80,15 @@ class Connection:
         order -- whether answers go out "as-answered", or in the order in which the requests came ("as-came")
         cancels -- whose cancels the protocol has: "lsp", `$/cancelRequest`; "mcp", `notifications/cancelled`; or None
             (True and False are "lsp" and None)
-        content -- how many bytes a content may have, at most 16,777,216, which is also the default
+        content -- how many bytes a content may have, at most 2,147,483,647; by default 16,777,216
         calls -- how many calls may come
         broken -- whether broken input is told, by the event `Broken`
+        entries -- how many entries a batch may have: by default 100,000, and 4,294,967,295 is any number. One of more is
+            a single invalid entry: none of its calls is told, and its replies are lost
+        null_params -- whether params that are null are told as the text `null`; else they are none
 
-        Raises LibraryError where "mcp" or `broken` is asked for, and the library is one that has neither yet.
+        Raises LibraryError where "mcp", `broken`, `entries`, `null_params` or a content beyond 16,777,216 is asked for,
+        and the library is one that has none of these yet; in it a batch may have any number of entries.
         """
         self._at: Any = None
         self._lock = threading.Lock()
@@ -94,8 +100,11 @@ class Connection:
         _settings.one_of("cancels", cancels, _library.CANCELS)
         _settings.whole("content", content, _settings.MOST_CONTENT)
         _settings.whole("calls", calls, _settings.MOST_CALLS)
+        _settings.whole("entries", entries, _settings.ANY_ENTRIES)
         ways = _library.FRAMINGS.index(framing), _library.ORDERS.index(order), _library.CANCELS.index(cancels)
-        self._handle = self._made(*ways, bool(broken), content or 0, calls or 0)
+        self._handle = self._made(
+            *ways, bool(broken), content or 0, calls or 0, entries or 0, bool(null_params)
+        )
         self._at = byref(self._handle)
         self._framing = framing
         # What the calls below pass, once for all; whoever has the lock may change it.
@@ -111,19 +120,35 @@ class Connection:
         self._notes: Optional[Notes] = None  # where a session takes some
 
     def _made(
-        self, framing: int, order: int, cancels: int, broken: bool, content: int, calls: int
+        self,
+        framing: int,
+        order: int,
+        cancels: int,
+        broken: bool,
+        content: int,
+        calls: int,
+        entries: int,
+        null_params: bool,
     ) -> _library.Handle:
         """Makes the library's connection."""
         at = c_void_p()
         if _library.has_open():
             size = ctypes.sizeof(_library.Options)
-            options = _library.Options(size, framing, order, cancels, broken, content, calls)
+            options = _library.Options(
+                size, framing, order, cancels, broken, content, calls, entries, null_params
+            )
             self._check(self._library.bm_open(byref(options), byref(at)))
         else:
             if _library.CANCELS[cancels] == "mcp":
                 _library.check_open('cancels="mcp"')
             if broken:
                 _library.check_open("broken=True")
+            if content > _settings.USUAL_CONTENT:
+                _library.check_open(f"content={content}")
+            if entries:
+                _library.check_open(f"entries={entries}")
+            if null_params:
+                _library.check_open("null_params=True")
             settings = _library.Settings(framing, order, cancels, content, calls)
             self._check(self._library.bm_new(byref(settings), byref(at)))
         return _library.Handle(at.value)
@@ -202,7 +227,11 @@ class Connection:
             code = fed(at, data, self._length, self._room, self._room_size, self._unbounded, self._told_at)
             if code:
                 raise REFUSALS[code]()
-            self._gather(at, told, tell)
+            it = self._told
+            if it.stopped != _library.NO_EVENT:
+                self._gather(at, told, tell)
+            elif it.count:  # (as nearly always)
+                _read(self._room_view[: it.used].tobytes(), it.count, told, self._notes)
         return told
 
     def _make_room(self, size: int) -> None:

@@ -1,18 +1,18 @@
-"""Test a server in memory, without a process and without pipes."""
+"""Test a server in memory, without a process and without pipes; and test that nobody breaks the protocol."""
 from __future__ import annotations
 
-import asyncio
-import contextlib
-from typing import AsyncIterator, Optional
+from typing import AsyncContextManager, Optional
 
 from ._channels import Memory
 from .client import Client
 from .connection import Connection
+from .judge._tested import Broke, joined_by, judged
 from .server import Server
 
+__all__ = ["Broke", "carry", "joined", "judged"]
 
-@contextlib.asynccontextmanager
-async def joined(server: Server, client: Optional[Client] = None) -> AsyncIterator[Client]:
+
+def joined(server: Server, client: Optional[Client] = None) -> AsyncContextManager[Client]:
     """A client that is joined to a server in the same event loop.
 
     >>> async def test():
@@ -22,19 +22,7 @@ async def joined(server: Server, client: Optional[Client] = None) -> AsyncIterat
     Give your own client where it has methods that the server calls back. When the block is left, the server's input
     ends, and what it still works on has its grace.
     """
-    if client is None:
-        client = Client(
-            protocol=server._protocol, **server._settings, cancel_by=server._cancel_by, digits=server._digits
-        )
-    ours, theirs = Memory.pair()
-    serving = asyncio.ensure_future(server.serve_over(theirs))
-    client.attach(ours)
-    await asyncio.sleep(0)  # (the server's session begins)
-    try:
-        yield client
-    finally:
-        await client.close()
-        await serving
+    return joined_by(server, client, Memory.pair())
 
 
 def carry(one: Connection, other: Connection) -> int:

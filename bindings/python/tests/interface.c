@@ -1,6 +1,6 @@
 /* The calls of the library, made so that they write down what they are given: for a test of what the package passes.
  * It is compiled with include/bullmyrtle.h, and test_interface.py reads what is written, by bm_take. With OPEN, which
- * it is compiled with where the header has bm_open, it has that too. */
+ * it is compiled with where the header has bm_open, it has that too; with JUDGE, those of interface_judge.c. */
 #include "bullmyrtle.h"
 
 #include <stdarg.h>
@@ -75,8 +75,9 @@ int32_t bm_open(const bm_options *options, void **at)
     int32_t code = make(at, options->cancels);
     if (code == BM_OK) {
         bm_connection connection = {*at};
-        say(&connection, "open %u %u %u %u %u %u %llu\n", options->size == sizeof *options, options->framing,
-            options->order, options->cancels, options->broken, options->content, U(options->calls));
+        say(&connection, "open %u %u %u %u %u %u %llu %u %u\n", options->size == sizeof *options, options->framing,
+            options->order, options->cancels, options->broken, options->content, U(options->calls), options->entries,
+            options->null_params);
         say_sizes(&connection);
     }
     return code;
@@ -162,6 +163,10 @@ int32_t bm_fed(bm_connection *connection, const uint8_t *bytes, size_t length, u
 
 bool bm_has(uint32_t addition)
 {
+#ifdef JUDGE
+    if (addition == BM_HAS_JUDGE)
+        return true;
+#endif
 #ifdef OPEN
     return addition == BM_HAS_TOGETHER || addition == BM_HAS_OPEN;
 #else

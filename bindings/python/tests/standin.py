@@ -5,6 +5,7 @@ package's own declarations, so that what the package passes arrives here as it w
 """
 import ctypes
 import os
+import re
 import sys
 import types
 
@@ -12,6 +13,7 @@ TOP = os.path.normpath(os.path.join(os.path.dirname(os.path.abspath(__file__)), 
 sys.path.append(os.path.join(TOP, "checks"))
 
 from support import connection_model as model  # noqa: E402
+from support import judge_model, judge_rules  # noqa: E402
 
 from bullmyrtle import _library  # noqa: E402
 
@@ -112,24 +114,39 @@ class StandIn:
 
     def bm_new(self, settings, at):
         it = settings.contents
-        return self._make(at, it, it.takes_cancels, 1, 0)
+        if it.content > model.USUAL_CONTENT:
+            return CODES["settings"]
+        return self._make(at, it, it.takes_cancels, 1)
 
     def bm_open(self, options, at):
         it = options.contents
         if it.size != ctypes.sizeof(_library.Options):
             return CODES["settings"]
-        return self._make(at, it, it.cancels, 2, it.broken)
+        entries = it.entries or 100_000
+        return self._make(
+            at, it, it.cancels, 2, it.broken, None if entries == 2**32 - 1 else entries, it.null_params
+        )
 
-    def _make(self, at, it, cancels, most_cancels, broken):
+    def _make(self, at, it, cancels, most_cancels, broken=0, entries=None, null_params=0):
         made = []
 
         def make():
-            if it.framing > 2 or it.order > 1 or cancels > most_cancels or broken > 1:
+            if it.framing > 2 or it.order > 1 or cancels > most_cancels or broken > 1 or null_params > 1:
                 raise model.Refused("settings")
             framing, order = _library.FRAMINGS[it.framing], _library.ORDERS[it.order]
-            limits = it.content or model.MOST_CONTENT, it.calls or model.MOST_CALLS
+            limits = it.content or model.USUAL_CONTENT, it.calls or model.MOST_CALLS
             made.append(
-                Held(model.Settings(framing, order, _library.CANCELS[cancels], *limits, bool(broken)))
+                Held(
+                    model.Settings(
+                        framing,
+                        order,
+                        _library.CANCELS[cancels],
+                        *limits,
+                        bool(broken),
+                        entries,
+                        bool(null_params),
+                    )
+                )
             )
 
         code = said(make)
@@ -309,10 +326,89 @@ class StandIn:
             setattr(report.contents, name, it)
 
 
-def through_ctypes(calls):
+class Judges:
+    """The calls of the judge, made of its plain model."""
+
+    def __init__(self):
+        self._held = {}
+        self._last = 0
+
+    def bm_judge_new(self, options, at):
+        it = options.contents
+        is_known = it.size == ctypes.sizeof(_library.JudgeOptions) and it.rules < len(_library.RULES)
+        if not is_known or it.framing > 2 or it.content > judge_model.MOST_CONTENT:
+            return CODES["settings"]
+        ways = _library.RULES[it.rules], _library.FRAMINGS[it.framing]
+        limits = it.content or judge_model.MOST_CONTENT, it.ids or judge_model.MOST_IDS
+        self._last += 8
+        at[0] = self._last
+        self._held[self._last] = [judge_model.Judge(*ways, *limits), 0]
+        return 0
+
+    def _tell(self, at, side, tell):
+        """(what is seen of a side behind its end counts nothing)"""
+        judge = self._held[at.contents.at][0]
+        if side > 1:
+            return CODES["settings"]
+        name = judge_model.SIDES[side]
+        if not judge.sides[name].ended:
+            tell(judge, name)
+        return 0
+
+    def bm_judge_saw(self, at, side, data, length):
+        return self._tell(at, side, lambda judge, name: judge.saw(name, text(data, length)))
+
+    def bm_judge_ended(self, at, side, how):
+        if how > 1:
+            return CODES["settings"]
+        return self._tell(at, side, lambda judge, name: judge.end(name, ("closed", "failed")[how]))
+
+    def bm_judge_next(self, at, findings, most):
+        held = self._held[at.contents.at]
+        judge, told = held
+        rest = judge.findings[told : told + most]
+        for index, it in enumerate(rest):
+            rule = JUDGED.index(it.rule)
+            levels = (judge_rules.MUST, judge_rules.SHOULD, judge_rules.NOTE)
+            whose = 0 if it.rule in judge_rules.CONNECTION else 2 if it.rule == judge_rules.NOT_JUDGED else 1
+            findings[index] = _library.Found(
+                judge_model.SIDES.index(it.side),
+                rule,
+                levels.index(it.level),
+                whose,
+                it.place.number,
+                it.place.offset,
+                it.place.entry,
+            )
+        held[1] += len(rest)
+        return len(rest)
+
+    def bm_judge_free(self, handle):
+        del self._held[handle.at]
+
+
+# The judge's rules in the order of docs/judge.md.
+with open(os.path.join(TOP, "docs", "judge.md"), encoding="utf-8") as _page:
+    JUDGED = re.findall(r"^\| `([\w-]+)` \| .*\|.*\|.*\|.*\|$", _page.read(), re.M) + [judge_rules.NOT_JUDGED]
+
+
+class WithJudge:
+    """A library with the calls of the judge beside."""
+
+    def __init__(self, library):
+        self._library, self._judges = library, through_ctypes(Judges(), _library.CALLS_OF_JUDGE)
+
+    def bm_has(self, addition):
+        return addition == _library.JUDGE or self._library.bm_has(addition)
+
+    def __getattr__(self, name):
+        return getattr(self._judges if name in _library.CALLS_OF_JUDGE else self._library, name)
+
+
+def through_ctypes(calls, named=None):
     """The same calls as C functions, declared as the package declares them."""
     found = types.SimpleNamespace()
-    for name, (result, parameters) in {**_library.CALLS, **_library.CALLS_OF_OPEN}.items():
+    for name, (result, parameters) in (named or {**_library.CALLS, **_library.CALLS_OF_OPEN}).items():
         # (a callback gets bytes only up to a zero byte, and an address as it is)
         kinds = [ctypes.c_void_p if it is ctypes.c_char_p else it for it in parameters]
         inner = ctypes.PYFUNCTYPE(result, *kinds)(getattr(calls, name))
@@ -322,4 +418,10 @@ def through_ctypes(calls):
 
 
 def install():
-    _library.use(through_ctypes(StandIn()))
+    """Puts the stand-in in the library's place."""
+    _library.use(WithJudge(through_ctypes(StandIn())))
+
+
+def install_judge():
+    """Puts the stand-in of the judge beside a library that has none."""
+    _library.use(WithJudge(_library.library()))

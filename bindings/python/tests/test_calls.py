@@ -634,6 +634,63 @@ class Kept(Channel):
         self.written += self.session.take(1 << 20)
 
 
+class Alone(Case):
+    """A call that comes by itself."""
+
+    def answers(self, method):
+        """What is answered where a call of the method comes, which is given the channel."""
+
+        async def main():
+            server, channel = Server(framing="lines"), Kept()
+            server.method("x")(lambda: method(channel))
+            server.method("echo")(lambda params: params)
+            serving = asyncio.ensure_future(server.serve_over(channel))
+            await asyncio.sleep(0)
+            channel.session.received(json.dumps(request(1, "x")).encode() + b"\n")
+            while channel.written.count(b"\n") < 3:
+                await asyncio.sleep(0)
+            channel.session.input_ended(False)
+            self.assertEqual(await serving, 0)
+            return [json.loads(it) for it in channel.written.splitlines()]
+
+        return self.wait(main())
+
+    def more(self, channel):
+        """Two more calls come, each by itself."""
+        for id_ in (2, 3):
+            channel.session.received(json.dumps(request(id_, "echo", [id_])).encode() + b"\n")
+
+    def test_more_that_comes_while_it_runs(self):
+        """It is answered behind it, in its order."""
+
+        def returns(channel):
+            self.more(channel)
+            return 1
+
+        def fails(channel):
+            self.more(channel)
+            raise Error(7, "seven")
+
+        for method, said in ((returns, {"result": 1}), (fails, {"error": {"code": 7, "message": "seven"}})):
+            first, *others = self.answers(method)
+            self.assertEqual(first, {"jsonrpc": "2.0", "id": 1, **said})
+            self.assertEqual([(it["id"], it["result"]) for it in others], [(2, [2]), (3, [3])])
+
+    def test_more_that_comes_while_it_is_awaited(self):
+        """It is answered before it."""
+
+        def awaits(channel):
+            async def later():
+                await asyncio.sleep(0.01)
+                return 1
+
+            self.more(channel)
+            return later()
+
+        found = self.answers(awaits)
+        self.assertEqual([(it["id"], it["result"]) for it in found], [(2, [2]), (3, [3]), (1, 1)])
+
+
 class BeforeItsTurn(Case):
     """A request whose cancel has been read before its turn never begins."""
 

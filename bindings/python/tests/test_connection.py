@@ -446,6 +446,57 @@ class FaultPlaces(Case):
                 self.assertIsNone(connection.fault_offset)
 
 
+@needs_open
+class Rules(Case):
+    """How contents are read, where that can be chosen."""
+
+    CALL = b'{"jsonrpc":"2.0","method":"a"}'
+    INVALID = b'{"error":{"code":-32600,"message":"Invalid Request"},"id":null,"jsonrpc":"2.0"}'
+
+    def test_a_batch_has_at_most_so_many_entries(self):
+        for entries, count, told in ((2, 2, 2), (2, 3, 0), (1, 1, 1), (1, 2, 0), (1000, 1000, 1000)):
+            with lines(entries=entries) as it:
+                it.feed(b"[" + b", ".join([self.CALL] * count) + b"]\n")
+                self.assertEqual(len(it.events()), told)
+                self.assertEqual(it.take(), b"" if told else self.INVALID + b"\n")
+
+    def test_its_replies_are_lost(self):
+        reply = b'{"id":1,"jsonrpc":"2.0","result":[]}'
+        with lines(entries=1) as it:
+            key = it.call(0, "a")
+            it.feed(b"[%s,%s]\n" % (reply, reply))
+            self.assertEqual(it.events(), [])
+            it.feed(b"[%s]\n" % reply)
+            self.assertEqual(it.events(), [events.Replied(key, b"[]")])
+
+    def test_how_many_where_nothing_is_said(self):
+        for settings, most in (({}, 100_000), ({"entries": (1 << 32) - 1}, 100_001)):
+            for count in (100_000, 100_001):
+                with lines(**settings) as it:
+                    it.feed(b"[" + b",".join([b"1"] * count) + b"]\n")
+                    it.events()
+                    self.assertEqual(it.counts().invalid, count if count <= most else 1)
+
+    def test_params_that_are_null(self):
+        for settings, params in (({}, None), ({"null_params": True}, b"null")):
+            with lines(**settings) as it:
+                it.feed(b'{"jsonrpc":"2.0","method":"a","params": null}\n' + self.CALL + b"\n")
+                self.assertEqual([it.params for it in it.events()], [params, None])
+
+    def test_a_content_over_the_usual_size(self):
+        text = b'{"jsonrpc":"2.0","method":"a","params":["' + b"x" * 16_777_216 + b'"]}\n'
+        for settings, length in (({}, None), ({"content": (1 << 31) - 1}, 16_777_220)):
+            with lines(**settings) as it:
+                it.feed(text)
+                (event,) = it.events()
+                self.assertEqual(length, len(event.params) if isinstance(event, events.Call) else None)
+
+    def test_settings_that_there_are_not(self):
+        for entries in (0, -1, 1 << 32, 1.5, True):
+            with self.assertRaises(bullmyrtle.BadSettings):
+                lines(entries=entries)
+
+
 class OlderLibraries(Case):
     """A library without bm_open does all that it did, and what needs it says which library that is."""
 
@@ -457,6 +508,9 @@ class OlderLibraries(Case):
             for what, call in (
                 ('cancels="mcp"', lambda: lines(cancels="mcp")),
                 ("broken=True", lambda: lines(broken=True)),
+                ("content=16777217", lambda: lines(content=16_777_217)),
+                ("entries=7", lambda: lines(entries=7)),
+                ("null_params=True", lambda: lines(null_params=True)),
                 ("fault_offset", lambda: lines().fault_offset),
             ):
                 with self.assertRaises(bullmyrtle.LibraryError) as caught:
@@ -555,7 +609,7 @@ class Refusals(Case):
             {"framing": "pipes"},
             {"order": "soon"},
             {"content": 0},
-            {"content": 16_777_217},
+            {"content": 1 << 31},
             {"content": 1 << 40},
             {"content": -1},
             {"calls": 0},
@@ -691,6 +745,11 @@ class ClosesFirst:
         self.lock.release()
 
 
+JUDGES = {
+    "bm_judge_options": _library.JudgeOptions,
+    "bm_judge": _library.Handle,
+    "bm_finding": _library.Found,
+}
 WIDTHS = {"uint32_t": 4, "int32_t": 4, "uint64_t": 8, "int64_t": 8, "size_t": 8, "bool": 1}
 
 
@@ -708,6 +767,7 @@ class Header(Case):
     def test_calls(self):
         found = re.findall(r"^(\w+) (bm_\w+)\(([^)]*)\);", self.text, re.M | re.S)
         ours = {**_library.CALLS, **(_library.CALLS_OF_OPEN if "bm_open" in self.text else {})}
+        ours.update(_library.CALLS_OF_JUDGE if "bm_judge_new" in self.text else {})
         self.assertEqual({name for _, name, _ in found}, set(ours))
         for result, name, words in found:
             given, parameters = ours[name]
@@ -730,6 +790,7 @@ class Header(Case):
         structs = {
             "bm_settings": _library.Settings,
             **({"bm_options": _library.Options} if "bm_open" in self.text else {}),
+            **(JUDGES if "bm_judge_new" in self.text else {}),
             "bm_connection": _library.Handle,
             "bm_event": _library.Event,
             "bm_report": _library.Counts,
@@ -762,7 +823,7 @@ class Header(Case):
             ours.append("BM_BROKEN")
             self.assertIn(["BM_CANCELS_NONE", "BM_CANCELS_LSP", "BM_CANCELS_MCP"], lists)
             self.assertIn(["BM_UNREADABLE", "BM_INVALID"], lists)
-            self.assertIn(["BM_HAS_TOGETHER", "BM_HAS_OPEN"], lists)
+            self.assertIn(["BM_HAS_TOGETHER", "BM_HAS_OPEN", "BM_HAS_JUDGE"], lists)
             self.assertEqual(_library.OPEN, _library.TOGETHER + 1)
         self.assertEqual(kinds[1:], ours)
         self.assertEqual(kinds.index(ours[-1]), getattr(_library, ours[-1][3:]))

@@ -214,6 +214,15 @@ class Ends(Case):
                 end.text.endswith(": each message begins with `Content-Length: N`, CR LF, CR LF"), end.text
             )
 
+    def test_behind_many_short_pieces(self):
+        for many in (1, 64, 65, 66, 200):
+            self.check([ADD] * many + [b"hello\n"], "BadHead", many * len(ADD), b"hello\n")
+            self.check([ADD] * many + [b"hel", b"lo\n"], "BadHead", many * len(ADD), b"hello\n")
+            good, long = b'{"jsonrpc":"2.0","method":"echo"}\n', b"x" * 101
+            self.check(
+                [good] * many + [long], "TooLarge", many * len(good), long[:64], framing="lines", content=100
+            )
+
     def test_what_comes_behind_a_fault_doesnt_count(self):
         self.check([LINE, LINE, ADD], "BadHead", 0, LINE)
 

@@ -114,16 +114,18 @@ class Opened(Interface):
 
     def test_it(self):
         head = "new 1 1 1 123 9223372036854775808\n"
-        opened = "open 1 1 1 1 0 123 9223372036854775808\n"
-        self.check(SAID.lstrip().replace(head, opened), b"open 1 0 0 0 0 0 0\n")
+        opened = "open 1 1 1 1 0 123 9223372036854775808 0 0\n"
+        self.check(SAID.lstrip().replace(head, opened), b"open 1 0 0 0 0 0 0 0 0\n")
 
     def test_what_it_has_more(self):
         with Connection("contents", cancels="mcp", broken=True) as it:
-            self.assertTrue(it.take().startswith(b"open 1 2 0 2 1 0 0\n"))
+            self.assertTrue(it.take().startswith(b"open 1 2 0 2 1 0 0 0 0\n"))
             self.assertEqual(it.fault_offset, (1 << 64) - 1)
             self.assertEqual(it.take(), b"fault_at\n")
         with Connection(cancels=None) as it:
             self.assertIsNone(it.fault_offset)
+        with Connection(entries=7, null_params=True) as it:
+            self.assertTrue(it.take().startswith(b"open 1 0 0 1 0 0 0 7 1\n"))
 
 
 if __name__ == "__main__":

@@ -63,8 +63,10 @@ class Settings(Refused):
                 lambda: kind(cancel_by="$/stop"),
                 "'$/cancelRequest', 'notifications/cancelled' and None",
             )
-            for it in (0, -1, 16_777_217, "5", 1.5, True):
-                self.refused(BadSettings, lambda: kind(content=it), f"content={it!r}", "from 1 to 16,777,216")
+            for it in (0, -1, 1 << 31, "5", 1.5, True):
+                self.refused(
+                    BadSettings, lambda: kind(content=it), f"content={it!r}", "from 1 to 2,147,483,647"
+                )
             for it in (0, -1, 1 << 64, "5"):
                 self.refused(BadSettings, lambda: kind(calls=it), f"calls={it!r}", "from 1 to")
             for it in (0, -1, "4", 1.5):
@@ -159,8 +161,8 @@ class Settings(Refused):
         self.refused(BadSettings, lambda: Connection("line"), "there are 'frames', 'lines' and 'contents'")
         self.refused(BadSettings, lambda: Connection(order="soon"), "there are 'as-answered' and 'as-came'")
         self.refused(BadSettings, lambda: Connection(cancels="dap"), "there are None, 'lsp' and 'mcp'")
-        self.refused(BadSettings, lambda: Connection(content=0), "from 1 to 16,777,216")
-        self.refused(BadSettings, lambda: Connection(content=16_777_217), "from 1 to 16,777,216")
+        self.refused(BadSettings, lambda: Connection(content=0), "from 1 to 2,147,483,647")
+        self.refused(BadSettings, lambda: Connection(content=1 << 31), "from 1 to 2,147,483,647")
         self.refused(BadSettings, lambda: Connection(calls=0), "from 1 to")
 
 

@@ -52,7 +52,8 @@ impl From<bool> for Cancels {
 
 /// What a connection is made with.
 ///
-/// The default has frames, sends answers as soon as they can go out, takes no cancels, and has the greatest limits.
+/// The default has frames, sends answers as soon as they can go out, takes no cancels, and has the greatest limits; but
+/// a batch may have 100,000 entries.
 ///
 /// ```
 /// use bullmyrtle::{Cancels, Connection, Framing, Settings};
@@ -70,6 +71,8 @@ pub struct Settings {
     broken: bool,
     content: Option<u32>,
     calls: Option<u64>,
+    entries: Option<u32>,
+    null_params: bool,
 }
 
 impl Settings {
@@ -103,7 +106,7 @@ impl Settings {
         Settings { broken, ..self }
     }
 
-    /// How many bytes a content may have: 1 to 16,777,216, which is also the default.
+    /// How many bytes a content may have: 1 to 2,147,483,647, and by default 16,777,216.
     #[must_use]
     pub fn content(self, bytes: u32) -> Self {
         Settings { content: Some(bytes), ..self }
@@ -115,13 +118,26 @@ impl Settings {
         Settings { calls: Some(calls), ..self }
     }
 
+    /// How many entries a batch may have, at least 1: by default 100,000, and `u32::MAX` is any number. One of more is a
+    /// single invalid entry: none of its calls is told, and its replies are lost.
+    #[must_use]
+    pub fn entries(self, entries: u32) -> Self {
+        Settings { entries: Some(entries), ..self }
+    }
+
+    /// Whether params that are null are told as the text `null`. Else they are none, which is the default.
+    #[must_use]
+    pub fn null_params(self, null_params: bool) -> Self {
+        Settings { null_params, ..self }
+    }
+
     pub(crate) fn has_contents(self) -> bool {
         self.framing == Framing::Contents
     }
 
-    /// (A limit of 0 stands for the greatest in C, and is refused here.)
+    /// (A limit of 0 stands for the usual one in C, and is refused here.)
     pub(crate) fn in_c(self) -> Result<sys::bm_options, Refusal> {
-        if self.content == Some(0) || self.calls == Some(0) {
+        if self.content == Some(0) || self.calls == Some(0) || self.entries == Some(0) {
             return Err(Refusal::Settings);
         }
         Ok(sys::bm_options {
@@ -143,6 +159,8 @@ impl Settings {
             broken: self.broken.into(),
             content: self.content.unwrap_or(0),
             calls: self.calls.unwrap_or(0),
+            entries: self.entries.unwrap_or(0),
+            null_params: self.null_params.into(),
         })
     }
 }

@@ -55,6 +55,7 @@ pub const BM_OVER_CALLS: u32 = 9;
 
 pub const BM_HAS_TOGETHER: u32 = 1;
 pub const BM_HAS_OPEN: u32 = 2;
+pub const BM_HAS_JUDGE: u32 = 3;
 
 pub const BM_STOP_NONE: u32 = 0;
 pub const BM_STOP_ROOM: u32 = 1;
@@ -69,6 +70,52 @@ pub const BM_SAY_BATCH: u32 = 5;
 pub const BM_SAY_NOTIFY: u32 = 6;
 pub const BM_SAY_WITHDRAW: u32 = 7;
 pub const BM_SAY_CANCEL: u32 = 8;
+
+pub const BM_RULES_JSONRPC: u32 = 0;
+pub const BM_RULES_LSP: u32 = 1;
+pub const BM_RULES_MCP: u32 = 2;
+pub const BM_RULES_MCP_2025_03_26: u32 = 3;
+
+pub const BM_CLIENT: u32 = 0;
+pub const BM_SERVER: u32 = 1;
+
+pub const BM_MUST: u32 = 0;
+pub const BM_SHOULD: u32 = 1;
+pub const BM_NOTE: u32 = 2;
+
+pub const BM_WHOSE_CONNECTION: u32 = 0;
+pub const BM_WHOSE_HOST: u32 = 1;
+pub const BM_WHOSE_NOBODY: u32 = 2;
+
+pub const BM_RULE_HEAD: u32 = 0;
+pub const BM_RULE_NOT_JSON: u32 = 1;
+pub const BM_RULE_CHARSET: u32 = 2;
+pub const BM_RULE_CUT_OFF: u32 = 3;
+pub const BM_RULE_LINE_END: u32 = 4;
+pub const BM_RULE_OBJECT: u32 = 5;
+pub const BM_RULE_VERSION: u32 = 6;
+pub const BM_RULE_METHOD: u32 = 7;
+pub const BM_RULE_PARAMS: u32 = 8;
+pub const BM_RULE_ID: u32 = 9;
+pub const BM_RULE_OUTCOME: u32 = 10;
+pub const BM_RULE_ERROR: u32 = 11;
+pub const BM_RULE_EMPTY_ARRAY: u32 = 12;
+pub const BM_RULE_BATCH: u32 = 13;
+pub const BM_RULE_NOT_OWED: u32 = 14;
+pub const BM_RULE_NOT_AS_ARRAY: u32 = 15;
+pub const BM_RULE_ID_FRACTION: u32 = 16;
+pub const BM_RULE_ID_NULL: u32 = 17;
+pub const BM_RULE_ID_FORM: u32 = 18;
+pub const BM_RULE_ID_AGAIN: u32 = 19;
+pub const BM_RULE_RPC_NAME: u32 = 20;
+pub const BM_RULE_CODE: u32 = 21;
+pub const BM_RULE_CANCELLED_CODE: u32 = 22;
+pub const BM_RULE_CANCEL_PARAMS: u32 = 23;
+pub const BM_RULE_CANCEL_UNKNOWN: u32 = 24;
+pub const BM_RULE_CANCEL_INITIALIZE: u32 = 25;
+pub const BM_RULE_AFTER_CANCEL: u32 = 26;
+pub const BM_RULE_UNANSWERED: u32 = 27;
+pub const BM_RULE_NOT_JUDGED: u32 = 28;
 
 #[repr(C)]
 #[derive(Clone, Copy, Debug, Default)]
@@ -90,6 +137,8 @@ pub struct bm_options {
     pub broken: u32,
     pub content: u32,
     pub calls: u64,
+    pub entries: u32,
+    pub null_params: u32,
 }
 
 /// A copy is the same connection.
@@ -155,6 +204,35 @@ pub struct bm_said {
     pub refused: usize,
     pub taken: usize,
     pub pending: usize,
+}
+
+#[repr(C)]
+#[derive(Clone, Copy, Debug, Default)]
+pub struct bm_judge_options {
+    pub size: u32,
+    pub rules: u32,
+    pub framing: u32,
+    pub content: u32,
+    pub ids: u32,
+}
+
+/// A copy is the same judge.
+#[repr(C)]
+#[derive(Clone, Copy)]
+pub struct bm_judge {
+    pub at: *mut c_void,
+}
+
+#[repr(C)]
+#[derive(Clone, Copy, Debug, Default)]
+pub struct bm_finding {
+    pub side: u32,
+    pub rule: u32,
+    pub level: u32,
+    pub whose: u32,
+    pub number: u64,
+    pub offset: u64,
+    pub entry: u64,
 }
 
 extern "C" {
@@ -237,6 +315,11 @@ extern "C" {
     pub fn bm_taken(connection: *mut bm_connection, room: *mut u8, length: usize, count: *mut usize) -> i32;
     pub fn bm_is_done(connection: *mut bm_connection) -> bool;
     pub fn bm_counts(connection: *mut bm_connection, report: *mut bm_report);
+    pub fn bm_judge_new(options: *const bm_judge_options, at: *mut *mut c_void) -> i32;
+    pub fn bm_judge_free(judge: bm_judge);
+    pub fn bm_judge_saw(judge: *mut bm_judge, side: u32, bytes: *const u8, length: usize) -> i32;
+    pub fn bm_judge_ended(judge: *mut bm_judge, side: u32, how: u32) -> i32;
+    pub fn bm_judge_next(judge: *mut bm_judge, findings: *mut bm_finding, most: usize) -> usize;
 }
 
 #[cfg(test)]

@@ -123,6 +123,36 @@ fn broken_input_is_told_where_it_is_asked_for() {
 }
 
 #[test]
+fn a_batch_has_at_most_so_many_entries() {
+    let array = |count: usize| [b"[1", b",1".repeat(count - 1).as_slice(), b"]\n"].concat();
+    let settings = Settings::new().framing(Framing::Lines);
+    for (settings, count, invalid) in [
+        (settings.entries(2), 2, 2),
+        (settings.entries(2), 3, 1),
+        (settings.entries(1), 2, 1),
+        (settings, 100_000, 100_000),
+        (settings, 100_001, 1),
+        (settings.entries(u32::MAX), 100_001, 100_001),
+    ] {
+        let mut connection = Connection::new(settings).unwrap();
+        connection.feed(&array(count)).unwrap();
+        assert_eq!(events(&mut connection), []);
+        assert_eq!(connection.report().invalid, invalid, "{count} entries");
+    }
+    assert_eq!(Connection::new(settings.entries(0)).err(), Some(Refusal::Settings));
+}
+
+#[test]
+fn params_that_are_null_are_told_where_it_is_asked_for() {
+    let settings = Settings::new().framing(Framing::Lines);
+    for (settings, params) in [(settings, None), (settings.null_params(true), Some("null".to_string()))] {
+        let mut connection = Connection::new(settings).unwrap();
+        connection.feed(b"{\"jsonrpc\":\"2.0\",\"method\":\"n\",\"params\":null}\n").unwrap();
+        assert_eq!(events(&mut connection), [Event::Notification { number: 1, method: "n".into(), params }]);
+    }
+}
+
+#[test]
 fn at_most_64_bytes_of_a_broken_content_are_told() {
     let mut connection = Connection::new(Settings::new().framing(Framing::Contents).broken(true)).unwrap();
     let content: Vec<u8> = (0..=255).collect();

@@ -101,13 +101,16 @@ fn names_that_are_no_text() {
 fn settings_that_there_are_not() {
     for settings in [
         Settings::new().content(0),
-        Settings::new().content(16_777_217),
+        Settings::new().content(2_147_483_648),
         Settings::new().content(u32::MAX),
         Settings::new().calls(0),
     ] {
         assert_eq!(Connection::new(settings).expect_err("no such settings"), Refusal::Settings);
     }
-    assert!(Connection::new(Settings::new().content(16_777_216).calls(u64::MAX).framing(Framing::Contents)).is_ok());
+    for most in [1, 16_777_216, 16_777_217, 2_147_483_647] {
+        let settings = Settings::new().content(most).calls(u64::MAX).framing(Framing::Contents);
+        assert!(Connection::new(settings).is_ok());
+    }
 }
 
 #[test]

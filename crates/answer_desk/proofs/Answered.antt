@@ -6,19 +6,20 @@ use Rattle.std.specs.List.{list_all}
 use Rattle.std.specs.Cmp.Derive.{both_true}
 use Rattle.message_ids.specs.declared.id.Id.{Id}
 use Rattle.rpc_messages.specs.declared.reply.Reply.{Reply}
-use Rattle.answer_desk.specs.declared.kept.Kept.{Kept}
-use Rattle.answer_desk.specs.declared.kept.Kept.TheVariants.{Open, Answered}
+use Rattle.open_numbers.specs.declared.kept.Kept.{Kept}
+use Rattle.open_numbers.specs.declared.kept.Kept.TheVariants.{Open, Answered}
 use Rattle.answer_desk.specs.declared.waiting_unit.Due.{Due}
 use Rattle.answer_desk.specs.declared.waiting_unit.Due.TheVariants.{ParseError, InvalidRequest, Nothing, Answer}
 use Rattle.answer_desk.specs.declared.waiting_unit.WaitingUnit.{WaitingUnit}
 use Rattle.answer_desk.specs.Places.{call_part}
 use Rattle.answer_desk.specs.State.{with_end}
 use Rattle.answer_desk.specs.Waiting.{Waiting, Part, unreadable, invalid, silent, request, is_finished, part_answered, unit_answered}
-use Rattle.answer_desk.specs.Seen.{kept_at, open_number, request_part, part_of, waiting_of}
-use Rattle.answer_desk.specs.Inner.Kept.{with_answer, kept_answer}
+use Rattle.open_numbers.specs.Kept.{kept_at, open_number, with_answer, kept_answer}
+use Rattle.answer_desk.specs.Seen.{request_part, part_of, waiting_of}
 use Rattle.answer_desk.specs.Inner.Units.{front_finished}
 use Rattle.answer_desk.proofs.Finished.{and_parts}
-use Rattle.answer_desk.proofs.Views.{seen, number-open}
+use Rattle.answer_desk.proofs.Views.{seen}
+use Rattle.open_numbers.proofs.Shown.{number-open}
 
 open_kept : (reply : Reply) (id : Option Id) → open_number (kept_answer reply id) ≡ None
 open_kept reply None = refl

@@ -1,19 +1,15 @@
 -- Numbers that ascend, and the units that have them.
 use Rattle.std.proofs.Common.{◌≡◌, ℕ, ◌+◌, ◌<◌, ◌≤◌, List, [], ◌∷◌, ◌++◌, map, refl, ap, arith, true, rules, nat_le, Option}
 use Rattle.std.specs.Cmp.Derive.{both_true}
-use Rattle.answer_desk.specs.declared.kept.Kept.{Kept}
+use Rattle.open_numbers.specs.declared.kept.Kept.{Kept}
 use Rattle.answer_desk.specs.declared.waiting_unit.Due.{Due}
 use Rattle.answer_desk.specs.declared.waiting_unit.Due.TheVariants.{ParseError, InvalidRequest, Nothing, Answer}
 use Rattle.answer_desk.specs.declared.waiting_unit.WaitingUnit.{WaitingUnit}
-use Rattle.answer_desk.specs.Seen.{kept_at, part_of, request_part, waiting_of}
+use Rattle.open_numbers.specs.Kept.{kept_at}
+use Rattle.answer_desk.specs.Seen.{part_of, request_part, waiting_of}
 use Rattle.answer_desk.specs.Inner.Units.{ascends, requests_in, requests_of}
+use Rattle.open_numbers.proofs.Tests.{le_from, le_to}
 use Rattle.answer_desk.proofs.Finished.{and_parts}
-
-pub le_from : (a b : ℕ) → nat_le a b ≡ true → a ≤ b
-le_from a b is = search (rules, is)
-
-pub le_to : (a b : ℕ) → a ≤ b → nat_le a b ≡ true
-le_to a b is = search (rules, is)
 
 pub ascends-le : (low high : ℕ) (xs : List ℕ) → ascends low high xs ≡ true → low ≤ high
 ascends-le low high [] up = le_from low high up

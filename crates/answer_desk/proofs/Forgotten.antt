@@ -1,32 +1,22 @@
 -- Released answers that are kept no longer.
 use Rattle.std.proofs.Common.{◌≡◌, ℕ, suc, zero, ◌+◌, ◌≤◌, ◌≢◌, List, [], ◌∷◌, ◌++◌, length, set, map, drop, refl, ap, sym, ◌∙◌, arith, true, nat_le, Option, Some, None, is_some, false}
 use Rattle.std.proofs.lemmas.List.{get_or-set_other, length-set, drop-drop}
-use Rattle.answer_desk.specs.declared.kept.Kept.{Kept}
-use Rattle.answer_desk.specs.declared.kept.Kept.TheVariants.{Open, Answered}
+use Rattle.open_numbers.specs.declared.kept.Kept.{Kept}
+use Rattle.open_numbers.specs.declared.kept.Kept.TheVariants.{Open, Answered}
 use Rattle.answer_desk.specs.declared.waiting_unit.WaitingUnit.{WaitingUnit}
-use Rattle.answer_desk.specs.Seen.{kept_at, open_number, request_part, waiting_of}
-use Rattle.answer_desk.specs.Inner.Kept.{without_answer}
-use Rattle.answer_desk.specs.Inner.Requests.{IsOutOfReach}
+use Rattle.open_numbers.specs.Kept.{kept_at, open_number, without_answer}
+use Rattle.answer_desk.specs.Seen.{request_part, waiting_of}
+use Rattle.open_numbers.specs.Requests.{IsOutOfReach}
 use Rattle.answer_desk.specs.Inner.Units.{ascends, requests_in, requests_of, without_answers}
 use Rattle.answer_desk.proofs.Finished.{and_parts}
-use Rattle.answer_desk.proofs.OutOfReach.{opening-forgotten}
-use Rattle.answer_desk.proofs.Ascending.{SameRequests, ascends-le, ascends-from, ascends-split, le_to, units-same}
+use Rattle.open_numbers.proofs.OutOfReach.{opening-set, IsOutOfReach-forgotten}
+use Rattle.answer_desk.proofs.Ascending.{SameRequests, ascends-le, ascends-from, ascends-split, units-same}
+use Rattle.open_numbers.proofs.Tests.{le_to}
 
 open_forgotten : (entry : Option Kept) → open_number (without_answer entry) ≡ open_number entry
 open_forgotten (Some (Open n)) = refl
 open_forgotten (Some (Answered id reply)) = refl
 open_forgotten None = refl
-
--- what is open stays, and else nothing does
-pub open-left : (entry : Option Kept) → is_some (open_number entry) ≡ true → without_answer entry ≡ entry
-open-left (Some (Open n)) is = refl
-open-left (Some (Answered id reply)) is = cc
-open-left None is = cc
-
-pub answer-gone : (entry : Option Kept) → is_some (open_number entry) ≡ false → without_answer entry ≡ None
-answer-gone (Some (Open n)) is = cc
-answer-gone (Some (Answered id reply)) is = refl
-answer-gone None is = refl
 
 -- no open number changes
 open-forgotten_at : (entries : List (Option Kept)) (n : ℕ) → map open_number (set entries n (without_answer (kept_at entries n))) ≡ map open_number entries
@@ -52,6 +42,13 @@ kept_at-forgotten low mid k (n ∷ ns) entries up behind =
     let other : k ≢ n = omega arith in
     kept_at-forgotten (n + 1) mid k ns (set entries n (without_answer (kept_at entries n))) parts.1 behind
     ∙ get_or-set_other entries n k (without_answer (kept_at entries n)) None other
+
+-- nor does what no cancel reaches
+pub opening-forgotten : (numbers : List ℕ) (entries : List (Option Kept)) → IsOutOfReach (kept_at entries 0) → IsOutOfReach (kept_at (without_answers numbers entries) 0)
+opening-forgotten [] entries out = out
+opening-forgotten (n ∷ ns) entries out =
+    opening-forgotten ns (set entries n (without_answer (kept_at entries n)))
+    (opening-set entries n (without_answer (kept_at entries n)) (IsOutOfReach-forgotten (kept_at entries n)) out)
 
 -- the first `count` units are gone: the entries and units then, and those at the start
 pub record IsDropped (count : ℕ) (now start : List (Option Kept)) (units all : List WaitingUnit) : Type 0 where

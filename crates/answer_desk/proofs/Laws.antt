@@ -5,13 +5,14 @@ use Rattle.std.proofs.lemmas.List.{get_or-set_other, length-set}
 use Rattle.message_ids.specs.declared.id.Id.{Id}
 use Rattle.rpc_messages.specs.declared.reply.Reply.{Reply}
 use Rattle.message_ids.specs.Ids.{has_id}
-use Rattle.answer_desk.specs.declared.open_call.OpenCall.{OpenCall}
-use Rattle.answer_desk.specs.declared.replies.Put.{Put}
-use Rattle.answer_desk.specs.declared.replies.Put.TheVariants.{Unknown, Second, Kept}
-use Rattle.answer_desk.specs.declared.replies.Slot.{Slot}
-use Rattle.answer_desk.specs.declared.replies.Slot.TheVariants.{Held, Given}
-use Rattle.answer_desk.specs.State.{State, number_at, numbers_with, slot_of, with_slot, put_of, with_reply, reply_of, without_reply, marked, is_in_reach, IsLowestInReach, with_reached, number_marked, with_marks, with_end, next_number}
-use Rattle.answer_desk.specs.Replies.{slot_at, put_into, is_kept, given_by}
+use Rattle.open_numbers.specs.declared.open_call.OpenCall.{OpenCall}
+use Rattle.open_numbers.specs.declared.replies.Put.{Put}
+use Rattle.open_numbers.specs.declared.replies.Put.TheVariants.{Unknown, Second, Kept}
+use Rattle.open_numbers.specs.declared.replies.Slot.{Slot}
+use Rattle.open_numbers.specs.declared.replies.Slot.TheVariants.{Held, Given}
+use Rattle.answer_desk.specs.State.{State, number_at, numbers_with, slot_of, with_slot, put_of, with_reply, reply_of, without_reply, IsLowestInReach, with_reached, with_marks, with_end, next_number}
+use Rattle.open_numbers.specs.OpenCalls.{marked, is_in_reach, number_marked}
+use Rattle.open_numbers.specs.Replies.{slot_at, put_into, is_kept, given_by}
 
 -- a change of one number is seen there, and nowhere else
 

@@ -2,14 +2,7 @@ pub mod Answered
 pub mod Ascending
 pub mod Finished
 pub mod Forgotten
-pub mod Indexed
-pub mod InWindow
 pub mod Laws
-pub mod Listed
-pub mod Marks
 pub mod Opening
-pub mod OutOfReach
-pub mod Reached
 pub mod Texts
 pub mod Views
-pub mod Windows

@@ -1,24 +1,26 @@
 -- What a desk shows once a unit was opened.
-use Rattle.std.proofs.Common.{◌≡◌, ◌==◌, ℕ, suc, ◌+◌, List, [], ◌∷◌, ◌++◌, length, map, refl, ap, sym, ◌∙◌, arith, add-zero, Bool, true, Option, Some, None, rules, Result, Ok, Err, OnErr}
+use Rattle.std.proofs.Common.{◌≡◌, ◌==◌, ℕ, suc, ◌+◌, List, [], ◌∷◌, ◌++◌, length, map, refl, ap, sym, ◌∙◌, arith, add-zero, Bool, true, Option, Some, None, rules}
 use Rattle.std.proofs.lemmas.List.{append_assoc, append-nil, map-append, length-append, length-map, get_or_append_left, get_or_at}
 use Rattle.std.specs.Cmp.Derive.{both_true}
 use Rattle.message_ids.specs.declared.id.Id.{Id}
-use Rattle.answer_desk.specs.declared.kept.Kept.{Kept}
-use Rattle.answer_desk.specs.declared.kept.Kept.TheVariants.{Open}
+use Rattle.open_numbers.specs.declared.kept.Kept.{Kept}
+use Rattle.open_numbers.specs.declared.kept.Kept.TheVariants.{Open}
 use Rattle.answer_desk.specs.declared.shape.Place.{Place}
 use Rattle.answer_desk.specs.declared.shape.Place.TheVariants.{Unreadable, Invalid, Silent, Numbered}
 use Rattle.answer_desk.specs.declared.waiting_unit.Due.{Due}
 use Rattle.answer_desk.specs.declared.waiting_unit.Due.TheVariants.{ParseError, InvalidRequest, Nothing}
 use Rattle.answer_desk.specs.declared.shape.Shape.{Shape}
 use Rattle.answer_desk.specs.declared.waiting_unit.WaitingUnit.{WaitingUnit}
-use Rattle.answer_desk.specs.Places.{call_part, new_number, new_numbers, new_parts}
+use Rattle.answer_desk.specs.Places.{call_part, new_numbers, new_parts}
+use Rattle.open_numbers.specs.OpenCalls.{new_number}
 use Rattle.answer_desk.specs.State.{with_unit}
 use Rattle.answer_desk.specs.Waiting.{Waiting, Part, unreadable, invalid, silent}
-use Rattle.answer_desk.specs.Seen.{open_number, request_part, part_of, waiting_of}
+use Rattle.open_numbers.specs.Kept.{open_number}
+use Rattle.answer_desk.specs.Seen.{request_part, part_of, waiting_of}
 use Rattle.answer_desk.specs.Inner.Arrivals.{calls_of, due_of_call, dues_of}
-use Rattle.answer_desk.specs.Inner.Numbers.{begins_kept}
 use Rattle.answer_desk.specs.Inner.Units.{requests_in, requests_of, ascends, front_finished}
-use Rattle.answer_desk.proofs.Ascending.{SameRequests, units-same, ascends-append, ascends-from, le_to}
+use Rattle.answer_desk.proofs.Ascending.{SameRequests, units-same, ascends-append, ascends-from}
+use Rattle.open_numbers.proofs.Tests.{le_to}
 use Rattle.answer_desk.proofs.Views.{seen}
 
 pub open-new : (places : List Place) → map open_number (calls_of places) ≡ new_numbers places
@@ -30,13 +32,6 @@ open-new (Numbered id most ∷ places) = ap (λ ns. Some (new_number id most) �
 
 pub length-new : (places : List Place) → length (calls_of places) ≡ length (new_numbers places)
 length-new places = sym (length-map (calls_of places) open_number) ∙ ap length (open-new places)
-
-pub kept-new : (places : List Place) → begins_kept (calls_of places) ≡ true
-kept-new [] = refl
-kept-new (Unreadable ∷ places) = kept-new places
-kept-new (Invalid ∷ places) = kept-new places
-kept-new (Silent ∷ places) = kept-new places
-kept-new (Numbered id most ∷ places) = refl
 
 -- the new parts
 
@@ -123,7 +118,3 @@ pub front-opened : (entries : List (Option Kept)) (units : List WaitingUnit) (un
 front-opened entries units unit places count is up done =
     rw (units-opened entries units unit places is up)
     (front-pushed count (map (waiting_of entries) units) (record { kind = unit.kind; parts = new_parts (length entries) places }) done)
-
-pub on_err_of : {T E : Type 0} (result : Result T E) (P : Type 0) → P → OnErr result P
-on_err_of (Ok value) P proof = tt
-on_err_of (Err error) P proof = proof

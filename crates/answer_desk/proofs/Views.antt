@@ -4,37 +4,29 @@ use Rattle.std.proofs.lemmas.List.{set-get_or, length-set}
 use Rattle.std.specs.Option.{option_map, option_and_then}
 use Rattle.message_ids.specs.declared.id.Id.{Id}
 use Rattle.rpc_messages.specs.declared.reply.Reply.{Reply}
-use Rattle.answer_desk.specs.declared.kept.Kept.{Kept}
-use Rattle.answer_desk.specs.declared.kept.Kept.TheVariants.{Open, Answered}
-use Rattle.answer_desk.specs.declared.open_call.OpenCall.{OpenCall}
-use Rattle.answer_desk.specs.declared.replies.Slot.{Slot}
-use Rattle.answer_desk.specs.declared.replies.Slot.TheVariants.{Held, Given}
+use Rattle.open_numbers.specs.declared.kept.Kept.{Kept}
+use Rattle.open_numbers.specs.declared.kept.Kept.TheVariants.{Open, Answered}
+use Rattle.open_numbers.specs.declared.open_call.OpenCall.{OpenCall}
+use Rattle.open_numbers.specs.declared.replies.Slot.{Slot}
+use Rattle.open_numbers.specs.declared.replies.Slot.TheVariants.{Held, Given}
 use Rattle.answer_desk.specs.declared.waiting_unit.WaitingUnit.{WaitingUnit}
 use Rattle.answer_desk.specs.Places.{call_part}
-use Rattle.answer_desk.specs.State.{State, numbers_with, slot_of, with_reply, without_reply, marked, number_marked, with_marks, is_in_reach, IsLowestInReach, with_reached}
+use Rattle.answer_desk.specs.State.{State, numbers_with, slot_of, with_reply, without_reply, with_marks, IsLowestInReach, with_reached}
+use Rattle.open_numbers.specs.OpenCalls.{marked, number_marked, is_in_reach}
 use Rattle.answer_desk.specs.Waiting.{Waiting}
-use Rattle.answer_desk.specs.Seen.{kept_at, open_number, request_part, waiting_of}
-use Rattle.answer_desk.specs.Replies.{slot_at, put_into, is_kept, given_by}
-use Rattle.answer_desk.specs.Inner.Kept.{slot_in, with_change, with_put, with_taken, with_reach, slots_with, slots_without}
-use Rattle.answer_desk.specs.Inner.Numbers.{with_marks_below, IsLowestReached}
-use Rattle.answer_desk.specs.Inner.Requests.{is_reached_by}
+use Rattle.open_numbers.specs.Kept.{kept_at, open_number, slot_in, with_change, with_put, with_taken, with_reach, slots_with, slots_without}
+use Rattle.answer_desk.specs.Seen.{request_part, waiting_of}
+use Rattle.open_numbers.specs.Replies.{slot_at, put_into, is_kept, given_by}
+use Rattle.open_numbers.specs.Numbers.{with_marks_below, IsLowestReached}
+use Rattle.open_numbers.specs.Requests.{is_reached_by}
 use Rattle.answer_desk.specs.Inner.Units.{ascends, requests_of, front_finished}
+use Rattle.open_numbers.proofs.Shown.{number-open}
 use Rattle.answer_desk.proofs.Ascending.{SameRequests, units-same}
 
 abbrev pub seen : List (Option Kept) → Bool → List WaitingUnit → State
 seen entries closed units = record { numbers = map open_number entries; is_closed = closed; units = map (waiting_of entries) units }
 
 -- what is seen of one number
-
-pub number-open : (entries : List (Option Kept)) (n : ℕ) → get_or (map open_number entries) n None ≡ open_number (kept_at entries n)
-number-open [] n = refl
-number-open (e ∷ es) zero = refl
-number-open (e ∷ es) (suc n) = number-open es n
-
-pub found-some : {X : Type 0} (seen_of : X → OpenCall) (result : Option X) (here : Option OpenCall) → MatchOption result (here ≡ None) (λ x. here ≡ Some (seen_of x))
-    → is_some result ≡ is_some here
-found-some seen_of None here is = ap is_some (sym is)
-found-some seen_of (Some x) here is = ap is_some (sym is)
 
 pub slot-seen : (entries : List (Option Kept)) (closed : Bool) (units : List WaitingUnit) (n turn : ℕ) → slot_in (kept_at entries n) turn ≡ slot_of (seen entries closed units) n turn
 slot-seen entries closed units n turn =

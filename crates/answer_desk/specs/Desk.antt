@@ -1,7 +1,8 @@
 -- What a desk shows of itself.
 use Rattle.std.specs.Prelude.{map}
 use Rattle.answer_desk.specs.declared.desk.Desk.{Desk}
-use Rattle.answer_desk.specs.Seen.{open_number, waiting_of}
+use Rattle.open_numbers.specs.Kept.{open_number}
+use Rattle.answer_desk.specs.Seen.{waiting_of}
 use Rattle.answer_desk.specs.State.{State}
 
 unfoldable pub view : Desk → State

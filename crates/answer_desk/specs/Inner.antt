@@ -1,7 +1,4 @@
--- What no public clause cites: what stands for numbers in the window, the index of requests, and the units inside.
+-- What no public clause cites: what a unit brings, what is due to it, and the units inside.
 pub mod Arrivals
 pub mod Dues
-pub mod Kept
-pub mod Numbers
-pub mod Requests
 pub mod Units

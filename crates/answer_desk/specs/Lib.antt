@@ -1,7 +1,6 @@
 pub mod Desk
 pub mod Inner
 pub mod Places
-pub mod Replies
 pub mod Seen
 pub mod State
 pub mod Waiting

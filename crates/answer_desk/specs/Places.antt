@@ -3,13 +3,10 @@ use Rattle.std.specs.Prelude.{ℕ, ◌+◌, List, [], ◌∷◌, Option, Some, N
 use Rattle.message_ids.specs.declared.id.Id.{Id}
 use Rattle.answer_desk.specs.declared.shape.Place.{Place}
 use Rattle.answer_desk.specs.declared.shape.Place.TheVariants.{Unreadable, Invalid, Silent, Numbered}
-use Rattle.answer_desk.specs.declared.open_call.OpenCall.{OpenCall}
-use Rattle.answer_desk.specs.declared.replies.Slot.TheVariants.{Empty}
+use Rattle.open_numbers.specs.declared.open_call.OpenCall.{OpenCall}
+use Rattle.open_numbers.specs.declared.replies.Slot.TheVariants.{Empty}
+use Rattle.open_numbers.specs.OpenCalls.{new_number}
 use Rattle.answer_desk.specs.Waiting.{Part, unreadable, invalid, silent, request}
-
--- a call as it arrives: unmarked, with an empty slot for each of its turns
-abbrev pub new_number : Option Id → ℕ → OpenCall
-new_number id most = record { id = id; is_marked = false; replies = replicate most Empty }
 
 -- the calls among the places, in their order
 abbrev pub new_numbers : List Place → List (Option OpenCall)

@@ -2,22 +2,13 @@
 use Rattle.std.specs.Prelude.{ℕ, List, Option, Some, None, map, slice_index_or}
 use Rattle.answer_desk.specs.declared.waiting_unit.Due.{Due}
 use Rattle.answer_desk.specs.declared.waiting_unit.Due.TheVariants.{ParseError, InvalidRequest, Nothing, Answer}
-use Rattle.answer_desk.specs.declared.kept.Kept.{Kept}
-use Rattle.answer_desk.specs.declared.kept.Kept.TheVariants.{Open, Answered}
-use Rattle.answer_desk.specs.declared.open_call.OpenCall.{OpenCall}
+use Rattle.open_numbers.specs.declared.kept.Kept.{Kept}
+use Rattle.open_numbers.specs.declared.kept.Kept.TheVariants.{Open, Answered}
+use Rattle.open_numbers.specs.declared.open_call.OpenCall.{OpenCall}
 use Rattle.answer_desk.specs.declared.waiting_unit.WaitingUnit.{WaitingUnit}
+use Rattle.open_numbers.specs.Kept.{kept_at}
 use Rattle.answer_desk.specs.Places.{call_part}
 use Rattle.answer_desk.specs.Waiting.{Part, unreadable, invalid, silent, request, Waiting}
-
--- what is kept of a number that is open
-abbrev pub open_number : Option Kept → Option OpenCall
-open_number (Some (Open number)) = Some number
-open_number (Some (Answered id reply)) = None
-open_number None = None
-
--- what stands for a number; nothing where it is over
-abbrev pub kept_at : List (Option Kept) → ℕ → Option Kept
-kept_at numbers number = slice_index_or numbers number None
 
 -- a request by what stands for its number
 abbrev pub request_part : ℕ → Option Kept → Part

@@ -4,15 +4,17 @@ use Rattle.std.specs.Option.{option_map, option_and_then}
 use Rattle.std.specs.List.{filter_map}
 use Rattle.message_ids.specs.declared.id.Id.{Id}
 use Rattle.rpc_messages.specs.declared.reply.Reply.{Reply}
-use Rattle.answer_desk.specs.declared.open_call.OpenCall.{OpenCall}
-use Rattle.answer_desk.specs.declared.replies.Put.{Put}
-use Rattle.answer_desk.specs.declared.replies.Put.TheVariants.{Unknown}
+use Rattle.open_numbers.specs.declared.open_call.OpenCall.{OpenCall}
+use Rattle.open_numbers.specs.declared.replies.Put.{Put}
+use Rattle.open_numbers.specs.declared.replies.Put.TheVariants.{Unknown}
 use Rattle.answer_desk.specs.declared.shape.Shape.{Shape}
-use Rattle.answer_desk.specs.declared.replies.Slot.{Slot}
-use Rattle.answer_desk.specs.declared.replies.Slot.TheVariants.{Held, Given}
+use Rattle.open_numbers.specs.declared.replies.Slot.{Slot}
+use Rattle.open_numbers.specs.declared.replies.Slot.TheVariants.{Held, Given}
 use Rattle.message_ids.specs.Ids.{has_id}
-use Rattle.answer_desk.specs.Places.{new_number, new_numbers, new_parts}
-use Rattle.answer_desk.specs.Replies.{slot_at, put_into, is_kept, given_by}
+use Rattle.open_numbers.specs.OpenCalls.{new_number}
+use Rattle.open_numbers.specs.OpenCalls.{marked, is_in_reach, number_marked}
+use Rattle.answer_desk.specs.Places.{new_numbers, new_parts}
+use Rattle.open_numbers.specs.Replies.{slot_at, put_into, is_kept, given_by}
 use Rattle.answer_desk.specs.Waiting.{Waiting, unit_text, whole_front, behind_front, unit_answered}
 
 -- Each number from 0 on that was given, with what is kept of it while it is open; whether the board is closed; the units
@@ -75,19 +77,6 @@ reply_of s number turn = given_by s.is_closed (slot_of s number turn)
 abbrev pub without_reply : State → ℕ → ℕ → State
 without_reply s number turn = if is_some (reply_of s number turn) then with_slot s number turn Given else s
 
--- a number once a cancel has reached it
-abbrev pub marked : OpenCall → OpenCall
-marked n = record n { is_marked = true }
-
-abbrev pub is_marked_number : Option OpenCall → Bool
-is_marked_number None = false
-is_marked_number (Some n) = n.is_marked
-
--- a cancel of this id would mark the number: it is an open request with that id, and no cancel has reached it
-abbrev pub is_in_reach : Id → Option OpenCall → Bool
-is_in_reach id None = false
-is_in_reach id (Some n) = has_id id n.id && not n.is_marked
-
 abbrev pub NoneInReachBelow : State → Id → ℕ → Type 0
 NoneInReachBelow s id bound = (k : ℕ) → k < bound → is_in_reach id (number_at s k) ≡ false
 
@@ -102,9 +91,6 @@ with_reached s None = s
 with_reached s (Some number) = record s { numbers = numbers_with s.numbers number marked }
 
 -- once a cancel of this id, whose own number is `before`, has marked all that it reaches
-abbrev pub number_marked : Id → OpenCall → OpenCall
-number_marked id n = record n { is_marked = n.is_marked || has_id id n.id }
-
 abbrev pub with_marks : State → Id → ℕ → State
 with_marks s id before = record s {
   numbers = map (option_map (number_marked id)) (take before s.numbers) ++ drop before s.numbers;

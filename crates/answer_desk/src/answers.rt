@@ -4,9 +4,8 @@ ghost use Rattle.rpc_messages.specs.Dues.{answer_seen, unit_text as text_of_answ
 ghost use Rattle.answer_desk.specs.Seen.{part_of, waiting_of};
 ghost use Rattle.answer_desk.specs.Waiting.{part_answer, unit_text, is_finished};
 
-use crate::kept::Kept;
-use crate::numbers::Numbers;
 use crate::waiting_unit::{Due, WaitingUnit};
+use open_numbers::{Kept, Numbers};
 use rpc_messages::{Answer, Kind, Standard, put_unit_answer};
 use std::alloc::{AllocError, Global};
 use std::slice;

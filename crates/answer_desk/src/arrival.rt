@@ -1,12 +1,11 @@
 ghost use Rattle.std.specs.Prelude.{◌≡◌, ◌+◌, ◌≤◌, ◌++◌, [], ◌∷◌, IfOk, OnOk, OnErr, length, map};
 ghost use Rattle.rpc_messages.specs.declared.key.TheConstants.{MOST_NUMBERS};
-ghost use Rattle.answer_desk.specs.Inner.Kept.{kept_in};
+ghost use Rattle.open_numbers.specs.Kept.{kept_in};
 ghost use Rattle.answer_desk.specs.Inner.Arrivals.{calls_of_place, calls_of, due_of_place, dues_of};
 
-use crate::kept::Kept;
-use crate::numbers::Numbers;
 use crate::shape::Place;
 use crate::waiting_unit::Due;
+use open_numbers::{Kept, Numbers};
 use std::alloc::{AllocError, Global};
 use std::collections::VecDeque;
 

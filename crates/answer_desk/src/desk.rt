@@ -2,20 +2,20 @@ ghost use Rattle.std.specs.Prelude.{◌≡◌, ◌+◌, ◌<◌, ◌++◌, ◌�
 ghost use Rattle.lsp_frames.specs.Frames.{written};
 ghost use Rattle.rpc_messages.specs.declared.key.TheConstants.{MOST_NUMBERS};
 ghost use Rattle.rpc_messages.specs.declared.kind.Kind.TheVariants.{Single};
-ghost use Rattle.answer_desk.specs.Seen.{kept_at, open_number, waiting_of};
+ghost use Rattle.open_numbers.specs.Kept.{kept_at, open_number};
+ghost use Rattle.answer_desk.specs.Seen.{waiting_of};
 ghost use Rattle.answer_desk.specs.Waiting.{behind_front};
-ghost use Rattle.answer_desk.specs.Inner.Requests.{IsOutOfReach};
+ghost use Rattle.open_numbers.specs.Requests.{IsOutOfReach};
 ghost use Rattle.answer_desk.specs.Inner.Units.{ascends, requests_of, front_finished};
 
 use crate::answers::may_be_finished;
 use crate::arrival::{Arrival, append_place, due_of};
 use crate::front::{Front, drop_front, let_go_of_large, put_frames, texts_of};
-use crate::numbers::Numbers;
 use crate::queue::shrink_queue;
-use crate::replies::Put;
 use crate::shape::{Place, Shape};
 use crate::waiting_unit::{Dues, WaitingUnit};
 use json_values::Items;
+use open_numbers::{Numbers, Put};
 use rpc_messages::{Id, Kind, Reply};
 use std::alloc::{AllocError, Global};
 use std::collections::VecDeque;
@@ -60,7 +60,8 @@ impl Drop for Desk {
 impl Desk {
     ghost use Rattle.answer_desk.specs.Desk.{view};
     ghost use Rattle.answer_desk.specs.Places.{new_numbers};
-    ghost use Rattle.answer_desk.specs.State.{new_state, opening_state, next_number, is_open, number_at, is_marked_number, with_unit, put_of, with_reply, reply_of, without_reply, IsLowestInReach, with_reached, with_marks, with_board_closed, with_end, front_texts, without_front};
+    ghost use Rattle.answer_desk.specs.State.{new_state, opening_state, next_number, is_open, number_at, with_unit, put_of, with_reply, reply_of, without_reply, IsLowestInReach, with_reached, with_marks, with_board_closed, with_end, front_texts, without_front};
+    ghost use Rattle.open_numbers.specs.OpenCalls.{is_marked_number};
 
     /// No number is open, and the first call takes the number 1. Takes no memory.
     pub fn new(alloc: Global) -> Desk

@@ -2,16 +2,17 @@ ghost use Rattle.std.specs.Prelude.{◌≡◌, ◌≤◌, ◌++◌, [], option_t
 ghost use Rattle.std.specs.List.{filter_map};
 ghost use Rattle.std.specs.VecDeque.{deque_len};
 ghost use Rattle.lsp_frames.specs.Frames.{written};
-ghost use Rattle.answer_desk.specs.Seen.{kept_at, open_number, waiting_of};
+ghost use Rattle.open_numbers.specs.Kept.{kept_at, open_number};
+ghost use Rattle.answer_desk.specs.Seen.{waiting_of};
 ghost use Rattle.answer_desk.specs.Waiting.{unit_text, whole_front, behind_front};
-ghost use Rattle.answer_desk.specs.Inner.Requests.{IsOutOfReach};
+ghost use Rattle.open_numbers.specs.Requests.{IsOutOfReach};
 ghost use Rattle.answer_desk.specs.Inner.Units.{ascends, front_finished, requests_in, requests_of, without_answers};
 
 use crate::answers::{count_finished, put_text};
-use crate::numbers::Numbers;
 use crate::waiting_unit::{Due, WaitingUnit};
 use json_values::Items;
 use lsp_frames::put_frame;
+use open_numbers::Numbers;
 use std::alloc::{AllocError, Global};
 use std::collections::VecDeque;
 use std::mem;

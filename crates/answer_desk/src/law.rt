@@ -5,11 +5,12 @@ ghost use Rattle.std.specs.Prelude.{◌≡◌, ◌≢◌, ◌-◌, ◌<◌, ◌�
 ghost use Rattle.std.specs.Option.{option_map};
 ghost use Rattle.message_ids.specs.declared.id.Id.{Id};
 ghost use Rattle.rpc_messages.specs.declared.reply.Reply.{Reply};
-ghost use Rattle.answer_desk.specs.declared.open_call.OpenCall.{OpenCall};
-ghost use Rattle.answer_desk.specs.declared.replies.Put.TheVariants.{Kept};
-ghost use Rattle.answer_desk.specs.declared.replies.Slot.TheVariants.{Held, Given};
-ghost use Rattle.answer_desk.specs.Replies.{is_kept};
-ghost use Rattle.answer_desk.specs.State.{State, next_number, number_at, slot_of, put_of, with_reply, reply_of, without_reply, marked, IsLowestInReach, with_reached, number_marked, with_marks, with_end};
+ghost use Rattle.open_numbers.specs.declared.open_call.OpenCall.{OpenCall};
+ghost use Rattle.open_numbers.specs.declared.replies.Put.TheVariants.{Kept};
+ghost use Rattle.open_numbers.specs.declared.replies.Slot.TheVariants.{Held, Given};
+ghost use Rattle.open_numbers.specs.Replies.{is_kept};
+ghost use Rattle.answer_desk.specs.State.{State, next_number, number_at, slot_of, put_of, with_reply, reply_of, without_reply, IsLowestInReach, with_reached, with_marks, with_end};
+ghost use Rattle.open_numbers.specs.OpenCalls.{marked, number_marked};
 
 /// A reply that is kept changes its own number alone, and one that isn't kept changes nothing.
 pub fn reply_changes_its_own_number()

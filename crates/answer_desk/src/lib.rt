@@ -6,13 +6,8 @@ mod answers;
 mod arrival;
 mod desk;
 mod front;
-mod kept;
 mod law;
-mod numbers;
-mod open_call;
 mod queue;
-mod replies;
-mod requests_by_id;
 mod shape;
 mod waiting_unit;
 
@@ -21,6 +16,6 @@ pub use law::{
     cancel_reaches_numbers_below_it, end_closes_its_own_number, reach_marks_one_number,
     reply_changes_its_own_number, reply_fills_its_own_slot, taken_reply_leaves_its_slot_given,
 };
-pub use replies::Put;
+pub use open_numbers::Put;
 pub use rpc_messages::Kind;
 pub use shape::{Place, Shape};

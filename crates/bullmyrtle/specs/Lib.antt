@@ -1,6 +1,11 @@
 pub mod Counts
 pub mod Heap
 pub mod Held
+pub mod JudgeHeld
+pub mod JudgeLending
+pub mod JudgeMade
+pub mod JudgePlaces
+pub mod JudgeValues
 pub mod Lending
 pub mod Made
 pub mod Places

@@ -6,7 +6,7 @@ use Rattle.connection_history.specs.declared.order.Order.{Order}
 use Rattle.connection_history.specs.declared.order.Order.TheVariants.{AsAnswered, AsCame}
 use Rattle.content_streams.specs.declared.framing.Framing.{Framing}
 use Rattle.content_streams.specs.declared.framing.Framing.TheVariants.{Frames, Lines, Contents}
-use Rattle.lsp_frames.specs.declared.limits.TheConstants.{LARGEST_CONTENT}
+use Rattle.lsp_frames.specs.declared.limits.TheConstants.{LARGEST_CONTENT, LONGEST_CONTENT}
 use Rattle.connection.specs.Settings.{Chosen}
 use Rattle.connection.specs.Connections.{StandsAfter}
 use Rattle.bullmyrtle.specs.declared.settings.Options.{Options}
@@ -20,9 +20,9 @@ framing_of n = if n == 0 then Some Frames else (if n == 1 then Some Lines else (
 abbrev pub order_of : ℕ → Option Order
 order_of n = if n == 0 then Some AsAnswered else (if n == 1 then Some AsCame else None)
 
--- 0 stands for the greatest
-abbrev pub or_most : ℕ → ℕ → ℕ
-or_most most n = if n == 0 then most else n
+-- 0 stands for the usual number
+abbrev pub or_usual : ℕ → ℕ → ℕ
+or_usual usual n = if n == 0 then usual else n
 
 -- ---- what bm_new makes one with
 
@@ -32,9 +32,11 @@ of_both s framing order =
       framing = framing;
       order = order;
       cancels = if s.takes_cancels == 1 then Some Lsp else None;
+      most_entries = None;
+      null_params = false;
       tells_broken = false;
-      content = or_most LARGEST_CONTENT s.content;
-      calls = or_most 18446744073709551615 s.calls;
+      content = or_usual LARGEST_CONTENT s.content;
+      calls = or_usual 18446744073709551615 s.calls;
     }) else None
 
 -- the connection's settings, where there are such
@@ -49,28 +51,35 @@ cancels_of n = if n == 0 then Some None else (if n == 1 then Some (Some Lsp) els
 abbrev pub flag_of : ℕ → Option Bool
 flag_of n = if n == 0 then Some false else (if n == 1 then Some true else None)
 
-abbrev of_all : Options → Framing → Order → Option Cancels → Bool → Option Chosen
-of_all o framing order cancels broken =
-    if nat_le o.content LARGEST_CONTENT then Some (record {
+-- 0 stands for 100,000, and the greatest for any number
+abbrev pub entries_of : ℕ → Option ℕ
+entries_of n = if n == 0 then Some 100000 else (if n == 4294967295 then None else Some n)
+
+abbrev of_all : Options → Framing → Order → Option Cancels → Bool → Bool → Option Chosen
+of_all o framing order cancels broken nulls =
+    if nat_le o.content LONGEST_CONTENT then Some (record {
       framing = framing;
       order = order;
       cancels = cancels;
+      most_entries = entries_of o.entries;
+      null_params = nulls;
       tells_broken = broken;
-      content = or_most LARGEST_CONTENT o.content;
-      calls = or_most 18446744073709551615 o.calls;
+      content = or_usual LARGEST_CONTENT o.content;
+      calls = or_usual 18446744073709551615 o.calls;
     }) else None
 
 abbrev of_framing : Options → Framing → Option Chosen
 of_framing o framing =
-    option_and_then (λ order. option_and_then (λ cancels. option_and_then (of_all o framing order cancels) (flag_of o.broken)) (cancels_of o.cancels)) (order_of o.order)
+    option_and_then (λ order. option_and_then (λ cancels. option_and_then (λ broken. option_and_then (of_all o framing order cancels broken) (flag_of o.null_params)) (flag_of o.broken)) (cancels_of o.cancels)) (order_of o.order)
 
 -- the connection's settings, where there are such: a struct of another size says nothing
 abbrev pub chosen_by : Options → Option Chosen
-chosen_by o = if o.size == 32 then option_and_then (of_framing o) (framing_of o.framing) else None
+chosen_by o = if o.size == 40 then option_and_then (of_framing o) (framing_of o.framing) else None
 
 -- the options that say what these settings say
 abbrev pub options_of : Settings → Options
-options_of s = record { size = 32; framing = s.framing; order = s.order; cancels = s.takes_cancels; broken = 0; content = s.content; calls = s.calls }
+options_of s =
+    record { size = 40; framing = s.framing; order = s.order; cancels = s.takes_cancels; broken = 0; content = s.content; calls = s.calls; entries = 4294967295; null_params = 0 }
 
 -- ---- what is answered
 

@@ -25,6 +25,9 @@ ghost use Rattle.host_calls.specs.Telling.{HasTold, HasFedAndTold};
 ghost use Rattle.host_calls.specs.declared.asking.Got.{Got};
 
 mod handle;
+mod judge_handle;
+mod judge_place;
+mod judging;
 mod loose;
 mod place;
 mod report;
@@ -55,12 +58,15 @@ const TOGETHER: u32 = 1;
 /// The addition that has `bm_open` and what it brings.
 const OPEN: u32 = 2;
 
+/// The addition that has the judge: `bm_judge_new` and its neighbours.
+const JUDGE: u32 = 3;
+
 /// Whether the library has this addition.
 #[unsafe(no_mangle)]
 pub extern "C" fn bm_has(addition: u32) -> bool
-    ensures { result ≡ (addition == TOGETHER || addition == OPEN) }
+    ensures { result ≡ (addition == TOGETHER || addition == OPEN || addition == JUDGE) }
 {
-    addition == TOGETHER || addition == OPEN
+    addition == TOGETHER || addition == OPEN || addition == JUDGE
 }
 
 /// Makes a new one. Its handle lies at `at` then, or where the answer isn't `BM_OK`, room for one as before.

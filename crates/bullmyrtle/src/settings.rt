@@ -1,9 +1,10 @@
 //! What a new one is made with.
 
-ghost use Rattle.std.specs.Prelude.{◌≡◌, nat_le, true, if◌then◌else◌, ◌==◌};
-ghost use Rattle.bullmyrtle.specs.Made.{framing_of, order_of, cancels_of, flag_of, or_most, chosen, chosen_by, options_of};
+ghost use Rattle.std.specs.Prelude.{◌≡◌, ◌&&◌, nat_le, true, if◌then◌else◌, ◌==◌};
+ghost use Rattle.lsp_frames.specs.declared.limits.TheConstants.{LARGEST_CONTENT};
+ghost use Rattle.bullmyrtle.specs.Made.{framing_of, order_of, cancels_of, flag_of, entries_of, or_usual, chosen, chosen_by, options_of};
 
-use connection::{Cancels, Framing, MOST_CONTENT, Order};
+use connection::{Cancels, Framing, Order, USUAL_CONTENT};
 
 /// What `bm_new` makes one with, as C has it.
 #[repr(C)]
@@ -28,17 +29,23 @@ pub struct Options {
     pub broken: u32,
     pub content: u32,
     pub calls: u64,
+    pub entries: u32,
+    pub null_params: u32,
 }
 
 /// How many bytes the options have.
-const OPTIONS_SIZE: u32 = 32;
+const OPTIONS_SIZE: u32 = 40;
+
+/// How many entries a batch may have where nothing is said. It is meant to be more than any program says at once, and few
+/// enough that a host has room for them: a content of 16 MiB may have eight million.
+const USUAL_ENTRIES: u64 = 100_000;
 
 impl Settings {
     /// The connection's own settings, where there are such.
     pub(crate) fn chosen(&self) -> Option<connection::Settings>
         ensures { result ≡ chosen self.now }
     {
-        if self.takes_cancels > 1 {
+        if self.takes_cancels > 1 || self.content > USUAL_CONTENT {
             return None;
         }
         self.options().chosen()
@@ -47,7 +54,8 @@ impl Settings {
     /// The options that say the same.
     fn options(&self) -> Options
         ensures options { result ≡ options_of self.now }
-        ensures same { nat_le self.now.takes_cancels 1 ≡ true → chosen_by result ≡ chosen self.now }
+        ensures same { (nat_le self.now.takes_cancels 1 && nat_le self.now.content LARGEST_CONTENT) ≡ true →
+            chosen_by result ≡ chosen self.now }
     {
         Options {
             size: OPTIONS_SIZE,
@@ -57,12 +65,14 @@ impl Settings {
             broken: 0,
             content: self.content,
             calls: self.calls,
+            entries: u32::MAX,
+            null_params: 0,
         }
     }
 }
 
 impl Options {
-    /// The connection's own settings, where there are such. A limit of 0 is the greatest.
+    /// The connection's own settings, where there are such. A limit of 0 is the usual one.
     pub(crate) fn chosen(&self) -> Option<connection::Settings>
         ensures { result ≡ chosen_by self.now }
     {
@@ -73,8 +83,9 @@ impl Options {
         let order = order_of(self.order)?;
         let cancels = cancels_of(self.cancels)?;
         let tells_broken = flag_of(self.broken)?;
+        let null_params = flag_of(self.null_params)?;
         let content = if self.content == 0 {
-            MOST_CONTENT
+            USUAL_CONTENT
         } else {
             self.content
         };
@@ -83,7 +94,9 @@ impl Options {
         } else {
             self.calls
         };
-        let settings = connection::Settings::new(framing, order, cancels, content, calls)?;
+        let settings = connection::Settings::new(framing, order, cancels, content, calls)?
+            .with_most_entries(entries_of(self.entries))
+            .with_null_params(null_params);
         Some(if tells_broken {
             settings.telling_broken()
         } else {
@@ -121,6 +134,17 @@ fn cancels_of(cancels: u32) -> Option<Option<Cancels>>
         1 => Some(Some(Cancels::Lsp)),
         2 => Some(Some(Cancels::Mcp)),
         _ => None,
+    }
+}
+
+/// How many entries a batch may have: where nothing is said so many as are usual, and at the greatest number any.
+fn entries_of(entries: u32) -> Option<u64>
+    ensures { result ≡ entries_of entries }
+{
+    match entries {
+        0 => Some(USUAL_ENTRIES),
+        u32::MAX => None,
+        most => Some(most as u64),
     }
 }
 

@@ -18,16 +18,16 @@ use Rattle.connection_history.proofs.Histories.{stream-came}
 use Rattle.connection_history.proofs.Streams.{length-calls_in-append}
 use Rattle.content_streams.specs.declared.ending.StreamEnd.{StreamEnd}
 use Rattle.content_streams.specs.Streams.{Stream, contents, placed_contents, next_content, next_placed, close_of as end_of_stream}
-use Rattle.content_streams.proofs.KeepingPlaces.{contents_alone}
-use Rattle.connection_states.specs.States.{State}
-use Rattle.connection_states.specs.Steps.{leaving, owed_with}
+use Rattle.connection_steps.specs.States.{State}
+use Rattle.connection_steps.specs.Steps.{leaving, owed_with}
 use Rattle.connection_desk.specs.Desks.{Desk, after_unit, after_end, answer_texts}
-use Rattle.connection.specs.Settings.{Chosen}
+use Rattle.connection.specs.Settings.{Chosen, rules_of}
 use Rattle.connection.specs.Connections.{Connection, IsStreamOf, HasEnded, was_full, had_ended, StandsAfter, SamePieces, Step, comes, is_full, ends, GoesOn, stays, goes, IsStill, HasStepped, HasGoneOn, read, origin_of, content_came, calls_of, close_of}
 use Rattle.connection.specs.Inner.{IsNext, HasMoved, HasStayed, HasGone}
 use Rattle.connection.proofs.Moves.{desk_came, desk_ended}
 use Rattle.connection.proofs.Fed.{over_is, unclosed, all_told}
 use Rattle.connection.proofs.Stands.{full_more, still}
+use Rattle.connection.proofs.StreamLaws.{PlacesAreOf}
 
 -- ---- the next content
 
@@ -44,21 +44,21 @@ may_come : (past : History) (b : Bool) → b ≡ false → cond b (Some Over) No
 may_come past b going = ap (λ t. cond t (Some Over) None) going
 
 -- a content with its place is the content
-pub placed_frame : (s : Stream) (n : ℕ) (placed : ℕ × Frame) → slice_get (placed_contents s) n ≡ Some placed → slice_get (contents s) n ≡ Some placed.1
-placed_frame s n placed is =
-    ap (λ fs. slice_get fs n) (sym (contents_alone s.framing s.limit s.pieces s.ended))
+pub placed_frame : (places_are : PlacesAreOf) (s : Stream) (n : ℕ) (placed : ℕ × Frame) → slice_get (placed_contents s) n ≡ Some placed → slice_get (contents s) n ≡ Some placed.1
+placed_frame places_are s n placed is =
+    ap (λ fs. slice_get fs n) (sym (places_are s.framing s.limit s.pieces s.ended))
     ∙ slice_get-map (λ (p : ℕ × Frame). p.1) (placed_contents s) n ∙ ap (option_map (λ (p : ℕ × Frame). p.1)) is
 
-taken_stream : (settings : Chosen) (past : History) (s : Stream) (placed : ℕ × Frame) → IsStreamOf settings past s → next_placed s ≡ Some placed
+taken_stream : (places_are : PlacesAreOf) (settings : Chosen) (past : History) (s : Stream) (placed : ℕ × Frame) → IsStreamOf settings past s → next_placed s ≡ Some placed
     → IsStreamOf settings (content_came settings placed ∷ past) (record s { taken = s.taken + 1 })
-taken_stream settings past s placed is next =
+taken_stream places_are settings past s placed is next =
     let frame = placed.1 in
-    let u = read settings.cancels frame in record {
+    let u = read (rules_of settings) frame in record {
       framing = is.framing;
       limit = is.limit;
       taken = ap (λ n. n + 1) is.taken ∙ sym (length-append (units_of past) (u ∷ []));
-      came = ap (λ us. us ++ u ∷ []) is.came ∙ sym (map-append (read settings.cancels) (take s.taken (contents s)) (frame ∷ []))
-          ∙ ap (map (read settings.cancels)) (sym (take_next (contents s) s.taken frame (placed_frame s s.taken placed next)));
+      came = ap (λ us. us ++ u ∷ []) is.came ∙ sym (map-append (read (rules_of settings)) (take s.taken (contents s)) (frame ∷ []))
+          ∙ ap (map (read (rules_of settings))) (sym (take_next (contents s) s.taken frame (placed_frame places_are s s.taken placed next)));
       origins = ap (λ os. os ++ origin_of settings.tells_broken placed ∷ []) is.origins
           ∙ sym (map-append (origin_of settings.tells_broken) (take s.taken (placed_contents s)) (placed ∷ []))
           ∙ ap (map (origin_of settings.tells_broken)) (sym (take_next (placed_contents s) s.taken placed next));
@@ -79,15 +79,15 @@ same_pieces s n = record { framing = refl; limit = refl; pieces = refl; ended = 
 abbrev with_unit : Connection → Option Broken → Unit → Connection
 with_unit c broken u = record { settings = c.settings; stream = record c.stream { taken = c.stream.taken + 1 }; desk = after_unit broken u c.desk }
 
-frame_moves : (c : Connection) (placed : ℕ × Frame) (broken : Option Broken) → c.desk.state.is_over ≡ false → next_placed c.stream ≡ Some placed
-    → option_to_list broken ≡ broken_in (origin_of c.settings.tells_broken placed) (read c.settings.cancels placed.1)
-    → calls_of (read c.settings.cancels placed.1) ≤ c.settings.calls - c.desk.state.theirs.came
-    → HasMoved c (with_unit c broken (read c.settings.cancels placed.1))
-frame_moves c placed broken going next defect few =
+frame_moves : (places_are : PlacesAreOf) (c : Connection) (placed : ℕ × Frame) (broken : Option Broken) → c.desk.state.is_over ≡ false → next_placed c.stream ≡ Some placed
+    → option_to_list broken ≡ broken_in (origin_of c.settings.tells_broken placed) (read (rules_of c.settings) placed.1)
+    → calls_of (read (rules_of c.settings) placed.1) ≤ c.settings.calls - c.desk.state.theirs.came
+    → HasMoved c (with_unit c broken (read (rules_of c.settings) placed.1))
+frame_moves places_are c placed broken going next defect few =
     let frame = placed.1 in
     let from = origin_of c.settings.tells_broken placed in
-    let u = read c.settings.cancels frame in
-    let within : c.stream.taken < length (contents c.stream) = slice_get_within (contents c.stream) c.stream.taken frame (placed_frame c.stream c.stream.taken placed next) in record {
+    let u = read (rules_of c.settings) frame in
+    let within : c.stream.taken < length (contents c.stream) = slice_get_within (contents c.stream) c.stream.taken frame (placed_frame places_are c.stream c.stream.taken placed next) in record {
       stepped = λ past told stands all.
           (let here : is_over past ≡ false = sym (over_is c past told stands) ∙ going in
           let number : c.desk.state.theirs.came ≡ call_count past = came_is c past told stands in
@@ -99,7 +99,7 @@ frame_moves c placed broken going next defect few =
             stands = record {
               lawful = (may_come past (is_over past) here, stands.lawful);
               calls = subst (λ n. n ≤ c.settings.calls) (sym (counts past from u)) fits;
-              stream = taken_stream c.settings past c.stream placed stands.stream next;
+              stream = taken_stream places_are c.settings past c.stream placed stands.stream next;
               ended = λ close closed. (let none : close_in past ≡ None = unclosed past here in absurd (cc));
               desk = desk_came c.settings.cancels c.settings past told from u broken d defect stands.desk stands.lawful;
               taken = full_more d.out.framing d.out.written (answer_texts (leaving d.order (owed_with u d.state.owed))) d.out.taken stands.taken;
@@ -113,12 +113,12 @@ frame_moves c placed broken going next defect few =
       taken = refl;
     }
 
-pub unit_moves : (c : Connection) (u : Unit) (broken : Option Broken) → c.desk.state.is_over ≡ false → IsNext c u broken
+pub unit_moves : (places_are : PlacesAreOf) (c : Connection) (u : Unit) (broken : Option Broken) → c.desk.state.is_over ≡ false → IsNext c u broken
     → calls_of u ≤ c.settings.calls - c.desk.state.theirs.came → HasMoved c (with_unit c broken u)
-unit_moves c u broken going next few =
+unit_moves places_are c u broken going next few =
     let P : Unit → Type 0 =
     λ v. option_to_list broken ≡ broken_in (origin_of c.settings.tells_broken next.placed) v → calls_of v ≤ c.settings.calls - c.desk.state.theirs.came → HasMoved c (with_unit c broken v) in
-    subst P (sym next.read) (frame_moves c next.placed broken going next.next) next.defect few
+    subst P (sym next.read) (frame_moves places_are c next.placed broken going next.next) next.defect few
 
 -- ---- the input is over
 
@@ -171,14 +171,14 @@ end_moves c close going step = record {
   taken = refl;
 }
 
-pub full_moves : (c : Connection) (u : Unit) (broken : Option Broken) → c.desk.state.is_over ≡ false → IsNext c u broken
+pub full_moves : (places_are : PlacesAreOf) (c : Connection) (u : Unit) (broken : Option Broken) → c.desk.state.is_over ≡ false → IsNext c u broken
     → c.settings.calls - c.desk.state.theirs.came < calls_of u → HasMoved c (with_end c close.Full)
-full_moves c u broken going next many = end_moves c close.Full going (λ past told stands all here.
+full_moves places_are c u broken going next many = end_moves c close.Full going (λ past told stands all here.
     (let number : c.desk.state.theirs.came ≡ call_count past = came_is c past told stands in
     let most : call_count past ≤ c.settings.calls = stands.calls in
-    let here_many : c.settings.calls - c.desk.state.theirs.came < calls_of (read c.settings.cancels next.placed.1) = subst (λ v. c.settings.calls - c.desk.state.theirs.came < calls_of v) next.read many in
-    let frame = placed_frame c.stream c.stream.taken next.placed next.next in
-    let over : c.settings.calls < call_count past + calls_of (read c.settings.cancels next.placed.1) = omega arith in
+    let here_many : c.settings.calls - c.desk.state.theirs.came < calls_of (read (rules_of c.settings) next.placed.1) = subst (λ v. c.settings.calls - c.desk.state.theirs.came < calls_of v) next.read many in
+    let frame = placed_frame places_are c.stream c.stream.taken next.placed next.next in
+    let over : c.settings.calls < call_count past + calls_of (read (rules_of c.settings) next.placed.1) = omega arith in
     (is_full next.placed.1 all here (next_is c past told stands ∙ frame) over, was_full next.placed.1 (next_is c past told stands ∙ frame) over)))
 
 pub close_moves : (c : Connection) (end : StreamEnd) → c.desk.state.is_over ≡ false → next_content c.stream ≡ None → end_of_stream c.stream ≡ Some end
@@ -271,15 +271,15 @@ known : (o : Option (ℕ × Frame)) (frame : Frame) → option_map (λ (p : ℕ 
 known None frame is = absurd (cc)
 known (Some placed) frame is = (placed, refl, cc)
 
-pub next_from : (c : Connection) (frame : Frame) (u : Unit) (broken : Option Broken) → next_content c.stream ≡ Some frame → u ≡ read c.settings.cancels frame
+pub next_from : (places_are : PlacesAreOf) (c : Connection) (frame : Frame) (u : Unit) (broken : Option Broken) → next_content c.stream ≡ Some frame → u ≡ read (rules_of c.settings) frame
     → ((placed : ℕ × Frame) → next_placed c.stream ≡ Some placed → option_to_list broken ≡ broken_in (origin_of c.settings.tells_broken placed) u) → IsNext c u broken
-next_from c frame u broken next is defect =
+next_from places_are c frame u broken next is defect =
     let s = c.stream in
     let found = known (next_placed s) frame
-    (sym (slice_get-map (λ (p : ℕ × Frame). p.1) (placed_contents s) s.taken) ∙ ap (λ fs. slice_get fs s.taken) (contents_alone s.framing s.limit s.pieces s.ended) ∙ next) in
+    (sym (slice_get-map (λ (p : ℕ × Frame). p.1) (placed_contents s) s.taken) ∙ ap (λ fs. slice_get fs s.taken) (places_are s.framing s.limit s.pieces s.ended) ∙ next) in
     record {
       placed = found.0;
       next = found.1;
-      read = is ∙ ap (read c.settings.cancels) (sym found.2);
+      read = is ∙ ap (read (rules_of c.settings)) (sym found.2);
       defect = defect found.0 found.1;
     }

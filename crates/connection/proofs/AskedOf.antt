@@ -12,8 +12,8 @@ use Rattle.connection_history.specs.declared.event.Event.{Event}
 use Rattle.connection_history.specs.Stream.{entries_in, entries_along, call_in, calls_in, is_cancelled}
 use Rattle.connection_history.specs.History.{History, stream, units_of, is_open, answer_to}
 use Rattle.connection_history.proofs.Tests.{same, same_test, different}
-use Rattle.connection_states.specs.States.{State, slot_count, theirs_of}
-use Rattle.connection_states.proofs.TheirSites.{site, sites_along, sites_in, sites_of, seen_as, all_seen, theirs-seen}
+use Rattle.connection_steps.specs.States.{State, slot_count, theirs_of}
+use Rattle.connection_steps.proofs.TheirSites.{site, sites_along, sites_in, sites_of, seen_as, all_seen, theirs-seen}
 use Rattle.open_calls.specs.declared.their_call.TheirCall.{TheirCall}
 use Rattle.open_calls.specs.Numbered.{at}
 use Rattle.connection.specs.Connections.{Connection, StandsAfter, asked, asked_in}

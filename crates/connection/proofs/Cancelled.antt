@@ -24,11 +24,11 @@ use Rattle.open_calls.specs.declared.own_call.OwnCall.{OwnCall}
 use Rattle.open_calls.specs.declared.their_call.TheirCall.{TheirCall}
 use Rattle.open_calls.specs.Numbered.{at}
 use Rattle.open_calls.specs.Own.{without_caller}
-use Rattle.connection_states.specs.States.{State, own_call, own_of, theirs_of}
-use Rattle.connection_states.proofs.OwnFound.{withdrawable_found}
-use Rattle.connection_states.proofs.OwnPicked.{picked, picked-agree, filter-picked}
-use Rattle.connection_states.specs.Steps.{withdrawn_by}
-use Rattle.connection_states.proofs.TheirFound.{cancelled_found}
+use Rattle.connection_steps.specs.States.{State, own_call, own_of, theirs_of}
+use Rattle.connection_steps.proofs.OwnFound.{withdrawable_found}
+use Rattle.connection_steps.proofs.OwnPicked.{picked, picked-agree, filter-picked}
+use Rattle.connection_steps.specs.Steps.{withdrawn_by}
+use Rattle.connection_steps.proofs.TheirFound.{cancelled_found}
 use Rattle.connection_desk.specs.Desks.{Desk, answer_refused, wanted_keys, may_leave, withdrawals_in, is_cancelled as is_cancelled_call, after_saying, after_withdrawal, after_answer, after_cancel}
 use Rattle.connection.specs.Settings.{Chosen}
 use Rattle.connection.specs.Connections.{Connection, IsDeskOf, StandsAfter}

@@ -7,6 +7,7 @@ use Rattle.connection_history.specs.History.{History, close_of as close_in}
 use Rattle.connection_history.specs.Items.{Item, items_of, text_of, bytes_of}
 use Rattle.content_streams.specs.Streams.{contents, placed_contents}
 use Rattle.outbox.specs.Output.{framed, bytes_of_texts}
+use Rattle.connection.specs.Settings.{rules_of}
 use Rattle.connection.specs.Connections.{Connection, IsDone, StandsAfter, origin_of, read}
 use Rattle.connection.specs.Conversations.{Converses, IsConversation, IsConversationCutShort}
 use Rattle.connection.specs.Reports.{report_of}
@@ -21,7 +22,7 @@ converses c history told stands = record {
   lawful = stands.lawful;
   framing = stands.stream.framing;
   limit = stands.stream.limit;
-  came = stands.stream.came ∙ ap (λ n. map (read c.settings.cancels) (take n (contents c.stream))) stands.stream.taken;
+  came = stands.stream.came ∙ ap (λ n. map (read (rules_of c.settings)) (take n (contents c.stream))) stands.stream.taken;
   origins = stands.stream.origins ∙ ap (λ n. map (origin_of c.settings.tells_broken) (take n (placed_contents c.stream))) stands.stream.taken;
   bytes = (λ i. bytes_of_texts (stands.desk.framing i) (stands.desk.written i)) ∙ all_written (framed c.settings.framing) (items_of c.settings.order history);
   counts = refl;

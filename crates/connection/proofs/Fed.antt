@@ -10,17 +10,15 @@ use Rattle.connection_history.proofs.Streams.{slice_get-kept}
 use Rattle.connection_history.specs.Events.{events_of}
 use Rattle.content_streams.specs.declared.ending.HowEnded.{HowEnded}
 use Rattle.content_streams.specs.Streams.{Stream, contents, contents_of, placed_contents, placed_contents_of, end_of, close_of as end_of_stream}
-use Rattle.content_streams.proofs.Laws.{contents_grow, contents_stay, end_stays, places_only_grow}
-use Rattle.content_streams.proofs.KeepingPlaces.{contents_alone}
-use Rattle.connection_states.specs.States.{State, theirs_of}
-use Rattle.connection_states.proofs.TheirFound.{found}
+use Rattle.connection_steps.specs.States.{State, theirs_of}
+use Rattle.connection_steps.proofs.TheirFound.{found}
 use Rattle.open_calls.specs.declared.their_call.TheirCall.{TheirCall}
 use Rattle.open_calls.specs.Numbered.{at}
 use Rattle.connection_history.proofs.Tests.{same_test}
 use Rattle.connection.proofs.Stands.{none_at_zero}
+use Rattle.connection.proofs.StreamLaws.{PlacesAreOf, OnlyGrow, FaultsStay}
 use Rattle.connection_desk.specs.Desks as desks
-use Rattle.connection_desk.specs.Desks.{Desk}
-use Rattle.connection.specs.Settings.{Chosen}
+use Rattle.connection.specs.Settings.{Chosen, rules_of}
 use Rattle.connection.specs.Connections.{Connection, IsStreamOf, HasEnded, was_full, had_ended, StandsAfter, IsDone, read, origin_of}
 
 -- ---- more contents
@@ -31,25 +29,25 @@ few_taken f n xs ys counted are =
     omega arith
 
 -- as many contents have places as there are
-places_few : (s : Stream) (n : ℕ) → n ≤ length (contents s) → n ≤ length (placed_contents s)
-places_few s n few =
-    let all = ap length (contents_alone s.framing s.limit s.pieces s.ended) in
+places_few : (places_are : PlacesAreOf) (s : Stream) (n : ℕ) → n ≤ length (contents s) → n ≤ length (placed_contents s)
+places_few places_are s n few =
+    let all = ap length (places_are s.framing s.limit s.pieces s.ended) in
     omega (arith, all, length-map (placed_contents s) (λ (placed : ℕ × Frame). placed.1))
 
-pub grown : (settings : Chosen) (history : History) (before now : Stream) (later : List Frame) (places : List (ℕ × Frame)) → IsStreamOf settings history before
+pub grown : (places_are : PlacesAreOf) (settings : Chosen) (history : History) (before now : Stream) (later : List Frame) (places : List (ℕ × Frame)) → IsStreamOf settings history before
     → now.framing ≡ before.framing → now.limit ≡ before.limit → now.taken ≡ before.taken → contents now ≡ contents before ++ later
     → placed_contents now ≡ placed_contents before ++ places → IsStreamOf settings history now
-grown settings history before now later places is framing limit taken more placed =
-    let few : before.taken ≤ length (contents before) = few_taken (read settings.cancels) before.taken (contents before) (units_of history) is.taken is.came in
+grown places_are settings history before now later places is framing limit taken more placed =
+    let few : before.taken ≤ length (contents before) = few_taken (read (rules_of settings)) before.taken (contents before) (units_of history) is.taken is.came in
     let firsts : take now.taken (contents now) ≡ take before.taken (contents before) =
     (λ i. take (taken i) (more i)) ∙ take-append-le before.taken (contents before) later few in
     let first_places : take now.taken (placed_contents now) ≡ take before.taken (placed_contents before) =
-    (λ i. take (taken i) (placed i)) ∙ take-append-le before.taken (placed_contents before) places (places_few before before.taken few) in
+    (λ i. take (taken i) (placed i)) ∙ take-append-le before.taken (placed_contents before) places (places_few places_are before before.taken few) in
     record {
       framing = framing ∙ is.framing;
       limit = limit ∙ is.limit;
       taken = taken ∙ is.taken;
-      came = is.came ∙ ap (map (read settings.cancels)) (sym firsts);
+      came = is.came ∙ ap (map (read (rules_of settings))) (sym firsts);
       origins = is.origins ∙ ap (map (origin_of settings.tells_broken)) (sym first_places);
     }
 
@@ -103,51 +101,51 @@ unclosed history going = going_on (is_over history) (close_in history) (over_clo
 pub over_is : (c : Connection) (history : History) (told : List Event) → StandsAfter c history told → c.desk.state.is_over ≡ is_over history
 over_is c history told stands = ap (λ (s : State). s.is_over) stands.desk.state
 
-pub fed_stands : (c : Connection) (history : History) (told : List Event) (piece : List ℕ) (now : Stream) → c.stream.ended ≡ None → c.desk.state.is_over ≡ false
+pub fed_stands : (grow : OnlyGrow) (c : Connection) (history : History) (told : List Event) (piece : List ℕ) (now : Stream) → c.stream.ended ≡ None → c.desk.state.is_over ≡ false
     → now ≡ record c.stream { pieces = c.stream.pieces ++ piece ∷ [] } → StandsAfter c history told → StandsAfter (record c { stream = now }) history told
-fed_stands c history told piece now unended going is stands =
+fed_stands grow c history told piece now unended going is stands =
     let s = c.stream in
-    let more = contents_grow s.framing s.limit s.pieces (piece ∷ []) s.ended in
-    let places = places_only_grow s.framing s.limit s.pieces (piece ∷ []) s.ended in
+    let more = grow.contents s.framing s.limit s.pieces (piece ∷ []) s.ended in
+    let places = grow.places s.framing s.limit s.pieces (piece ∷ []) s.ended in
     let grows : contents now ≡ contents s ++ more.0 =
     ap contents is ∙ more.1 ∙ ap (λ e. contents_of s.framing s.limit s.pieces e ++ more.0) (sym unended) in
     let placed : placed_contents now ≡ placed_contents s ++ places.0 =
     ap placed_contents is ∙ places.1 ∙ ap (λ e. placed_contents_of s.framing s.limit s.pieces e ++ places.0) (sym unended) in
     let open_still : close_in history ≡ None = unclosed history (sym (over_is c history told stands) ∙ going) in
-    stream_stands c history told now stands (grown c.settings history s now more.0 places.0 stands.stream
+    stream_stands c history told now stands (grown grow.places_are c.settings history s now more.0 places.0 stands.stream
     (ap (λ (t : Stream). t.framing) is) (ap (λ (t : Stream). t.limit) is) (ap (λ (t : Stream). t.taken) is) grows placed)
     (λ close closed. absurd (cc))
 
-ended_later : (settings : Chosen) (history : History) (s now : Stream) (how : HowEnded) (later : List Frame) (close : Close) → s.ended ≡ None
+ended_later : (stay : FaultsStay) (settings : Chosen) (history : History) (s now : Stream) (how : HowEnded) (later : List Frame) (close : Close) → s.ended ≡ None
     → now ≡ record s { ended = Some how } → contents now ≡ contents s ++ later → HasEnded settings s history close → HasEnded settings now history close
-ended_later settings history s now how later _ unended is grows (was_full frame next many) =
+ended_later stay settings history s now how later _ unended is grows (was_full frame next many) =
     was_full frame
     (ap (λ fs. slice_get fs (length (units_of history))) grows ∙ slice_get-kept (contents s) later (length (units_of history)) frame next) many
-ended_later settings history s now how later _ unended is grows (had_ended end next was) =
+ended_later stay settings history s now how later _ unended is grows (had_ended end next was) =
     let shown : end_of s.framing s.limit s.pieces None ≡ Some end = ap (end_of s.framing s.limit s.pieces) (sym unended) ∙ was in
     let pieces : s.pieces ≡ s.pieces ++ [] = sym (append-nil s.pieces) in
     let same : contents now ≡ contents s =
-    ap contents is ∙ ap (λ ps. contents_of s.framing s.limit ps (Some how)) pieces ∙ contents_stay s.framing s.limit s.pieces [] (Some how) end shown
+    ap contents is ∙ ap (λ ps. contents_of s.framing s.limit ps (Some how)) pieces ∙ stay.contents s.framing s.limit s.pieces [] (Some how) end shown
     ∙ ap (contents_of s.framing s.limit s.pieces) (sym unended) in
     let stays : end_of_stream now ≡ Some end =
-    ap end_of_stream is ∙ ap (λ ps. end_of s.framing s.limit ps (Some how)) pieces ∙ end_stays s.framing s.limit s.pieces [] (Some how) end shown in
+    ap end_of_stream is ∙ ap (λ ps. end_of s.framing s.limit ps (Some how)) pieces ∙ stay.end s.framing s.limit s.pieces [] (Some how) end shown in
     had_ended end (ap (λ fs. slice_get fs (length (units_of history))) same ∙ next) stays
 
-pub ended_stands : (c : Connection) (history : History) (told : List Event) (how : HowEnded) (now : Stream) → c.stream.ended ≡ None
+pub ended_stands : (grow : OnlyGrow) (stay : FaultsStay) (c : Connection) (history : History) (told : List Event) (how : HowEnded) (now : Stream) → c.stream.ended ≡ None
     → now ≡ record c.stream { ended = Some how } → StandsAfter c history told → StandsAfter (record c { stream = now }) history told
-ended_stands c history told how now unended is stands =
+ended_stands grow stay c history told how now unended is stands =
     let s = c.stream in
-    let more = contents_grow s.framing s.limit s.pieces [] (Some how) in
+    let more = grow.contents s.framing s.limit s.pieces [] (Some how) in
     let grows : contents now ≡ contents s ++ more.0 =
     ap contents is ∙ ap (λ ps. contents_of s.framing s.limit ps (Some how)) (sym (append-nil s.pieces)) ∙ more.1
     ∙ ap (λ e. contents_of s.framing s.limit s.pieces e ++ more.0) (sym unended) in
-    let places = places_only_grow s.framing s.limit s.pieces [] (Some how) in
+    let places = grow.places s.framing s.limit s.pieces [] (Some how) in
     let placed : placed_contents now ≡ placed_contents s ++ places.0 =
     ap placed_contents is ∙ ap (λ ps. placed_contents_of s.framing s.limit ps (Some how)) (sym (append-nil s.pieces)) ∙ places.1
     ∙ ap (λ e. placed_contents_of s.framing s.limit s.pieces e ++ places.0) (sym unended) in
-    stream_stands c history told now stands (grown c.settings history s now more.0 places.0 stands.stream
+    stream_stands c history told now stands (grown grow.places_are c.settings history s now more.0 places.0 stands.stream
     (ap (λ (t : Stream). t.framing) is) (ap (λ (t : Stream). t.limit) is) (ap (λ (t : Stream). t.taken) is) grows placed)
-    (λ close closed. ended_later c.settings history s now how more.0 close unended is grows (stands.ended close closed))
+    (λ close closed. ended_later stay c.settings history s now how more.0 close unended is grows (stands.ended close closed))
 
 -- ---- done
 

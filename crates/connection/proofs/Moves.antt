@@ -20,20 +20,20 @@ use Rattle.connection_history.specs.Items.{items_of, items_at, said_at, answers_
 use Rattle.open_calls.specs.Numbered.{at}
 use Rattle.open_calls.specs.Own.{OwnState}
 use Rattle.open_calls.specs.Theirs.{TheirState}
-use Rattle.open_calls.specs.Owed.{OwedState}
+use Rattle.owed_answers.specs.Owed.{OwedState}
 use Rattle.outbox.specs.Output.{Output}
-use Rattle.connection_states.specs.States.{State, state_of, own_of}
-use Rattle.connection_states.specs.Steps.{after_came, after_called, after_withdrew, after_answered, after_ended, told_of_all, told_of_unit, told_at_end, leaving, owed_with, owed_given}
-use Rattle.connection_states.specs.Tallies.{tally_of, tally_in, answers_let_out}
-use Rattle.connection_states.proofs.Counted.{tally-silent, tally-came, tally-answered}
-use Rattle.connection_states.proofs.OwnFollows.{own_came, own_called, own_called_all, own_withdrew, own_answered, own_ended}
-use Rattle.connection_states.proofs.OwnFound.{ended_found}
-use Rattle.connection_states.proofs.TheirAfter.{after-called, after-called_all, after-noticed, after-withdrew, after-ended, after-answered}
-use Rattle.connection_states.proofs.TheirEntries.{theirs-came}
-use Rattle.connection_states.proofs.ToldEntries.{told-came}
-use Rattle.connection_states.proofs.OwedSame.{silent-owed, silent-answers}
-use Rattle.connection_states.proofs.OwedSteps.{came-owed, came-answers}
-use Rattle.connection_states.proofs.OwedGiven.{answered-owed, answered-answers}
+use Rattle.connection_steps.specs.States.{State, state_of, own_of}
+use Rattle.connection_steps.specs.Steps.{after_came, after_called, after_withdrew, after_answered, after_ended, told_of_all, told_of_unit, told_at_end, leaving, owed_with, owed_given}
+use Rattle.connection_steps.specs.Tallies.{tally_of, tally_in, answers_let_out}
+use Rattle.connection_steps.proofs.Counted.{tally-silent, tally-came, tally-answered}
+use Rattle.connection_steps.proofs.OwnFollows.{own_came, own_called, own_called_all, own_withdrew, own_answered, own_ended}
+use Rattle.connection_steps.proofs.OwnFound.{ended_found}
+use Rattle.connection_steps.proofs.TheirAfter.{after-called, after-called_all, after-noticed, after-withdrew, after-ended, after-answered}
+use Rattle.connection_steps.proofs.TheirEntries.{theirs-came}
+use Rattle.connection_steps.proofs.ToldEntries.{told-came}
+use Rattle.connection_steps.proofs.OwedSame.{silent-owed, silent-answers}
+use Rattle.connection_steps.proofs.OwedSteps.{came-owed, came-answers}
+use Rattle.connection_steps.proofs.OwedGiven.{answered-owed, answered-answers}
 use Rattle.connection_desk.specs.Desks.{Desk, with_texts, answer_texts, capped_tally, with_counts, with_answers, after_unit, after_end, after_call, after_calls, after_notice, after_withdrawal, after_answer}
 use Rattle.connection.specs.Settings.{Chosen}
 use Rattle.connection.specs.Connections.{IsDeskOf}

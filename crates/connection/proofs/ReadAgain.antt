@@ -14,7 +14,7 @@ use Rattle.json.specs.Token.{Token, null}
 use Rattle.json.specs.Tree.{json_tokens, items_tokens, members_tokens, depth, HasNumbers, ItemsHaveNumbers, MembersHaveNumbers}
 use Rattle.json.specs.Word.{head, after_digits, after_minus, after_sign, after_whole, after_fraction, after_exponent, after_number}
 use Rattle.json.proofs.Printed.Utf8.{IsUtf8-are_ascii, IsUtf8-quoted, IsUtf8-key, IsUtf8-boolean, IsUtf8-separator}
-use Rattle.json_texts.specs.declared.json_text.TheConstants.{MOST_LEVELS}
+use Rattle.json_texts.specs.declared.json_text.TheConstants.{MOST_DEPTH_OUT}
 use Rattle.json_texts.specs.Texts.{json_text}
 use Rattle.json_texts.proofs.ReadBack.{is_json_text}
 use Rattle.connection_messages.specs.Params.{is_structured}
@@ -163,16 +163,16 @@ abbrev pub AreAgain : Option (List ℕ) → Type 0
 AreAgain None = ⊤
 AreAgain (Some params) = AreParams (Some params) ⊎ IsDeep params
 
-again_if : (j : Json) (b : Bool) → nat_le (depth j) MOST_LEVELS ≡ b → HasTexts j → HasNumbers j → is_structured (json_text j) ≡ true → AreAgain (Some (json_text j))
+again_if : (j : Json) (b : Bool) → nat_le (depth j) MOST_DEPTH_OUT ≡ b → HasTexts j → HasNumbers j → is_structured (json_text j) ≡ true → AreAgain (Some (json_text j))
 again_if j true few texts numbers structured =
-    let shallow : depth j ≤ MOST_LEVELS = grind (arith, nat_tests) in
+    let shallow : depth j ≤ MOST_DEPTH_OUT = grind (arith, nat_tests) in
     inl (is_json_text j numbers shallow (text_utf8 j texts numbers), structured)
 again_if j false deep texts numbers structured =
-    let more : MOST_LEVELS < depth j = grind (arith, nat_tests) in
+    let more : MOST_DEPTH_OUT < depth j = grind (arith, nat_tests) in
     inr (j, refl, more)
 
 pub again : (j : Json) → HasTexts j → HasNumbers j → is_structured (json_text j) ≡ true → AreAgain (Some (json_text j))
-again j texts numbers structured = again_if j (nat_le (depth j) MOST_LEVELS) refl texts numbers structured
+again j texts numbers structured = again_if j (nat_le (depth j) MOST_DEPTH_OUT) refl texts numbers structured
 
 pub array_structured : (js : Items) → is_structured (json_text (array js)) ≡ true
 unfolding json_text print_from

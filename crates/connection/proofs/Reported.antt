@@ -4,8 +4,8 @@ use Rattle.connection_history.specs.declared.event.Event.{Event}
 use Rattle.connection_history.specs.History.{History, key_count}
 use Rattle.connection_history.specs.Events.{call_count}
 use Rattle.connection_history.specs.Counts.{request_count, answer_count, unreadable_count, invalid_count, ignored_count, capped}
-use Rattle.connection_states.specs.States.{State, state_of}
-use Rattle.connection_states.proofs.OpenCounted.{open-counted, waiting-counted}
+use Rattle.connection_steps.specs.States.{State, state_of}
+use Rattle.connection_steps.proofs.OpenCounted.{open-counted, waiting-counted}
 use Rattle.connection_desk.specs.declared.tally.Tally.{Tally}
 use Rattle.connection.specs.declared.report.Report.{Report}
 use Rattle.connection.specs.Connections.{Connection, StandsAfter}

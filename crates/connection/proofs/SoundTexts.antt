@@ -7,7 +7,7 @@ use Rattle.message_ids.specs.declared.id.Id.{Id}
 use Rattle.message_ids.specs.declared.id.Id.TheVariants.{Unsigned}
 use Rattle.connection_messages.specs.Envelope.{cancels_by}
 use Rattle.connection_messages.specs.ReadBack.{IsSayable, AreSayable, IsId, IsAnswer, AreAnswers, IsLine, answer_texts, answer_as_read, answers_as_read, call_as_read, calls_as_read, notice_as_read}
-use Rattle.connection_messages.specs.Reading.{unit_of}
+use Rattle.connection_messages.specs.Reading.{are_too_many, unit_of}
 use Rattle.connection_messages.specs.Texts.{id_text, error_head, error_end, error_text, fixed_error, method_text, answer_text, batch_text, call_text, call_texts, calls_text, notice_text, withdrawal_head, withdrawal_text}
 use Rattle.connection_messages.specs.declared.answer.Answer.{Answer}
 use Rattle.connection_messages.specs.declared.answer.Answer.TheVariants.{Result, Error, Standard as Fixed}
@@ -16,21 +16,22 @@ use Rattle.connection_messages.specs.declared.cancels.Cancels.{Cancels}
 use Rattle.connection_messages.specs.declared.cancels.Cancels.TheVariants.{Lsp, Mcp}
 use Rattle.connection_messages.specs.declared.entry.Entry.TheVariants.{Call, Cancel}
 use Rattle.connection_messages.specs.declared.outgoing.Outgoing.{Outgoing}
+use Rattle.connection_messages.specs.declared.rules.Rules.{Rules}
 use Rattle.connection_messages.specs.declared.unit.Unit.TheVariants.{Single, Batch}
 use Rattle.content_streams.specs.Lines.{ends_in_cr, is_blank}
-use Rattle.connection.specs.BackToBack.{Message, call, calls, notice, withdrawal, answer, answers, text_of, as_read}
+use Rattle.connection.specs.BackToBack.{Message, call, calls, notice, withdrawal, answer, answers, text_of, as_read, IsWithin}
 use Rattle.connection.proofs.SaidSound.{IsSound}
 
 -- What the laws of connection_messages say of what is read.
 pub record ReadLaws : Type 0 where
-  pub call_reads : (cancels : Option Cancels) (key : ℕ) (o : Outgoing) → key < 2 ^ 64 → IsSayable o → unit_of cancels false (call_text key o) ≡ Single (Call (call_as_read key o))
-  pub calls_read : (cancels : Option Cancels) (first : ℕ) (o : Outgoing) (os : List Outgoing) → first + length (o ∷ os) ≤ 2 ^ 64 → AreSayable (o ∷ os)
-      → unit_of cancels false (calls_text first (o ∷ os)) ≡ Batch (calls_as_read first (o ∷ os))
-  pub notice_reads : (cancels : Option Cancels) (o : Outgoing) → IsSayable o → cancels_by cancels o.method ≡ None → unit_of cancels false (notice_text o) ≡ Single (Call (notice_as_read o))
-  pub withdrawal_reads : (by : Cancels) (key : ℕ) → key < 2 ^ 64 → unit_of (Some by) false (withdrawal_text by key) ≡ Single (Cancel (Unsigned key))
-  pub answer_reads : (cancels : Option Cancels) (id : Id) (a : Answer) → IsId id → IsAnswer a → unit_of cancels false (answer_text id a) ≡ Single (answer_as_read id a)
-  pub answers_read : (cancels : Option Cancels) (a : Id × Answer) (more : List (Id × Answer)) → AreAnswers (a ∷ more)
-      → unit_of cancels false (batch_text (answer_texts (a ∷ more))) ≡ Batch (answers_as_read (a ∷ more))
+  pub call_reads : (rules : Rules) (key : ℕ) (o : Outgoing) → key < 2 ^ 64 → IsSayable o → unit_of rules false (call_text key o) ≡ Single (Call (call_as_read key o))
+  pub calls_read : (rules : Rules) (first : ℕ) (o : Outgoing) (os : List Outgoing) → first + length (o ∷ os) ≤ 2 ^ 64 → are_too_many rules.most_entries (length (o ∷ os)) ≡ false → AreSayable (o ∷ os)
+      → unit_of rules false (calls_text first (o ∷ os)) ≡ Batch (calls_as_read first (o ∷ os))
+  pub notice_reads : (rules : Rules) (o : Outgoing) → IsSayable o → cancels_by rules.cancels o.method ≡ None → unit_of rules false (notice_text o) ≡ Single (Call (notice_as_read o))
+  pub withdrawal_reads : (rules : Rules) (by : Cancels) (key : ℕ) → rules.cancels ≡ Some by → key < 2 ^ 64 → unit_of rules false (withdrawal_text by key) ≡ Single (Cancel (Unsigned key))
+  pub answer_reads : (rules : Rules) (id : Id) (a : Answer) → IsId id → IsAnswer a → unit_of rules false (answer_text id a) ≡ Single (answer_as_read id a)
+  pub answers_read : (rules : Rules) (a : Id × Answer) (more : List (Id × Answer)) → are_too_many rules.most_entries (length (a ∷ more)) ≡ false → AreAnswers (a ∷ more)
+      → unit_of rules false (batch_text (answer_texts (a ∷ more))) ≡ Batch (answers_as_read (a ∷ more))
 
 -- What they say of lines.
 pub record LineLaws : Type 0 where
@@ -43,15 +44,15 @@ pub record LineLaws : Type 0 where
 
 -- ---- read
 
-pub message_reads : ReadLaws → (cancels : Option Cancels) (m : Message) → IsSound cancels m → unit_of cancels false (text_of m) ≡ as_read m
-message_reads laws cancels (call key o) sound = laws.call_reads cancels key o sound.0 sound.1
-message_reads laws cancels (calls key []) sound = absurd sound
-message_reads laws cancels (calls key (o ∷ os)) sound = laws.calls_read cancels key o os sound.0 sound.1
-message_reads laws cancels (notice o) sound = laws.notice_reads cancels o sound.0 sound.1
-message_reads laws cancels (withdrawal by key) sound = ap (λ c. unit_of c false (withdrawal_text by key)) sound.1 ∙ laws.withdrawal_reads by key sound.0
-message_reads laws cancels (answer id a) sound = laws.answer_reads cancels id a sound.0 sound.1
-message_reads laws cancels (answers []) sound = absurd sound
-message_reads laws cancels (answers (a ∷ more)) sound = laws.answers_read cancels a more sound
+pub message_reads : ReadLaws → (rules : Rules) (m : Message) → IsSound rules.cancels m → IsWithin rules.most_entries m → unit_of rules false (text_of m) ≡ as_read m
+message_reads laws rules (call key o) sound kept = laws.call_reads rules key o sound.0 sound.1
+message_reads laws rules (calls key []) sound kept = absurd sound
+message_reads laws rules (calls key (o ∷ os)) sound kept = laws.calls_read rules key o os sound.0 kept sound.1
+message_reads laws rules (notice o) sound kept = laws.notice_reads rules o sound.0 sound.1
+message_reads laws rules (withdrawal by key) sound kept = laws.withdrawal_reads rules by key sound.1 sound.0
+message_reads laws rules (answer id a) sound kept = laws.answer_reads rules id a sound.0 sound.1
+message_reads laws rules (answers []) sound kept = absurd sound
+message_reads laws rules (answers (a ∷ more)) sound kept = laws.answers_read rules a more kept sound
 
 pub message_line : LineLaws → (cancels : Option Cancels) (m : Message) → IsSound cancels m → IsLine (text_of m)
 message_line laws cancels (call key o) sound = laws.call_line key o sound.0 sound.1

@@ -25,12 +25,12 @@ use Rattle.content_streams.specs.declared.framing.Framing.TheVariants.{Frames, L
 use Rattle.open_calls.specs.declared.own_call.OwnCall.{OwnCall}
 use Rattle.open_calls.specs.Numbered.{at}
 use Rattle.outbox.specs.Output.{Output, framed, bytes_of_texts, full_count}
-use Rattle.connection_states.specs.States.{state_of, own_call, theirs_of}
-use Rattle.connection_states.proofs.OwnEntries.{found as own-found}
-use Rattle.connection_states.proofs.TheirFound.{found, seen-at, is_among}
-use Rattle.connection_states.proofs.TheirSites.{sites_of, theirs-seen, all-numbers}
+use Rattle.connection_steps.specs.States.{state_of, own_call, theirs_of}
+use Rattle.connection_steps.proofs.OwnEntries.{found as own-found}
+use Rattle.connection_steps.proofs.TheirFound.{found, seen-at, is_among}
+use Rattle.connection_steps.proofs.TheirSites.{sites_of, theirs-seen, all-numbers}
 use Rattle.connection_desk.specs.Desks.{Desk, with_texts, has_call, call_refused, isnt_withdrawn, withdraw_refused, answer_refused, after_call, after_calls, after_notice, after_withdrawal, after_answer}
-use Rattle.connection.specs.Settings.{Chosen}
+use Rattle.connection.specs.Settings.{Chosen, rules_of}
 use Rattle.connection.specs.Connections.{Connection, IsDeskOf, HasEnded, was_full, had_ended, StandsAfter, IsRefusal, read, calls_of, next_after}
 use Rattle.connection.proofs.Moves.{desk_called, desk_called_all, desk_noticed, desk_withdrew, desk_answered}
 
@@ -133,7 +133,7 @@ next_of s now past units = ap (λ us. slice_get (contents s) (length us)) units
 -- the same where the same units came
 pub still : (settings : Chosen) (s : Stream) (past now : History) (close : Close) → units_of now ≡ units_of past → HasEnded settings s past close → HasEnded settings s now close
 still settings s past now _ units (was_full frame next many) =
-    was_full frame (next_of s now past units ∙ next) (subst (λ n. settings.calls < n + calls_of (read settings.cancels frame)) (sym (count_of now past units)) many)
+    was_full frame (next_of s now past units ∙ next) (subst (λ n. settings.calls < n + calls_of (read (rules_of settings) frame)) (sym (count_of now past units)) many)
 still settings s past now _ units (had_ended end next is) = had_ended end (next_of s now past units ∙ next) is
 
 -- how the input ended rests on its stream and on the units that came

@@ -1,8 +1,8 @@
 -- Counts of 64 bits, and exact ones.
 use Rattle.std.proofs.Common.{◌≡◌, ℕ, ◌+◌, ap, arith}
 use Rattle.connection_history.specs.Counts.{capped}
-use Rattle.connection_states.specs.Tallies as exact
-use Rattle.connection_states.specs.Tallies.{plus, plus_answers}
+use Rattle.connection_steps.specs.Tallies as exact
+use Rattle.connection_steps.specs.Tallies.{plus, plus_answers}
 use Rattle.connection_desk.specs.declared.tally.Tally.{Tally}
 use Rattle.connection_desk.specs.Desks.{capped_tally, with_counts, with_answers}
 

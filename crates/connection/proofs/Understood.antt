@@ -1,14 +1,16 @@
 -- What came to one connection is what the other said.
-use Rattle.std.proofs.Common.{◌≡◌, ℕ, zero, suc, ◌≤◌, List, [], ◌∷◌, length, map, take, Option, None, refl, ap, ◌∙◌, arith}
+use Rattle.std.proofs.Common.{◌≡◌, ℕ, zero, suc, ◌≤◌, List, [], ◌∷◌, length, map, take, Option, None, refl, ap, sym, subst, ◌∙◌, arith}
 use Rattle.std.proofs.lemmas.List.{take-map, take-take, take_all, length-map, length-take}
 use Rattle.std.specs.Prelude.{slice_get}
 use Rattle.connection_messages.specs.declared.cancels.Cancels.{Cancels}
+use Rattle.connection_messages.specs.declared.rules.Rules.{Rules}
 use Rattle.connection_history.specs.declared.event.Event.{Event}
 use Rattle.connection_history.specs.History.{History, units_of}
 use Rattle.content_streams.specs.Streams.{contents, contents_of, plain}
 use Rattle.content_streams.specs.declared.ending.HowEnded.{HowEnded}
 use Rattle.outbox.specs.Output.{full_count}
-use Rattle.connection.specs.BackToBack.{Message, text_of, as_read, messages_of, AllCanBeSaid, AreFirst, AllFit, IsEndedWhole, whole_count, AreJoined, Understands}
+use Rattle.connection.specs.BackToBack.{Message, text_of, as_read, messages_of, AllCanBeSaid, AreFirst, AllFit, AllWithin, IsEndedWhole, whole_count, AreJoined, Understands}
+use Rattle.connection.specs.Settings.{rules_of}
 use Rattle.connection.specs.Connections.{Connection, StandsAfter, read, next_content}
 use Rattle.connection.proofs.ReadIds.{came_have_ids}
 use Rattle.connection.proofs.SaidSound.{AreSound, messages_sound}
@@ -24,14 +26,19 @@ AreContents =
     → contents_of c.settings.framing limit pieces ended ≡ map plain (take (whole_count c.settings.framing n c.desk.out.written) c.desk.out.written)
 
 -- texts that are read are the messages
-all_read : ReadLaws → (cancels : Option Cancels) (ms : List Message) → AreSound cancels ms → map (read cancels) (map plain (map text_of ms)) ≡ map as_read ms
-all_read laws cancels [] sound = refl
-all_read laws cancels (m ∷ ms) sound = λ i. message_reads laws cancels m sound.0 i ∷ all_read laws cancels ms sound.1 i
+all_read : ReadLaws → (rules : Rules) (ms : List Message) → AreSound rules.cancels ms → AllWithin rules.most_entries ms → map (read rules) (map plain (map text_of ms)) ≡ map as_read ms
+all_read laws rules [] sound kept = refl
+all_read laws rules (m ∷ ms) sound kept = λ i. message_reads laws rules m sound.0 kept.0 i ∷ all_read laws rules ms sound.1 kept.1 i
 
 first_sound : (cancels : Option Cancels) (n : ℕ) (ms : List Message) → AreSound cancels ms → AreSound cancels (take n ms)
 first_sound cancels zero ms sound = tt
 first_sound cancels (suc n) [] sound = tt
 first_sound cancels (suc n) (m ∷ ms) sound = (sound.0, first_sound cancels n ms sound.1)
+
+first_kept : (most : Option ℕ) (n : ℕ) (ms : List Message) → AllWithin most ms → AllWithin most (take n ms)
+first_kept most zero ms kept = tt
+first_kept most (suc n) [] kept = tt
+first_kept most (suc n) (m ∷ ms) kept = (kept.0, first_kept most n ms kept.1)
 
 none_left : {A : Type 0} (xs : List A) (n : ℕ) → slice_get xs n ≡ None → length xs ≤ n
 none_left [] n none = omega arith
@@ -39,15 +46,19 @@ none_left (x ∷ xs) zero none = absurd (cc)
 none_left (x ∷ xs) (suc n) none = let few = none_left xs n none in omega (arith, few)
 
 module _ (laws : ReadLaws) (are : AreContents) (n : ℕ) (writer reader : Connection) (said heard : History) (told other : List Event)
-    (speaks : StandsAfter writer said told) (hears : StandsAfter reader heard other) (can : AllCanBeSaid writer.settings.cancels said) (joined : AreJoined n writer reader) where
+    (speaks : StandsAfter writer said told) (hears : StandsAfter reader heard other) (can : AllCanBeSaid writer.settings.cancels said) (joined : AreJoined n writer reader)
+    (kept : AllWithin reader.settings.most_entries (messages_of writer.settings.order said)) where
   abbrev messages : List Message
   messages = messages_of writer.settings.order said
 
   abbrev whole : ℕ
   whole = whole_count writer.settings.framing n writer.desk.out.written
 
-  sound : AreSound writer.settings.cancels messages
-  sound = messages_sound writer.settings.cancels writer.settings.order said speaks.lawful can (came_have_ids writer said told speaks)
+  abbrev rules : Rules
+  rules = rules_of reader.settings
+
+  sound : AreSound reader.settings.cancels messages
+  sound = subst (λ c. AreSound c messages) (sym joined.cancels) (messages_sound writer.settings.cancels writer.settings.order said speaks.lawful can (came_have_ids writer said told speaks))
 
   -- the reader's contents are the texts that came whole
   texts_came : contents reader.stream ≡ map plain (map text_of (take whole messages))
@@ -62,9 +73,10 @@ module _ (laws : ReadLaws) (are : AreContents) (n : ℕ) (writer reader : Connec
   came =
       let count : ℕ = length (units_of heard) in
       hears.stream.came
-      ∙ (λ i. map (read (joined.cancels i)) (take (hears.stream.taken i) (texts_came i)))
-      ∙ ap (map (read writer.settings.cancels)) (take-map plain count (map text_of (take whole messages)) ∙ ap (map plain) (take-map text_of count (take whole messages)))
-      ∙ all_read laws writer.settings.cancels (take count (take whole messages)) (first_sound writer.settings.cancels count (take whole messages) (first_sound writer.settings.cancels whole messages sound))
+      ∙ (λ i. map (read rules) (take (hears.stream.taken i) (texts_came i)))
+      ∙ ap (map (read rules)) (take-map plain count (map text_of (take whole messages)) ∙ ap (map plain) (take-map text_of count (take whole messages)))
+      ∙ all_read laws rules (take count (take whole messages)) (first_sound rules.cancels count (take whole messages) (first_sound rules.cancels whole messages sound))
+      (first_kept rules.most_entries count (take whole messages) (first_kept rules.most_entries whole messages kept))
 
   size : length (units_of heard) ≤ length (take whole messages)
   size = let is = ap length came ∙ length-map (take (length (units_of heard)) (take whole messages)) as_read in omega (arith, is, length-take (length (units_of heard)) (take whole messages))

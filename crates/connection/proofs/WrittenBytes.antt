@@ -3,7 +3,7 @@ use Rattle.std.proofs.Common.{◌≡◌, ℕ, zero, suc, ◌+◌, ◌-◌, ◌<�
 use Rattle.std.proofs.lemmas.Bool.Decides.{nat_tests}
 use Rattle.std.proofs.lemmas.List.{length-append, take-append-le, take_all}
 use Rattle.std.specs.Prelude.{⊤}
-use Rattle.lsp_frames.specs.declared.limits.TheConstants.{LARGEST_CONTENT}
+use Rattle.lsp_frames.specs.declared.limits.TheConstants.{LONGEST_CONTENT}
 use Rattle.content_streams.specs.declared.framing.Framing.{Framing}
 use Rattle.content_streams.specs.declared.framing.Framing.TheVariants.{Frames, Lines, Contents}
 use Rattle.outbox.specs.Output.{framed, bytes_of_texts, full_count}
@@ -21,7 +21,7 @@ pub messages_whole : LineLaws → (cancels : Option Cancels) (limit : ℕ) (ms :
 messages_whole laws cancels limit [] sound fit = tt
 messages_whole laws cancels limit (m ∷ ms) sound fit = (message_whole laws cancels limit m sound.0 fit.0, messages_whole laws cancels limit ms sound.1 fit.1)
 
-pub limit_is : (limit : ℕ) (ts : List (List ℕ)) → AllFit limit ts → limit ≤ LARGEST_CONTENT
+pub limit_is : (limit : ℕ) (ts : List (List ℕ)) → AllFit limit ts → limit ≤ LONGEST_CONTENT
 limit_is limit [] fit = fit
 limit_is limit (t ∷ ts) fit = limit_is limit ts fit.1
 

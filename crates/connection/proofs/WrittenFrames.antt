@@ -5,7 +5,7 @@ use Rattle.lsp_frames.specs.Contents.{Standing, Open, IsContents}
 use Rattle.lsp_frames.specs.Frames.{Front, Whole, Faulty, Less, front, written, HasForm, ShowsFault}
 use Rattle.lsp_frames.specs.declared.frame.Frame.{Frame}
 use Rattle.lsp_frames.specs.declared.frame.FrameFault.{FrameFault}
-use Rattle.lsp_frames.specs.declared.limits.TheConstants.{LARGEST_CONTENT}
+use Rattle.lsp_frames.specs.declared.limits.TheConstants.{LONGEST_CONTENT}
 use Rattle.content_streams.specs.Streams.{joined, plain, contents_of}
 use Rattle.content_streams.specs.declared.ending.HowEnded.{HowEnded}
 use Rattle.content_streams.specs.declared.framing.Framing.TheVariants.{Frames}
@@ -18,12 +18,12 @@ pub record FrameLaws : Type 0 where
   pub is_frame : (limit : ℕ) (bytes : List ℕ) (frame : Frame) (rest : List ℕ) → (front limit bytes ≡ Whole frame rest) ↔ ((first : List ℕ) × (bytes ≡ first ++ rest) × HasForm limit first frame)
   pub shows_fault : (limit : ℕ) (bytes : List ℕ) (fault : FrameFault) → (front limit bytes ≡ Faulty fault) ↔ ((text : List ℕ) × (more : List ℕ) × (bytes ≡ text ++ more) × ShowsFault limit text fault)
   pub no_longer : (limit : ℕ) (bytes more : List ℕ) (frame other : Frame) → HasForm limit bytes frame → HasForm limit (bytes ++ more) other → (more ≡ []) × (frame ≡ other)
-  pub form : (limit : ℕ) (content : List ℕ) → length content ≤ limit → limit ≤ LARGEST_CONTENT → HasForm limit (written content) (record { content = content; foreign = false })
-  pub read : (limit : ℕ) (content more : List ℕ) → length content ≤ limit → limit ≤ LARGEST_CONTENT → front limit (written content ++ more) ≡ Whole (record { content = content; foreign = false }) more
+  pub form : (limit : ℕ) (content : List ℕ) → length content ≤ limit → limit ≤ LONGEST_CONTENT → HasForm limit (written content) (record { content = content; foreign = false })
+  pub read : (limit : ℕ) (content more : List ℕ) → length content ≤ limit → limit ≤ LONGEST_CONTENT → front limit (written content ++ more) ≡ Whole (record { content = content; foreign = false }) more
   pub unique : (limit : ℕ) (bytes : List ℕ) (frames others : List Frame) (standing other : Standing) → IsContents limit bytes frames standing → IsContents limit bytes others other → (frames ≡ others) × (standing ≡ other)
   pub are : (limit : ℕ) (pieces : List (List ℕ)) (ended : Option HowEnded) → (standing : Standing) × IsContents limit (joined pieces) (contents_of Frames limit pieces ended) standing
 
-module _ (laws : FrameLaws) (limit : ℕ) (possible : limit ≤ LARGEST_CONTENT) where
+module _ (laws : FrameLaws) (limit : ℕ) (possible : limit ≤ LONGEST_CONTENT) where
   -- ---- a part of a frame is neither a frame nor at fault
 
   no_whole : (t bytes more : List ℕ) (frame : Frame) (rest : List ℕ) → length t ≤ limit → written t ≡ bytes ++ more → 0 < length more → front limit bytes ≡ Whole frame rest → ⊥

@@ -1,10 +1,11 @@
 -- Two connections, joined back to back: what the one says, and what the other reads.
-use Rattle.std.specs.Prelude.{◌≡◌, ◌≢◌, ◌⊎◌, ℕ, ◌+◌, ◌-◌, ◌≤◌, nat_le, List, [], ◌∷◌, ◌++◌, length, take, map, flat_map, get_or, Option, Some, None, ⊤, if◌then◌else◌}
+use Rattle.std.specs.Prelude.{◌≡◌, ◌≢◌, ◌⊎◌, ℕ, ◌+◌, ◌-◌, ◌≤◌, nat_le, List, [], ◌∷◌, ◌++◌, length, take, map, flat_map, get_or, false, Option, Some, None, ⊤, if◌then◌else◌}
 use Rattle.message_ids.specs.declared.id.Id.{Id}
 use Rattle.message_ids.specs.declared.id.Id.TheVariants.{Null, Unsigned}
 use Rattle.message_ids.specs.declared.standard.Standard.TheVariants.{ParseError, InvalidRequest}
 use Rattle.connection_messages.specs.Envelope.{cancels_by}
 use Rattle.connection_messages.specs.ReadBack.{IsSayable, AreSayable, IsAnswer, IsLine, answer_texts, call_as_read, calls_as_read, notice_as_read, answer_as_read, answers_as_read}
+use Rattle.connection_messages.specs.Reading.{are_too_many}
 use Rattle.connection_messages.specs.Texts.{call_text, calls_text, notice_text, withdrawal_text, answer_text, batch_text}
 use Rattle.connection_messages.specs.declared.answer.Answer.{Answer}
 use Rattle.connection_messages.specs.declared.answer.Answer.TheVariants.{Standard}
@@ -24,7 +25,7 @@ use Rattle.content_streams.specs.declared.framing.Framing.{Framing}
 use Rattle.content_streams.specs.declared.framing.Framing.TheVariants.{Frames, Lines, Contents}
 use Rattle.content_streams.specs.declared.ending.HowEnded.{HowEnded}
 use Rattle.content_streams.specs.declared.ending.HowEnded.TheVariants.{Closed}
-use Rattle.lsp_frames.specs.declared.limits.TheConstants.{LARGEST_CONTENT}
+use Rattle.lsp_frames.specs.declared.limits.TheConstants.{LONGEST_CONTENT}
 use Rattle.outbox.specs.Output.{framed, bytes_of_texts, full_count}
 use Rattle.connection.specs.Connections.{Connection, next_content, output}
 
@@ -60,6 +61,19 @@ as_read (notice o) = Single (Call (notice_as_read o))
 as_read (withdrawal by key) = Single (Cancel (Unsigned key))
 as_read (answer id a) = Single (answer_as_read id a)
 as_read (answers all) = Batch (answers_as_read all)
+
+-- the batches have no more entries than the reader takes
+abbrev pub IsWithin : Option ℕ → Message → Type 0
+IsWithin most (call key o) = ⊤
+IsWithin most (calls key os) = are_too_many most (length os) ≡ false
+IsWithin most (notice o) = ⊤
+IsWithin most (withdrawal by key) = ⊤
+IsWithin most (answer id a) = ⊤
+IsWithin most (answers all) = are_too_many most (length all) ≡ false
+
+abbrev pub AllWithin : Option ℕ → List Message → Type 0
+AllWithin most [] = ⊤
+AllWithin most (m ∷ ms) = IsWithin most m × AllWithin most ms
 
 -- ---- what a connection says
 
@@ -167,7 +181,7 @@ whole_count Contents n texts = n
 
 -- Each text fits into a content, of which the largest is no larger than any may be.
 abbrev pub AllFit : ℕ → List (List ℕ) → Type 0
-AllFit limit [] = limit ≤ LARGEST_CONTENT
+AllFit limit [] = limit ≤ LONGEST_CONTENT
 AllFit limit (text ∷ texts) = (length text ≤ limit) × AllFit limit texts
 
 -- The input wasn't said to be closed inside a text: either it wasn't closed, or all has come.

@@ -2,7 +2,7 @@
 use Rattle.std.specs.Prelude.{◌≡◌, ◌≤◌, ◌<◌, ℕ, zero, suc, ◌+◌, List, ◌∷◌, ◌++◌, Bool, true, false, map, length, take, slice_get, Option, Some, None, option_map, is_some, if◌then◌else◌}
 use Rattle.lsp_frames.specs.declared.frame.Frame.{Frame}
 use Rattle.connection_messages.specs.Reading.{unit_of}
-use Rattle.connection_messages.specs.declared.cancels.Cancels.{Cancels}
+use Rattle.connection_messages.specs.declared.rules.Rules.{Rules}
 use Rattle.connection_messages.specs.declared.unit.Unit.{Unit}
 use Rattle.connection_history.specs.declared.close.Close.{Close}
 use Rattle.connection_history.specs.declared.close.Close.TheVariants as close
@@ -18,11 +18,11 @@ use Rattle.content_streams.specs.Streams as streams
 use Rattle.content_streams.specs.Streams.{Stream}
 use Rattle.open_calls.specs.Numbered.{at}
 use Rattle.outbox.specs.Output.{Output, full_count, IsAllTaken}
-use Rattle.connection_states.specs.States.{state_of}
-use Rattle.connection_states.specs.Tallies.{tally_of}
+use Rattle.connection_steps.specs.States.{state_of}
+use Rattle.connection_steps.specs.Tallies.{tally_of}
 use Rattle.connection_desk.specs.Desks.{Desk, capped_tally}
 pub use Rattle.connection_desk.specs.Desks.{IsRefusal}
-use Rattle.connection.specs.Settings.{Chosen}
+use Rattle.connection.specs.Settings.{Chosen, rules_of}
 
 pub record Connection : Type 0 where
   pub settings : Chosen
@@ -61,8 +61,8 @@ abbrev pub stream_end : Connection → Option StreamEnd
 stream_end c = streams.close_of c.stream
 
 -- what a content is read as
-abbrev pub read : Option Cancels → Frame → Unit
-read cancels frame = unit_of cancels frame.foreign frame.content
+abbrev pub read : Rules → Frame → Unit
+read rules frame = unit_of rules frame.foreign frame.content
 
 -- of a broken content so many bytes are told
 abbrev pub most_shown : ℕ
@@ -75,7 +75,7 @@ origin_of true placed = Some (record { place = streams.capped placed.0; start = 
 
 -- what happens when a content comes
 abbrev pub content_came : Chosen → ℕ × Frame → Happening
-content_came settings placed = came (origin_of settings.tells_broken placed) (read settings.cancels placed.1)
+content_came settings placed = came (origin_of settings.tells_broken placed) (read (rules_of settings) placed.1)
 
 -- the next content that hasn't come
 abbrev pub next_after : Stream → History → Option Frame
@@ -113,13 +113,13 @@ pub record IsStreamOf (settings : Chosen) (history : History) (stream : Stream) 
   pub framing : stream.framing ≡ settings.framing
   pub limit : stream.limit ≡ settings.content
   pub taken : stream.taken ≡ length (units_of history)
-  pub came : units_of history ≡ map (read settings.cancels) (take stream.taken (streams.contents stream))
+  pub came : units_of history ≡ map (read (rules_of settings)) (take stream.taken (streams.contents stream))
   pub origins : origins_of history ≡ map (origin_of settings.tells_broken) (take stream.taken (streams.placed_contents stream))
 
 -- How the input ended: a content came that would have brought too many calls; or all contents came, and the stream has
 -- ended so.
 pub data HasEnded (settings : Chosen) (stream : Stream) (history : History) : Close → Type 0 where
-  was_full : (frame : Frame) → next_after stream history ≡ Some frame → settings.calls < call_count history + calls_of (read settings.cancels frame)
+  was_full : (frame : Frame) → next_after stream history ≡ Some frame → settings.calls < call_count history + calls_of (read (rules_of settings) frame)
       → HasEnded settings stream history close.Full
   had_ended : (end : StreamEnd) → next_after stream history ≡ None → streams.close_of stream ≡ Some end → HasEnded settings stream history (close_of end)
 
@@ -149,10 +149,10 @@ pub record SamePieces (before now : Stream) : Type 0 where
 -- none, and the stream has ended.
 pub data Step (c : Connection) (told : List Event) (past : History) : History → Type 0 where
   comes : (placed : ℕ × Frame) → events_of past ≡ told → is_over past ≡ false → next_placed c past ≡ Some placed
-      → call_count past + calls_of (read c.settings.cancels placed.1) ≤ c.settings.calls
+      → call_count past + calls_of (read (rules_of c.settings) placed.1) ≤ c.settings.calls
       → Step c told past (content_came c.settings placed ∷ past)
   is_full : (frame : Frame) → events_of past ≡ told → is_over past ≡ false → next_content c past ≡ Some frame
-      → c.settings.calls < call_count past + calls_of (read c.settings.cancels frame)
+      → c.settings.calls < call_count past + calls_of (read (rules_of c.settings) frame)
       → Step c told past (ended close.Full ∷ past)
   ends : (end : StreamEnd) → events_of past ≡ told → is_over past ≡ false → next_content c past ≡ None → stream_end c ≡ Some end
       → Step c told past (ended (close_of end) ∷ past)

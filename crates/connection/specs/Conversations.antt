@@ -8,7 +8,7 @@ use Rattle.connection_history.specs.Items.{items_of, bytes_of}
 use Rattle.connection_history.specs.Refusals.{IsLawful}
 use Rattle.content_streams.specs.Streams.{Stream, contents, placed_contents}
 use Rattle.outbox.specs.Output.{Output, framed, all_bytes, full_count, IsAllTaken}
-use Rattle.connection.specs.Settings.{Chosen}
+use Rattle.connection.specs.Settings.{Chosen, rules_of}
 use Rattle.connection.specs.Connections.{HasEnded, origin_of, read}
 use Rattle.connection.specs.declared.report.Report.{Report}
 use Rattle.connection.specs.Reports.{report_of}
@@ -21,7 +21,7 @@ pub record Converses (settings : Chosen) (stream : Stream) (history : History) (
   pub framing : stream.framing ≡ settings.framing
   pub limit : stream.limit ≡ settings.content
   -- the units that came are those of the first contents, each read once, in order; and so are their origins
-  pub came : units_of history ≡ map (read settings.cancels) (take (length (units_of history)) (contents stream))
+  pub came : units_of history ≡ map (read (rules_of settings)) (take (length (units_of history)) (contents stream))
   pub origins : origins_of history ≡ map (origin_of settings.tells_broken) (take (length (units_of history)) (placed_contents stream))
   -- all bytes that were written are those of the history's items, in their order
   pub bytes : all_bytes output ≡ bytes_of (framed settings.framing) (items_of settings.order history)

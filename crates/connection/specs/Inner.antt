@@ -7,6 +7,7 @@ use Rattle.connection_history.specs.History.{History}
 use Rattle.connection_history.specs.declared.broken.Broken.{Broken}
 use Rattle.connection_history.specs.Events.{broken_in, events_of}
 use Rattle.content_streams.specs.Streams as streams
+use Rattle.connection.specs.Settings.{rules_of}
 use Rattle.connection.specs.Connections.{Connection, contents, read, origin_of, StandsAfter, IsStill, HasStepped, HasGoneOn, SamePieces, output}
 
 -- how often the connection can go on before more is fed: each content that wasn't taken, and the end
@@ -17,7 +18,7 @@ left c = (length (contents c) - c.stream.taken) + (if c.desk.state.is_over then 
 pub record IsNext (c : Connection) (u : Unit) (broken : Option Broken) : Type 0 where
   pub placed : ℕ × Frame
   pub next : streams.next_placed c.stream ≡ Some placed
-  pub read : u ≡ read c.settings.cancels placed.1
+  pub read : u ≡ read (rules_of c.settings) placed.1
   pub defect : option_to_list broken ≡ broken_in (origin_of c.settings.tells_broken placed) u
 
 -- the connection has gone on by a step, where all was told

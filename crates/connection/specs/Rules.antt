@@ -1,8 +1,8 @@
 -- What a host may say by what it knows: the events that it was told, and what it has said.
-use Rattle.std.specs.Prelude.{◌≡◌, ◌<◌, ℕ, zero, suc, ◌+◌, List, [], ◌∷◌, Bool, true, false, length, Option, Some, None, ⊤}
+use Rattle.std.specs.Prelude.{◌≡◌, ◌<◌, ℕ, zero, suc, ◌+◌, List, [], ◌∷◌, Bool, true, false, length, Option, Some, None, codes, ⊤}
 use Rattle.json.specs.Json.{Json}
 use Rattle.json.specs.Tree.{depth}
-use Rattle.json_texts.specs.declared.json_text.TheConstants.{MOST_LEVELS}
+use Rattle.json_texts.specs.declared.json_text.TheConstants.{MOST_DEPTH_OUT}
 use Rattle.json_texts.specs.Texts.{json_text}
 use Rattle.connection_messages.specs.declared.call.Call.{Call}
 use Rattle.connection_messages.specs.declared.cancels.Cancels.{Cancels}
@@ -71,6 +71,10 @@ pub data IsExcused (history : History) : Happening → Refused → Type 0 where
   full : (n : ℕ) (o : Outgoing) → most_keys < key_count history + 1 → IsExcused history (called n o) Full
   all_full : (n : ℕ) (os : List Outgoing) → most_keys < key_count history + length os → IsExcused history (called_all n os) Full
 
+-- It is null, where params that are null are told.
+abbrev pub IsToldNull : Bool → List ℕ → Type 0
+IsToldNull told text = (told ≡ true) × (text ≡ codes "null")
+
 -- The text of a value that nests deeper than what is said may.
 abbrev pub IsDeep : List ℕ → Type 0
-IsDeep text = (j : Json) × (json_text j ≡ text) × (MOST_LEVELS < depth j)
+IsDeep text = (j : Json) × (json_text j ≡ text) × (MOST_DEPTH_OUT < depth j)

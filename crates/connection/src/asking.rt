@@ -11,7 +11,7 @@ use crate::broken::broken_of;
 use crate::connection::Connection;
 use connection_history::{Broken, Close, Event};
 use connection_messages::{Entry, Unit};
-use content_streams::StreamEnd;
+use content_streams::{StreamEnd, placed_contents_are_the_contents};
 use std::alloc::AllocError;
 
 impl Connection {
@@ -68,6 +68,7 @@ impl Connection {
         let Some(frame) = self.stream.front() else {
             return Ok(self.end_if_closed());
         };
+        placed_contents_are_the_contents();
         let unit = self.reader.read(frame)?;
         let broken = broken_of(
             self.alloc,
@@ -86,6 +87,7 @@ impl Connection {
         ensures moved { OnOk result (HasMoved self.old self.new) }
         ensures err { OnErr result (self.new ≡ self.old) }
     {
+        placed_contents_are_the_contents();
         if call_count(&unit) > self.settings.calls().saturating_sub(self.desk.came()) {
             self.desk.end(Close::Full);
             return Ok(());

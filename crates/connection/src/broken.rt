@@ -9,7 +9,7 @@ ghost use Rattle.connection.specs.Connections.{most_shown, origin_of};
 
 use connection_history::{Broken, Defect};
 use connection_messages::{Entry, Unit};
-use content_streams::ContentStream;
+use content_streams::{ContentStream, placed_contents_are_the_contents};
 use json_values::Items;
 use lsp_frames::Frame;
 use std::alloc::{AllocError, Global};
@@ -49,6 +49,7 @@ fn broken_by(
           defect = defect;
         })) }
 {
+    placed_contents_are_the_contents();
     let place = stream.front_place();
     match stream.front() {
         Some(frame) => Ok(Some(Broken {

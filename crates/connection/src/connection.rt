@@ -20,12 +20,13 @@ pub struct Connection {
 impl Model for Connection {
     ghost use Rattle.std.specs.Prelude.{◌≡◌};
     ghost use Rattle.connection.specs.Connections.{Connection as Seen};
+    ghost use Rattle.connection.specs.Settings.{rules_of};
 
     ghost Value = { Seen };
 
     ghost view = { λ c. record { settings = c.settings; stream = c.stream; desk = c.desk } };
 
-    ghost invariant = { λ c. c.reader ≡ c.settings.cancels };
+    ghost invariant = { λ c. c.reader ≡ rules_of c.settings };
 }
 
 impl Connection {
@@ -42,7 +43,7 @@ impl Connection {
         Connection {
             alloc,
             stream: ContentStream::new(alloc, settings.framing(), settings.content()),
-            reader: UnitReader::new(alloc, cancels),
+            reader: UnitReader::new(alloc, settings.rules()),
             desk: Desk::new(alloc, settings.framing(), settings.order(), cancels),
             settings,
         }

@@ -7,7 +7,9 @@ ghost use Rattle.connection_history.specs.History.{History};
 
 use crate::connection::Connection;
 use connection_history::Refused;
-use content_streams::HowEnded;
+use content_streams::{
+    HowEnded, contents_only_grow, faults_stay, placed_contents_are_the_contents, places_stay,
+};
 
 impl Connection {
     ghost use Rattle.connection.specs.Connections.{StandsAfter};
@@ -30,6 +32,9 @@ impl Connection {
         if self.desk.is_over() {
             return Ok(());
         }
+        contents_only_grow();
+        places_stay();
+        placed_contents_are_the_contents();
         self.stream.feed(piece)?;
         Ok(())
     }
@@ -46,6 +51,10 @@ impl Connection {
         if self.stream.has_ended() {
             return Err(Refused::Over);
         }
+        contents_only_grow();
+        places_stay();
+        placed_contents_are_the_contents();
+        faults_stay();
         self.stream.end(how);
         Ok(())
     }

@@ -12,11 +12,11 @@ ghost use Rattle.connection_history.specs.declared.refused.Refused.{Refused};
 ghost use Rattle.content_streams.specs.Streams.{contents_of, plain};
 ghost use Rattle.content_streams.specs.declared.ending.HowEnded.{HowEnded};
 ghost use Rattle.outbox.specs.Output.{full_count};
-ghost use Rattle.connection.specs.BackToBack.{AreLines, text_of, messages_of, AllCanBeSaid, AreFirst, AllFit, IsEndedWhole, whole_count, AreJoined, Understands};
+ghost use Rattle.connection.specs.BackToBack.{AreLines, text_of, messages_of, AllCanBeSaid, AreFirst, AllFit, AllWithin, IsEndedWhole, whole_count, AreJoined, Understands};
 ghost use Rattle.connection.specs.Connections.{Connection as Seen, IsDone, IsRefusal, StandsAfter, output};
 ghost use Rattle.connection.specs.Conversations.{IsConversation, IsConversationCutShort};
 ghost use Rattle.connection.specs.Reports.{report_of};
-ghost use Rattle.connection.specs.Rules.{KeepsRules, IsExcused, IsDeep};
+ghost use Rattle.connection.specs.Rules.{KeepsRules, IsExcused, IsDeep, IsToldNull};
 
 use connection_history::what_the_rules_allow_is_not_refused;
 use connection_messages::{
@@ -79,11 +79,13 @@ pub fn contents_of_what_is_written_are_its_texts()
 }
 
 /// Where what one connection wrote, or a front of it, is what another was fed, the units that came to the other are just the
-/// calls, batches, notifications, withdrawals and answers that the one said, in their order.
+/// calls, batches, notifications, withdrawals and answers that the one said, in their order: where the other takes batches of
+/// so many entries.
 pub fn two_connections_understand_each_other()
     ensures { (n : ℕ) (writer reader : Seen) (said heard : History) (told other : List Event) →
         StandsAfter writer said told → StandsAfter reader heard other →
         AllCanBeSaid writer.settings.cancels said → AreJoined n writer reader →
+        AllWithin reader.settings.most_entries (messages_of writer.settings.order said) →
         Understands n writer reader said heard }
 {
     a_call_reads_back();
@@ -97,7 +99,7 @@ pub fn two_connections_understand_each_other()
 
 /// A host that keeps the rules is refused only for memory, or by what it can't know yet: the end of the input, or a reply,
 /// that isn't told yet; and where there are no more keys. The params of a call that came can be said again, unless they nest
-/// deeper than what is said may.
+/// deeper than what is said may, or are null and such are told.
 pub fn a_host_that_keeps_the_rules_is_refused_only_for_memory()
     ensures refused { (connection : Seen) (history : History) (told : List Event) (happening : Happening)
         (why : Refused) → StandsAfter connection history told →
@@ -107,7 +109,7 @@ pub fn a_host_that_keeps_the_rules_is_refused_only_for_memory()
     ensures again { (connection : Seen) (history : History) (told : List Event) (number : ℕ) (call : Call)
         (params : List ℕ) → StandsAfter connection history told →
         call_numbered number (stream history) ≡ Some call → call.params ≡ Some params →
-        AreParams (Some params) ⊎ IsDeep params }
+        AreParams (Some params) ⊎ IsDeep params ⊎ IsToldNull connection.settings.null_params params }
 {
     what_the_rules_allow_is_not_refused();
 }

@@ -23,4 +23,4 @@ pub use law::{
     contents_of_what_is_written_are_its_texts, two_connections_understand_each_other,
 };
 pub use report::Report;
-pub use settings::{MOST_CONTENT, Settings};
+pub use settings::{MOST_CONTENT, Settings, USUAL_CONTENT};

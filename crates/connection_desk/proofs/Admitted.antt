@@ -15,11 +15,11 @@ use Rattle.open_calls.specs.declared.their_call.TheirCall.{TheirCall}
 use Rattle.open_calls.specs.Numbered.{up_to, Above, Below}
 use Rattle.open_calls.specs.Own.{OwnState}
 use Rattle.open_calls.specs.Theirs.{TheirState, new_call, is_reached, cancelled}
-use Rattle.open_calls.proofs.Numbered.{below_more, below_push, up_to_all, up_to_above}
-use Rattle.open_calls.proofs.Theirs.{state_of}
-use Rattle.connection_states.specs.States.{slot_count}
-use Rattle.connection_states.specs.Steps.{cancelled_if, cancelled_all, reached_numbers, theirs_after, theirs_after_all, own_after, told_of, told_of_all}
-use Rattle.connection_states.specs.Tallies.{requests_in, invalid_in, ignored_if, ignored_in}
+use Rattle.connection_desk.proofs.Entries.{ArrivalLaws}
+use Rattle.connection_desk.proofs.States.{their_state as state_of}
+use Rattle.connection_steps.specs.States.{slot_count}
+use Rattle.connection_steps.specs.Steps.{cancelled_if, cancelled_all, reached_numbers, theirs_after, theirs_after_all, own_after, told_of, told_of_all}
+use Rattle.connection_steps.specs.Tallies.{requests_in, invalid_in, ignored_if, ignored_in}
 use Rattle.connection_desk.specs.declared.tally.Tally.{Tally}
 use Rattle.connection_desk.specs.Desks.{with_answers}
 use Rattle.connection_desk.specs.Inner.{added_call, added_calls, cancelled_to, told_at, told_along, calls_at, calls_along, counted_in}
@@ -59,9 +59,9 @@ below_up_to m (e ∷ es) = below_step (nat_le e.0 m) m e (up_to m es) (λ is. le
 pub below_of : {X : Type 0} (m : ℕ) (es : List (ℕ × X)) → up_to m es ≡ es → Below (suc m) es
 below_of m es is = subst (λ fs. Below (suc m) fs) is (below_up_to m es)
 
-front_of : {X : Type 0} (n : ℕ) (front added : List (ℕ × X)) → Below (suc n) front → Above n added → up_to n (front ++ added) ≡ front
-front_of n front added under over =
-    filter-append (λ e. nat_le e.0 n) front added ∙ ap (λ fs. fs ++ up_to n added) (up_to_all n front under) ∙ ap (λ fs. front ++ fs) (up_to_above n added over) ∙ append-nil front
+front_of : {X : Type 0} (laws : ArrivalLaws X) (n : ℕ) (front added : List (ℕ × X)) → Below (suc n) front → Above n added → up_to n (front ++ added) ≡ front
+front_of laws n front added under over =
+    filter-append (λ e. nat_le e.0 n) front added ∙ ap (λ fs. fs ++ up_to n added) (laws.up_to_below n front under) ∙ ap (λ fs. front ++ fs) (laws.up_to_above n added over) ∙ append-nil front
 
 -- ---- a cancel
 
@@ -106,20 +106,20 @@ came_entry place slot n front (Reply k r) = ap (λ m. state_of m front) (sym (ad
 came_entry place slot n front Stray = ap (λ m. state_of m front) (sym (add-zero n))
 came_entry place slot n front Invalid = ap (λ m. state_of m front) (sym (add-zero n))
 
-below_entry : (place slot n : ℕ) (front : List (ℕ × TheirCall)) (e : Entry) → Below (suc n) front
+below_entry : (laws : ArrivalLaws TheirCall) (place slot n : ℕ) (front : List (ℕ × TheirCall)) (e : Entry) → Below (suc n) front
     → Below (suc (n + length (call_in e))) (theirs_after place slot e (state_of n front)).calls
-below_entry place slot n front (Call c) under = below_push (suc n) (suc (n + 1)) (n + 1) (new_call c.id place slot) front (omega arith) (omega arith) under
-below_entry place slot n front (Cancel id) under = below_more (suc n) (suc (n + 0)) (cancelled_all id front) (omega arith) (below_all (suc n) id front under)
-below_entry place slot n front (Reply k r) under = below_more (suc n) (suc (n + 0)) front (omega arith) under
-below_entry place slot n front Stray under = below_more (suc n) (suc (n + 0)) front (omega arith) under
-below_entry place slot n front Invalid under = below_more (suc n) (suc (n + 0)) front (omega arith) under
+below_entry laws place slot n front (Call c) under = laws.push (suc (n + 1)) (n + 1) (new_call c.id place slot) front (omega arith) (laws.more (suc n) (suc (n + 1)) front (omega arith) under)
+below_entry laws place slot n front (Cancel id) under = laws.more (suc n) (suc (n + 0)) (cancelled_all id front) (omega arith) (below_all (suc n) id front under)
+below_entry laws place slot n front (Reply k r) under = laws.more (suc n) (suc (n + 0)) front (omega arith) under
+below_entry laws place slot n front Stray under = laws.more (suc n) (suc (n + 0)) front (omega arith) under
+below_entry laws place slot n front Invalid under = laws.more (suc n) (suc (n + 0)) front (omega arith) under
 
 -- ---- all entries
 
-pub theirs_along : (place slot n : ℕ) (front : List (ℕ × TheirCall)) (es : List Entry) → Below (suc n) front
+pub theirs_along : (laws : ArrivalLaws TheirCall) (place slot n : ℕ) (front : List (ℕ × TheirCall)) (es : List Entry) → Below (suc n) front
     → state_of (n + length (calls_in es)) (calls_along n es (front ++ added_calls place slot n es)) ≡ theirs_after_all place slot es (state_of n front)
-theirs_along place slot n front [] under = ap (λ m. state_of m (front ++ [])) (add-zero n) ∙ ap (λ fs. state_of n fs) (append-nil front)
-theirs_along place slot n front (e ∷ es) under =
+theirs_along laws place slot n front [] under = ap (λ m. state_of m (front ++ [])) (add-zero n) ∙ ap (λ fs. state_of n fs) (append-nil front)
+theirs_along laws place slot n front (e ∷ es) under =
     let m = n + length (call_in e) in
     let slot2 = slot + slot_count e in
     let calls = (theirs_after place slot e (state_of n front)).calls in
@@ -128,7 +128,7 @@ theirs_along place slot n front (e ∷ es) under =
     ap (λ k. state_of k (calls_along m es (calls_at n e (front ++ (added_call place slot n e ++ added))))) total
     ∙ ap (λ fs. state_of (m + length (calls_in es)) (calls_along m es fs))
     (calls_entry place slot n front added e under (above_less n m added (omega arith) (added_above place slot2 m es)))
-    ∙ theirs_along place slot2 m calls es (below_entry place slot n front e under)
+    ∙ theirs_along laws place slot2 m calls es (below_entry laws place slot n front e under)
     ∙ ap (λ s. theirs_after_all place slot2 es s) (sym (came_entry place slot n front e))
 
 -- ---- what is told
@@ -159,15 +159,15 @@ cancelled_plain id [] = refl
 cancelled_plain id (e ∷ es) =
     ap (λ x. x ∷ cancelled_all id (plains es)) (cancelled_step (is_reached id e.1) e) ∙ ap (λ xs. plain (e.0, cancelled_if id e.1) ∷ xs) (cancelled_plain id es)
 
-told_entry : (place slot n : ℕ) (own : OwnState) (front added : List (ℕ × TheirCall)) (e : Entry) (s : TheirState) → Below (suc n) front → Above n added → s.came ≡ n → plains front ≡ plains s.calls
+told_entry : (laws : ArrivalLaws TheirCall) (place slot n : ℕ) (own : OwnState) (front added : List (ℕ × TheirCall)) (e : Entry) (s : TheirState) → Below (suc n) front → Above n added → s.came ≡ n → plains front ≡ plains s.calls
     → told_at n own (front ++ (added_call place slot n e ++ added)) e ≡ told_of own s e
-told_entry place slot n own front added (Call c) s under over came alike = ap (λ m. event.Call (m + 1) c ∷ []) (sym came)
-told_entry place slot n own front added (Cancel id) s under over came alike =
-    ap (λ es. map event.Cancelled (reached_numbers id es)) (front_of n front added under over)
+told_entry laws place slot n own front added (Call c) s under over came alike = ap (λ m. event.Call (m + 1) c ∷ []) (sym came)
+told_entry laws place slot n own front added (Cancel id) s under over came alike =
+    ap (λ es. map event.Cancelled (reached_numbers id es)) (front_of laws n front added under over)
     ∙ ap (λ ks. map event.Cancelled ks) (sym (reached_plain id front) ∙ ap (λ es. reached_numbers id es) alike ∙ reached_plain id s.calls)
-told_entry place slot n own front added (Reply k r) s under over came alike = refl
-told_entry place slot n own front added Stray s under over came alike = refl
-told_entry place slot n own front added Invalid s under over came alike = refl
+told_entry laws place slot n own front added (Reply k r) s under over came alike = refl
+told_entry laws place slot n own front added Stray s under over came alike = refl
+told_entry laws place slot n own front added Invalid s under over came alike = refl
 
 alike_entry : (place slot n : ℕ) (front : List (ℕ × TheirCall)) (e : Entry) (s : TheirState) → s.came ≡ n → plains front ≡ plains s.calls
     → plains (theirs_after place slot e (state_of n front)).calls ≡ plains (theirs_after 0 0 e s).calls
@@ -189,53 +189,53 @@ count_entry n (Reply k r) s came = came ∙ sym (add-zero n)
 count_entry n Stray s came = came ∙ sym (add-zero n)
 count_entry n Invalid s came = came ∙ sym (add-zero n)
 
-told_alike : (place slot n : ℕ) (own : OwnState) (front : List (ℕ × TheirCall)) (es : List Entry) (s : TheirState) → Below (suc n) front → s.came ≡ n → plains front ≡ plains s.calls
+told_alike : (laws : ArrivalLaws TheirCall) (place slot n : ℕ) (own : OwnState) (front : List (ℕ × TheirCall)) (es : List Entry) (s : TheirState) → Below (suc n) front → s.came ≡ n → plains front ≡ plains s.calls
     → told_along n own (front ++ added_calls place slot n es) es ≡ told_of_all own s es
-told_alike place slot n own front [] s under came alike = refl
-told_alike place slot n own front (e ∷ es) s under came alike =
+told_alike laws place slot n own front [] s under came alike = refl
+told_alike laws place slot n own front (e ∷ es) s under came alike =
     let m = n + length (call_in e) in
     let slot2 = slot + slot_count e in
     let calls = (theirs_after place slot e (state_of n front)).calls in
     let added = added_calls place slot2 m es in
     let over = above_less n m added (omega arith) (added_above place slot2 m es) in
     let all = front ++ (added_call place slot n e ++ added) in
-    ap (λ told. told ++ told_along m (own_after e own) (calls_at n e all) es) (told_entry place slot n own front added e s under over came alike)
+    ap (λ told. told ++ told_along m (own_after e own) (calls_at n e all) es) (told_entry laws place slot n own front added e s under over came alike)
     ∙ ap (λ fs. told_of own s e ++ told_along m (own_after e own) fs es) (calls_entry place slot n front added e under over)
     ∙ ap (λ told. told_of own s e ++ told)
-    (told_alike place slot2 m (own_after e own) calls es (theirs_after 0 0 e s) (below_entry place slot n front e under) (count_entry n e s came) (alike_entry place slot n front e s came alike))
+    (told_alike laws place slot2 m (own_after e own) calls es (theirs_after 0 0 e s) (below_entry laws place slot n front e under) (count_entry n e s came) (alike_entry place slot n front e s came alike))
 
-pub told_same : (place n : ℕ) (own : OwnState) (front : List (ℕ × TheirCall)) (es : List Entry) → Below (suc n) front
+pub told_same : (laws : ArrivalLaws TheirCall) (place n : ℕ) (own : OwnState) (front : List (ℕ × TheirCall)) (es : List Entry) → Below (suc n) front
     → told_along n own (front ++ added_calls place 0 n es) es ≡ told_of_all own (state_of n front) es
-told_same place n own front es under = told_alike place 0 n own front es (state_of n front) under refl refl
+told_same laws place n own front es under = told_alike laws place 0 n own front es (state_of n front) under refl refl
 
 -- ---- what is ignored
 
-ignored_alike : (place slot n : ℕ) (own : OwnState) (front : List (ℕ × TheirCall)) (es : List Entry) (s : TheirState) → Below (suc n) front → s.came ≡ n → plains front ≡ plains s.calls
+ignored_alike : (laws : ArrivalLaws TheirCall) (place slot n : ℕ) (own : OwnState) (front : List (ℕ × TheirCall)) (es : List Entry) (s : TheirState) → Below (suc n) front → s.came ≡ n → plains front ≡ plains s.calls
     → ignored_along n own (front ++ added_calls place slot n es) es ≡ ignored_in own s es
-ignored_alike place slot n own front [] s under came alike = refl
-ignored_alike place slot n own front (e ∷ es) s under came alike =
+ignored_alike laws place slot n own front [] s under came alike = refl
+ignored_alike laws place slot n own front (e ∷ es) s under came alike =
     let m = n + length (call_in e) in
     let slot2 = slot + slot_count e in
     let calls = (theirs_after place slot e (state_of n front)).calls in
     let added = added_calls place slot2 m es in
     let over = above_less n m added (omega arith) (added_above place slot2 m es) in
     let all = front ++ (added_call place slot n e ++ added) in
-    ap (λ told. ignored_if e told + ignored_along m (own_after e own) (calls_at n e all) es) (told_entry place slot n own front added e s under over came alike)
+    ap (λ told. ignored_if e told + ignored_along m (own_after e own) (calls_at n e all) es) (told_entry laws place slot n own front added e s under over came alike)
     ∙ ap (λ fs. ignored_if e (told_of own s e) + ignored_along m (own_after e own) fs es) (calls_entry place slot n front added e under over)
     ∙ ap (λ k. ignored_if e (told_of own s e) + k)
-    (ignored_alike place slot2 m (own_after e own) calls es (theirs_after 0 0 e s) (below_entry place slot n front e under) (count_entry n e s came) (alike_entry place slot n front e s came alike))
+    (ignored_alike laws place slot2 m (own_after e own) calls es (theirs_after 0 0 e s) (below_entry laws place slot n front e under) (count_entry n e s came) (alike_entry place slot n front e s came alike))
 
-pub ignored_same : (place n : ℕ) (own : OwnState) (front : List (ℕ × TheirCall)) (es : List Entry) → Below (suc n) front
+pub ignored_same : (laws : ArrivalLaws TheirCall) (place n : ℕ) (own : OwnState) (front : List (ℕ × TheirCall)) (es : List Entry) → Below (suc n) front
     → ignored_along n own (front ++ added_calls place 0 n es) es ≡ ignored_in own (state_of n front) es
-ignored_same place n own front es under = ignored_alike place 0 n own front es (state_of n front) under refl refl
+ignored_same laws place n own front es under = ignored_alike laws place 0 n own front es (state_of n front) under refl refl
 
 -- ---- what is counted
 
 -- a unit adds its counts, where its answers that went out were counted before
-pub unit_counted : (place n : ℕ) (own : OwnState) (front : List (ℕ × TheirCall)) (u : Unit) (answers : ℕ) (t : Tally) → Below (suc n) front → IsFew t → t.unreadable < 2 ^ 64
+pub unit_counted : (laws : ArrivalLaws TheirCall) (place n : ℕ) (own : OwnState) (front : List (ℕ × TheirCall)) (u : Unit) (answers : ℕ) (t : Tally) → Below (suc n) front → IsFew t → t.unreadable < 2 ^ 64
     → counted_in u n own (front ++ added_calls place 0 n (entries_in u)) (with_answers answers t)
     ≡ with_unit (requests_in (entries_in u)) (if is_unreadable u then 1 else 0) (invalid_in (entries_in u)) (ignored_in own (state_of n front) (entries_in u)) (with_answers answers t)
-unit_counted place n own front u answers t under few readable =
+unit_counted laws place n own front u answers t under few readable =
     let es = entries_in u in
     all_counted u n own (front ++ added_calls place 0 n es) (with_answers answers t) (record { requests = few.requests; invalid = few.invalid; ignored = few.ignored }) readable
-    ∙ ap (λ k. with_unit (requests_in es) (if is_unreadable u then 1 else 0) (invalid_in es) k (with_answers answers t)) (ignored_same place n own front es under)
+    ∙ ap (λ k. with_unit (requests_in es) (if is_unreadable u then 1 else 0) (invalid_in es) k (with_answers answers t)) (ignored_same laws place n own front es under)

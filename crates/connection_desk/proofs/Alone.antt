@@ -3,10 +3,10 @@ use Rattle.std.proofs.Common.{◌≡◌, ℕ, ◌==◌, not, Bool, true, false, 
 use Rattle.std.specs.Global.{Vec}
 use Rattle.connection_history.specs.declared.order.Order.{Order}
 use Rattle.connection_history.specs.declared.order.Order.TheVariants.{AsAnswered}
-use Rattle.connection_states.specs.Steps.{is_complete, leaving, staying}
+use Rattle.connection_steps.specs.Steps.{is_complete, leaving, staying}
 use Rattle.open_calls.specs.Numbered.{at, without, changed_at, Above, Ascending}
-use Rattle.open_calls.specs.Owed.{OwedUnit, given, is_answer, joined, lacking_slots, slot_texts, unit_texts}
-use Rattle.open_calls.proofs.Rows.{at_changed}
+use Rattle.owed_answers.specs.Owed.{OwedUnit, given, is_answer, joined, lacking_slots, slot_texts, unit_texts}
+use Rattle.connection_desk.proofs.Entries.{AtChanged, WithoutAbove}
 use Rattle.connection_desk.specs.Desks.{answer_count, answer_texts}
 use Rattle.connection_desk.specs.declared.events.Events.{Events}
 use Rattle.connection_desk.specs.Alone.{IsAlone, HasOne, GoesAlone}
@@ -52,9 +52,9 @@ without_changed place f [] = refl
 without_changed place f (e ∷ es) =
     without_step (place == e.0) e (f e.1) (without place (changed_at place f es)) (without place es) (without_changed place f es)
 
-at_here_changed : (place : ℕ) (f : OwedUnit → OwedUnit) (unit : OwedUnit) (owed : Units) → at place owed ≡ Some unit → at place (changed_at place f owed) ≡ Some (f unit)
-at_here_changed place f unit owed is =
-    at_changed place place f unit owed is ∙ ap (λ b. cond b (Some (f unit)) (at place owed)) (eq-eqb place place refl)
+at_here_changed : (changes : AtChanged OwedUnit) (place : ℕ) (f : OwedUnit → OwedUnit) (unit : OwedUnit) (owed : Units) → at place owed ≡ Some unit → at place (changed_at place f owed) ≡ Some (f unit)
+at_here_changed changes place f unit owed is =
+    changes place place f unit owed is ∙ ap (λ b. cond b (Some (f unit)) (at place owed)) (eq-eqb place place refl)
 
 -- its text goes out, and all others stay
 pub record IsGivenAlone (order : Order) (place : ℕ) (text : List ℕ) (owed : Units) : Type 0 where
@@ -65,32 +65,32 @@ pub record IsGivenAlone (order : Order) (place : ℕ) (text : List ℕ) (owed : 
 count_of : (owed : Units) (text : List ℕ) → answer_texts owed ≡ text ∷ [] → answer_count owed ≡ 1
 count_of owed text is = count_texts owed ∙ ap length is
 
-given_in : (place : ℕ) (text : List ℕ) (owed : Units) (o : Option OwedUnit) → at place owed ≡ o → HasOne o → is_answer text ≡ true → Ascending owed → leaving AsAnswered owed ≡ []
+given_in : (changes : AtChanged OwedUnit) (stay : WithoutAbove OwedUnit) (place : ℕ) (text : List ℕ) (owed : Units) (o : Option OwedUnit) → at place owed ≡ o → HasOne o → is_answer text ≡ true → Ascending owed → leaving AsAnswered owed ≡ []
     → IsGivenAlone AsAnswered place text owed
-given_in place text owed None is one some order none = absurd one
-given_in place text owed (Some unit) is one some order none =
+given_in changes stay place text owed None is one some order none = absurd one
+given_in changes stay place text owed (Some unit) is one some order none =
     let now = changed_at place (given 0 text) owed in
-    let there : at place now ≡ Some (given 0 text unit) = at_here_changed place (given 0 text) unit owed is in
+    let there : at place now ≡ Some (given 0 text unit) = at_here_changed changes place (given 0 text) unit owed is in
     let whole : is_complete (given 0 text unit) ≡ true = alone_complete unit text one in
     let done : complete_at place now ≡ true = ap complete_in there ∙ whole in
     let ascends = ascending_changed place (given 0 text) owed order in
     let only : OnlyAt AsAnswered place now = only_changed AsAnswered place (given 0 text) owed none in
     let texts : answer_texts (leaving AsAnswered now) ≡ text ∷ [] =
-    sym (only_text place now ascends only)
+    sym (only_text stay place now ascends only)
     ∙ ap complete_text_in there
     ∙ ap (λ b. cond b (unit_texts (given 0 text unit)) []) whole
     ∙ alone_texts unit text one some in
     record {
       texts = texts;
       count = count_of (leaving AsAnswered now) text texts;
-      rest = sym (only_rest place now ascends only) ∙ ap (λ b. cond b (without place now) now) done ∙ without_changed place (given 0 text) owed;
+      rest = sym (only_rest stay place now ascends only) ∙ ap (λ b. cond b (without place now) now) done ∙ without_changed place (given 0 text) owed;
     }
 
-pub given_alone : (order : Order) (place : ℕ) (text : List ℕ) (owed : Units) → GoesAlone order place 0 owed → is_answer text ≡ true → Ascending owed → leaving order owed ≡ []
+pub given_alone : (changes : AtChanged OwedUnit) (stay : WithoutAbove OwedUnit) (order : Order) (place : ℕ) (text : List ℕ) (owed : Units) → GoesAlone order place 0 owed → is_answer text ≡ true → Ascending owed → leaving order owed ≡ []
     → IsGivenAlone order place text owed
-given_alone order place text owed goes some ascends none =
+given_alone changes stay order place text owed goes some ascends none =
     subst (λ o. IsGivenAlone o place text owed) (sym goes.at_once)
-    (given_in place text owed (at place owed) refl goes.alone some ascends (subst (λ o. leaving o owed ≡ []) goes.at_once none))
+    (given_in changes stay place text owed (at place owed) refl goes.alone some ascends (subst (λ o. leaving o owed ≡ []) goes.at_once none))
 
 -- ---- what a desk keeps
 

@@ -7,11 +7,11 @@ use Rattle.connection_messages.specs.declared.answer.Answer.{Answer}
 use Rattle.connection_messages.specs.declared.answer.Answer.TheVariants.{Result, Error, Standard}
 use Rattle.connection_history.specs.declared.refused.Refused.TheVariants.{NotOpen}
 use Rattle.connection_history.specs.Refusals.{first_of}
-use Rattle.connection_states.specs.States.{State, given_text}
-use Rattle.connection_states.specs.Steps.{leaving, staying, given_to, owed_given}
+use Rattle.connection_steps.specs.States.{State, given_text}
+use Rattle.connection_steps.specs.Steps.{leaving, staying, given_to, owed_given}
 use Rattle.open_calls.specs.declared.their_call.TheirCall.{TheirCall}
 use Rattle.open_calls.specs.Numbered.{at, without}
-use Rattle.open_calls.specs.Owed.{is_answer}
+use Rattle.owed_answers.specs.Owed.{is_answer}
 use Rattle.open_calls.specs.Own.{without_caller}
 use Rattle.outbox.specs.Output.{Output}
 use Rattle.connection_desk.specs.Desks.{Desk, after_answer, after_given, answer_count, answer_refused, answer_texts, with_answers, with_texts}

@@ -12,8 +12,8 @@ use Rattle.connection_history.specs.Stream.{call_in, calls_in, entries_in, is_in
 use Rattle.connection_history.specs.Counts.{capped, is_unreadable, if_none}
 use Rattle.open_calls.specs.declared.their_call.TheirCall.{TheirCall}
 use Rattle.open_calls.specs.Own.{OwnState}
-use Rattle.connection_states.specs.Steps.{own_after}
-use Rattle.connection_states.specs.Tallies.{requests_in, invalid_in, ignored_if}
+use Rattle.connection_steps.specs.Steps.{own_after}
+use Rattle.connection_steps.specs.Tallies.{requests_in, invalid_in, ignored_if}
 use Rattle.connection_desk.specs.declared.tally.Tally.{Tally}
 use Rattle.connection_desk.specs.Desks.{with_answers}
 use Rattle.connection_desk.specs.Inner.{told_at, calls_at, with_call, with_ignored_if, counted, counted_along, counted_in}

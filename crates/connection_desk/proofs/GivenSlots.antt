@@ -7,10 +7,10 @@ use Rattle.std.specs.Global.{Vec}
 use Rattle.std.specs.Vec.{vec_capacity}
 use Rattle.connection_history.specs.declared.order.Order.{Order}
 use Rattle.connection_history.specs.declared.order.Order.TheVariants.{AsAnswered, AsCame}
-use Rattle.connection_states.specs.Steps.{is_complete, complete_front, incomplete_rest, leaving, staying}
+use Rattle.connection_steps.specs.Steps.{is_complete, complete_front, incomplete_rest, leaving, staying}
 use Rattle.open_calls.specs.Numbered.{at, without, changed_at, Above, Ascending}
-use Rattle.open_calls.specs.Owed.{OwedUnit, slot_in, slot_at, replaced}
-use Rattle.open_calls.proofs.OwedLemmas.{unit_of}
+use Rattle.owed_answers.specs.Owed.{OwedUnit, slot_in, slot_at, replaced}
+use Rattle.connection_desk.proofs.States.{unit_of}
 use Rattle.connection_desk.specs.declared.events.Events.{Events}
 use Rattle.connection_desk.specs.Inner.{OnlyAt, IsDesk, IsOpenEnded}
 use Rattle.connection_desk.proofs.OwedLists.{Units, all_stay, none_first}

@@ -2,6 +2,7 @@ pub mod Admitted
 pub mod Alone
 pub mod Answered
 pub mod Counting
+pub mod Entries
 pub mod GivenSlots
 pub mod OwedLists
 pub mod Owing
@@ -9,4 +10,5 @@ pub mod Reached
 pub mod Rests
 pub mod Room
 pub mod Seen
+pub mod States
 pub mod Withdrawn

@@ -1,16 +1,15 @@
 -- Lists of owed units, and which of them are complete.
-use Rattle.std.proofs.Common.{◌≡◌, ℕ, suc, ◌+◌, ◌<◌, ◌==◌, not, Result, Ok, Err, OnOk, Bool, true, false, cond, List, [], ◌∷◌, ◌++◌, Option, Some, None, refl, sym, ap, subst, ◌∙◌, arith, length, map, take, drop, eq-eqb, append_assoc, length-append, ◌≤◌}
+use Rattle.std.proofs.Common.{◌≡◌, ℕ, ◌+◌, ◌<◌, ◌==◌, not, Result, Ok, Err, OnOk, Bool, true, false, cond, List, [], ◌∷◌, ◌++◌, Option, Some, None, refl, sym, ap, subst, ◌∙◌, arith, length, map, take, drop, eq-eqb, append_assoc, length-append, ◌≤◌}
 use Rattle.std.proofs.lemmas.Bool.{eqb-true}
 use Rattle.std.proofs.lemmas.List.{append-nil, length-map, map-append, take_at, take-append-drop}
-use Rattle.connection_history.specs.declared.order.Order.{Order}
-use Rattle.connection_history.specs.declared.order.Order.TheVariants.{AsAnswered, AsCame}
+use Rattle.connection_history.specs.declared.order.Order.TheVariants.{AsAnswered}
 use Rattle.connection_history.specs.Counts.{capped}
 use Rattle.connection_history.specs.Items.{answer, text_of}
-use Rattle.connection_states.specs.Steps.{answers_of, is_complete, complete_front, incomplete_rest, leaving, staying}
+use Rattle.connection_steps.specs.Steps.{answers_of, is_complete, complete_front, incomplete_rest, leaving, staying}
 use Rattle.open_calls.specs.Numbered.{at, without, first_number, next_number, Above, Ascending}
-use Rattle.open_calls.specs.Owed.{OwedUnit, OwedState, some_text, first_or_none, joined, texts_of, unit_texts, has_answer, has_answer_in, text_or_none}
-use Rattle.open_calls.proofs.Numbered.{without_above, shorter}
-use Rattle.open_calls.proofs.OwedLemmas.{state_of}
+use Rattle.owed_answers.specs.Owed.{OwedUnit, OwedState, joined, texts_of, unit_texts}
+use Rattle.connection_desk.proofs.Entries.{AtAbove, WithoutAbove, FewerWithout}
+use Rattle.connection_desk.proofs.States.{owed_state as state_of}
 use Rattle.connection_desk.proofs.Rests.{at_here, rest_from, rest_of, rest_step_from}
 use Rattle.outbox.specs.Output.{Output, OnlyPutSince}
 use Rattle.connection_desk.specs.Desks.{answer_count, answer_texts, with_texts}
@@ -59,26 +58,7 @@ more_since ts before middle now since is =
 
 -- ---- the answer of a unit
 
-joined_some : (batch : Bool) (texts : List (List ℕ)) → some_text texts ≡ true → joined batch texts ≡ first_or_none (joined batch texts) ∷ []
-joined_some batch [] some = absurd (cc)
-joined_some batch (t ∷ ts) some = refl
-
-joined_none : (batch : Bool) (texts : List (List ℕ)) → some_text texts ≡ false → joined batch texts ≡ []
-joined_none batch [] none = refl
-joined_none batch (t ∷ ts) none = absurd (cc)
-
-pub complete_text : (o : Option OwedUnit) → complete_in o ≡ true → has_answer_in o ≡ true → complete_text_in o ≡ text_or_none o ∷ []
-complete_text None is some = absurd (cc)
-complete_text (Some unit) is some = ap (λ b. cond b (unit_texts unit) []) is ∙ joined_some unit.is_batch (texts_of unit) some
-
-nothing_either : (b : Bool) → cond b (let r : List (List ℕ) = [] in r) [] ≡ []
-nothing_either true = refl
-nothing_either false = refl
-
-pub complete_nothing : (o : Option OwedUnit) → has_answer_in o ≡ false → complete_text_in o ≡ []
-complete_nothing None none = refl
-complete_nothing (Some unit) none = ap (λ ts. cond (is_complete unit) ts []) (joined_none unit.is_batch (texts_of unit) none) ∙ nothing_either (is_complete unit)
-
+-- an answer that isn't whole has no text yet
 pub incomplete_text : (o : Option OwedUnit) → complete_in o ≡ false → complete_text_in o ≡ []
 incomplete_text None is = refl
 incomplete_text (Some unit) is = ap (λ b. cond b (unit_texts unit) []) is
@@ -116,13 +96,13 @@ text_step false e o rest es here there only =
     let none = none_first (is_complete e.1) e (leaving AsAnswered rest) only in
     there none.1 ∙ sym (ap (λ b. answer_texts (cond b (e ∷ leaving AsAnswered es) (leaving AsAnswered es))) none.0)
 
-rest_is : (place : ℕ) (e : ℕ × OwedUnit) (es : Units) → Above e.0 es → (place == e.0) ≡ true → without place es ≡ es
-rest_is place e es above here = without_above place es (subst (λ m. Above m es) (sym (eqb-true place e.0 here)) above)
+rest_is : (stay : WithoutAbove OwedUnit) (place : ℕ) (e : ℕ × OwedUnit) (es : Units) → Above e.0 es → (place == e.0) ≡ true → without place es ≡ es
+rest_is stay place e es above here = stay place es (subst (λ m. Above m es) (sym (eqb-true place e.0 here)) above)
 
-pub only_text : (place : ℕ) (owed : Units) → Ascending owed → OnlyAt AsAnswered place owed → complete_text_at place owed ≡ answer_texts (leaving AsAnswered owed)
-only_text place [] order only = refl
-only_text place (e ∷ es) order only =
-    text_step (place == e.0) e (at place es) (without place es) es (rest_is place e es order.0) (λ none. only_text place es order.1 none) only
+pub only_text : (stay : WithoutAbove OwedUnit) (place : ℕ) (owed : Units) → Ascending owed → OnlyAt AsAnswered place owed → complete_text_at place owed ≡ answer_texts (leaving AsAnswered owed)
+only_text stay place [] order only = refl
+only_text stay place (e ∷ es) order only =
+    text_step (place == e.0) e (at place es) (without place es) es (rest_is stay place e es order.0) (λ none. only_text stay place es order.1 none) only
 
 pub all_stay : (owed : Units) → leaving AsAnswered owed ≡ [] → staying AsAnswered owed ≡ owed
 all_stay [] is = refl
@@ -150,28 +130,28 @@ rest_step false e o rest es here there only =
     cond_cons (complete_in o) e rest es ∙ ap (λ t. e ∷ t) (there none.1)
     ∙ sym (ap (λ b. cond (not b) (e ∷ staying AsAnswered es) (staying AsAnswered es)) none.0)
 
-pub only_rest : (place : ℕ) (owed : Units) → Ascending owed → OnlyAt AsAnswered place owed → cond (complete_at place owed) (without place owed) owed ≡ staying AsAnswered owed
-only_rest place [] order only = refl
-only_rest place (e ∷ es) order only =
-    rest_step (place == e.0) e (at place es) (without place es) es (rest_is place e es order.0) (λ none. only_rest place es order.1 none) only
+pub only_rest : (stay : WithoutAbove OwedUnit) (place : ℕ) (owed : Units) → Ascending owed → OnlyAt AsAnswered place owed → cond (complete_at place owed) (without place owed) owed ≡ staying AsAnswered owed
+only_rest stay place [] order only = refl
+only_rest stay place (e ∷ es) order only =
+    rest_step (place == e.0) e (at place es) (without place es) es (rest_is stay place e es order.0) (λ none. only_rest stay place es order.1 none) only
 
 -- ---- as came: those in front, one by one
 
 -- the first of the rest goes out
-pub front_more : (n : ℕ) (owed : Units) → Ascending owed → complete_at n owed ≡ true
+pub front_more : (above : AtAbove OwedUnit) (n : ℕ) (owed : Units) → Ascending owed → complete_at n owed ≡ true
     → answer_texts (complete_front (rest_from n owed)) ≡ complete_text_at n owed ++ answer_texts (complete_front (rest_of (next_number n owed) owed))
-front_more n owed order is =
+front_more above n owed order is =
     let found = some_complete (at n owed) is in
     let rest = rest_of (next_number n owed) owed in
-    ap (λ es. answer_texts (complete_front es)) (rest_step_from n found.0 owed order found.1)
+    ap (λ es. answer_texts (complete_front es)) (rest_step_from above n found.0 owed order found.1)
     ∙ ap (λ b. answer_texts (cond b ((n, found.0) ∷ complete_front rest) [])) found.2
     ∙ texts_more (n, found.0) (complete_front rest)
     ∙ sym (ap (λ ts. ts ++ answer_texts (complete_front rest)) (ap complete_text_in found.1 ∙ ap (λ b. cond b (unit_texts found.0) []) found.2))
 
-pub rest_shorter : (n : ℕ) (owed : Units) → Ascending owed → complete_at n owed ≡ true → length (rest_of (next_number n owed) owed) < length (rest_from n owed)
-rest_shorter n owed order is =
+pub rest_shorter : (above : AtAbove OwedUnit) (n : ℕ) (owed : Units) → Ascending owed → complete_at n owed ≡ true → length (rest_of (next_number n owed) owed) < length (rest_from n owed)
+rest_shorter above n owed order is =
     let found = some_complete (at n owed) is in
-    omega (arith, ap length (rest_step_from n found.0 owed order found.1))
+    omega (arith, ap length (rest_step_from above n found.0 owed order found.1))
 
 stop_step : (b : Bool) (e : ℕ × OwedUnit) (o : Option OwedUnit) (es fs : Units) → (complete_in o ≡ false → complete_front fs ≡ [])
     → complete_in (cond b (Some e.1) o) ≡ false → complete_front (cond b (e ∷ es) fs) ≡ []
@@ -188,21 +168,21 @@ front_stops n (e ∷ es) is = stop_step (n == e.0) e (at n es) es (rest_from n e
 pub same_state : (now : OwedState) (places : ℕ) (owed : Units) → now.places ≡ places → now.owed ≡ owed → now ≡ state_of places owed
 same_state now places owed p q = ap (λ n. state_of n now.owed) p ∙ ap (λ es. state_of places es) q
 
-head_goes : (e : ℕ × OwedUnit) (es : Units) → Above e.0 es → complete_at e.0 (e ∷ es) ≡ true → incomplete_rest (without e.0 (e ∷ es)) ≡ incomplete_rest (e ∷ es)
-head_goes e es above is =
-    let gone : without e.0 (e ∷ es) ≡ es = ap (λ b. cond (not b) (e ∷ without e.0 es) (without e.0 es)) (eq-eqb e.0 e.0 refl) ∙ without_above e.0 es above in
+head_goes : (stay : WithoutAbove OwedUnit) (e : ℕ × OwedUnit) (es : Units) → Above e.0 es → complete_at e.0 (e ∷ es) ≡ true → incomplete_rest (without e.0 (e ∷ es)) ≡ incomplete_rest (e ∷ es)
+head_goes stay e es above is =
+    let gone : without e.0 (e ∷ es) ≡ es = ap (λ b. cond (not b) (e ∷ without e.0 es) (without e.0 es)) (eq-eqb e.0 e.0 refl) ∙ stay e.0 es above in
     let done : is_complete e.1 ≡ true = sym (ap complete_in (at_here e es)) ∙ is in
     ap incomplete_rest gone ∙ sym (ap (λ b. cond b (incomplete_rest es) (e ∷ es)) done)
 
-pub first_goes : (place : ℕ) (owed : Units) → Ascending owed → first_number owed ≡ Some place → complete_at place owed ≡ true
+pub first_goes : (stay : WithoutAbove OwedUnit) (place : ℕ) (owed : Units) → Ascending owed → first_number owed ≡ Some place → complete_at place owed ≡ true
     → incomplete_rest (without place owed) ≡ incomplete_rest owed
-first_goes place [] order first is = absurd (cc)
-first_goes place (e ∷ es) order first is =
+first_goes stay place [] order first is = absurd (cc)
+first_goes stay place (e ∷ es) order first is =
     let here : place ≡ e.0 = cc in
-    ap (λ n. incomplete_rest (without n (e ∷ es))) here ∙ head_goes e es order.0 (ap (λ n. complete_at n (e ∷ es)) (sym here) ∙ is)
+    ap (λ n. incomplete_rest (without n (e ∷ es))) here ∙ head_goes stay e es order.0 (ap (λ n. complete_at n (e ∷ es)) (sym here) ∙ is)
 
-pub first_shorter : (place : ℕ) (owed : Units) → complete_at place owed ≡ true → length (without place owed) < length owed
-first_shorter place owed is = let found = some_complete (at place owed) is in shorter place found.0 owed found.1
+pub first_shorter : (fewer : FewerWithout OwedUnit) (place : ℕ) (owed : Units) → complete_at place owed ≡ true → length (without place owed) < length owed
+first_shorter fewer place owed is = let found = some_complete (at place owed) is in fewer place found.0 owed found.1
 
 pub first_stays : (place : ℕ) (owed : Units) → first_number owed ≡ Some place → complete_at place owed ≡ false → incomplete_rest owed ≡ owed
 first_stays place [] first is = refl
@@ -233,12 +213,12 @@ no_front_none (e ∷ es) none = absurd (cc)
 -- ---- how many go out
 
 -- as came: the answer of the first, and then those behind it
-pub front_count : (place : ℕ) (owed : Units) → Ascending owed → first_number owed ≡ Some place → complete_at place owed ≡ true
+pub front_count : (stay : WithoutAbove OwedUnit) (place : ℕ) (owed : Units) → Ascending owed → first_number owed ≡ Some place → complete_at place owed ≡ true
     → answer_count (complete_front owed) ≡ length (complete_text_at place owed) + answer_count (complete_front (without place owed))
-front_count place [] order first is = absurd (cc)
-front_count place (e ∷ es) order first is =
+front_count stay place [] order first is = absurd (cc)
+front_count stay place (e ∷ es) order first is =
     let here : place ≡ e.0 = cc in
-    let gone : without e.0 (e ∷ es) ≡ es = ap (λ b. cond (not b) (e ∷ without e.0 es) (without e.0 es)) (eq-eqb e.0 e.0 refl) ∙ without_above e.0 es order.0 in
+    let gone : without e.0 (e ∷ es) ≡ es = ap (λ b. cond (not b) (e ∷ without e.0 es) (without e.0 es)) (eq-eqb e.0 e.0 refl) ∙ stay e.0 es order.0 in
     let done : is_complete e.1 ≡ true = sym (ap complete_in (at_here e es)) ∙ ap (λ n. complete_at n (e ∷ es)) (sym here) ∙ is in
     let texts : complete_text_at place (e ∷ es) ≡ unit_texts e.1 =
     ap (λ n. complete_text_at n (e ∷ es)) here ∙ ap complete_text_in (at_here e es) ∙ ap (λ b. cond b (unit_texts e.1) []) done in
@@ -265,9 +245,9 @@ texts_few : (o : Option OwedUnit) → length (complete_text_in o) ≤ 1
 texts_few None = omega arith
 texts_few (Some unit) = few_either (is_complete unit) unit
 
-pub only_count : (place : ℕ) (owed : Units) → Ascending owed → OnlyAt AsAnswered place owed → length (complete_text_at place owed) ≡ capped (answer_count (leaving AsAnswered owed))
-only_count place owed order only =
-    let same : length (complete_text_at place owed) ≡ answer_count (leaving AsAnswered owed) = ap length (only_text place owed order only) ∙ sym (count_texts (leaving AsAnswered owed)) in
+pub only_count : (stay : WithoutAbove OwedUnit) (place : ℕ) (owed : Units) → Ascending owed → OnlyAt AsAnswered place owed → length (complete_text_at place owed) ≡ capped (answer_count (leaving AsAnswered owed))
+only_count stay place owed order only =
+    let same : length (complete_text_at place owed) ≡ answer_count (leaving AsAnswered owed) = ap length (only_text stay place owed order only) ∙ sym (count_texts (leaving AsAnswered owed)) in
     let few : length (complete_text_at place owed) ≤ 1 = texts_few (at place owed) in
     omega (arith, same, few)
 

@@ -4,9 +4,9 @@ use Rattle.std.proofs.lemmas.List.Elements.{filter-append}
 use Rattle.std.specs.List.{filter}
 use Rattle.connection_history.specs.declared.order.Order.{Order}
 use Rattle.connection_history.specs.declared.order.Order.TheVariants.{AsAnswered, AsCame}
-use Rattle.open_calls.specs.Owed.{OwedUnit, OwedState}
-use Rattle.connection_states.specs.States.{owed_slots}
-use Rattle.connection_states.specs.Steps.{is_complete, complete_front, incomplete_rest, leaving, staying}
+use Rattle.owed_answers.specs.Owed.{OwedUnit, OwedState}
+use Rattle.connection_steps.specs.States.{owed_slots}
+use Rattle.connection_steps.specs.Steps.{is_complete, complete_front, incomplete_rest, leaving, staying}
 
 abbrev pub state_of : ℕ → List (ℕ × OwedUnit) → OwedState
 state_of places owed = record { places = places; owed = owed }

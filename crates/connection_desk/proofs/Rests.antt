@@ -4,7 +4,7 @@ use Rattle.std.proofs.lemmas.Bool.{eqb-true, lt-ltb, ne_eqb, false_from_ne_true,
 use Rattle.std.specs.Option.{option_map, IfSome}
 use Rattle.std.specs.List.{find}
 use Rattle.open_calls.specs.Numbered.{at, first_number, next_number, Above, Ascending}
-use Rattle.open_calls.proofs.Numbered.{at_above}
+use Rattle.connection_desk.proofs.Entries.{AtAbove}
 
 pub at_here : {X : Type 0} (e : ℕ × X) (es : List (ℕ × X)) → at e.0 (e ∷ es) ≡ Some e.1
 at_here e es = ap (λ b. cond b (Some e.1) (at e.0 es)) (eq-eqb e.0 e.0 refl)
@@ -68,29 +68,29 @@ from_step : {X : Type 0} (b : Bool) (n : ℕ) (x : X) (e : ℕ × X) (o : Option
 from_step true n x e o es rest is here there = here refl (cc)
 from_step false n x e o es rest is here there = there is
 
-pub rest_step_from : {X : Type 0} (n : ℕ) (x : X) (all : List (ℕ × X)) → Ascending all → at n all ≡ Some x → rest_from n all ≡ (n, x) ∷ rest_of (next_number n all) all
-rest_step_from n x [] order is = absurd (cc)
-rest_step_from n x (e ∷ es) order is =
+pub rest_step_from : {X : Type 0} (above : AtAbove X) (n : ℕ) (x : X) (all : List (ℕ × X)) → Ascending all → at n all ≡ Some x → rest_from n all ≡ (n, x) ∷ rest_of (next_number n all) all
+rest_step_from above n x [] order is = absurd (cc)
+rest_step_from above n x (e ∷ es) order is =
     from_step (n == e.0) n x e (at n es) es (rest_of (next_number n (e ∷ es)) (e ∷ es)) is
     (λ here same. rest_here n x e es order.0 (eqb-true n e.0 here) same)
     (λ there.
-    let lt : e.0 < n = at_above e.0 n x es order.0 there in
-    rest_step_from n x es order.1 there ∙ ap (λ t. (n, x) ∷ t) (sym (skipped n e es order.0 (omega arith))))
+    let lt : e.0 < n = above e.0 n x es order.0 there in
+    rest_step_from above n x es order.1 there ∙ ap (λ t. (n, x) ∷ t) (sym (skipped n e es order.0 (omega arith))))
 
 -- something stands under this number
 abbrev pub IsThere : {X : Type 0} → List (ℕ × X) → ℕ → Type 0
 IsThere {X} es number = (x : X) × (at number es ≡ Some x)
 
-there_later : {X : Type 0} (e : ℕ × X) (es : List (ℕ × X)) (n : ℕ) → Above e.0 es → IsThere es n → IsThere (e ∷ es) n
-there_later e es n above there =
-    (there.0, ap (λ b. cond b (Some e.1) (at n es)) (apart_after n e.0 (at_above e.0 n there.0 es above there.1)) ∙ there.1)
+there_later : {X : Type 0} (is_above : AtAbove X) (e : ℕ × X) (es : List (ℕ × X)) (n : ℕ) → Above e.0 es → IsThere es n → IsThere (e ∷ es) n
+there_later is_above e es n above there =
+    (there.0, ap (λ b. cond b (Some e.1) (at n es)) (apart_after n e.0 (is_above e.0 n there.0 es above there.1)) ∙ there.1)
 
-there_step : {X : Type 0} (b : Bool) (e : ℕ × X) (o : Option (ℕ × X)) (es : List (ℕ × X)) → Above e.0 es → IfSome (option_map (λ x. x.0) o) (IsThere es)
+there_step : {X : Type 0} (is_above : AtAbove X) (b : Bool) (e : ℕ × X) (o : Option (ℕ × X)) (es : List (ℕ × X)) → Above e.0 es → IfSome (option_map (λ x. x.0) o) (IsThere es)
     → IfSome (option_map (λ x. x.0) (cond b (Some e) o)) (IsThere (e ∷ es))
-there_step true e o es above there = (e.1, at_here e es)
-there_step false e None es above there = tt
-there_step false e (Some f) es above there = there_later e es f.0 above there
+there_step is_above true e o es above there = (e.1, at_here e es)
+there_step is_above false e None es above there = tt
+there_step is_above false e (Some f) es above there = there_later is_above e es f.0 above there
 
-pub next_there : {X : Type 0} (n : ℕ) (es : List (ℕ × X)) → Ascending es → IfSome (next_number n es) (IsThere es)
-next_there n [] order = tt
-next_there n (e ∷ es) order = there_step (nat_lt n e.0) e (find (λ x. nat_lt n x.0) es) es order.0 (next_there n es order.1)
+pub next_there : {X : Type 0} (is_above : AtAbove X) (n : ℕ) (es : List (ℕ × X)) → Ascending es → IfSome (next_number n es) (IsThere es)
+next_there is_above n [] order = tt
+next_there is_above n (e ∷ es) order = there_step is_above (nat_lt n e.0) e (find (λ x. nat_lt n x.0) es) es order.0 (next_there is_above n es order.1)

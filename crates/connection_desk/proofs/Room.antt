@@ -14,7 +14,7 @@ use Rattle.connection_history.specs.Stream.{call_in}
 use Rattle.open_calls.specs.declared.their_call.TheirCall.{TheirCall}
 use Rattle.open_calls.specs.Own.{OwnState}
 use Rattle.open_calls.specs.Theirs.{is_reached, cancelled}
-use Rattle.connection_states.specs.Steps.{own_after}
+use Rattle.connection_steps.specs.Steps.{own_after}
 use Rattle.connection_desk.specs.Inner.{reached_to, cancelled_to, told_along, has_cancel, is_telling, most_events}
 use Rattle.connection_desk.proofs.Reached.{numbers_cons}
 

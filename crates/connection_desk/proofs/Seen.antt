@@ -4,7 +4,7 @@ use Rattle.connection_messages.specs.declared.cancels.Cancels.{Cancels}
 use Rattle.connection_history.specs.declared.order.Order.{Order}
 use Rattle.open_calls.specs.Own.{OwnState}
 use Rattle.open_calls.specs.Theirs.{TheirState}
-use Rattle.open_calls.specs.Owed.{OwedState}
+use Rattle.owed_answers.specs.Owed.{OwedState}
 use Rattle.outbox.specs.Output.{Output}
 use Rattle.connection_desk.specs.declared.events.Events.{Events}
 use Rattle.connection_desk.specs.declared.tally.Tally.{Tally}

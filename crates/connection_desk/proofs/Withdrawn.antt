@@ -7,7 +7,7 @@ use Rattle.connection_messages.specs.declared.cancels.Cancels.{Cancels}
 use Rattle.open_calls.specs.declared.own_call.OwnCall.{OwnCall}
 use Rattle.open_calls.specs.Numbered.{next_number, Above, Ascending}
 use Rattle.open_calls.specs.Own.{is_wanted_by, next_wanted}
-use Rattle.open_calls.proofs.Numbered.{find_among, above_filter}
+use Rattle.connection_desk.proofs.Entries.{PassAbove, FoundAmong, WithdrawalLaws}
 use Rattle.outbox.specs.Output.{Output}
 use Rattle.connection_desk.specs.Desks.{Desk, HasWithdrawn, after_saying}
 use Rattle.connection_desk.proofs.OwedLists.{no_texts, more_texts}
@@ -27,12 +27,12 @@ keeps_order : {X : Type 0} (b : Bool) (e : ℕ × X) (es : List (ℕ × X)) → 
 keeps_order true e es above order = (above, order)
 keeps_order false e es above order = order
 
-ascending_filter : {X : Type 0} (p : ℕ × X → Bool) (es : List (ℕ × X)) → Ascending es → Ascending (filter p es)
-ascending_filter p [] order = tt
-ascending_filter p (e ∷ es) order = keeps_order (p e) e (filter p es) (above_filter e.0 p es order.0) (ascending_filter p es order.1)
+ascending_filter : {X : Type 0} (pass : PassAbove X) (p : ℕ × X → Bool) (es : List (ℕ × X)) → Ascending es → Ascending (filter p es)
+ascending_filter pass p [] order = tt
+ascending_filter pass p (e ∷ es) order = keeps_order (p e) e (filter p es) (pass e.0 p es order.0) (ascending_filter pass p es order.1)
 
-pub wanted_ascend : (n : ℕ) (waiting : Calls) → Ascending waiting → Ascending (wanted n waiting)
-wanted_ascend n waiting order = ascending_filter (λ e. is_wanted_by n e.1) waiting order
+pub wanted_ascend : (pass : PassAbove OwnCall) (n : ℕ) (waiting : Calls) → Ascending waiting → Ascending (wanted n waiting)
+wanted_ascend pass n waiting order = ascending_filter pass (λ e. is_wanted_by n e.1) waiting order
 
 and_swap : (a b : Bool) → (a && b) ≡ (b && a)
 and_swap true true = refl
@@ -45,29 +45,29 @@ find_swap p q [] = refl
 find_swap p q (e ∷ es) =
     ap (λ b. cond b (Some e) (find (λ x. p x && q x) es)) (and_swap (p e) (q e)) ∙ ap (λ o. cond (q e && p e) (Some e) o) (find_swap p q es)
 
-next_among : (n after : ℕ) (waiting : Calls) → next_wanted n after waiting ≡ next_number after (wanted n waiting)
-next_among n after waiting =
+next_among : (found : FoundAmong OwnCall) (n after : ℕ) (waiting : Calls) → next_wanted n after waiting ≡ next_number after (wanted n waiting)
+next_among found n after waiting =
     ap (λ o. option_map (λ e. e.0) o)
     (find_swap (λ (e : ℕ × OwnCall). nat_lt after e.0) (λ e. is_wanted_by n e.1) waiting
-    ∙ sym (find_among (λ (e : ℕ × OwnCall). nat_lt after e.0) (λ e. is_wanted_by n e.1) waiting))
+    ∙ sym (found (λ (e : ℕ × OwnCall). nat_lt after e.0) (λ e. is_wanted_by n e.1) waiting))
 
 -- ---- the next one
 
-pub first_rest : (n : ℕ) (waiting : Calls) (next : Option ℕ) → Above 0 waiting → next ≡ next_wanted n 0 waiting → rest_of next (wanted n waiting) ≡ wanted n waiting
-first_rest n waiting next positive is =
-    ap (λ o. rest_of o (wanted n waiting)) (is ∙ next_among n 0 waiting)
-    ∙ rest_next 0 (wanted n waiting) (above_filter 0 (λ e. is_wanted_by n e.1) waiting positive)
+pub first_rest : (laws : WithdrawalLaws OwnCall) (n : ℕ) (waiting : Calls) (next : Option ℕ) → Above 0 waiting → next ≡ next_wanted n 0 waiting → rest_of next (wanted n waiting) ≡ wanted n waiting
+first_rest laws n waiting next positive is =
+    ap (λ o. rest_of o (wanted n waiting)) (is ∙ next_among laws.found n 0 waiting)
+    ∙ rest_next 0 (wanted n waiting) (laws.pass 0 (λ e. is_wanted_by n e.1) waiting positive)
 
-pub next_is_there : (n after : ℕ) (waiting : Calls) (next : Option ℕ) → Ascending waiting → next ≡ next_wanted n after waiting → IfSome next (IsThere (wanted n waiting))
-next_is_there n after waiting next order is =
-    subst (λ o. IfSome o (IsThere (wanted n waiting))) (sym (is ∙ next_among n after waiting)) (next_there after (wanted n waiting) (wanted_ascend n waiting order))
+pub next_is_there : (laws : WithdrawalLaws OwnCall) (n after : ℕ) (waiting : Calls) (next : Option ℕ) → Ascending waiting → next ≡ next_wanted n after waiting → IfSome next (IsThere (wanted n waiting))
+next_is_there laws n after waiting next order is =
+    subst (λ o. IfSome o (IsThere (wanted n waiting))) (sym (is ∙ next_among laws.found n after waiting)) (next_there laws.at after (wanted n waiting) (wanted_ascend laws.pass n waiting order))
 
-pub rest_more : (n key : ℕ) (waiting : Calls) (next : Option ℕ) → Ascending waiting → IsThere (wanted n waiting) key → next ≡ next_wanted n key waiting
+pub rest_more : (laws : WithdrawalLaws OwnCall) (n key : ℕ) (waiting : Calls) (next : Option ℕ) → Ascending waiting → IsThere (wanted n waiting) key → next ≡ next_wanted n key waiting
     → (x : OwnCall) × (rest_of (Some key) (wanted n waiting) ≡ (key, x) ∷ rest_of next (wanted n waiting))
-rest_more n key waiting next order there is = (
+rest_more laws n key waiting next order there is = (
   there.0,
-  rest_step_from key there.0 (wanted n waiting) (wanted_ascend n waiting order) there.1
-      ∙ ap (λ o. (key, there.0) ∷ rest_of o (wanted n waiting)) (sym (is ∙ next_among n key waiting)),
+  rest_step_from laws.at key there.0 (wanted n waiting) (wanted_ascend laws.pass n waiting order) there.1
+      ∙ ap (λ o. (key, there.0) ∷ rest_of o (wanted n waiting)) (sym (is ∙ next_among laws.found n key waiting)),
 )
 
 -- ---- what was said
@@ -92,17 +92,17 @@ more_withdrawn ts before middle now since is = record {
 
 -- ---- the withdrawals that are left
 
-pub said_one : (by : Cancels) (n key : ℕ) (waiting : Calls) (next : Option ℕ) (middle now : Desk) → Ascending waiting → IsThere (wanted n waiting) key → next ≡ next_wanted n key waiting
+pub said_one : (laws : WithdrawalLaws OwnCall) (by : Cancels) (n key : ℕ) (waiting : Calls) (next : Option ℕ) (middle now : Desk) → Ascending waiting → IsThere (wanted n waiting) key → next ≡ next_wanted n key waiting
     → now ≡ after_saying (withdrawal_text by key ∷ []) middle
     → after_saying (withdrawals by (rest_of next (wanted n waiting))) now ≡ after_saying (withdrawals by (rest_of (Some key) (wanted n waiting))) middle
-said_one by n key waiting next middle now order there is said =
-    let more = rest_more n key waiting next order there is in
+said_one laws by n key waiting next middle now order there is said =
+    let more = rest_more laws n key waiting next order there is in
     let rest = withdrawals by (rest_of next (wanted n waiting)) in
     ap (after_saying rest) said ∙ say_more (withdrawal_text by key ∷ []) rest middle
     ∙ ap (λ es. after_saying (withdrawals by es) middle) (sym more.1)
 
-pub fewer_left : (n key : ℕ) (waiting : Calls) (next : Option ℕ) → Ascending waiting → IsThere (wanted n waiting) key → next ≡ next_wanted n key waiting
+pub fewer_left : (laws : WithdrawalLaws OwnCall) (n key : ℕ) (waiting : Calls) (next : Option ℕ) → Ascending waiting → IsThere (wanted n waiting) key → next ≡ next_wanted n key waiting
     → length (rest_of next (wanted n waiting)) < length (rest_of (Some key) (wanted n waiting))
-fewer_left n key waiting next order there is =
-    let more = rest_more n key waiting next order there is in
+fewer_left laws n key waiting next order there is =
+    let more = rest_more laws n key waiting next order there is in
     omega (arith, ap length more.1)

@@ -3,7 +3,7 @@ use Rattle.std.specs.Prelude.{◌≡◌, ℕ, List, false, length, Option, Some,
 use Rattle.connection_history.specs.declared.order.Order.{Order}
 use Rattle.connection_history.specs.declared.order.Order.TheVariants.{AsAnswered}
 use Rattle.open_calls.specs.Numbered.{at}
-use Rattle.open_calls.specs.Owed.{OwedUnit}
+use Rattle.owed_answers.specs.Owed.{OwedUnit}
 
 -- a unit that is no batch, and has one answer
 pub record IsAlone (unit : OwedUnit) : Type 0 where

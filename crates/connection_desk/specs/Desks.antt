@@ -23,13 +23,13 @@ use Rattle.connection_history.specs.Items.{text_of}
 use Rattle.open_calls.specs.declared.own_call.OwnCall.{OwnCall}
 use Rattle.open_calls.specs.Numbered.{at, changed_at}
 use Rattle.open_calls.specs.Own.{is_wanted_by}
-use Rattle.open_calls.specs.Owed.{OwedUnit, given}
+use Rattle.owed_answers.specs.Owed.{OwedUnit, given}
 use Rattle.open_calls.specs.declared.their_call.TheirCall.{TheirCall}
 use Rattle.outbox.specs.Output.{Output, IsAllTaken}
-use Rattle.connection_states.specs.States.{State}
-use Rattle.connection_states.specs.Steps.{after_came, after_called, after_withdrew, after_answered, after_ended, answers_of, leaving, staying, owed_with, owed_given, told_of_all, told_at_end}
-use Rattle.connection_states.specs.Tallies as exact
-use Rattle.connection_states.specs.Tallies.{tally_in, answers_let_out}
+use Rattle.connection_steps.specs.States.{State}
+use Rattle.connection_steps.specs.Steps.{after_came, after_called, after_withdrew, after_answered, after_ended, answers_of, leaving, staying, owed_with, owed_given, told_of_all, told_at_end}
+use Rattle.connection_steps.specs.Tallies as exact
+use Rattle.connection_steps.specs.Tallies.{tally_in, answers_let_out}
 use Rattle.connection_desk.specs.declared.tally.Tally.{Tally}
 
 pub record Desk : Type 0 where

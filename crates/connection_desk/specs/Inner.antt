@@ -19,10 +19,10 @@ use Rattle.open_calls.specs.declared.their_call.TheirCall.{TheirCall}
 use Rattle.open_calls.specs.Own.{OwnState}
 use Rattle.open_calls.specs.Theirs.{TheirState, new_call, is_reached, cancelled}
 use Rattle.open_calls.specs.Numbered.{at, up_to, without}
-use Rattle.open_calls.specs.Owed.{OwedUnit, seen_slot, seen_slots, unit_texts}
+use Rattle.owed_answers.specs.Owed.{OwedUnit, seen_slot, seen_slots, unit_texts}
 use Rattle.connection_history.specs.declared.order.Order.TheVariants.{AsAnswered, AsCame}
-use Rattle.connection_states.specs.States.{is_batch, owed_slots, slot_count}
-use Rattle.connection_states.specs.Steps.{leaving, is_complete, new_unit_slots, reached_numbers, own_after}
+use Rattle.connection_steps.specs.States.{is_batch, owed_slots, slot_count}
+use Rattle.connection_steps.specs.Steps.{leaving, is_complete, new_unit_slots, reached_numbers, own_after}
 use Rattle.connection_desk.specs.declared.events.Events.{Events}
 use Rattle.connection_desk.specs.declared.tally.Tally.{Tally}
 use Rattle.connection_desk.specs.declared.unit_slots.UnitSlots.{UnitSlots}

@@ -1,9 +1,11 @@
 //! Calls of the other side are answered.
 
 ghost use Rattle.std.specs.Vec.{vec_capacity};
-ghost use Rattle.std.specs.Prelude.{◌≡◌, ◌≤◌, ◌++◌, ◌∷◌, [], true, map, None, Some, IfOk, IfErr, OnOk, OnErr};
+ghost use Rattle.std.specs.Prelude.{◌≡◌, ◌≤◌, ◌&&◌, ◌++◌, ◌∷◌, [], true, map, None, Some, IfOk, IfErr, OnOk, OnErr};
 ghost use Rattle.connection_messages.specs.Texts.{withdrawal_text};
-ghost use Rattle.open_calls.specs.Owed.{is_answer};
+ghost use Rattle.connection_messages.specs.declared.cancels.Cancels.TheVariants.{Mcp};
+ghost use Rattle.connection_history.specs.Refusals.{has_cancels};
+ghost use Rattle.owed_answers.specs.Owed.{is_answer};
 ghost use Rattle.connection_desk.specs.Alone.{GoesAlone, IsAlone};
 ghost use Rattle.connection_desk.specs.Desks.{IsRefusal, after_answer, after_cancel, after_given, after_saying, answer_refused, cancel_answer_in, may_leave, wanted_keys, HasWithdrawn};
 
@@ -12,7 +14,8 @@ use crate::leaving::{let_out, write_leaving};
 use connection_history::{Order, Refused};
 use connection_messages::{Answer, Cancels, write_answer, write_withdrawal};
 use message_ids::Standard;
-use open_calls::{Owed, OwedAnswers, Slot};
+use open_calls::{OwnCall, TheirCall, an_entry_changes_or_goes, numbers_above_one};
+use owed_answers::{Owed, OwedAnswers, Slot};
 use std::alloc::{AllocError, Global};
 use std::mem;
 
@@ -74,11 +77,12 @@ impl Desk {
         ensures err { IfErr result (λ why. (self.new ≡ self.old) ×
             IsRefusal why (answer_refused number self.old.state)) }
     {
-        if self.theirs.get(number).is_none() {
+        let Some(call) = self.theirs.get(number) else {
             return Err(Refused::NotOpen);
-        }
+        };
+        let is_left = may_be_left(self.cancels, call);
         let mark = self.outbox.mark();
-        match self.withdraw_and_answer(number) {
+        match self.withdraw_and_answer(number, is_left) {
             Ok(()) => Ok(()),
             Err(why) => {
                 self.outbox.back_to(mark);
@@ -88,7 +92,8 @@ impl Desk {
     }
 
     /// Where it is refused, some withdrawals may be written.
-    fn withdraw_and_answer(&mut self, number: u64) -> Result<(), Refused>
+    fn withdraw_and_answer(&mut self, number: u64, is_left: bool) -> Result<(), Refused>
+        requires { is_left ≡ may_leave self.old.cancels number self.old.state }
         ensures ok { OnOk result ((answer_refused number self.old.state ≡ None) ×
             (self.new ≡ after_cancel number self.old)) }
         ensures err { IfErr result (λ why. HasWithdrawn self.old self.new ×
@@ -97,30 +102,21 @@ impl Desk {
         if let Some(by) = self.cancels {
             self.write_withdrawals(by, number)?;
         }
-        self.answer_or_leave(number)
+        self.answer_or_leave(number, is_left)
     }
 
     /// Answers the call with the error `RequestCancelled`, or closes it without an answer where none is wanted.
-    fn answer_or_leave(&mut self, number: u64) -> Result<(), Refused>
+    fn answer_or_leave(&mut self, number: u64, is_left: bool) -> Result<(), Refused>
+        requires { is_left ≡ may_leave self.old.cancels number self.old.state }
         ensures ok { OnOk result ((answer_refused number self.old.state ≡ None) ×
             (self.new ≡ after_answer number (cancel_answer_in self.old.cancels number self.old.state) self.old)) }
         ensures err { IfErr result (λ why. (self.new ≡ self.old) ×
             IsRefusal why (answer_refused number self.old.state)) }
     {
-        if self.may_be_left(number) {
+        if is_left {
             self.leave(number)
         } else {
             self.answer(number, &Answer::Standard(Standard::Cancelled))
-        }
-    }
-
-    /// Whether the call is a request that wants no answer: its cancel came, and the cancels are MCP's.
-    fn may_be_left(&self, number: u64) -> bool
-        ensures { result ≡ may_leave self.now.cancels number self.now.state }
-    {
-        match (self.cancels, self.theirs.get(number)) {
-            (Some(Cancels::Mcp), Some(call)) => call.is_cancelled,
-            _ => false,
         }
     }
 
@@ -129,6 +125,8 @@ impl Desk {
             after_saying (map (withdrawal_text by) (wanted_keys number self.old.state)) self.old) }
         ensures err { OnErr result (HasWithdrawn self.old self.new) }
     {
+        numbers_above_one::<OwnCall>();
+        an_entry_changes_or_goes::<OwnCall>();
         let mut next = self.own.next_of(number, 0);
         while let Some(key) = next {
             let mut text = self.take_room();
@@ -167,6 +165,8 @@ impl Desk {
         ensures ok { OnOk result (self.new ≡ after_given place 0 text.items self.old) }
         ensures err { OnErr result (self.new ≡ self.old) }
     {
+        numbers_above_one::<Owed>();
+        an_entry_changes_or_goes::<Owed>();
         self.outbox.put(text.as_slice())?;
         self.owed.remove(place);
         self.tally.add_answers(1);
@@ -193,6 +193,16 @@ impl Desk {
                 Err(refused)
             }
         }
+    }
+}
+
+/// Whether the call is a request that wants no answer: its cancel came, and the cancels are MCP's.
+fn may_be_left(cancels: Option<Cancels>, call: &TheirCall) -> bool
+    ensures { result ≡ (has_cancels Mcp cancels && call.now.is_cancelled) }
+{
+    match cancels {
+        Some(Cancels::Mcp) => call.is_cancelled,
+        _ => false,
     }
 }
 

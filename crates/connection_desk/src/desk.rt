@@ -5,8 +5,9 @@ use crate::tally::Tally;
 use connection_history::{Event, Order};
 use connection_messages::Cancels;
 use content_streams::Framing;
-use open_calls::{OwedAnswers, OwnCalls, TheirCalls};
+use open_calls::{OwnCalls, TheirCalls};
 use outbox::Outbox;
+use owed_answers::OwedAnswers;
 use std::alloc::{AllocError, Global};
 use std::marker::Model;
 use std::mem;
@@ -60,8 +61,8 @@ impl Model for Desk {
 }
 
 impl Desk {
-    ghost use Rattle.connection_states.specs.Initial.{initial};
-    ghost use Rattle.connection_states.specs.Tallies.{no_counts};
+    ghost use Rattle.connection_steps.specs.Initial.{initial};
+    ghost use Rattle.connection_steps.specs.Tallies.{no_counts};
     ghost use Rattle.connection_desk.specs.Desks.{after_saying, capped_tally, IsDone};
     ghost use Rattle.open_calls.specs.Numbered.{at};
     ghost use Rattle.outbox.specs.Output.{after_take, given_of, next_of, IsAllTaken};

@@ -8,10 +8,10 @@ ghost use Rattle.connection_messages.specs.declared.answer.Answer.TheVariants.{S
 ghost use Rattle.connection_messages.specs.Texts.{answer_text};
 ghost use Rattle.connection_history.specs.Stream.{call_in, calls_in, entries_in};
 ghost use Rattle.connection_history.specs.declared.event.Event.TheVariants.{Broken as broken_told};
-ghost use Rattle.open_calls.specs.Owed.{seen_slots};
+ghost use Rattle.owed_answers.specs.Owed.{seen_slots};
 ghost use Rattle.open_calls.specs.Theirs.{new_call};
-ghost use Rattle.connection_states.specs.States.{is_batch};
-ghost use Rattle.connection_states.specs.Steps.{leaving, staying, new_call_slots, new_slots, new_unit_slots};
+ghost use Rattle.connection_steps.specs.States.{is_batch};
+ghost use Rattle.connection_steps.specs.Steps.{leaving, staying, new_call_slots, new_slots, new_unit_slots};
 ghost use Rattle.connection_desk.specs.Desks.{answer_count, answer_texts, with_answers, with_texts};
 ghost use Rattle.connection_desk.specs.Inner.{IsAdmitted, IsLonger, IsOpenEnded, added_call, added_calls, are_several, has_cancel as has_cancel_in, is_telling as is_telling_entry, most_events as most_events_in, owed_in, room_of, slots_in, untold_of};
 
@@ -24,8 +24,9 @@ use crate::unit_slots::UnitSlots;
 use connection_history::{Broken, Event, Order};
 use connection_messages::{Answer, Entry, Unit, write_answer};
 use message_ids::{Id, Standard};
-use open_calls::{OwedAnswers, Slot, TheirCalls};
+use open_calls::{TheirCall, TheirCalls, numbers_above_one, numbers_below_one};
 use outbox::Outbox;
+use owed_answers::{OwedAnswers, Slot};
 use std::alloc::{AllocError, Global};
 
 impl Desk {
@@ -39,6 +40,8 @@ impl Desk {
         ensures ok { OnOk result (self.new ≡ after_unit broken unit self.old) }
         ensures err { OnErr result (self.new ≡ self.old) }
     {
+        numbers_above_one::<TheirCall>();
+        numbers_below_one::<TheirCall>();
         let mut room = self.take_room();
         // The prover has the range of each count once it is read.
         let _tally = self.tally;

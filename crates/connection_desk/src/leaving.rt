@@ -1,8 +1,8 @@
 //! The answers that can go out, and those that stay.
 
-ghost use Rattle.std.specs.Prelude.{◌≡◌, ◌++◌, ◌∷◌, [], ℕ, List, length, OnOk, OnErr, if◌then◌else◌};
+ghost use Rattle.std.specs.Prelude.{◌≡◌, ◌++◌, ◌∷◌, [], ℕ, List, length, IfOk, OnOk, OnErr, is_some, unwrap_or, if◌then◌else◌};
 ghost use Rattle.connection_history.specs.Counts.{capped};
-ghost use Rattle.connection_states.specs.Steps.{complete_front, incomplete_rest, leaving, staying};
+ghost use Rattle.connection_steps.specs.Steps.{complete_front, incomplete_rest, leaving, staying};
 ghost use Rattle.connection_desk.specs.Desks.{answer_count, answer_texts, with_answers, with_texts};
 ghost use Rattle.connection_desk.specs.Inner.{OnlyAt, complete_at, complete_text_at};
 ghost use Rattle.outbox.specs.Output.{OnlyPutSince};
@@ -10,8 +10,9 @@ ghost use Rattle.open_calls.specs.Numbered.{without, Ascending};
 
 use crate::tally::Tally;
 use connection_history::Order;
-use open_calls::OwedAnswers;
+use open_calls::{an_entry_changes_or_goes, numbers_above_one};
 use outbox::Outbox;
+use owed_answers::{Owed, OwedAnswers};
 use std::alloc::AllocError;
 
 /// Writes the answers that can go out, where the one at this place may have become complete.
@@ -27,41 +28,42 @@ pub(crate) fn write_leaving(
         with_texts (answer_texts (leaving order owed.now.owed)) outbox.old) }
     ensures err { OnErr result (outbox.new ≡ outbox.old) }
 {
+    numbers_above_one::<Owed>();
     match order {
-        Order::AsAnswered => write_complete(owed, place, outbox, room),
+        Order::AsAnswered => {
+            write_complete(owed, place, outbox, room)?;
+            Ok(())
+        }
         Order::AsCame => write_front(owed, outbox, room),
     }
 }
 
-/// Whether the unit at this place has all of its answers. Places ascend, so no other unit has this one.
-fn is_complete(owed: &OwedAnswers, place: u64) -> bool
-    ensures complete { result ≡ complete_at place owed.now.owed }
-    ensures ascending { Ascending owed.now.owed }
-{
-    match owed.get(place) {
-        Some(unit) => unit.lacking() == 0,
-        None => false,
-    }
-}
-
-/// Writes the answer of the unit at this place, where it is complete and has one.
+/// Writes the answer of the unit at this place, where it is complete and has one. Says whether it is complete. Places
+/// ascend, so no other unit has this one.
 fn write_complete(
     owed: &OwedAnswers,
     place: u64,
     outbox: &mut Outbox,
     room: &mut Vec<u8>,
-) -> Result<(), AllocError>
+) -> Result<bool, AllocError>
+    ensures complete { IfOk result (λ is_complete. is_complete ≡ complete_at place owed.now.owed) }
     ensures ok { OnOk result (outbox.new ≡
         with_texts (complete_text_at place owed.now.owed) outbox.old) }
     ensures err { OnErr result (outbox.new ≡ outbox.old) }
     ensures ascending { Ascending owed.now.owed }
 {
-    if !is_complete(owed, place) || !owed.has_answer(place) {
-        return Ok(());
+    let Some(unit) = owed.get(place) else {
+        return Ok(false);
+    };
+    if unit.lacking() != 0 {
+        return Ok(false);
     }
-    room.clear();
-    owed.put_text(place, room)?;
-    outbox.put_from(room)
+    if unit.has_answer() {
+        room.clear();
+        unit.put_text(room)?;
+        outbox.put_from(room)?;
+    }
+    Ok(true)
 }
 
 /// Writes the answers of the units in front that are complete, all or none.
@@ -94,12 +96,13 @@ fn write_each_in_front(
         with_texts (answer_texts (complete_front owed.now.owed)) outbox.old) }
     ensures err { OnErr result (OnlyPutSince outbox.old outbox.new) }
 {
+    numbers_above_one::<Owed>();
     let mut next = owed.first();
     while let Some(place) = next {
-        if !is_complete(owed, place) {
+        let is_complete = write_complete(owed, place, outbox, room)?;
+        if !is_complete {
             break;
         }
-        write_complete(owed, place, outbox, room)?;
         next = owed.next(place);
     }
     Ok(())
@@ -121,26 +124,31 @@ fn remove_leaving(order: Order, owed: &mut OwedAnswers, place: u64) -> u64
     ensures owed { owed.new ≡ record owed.old { owed = staying order owed.old.owed } }
     ensures count { result ≡ capped (answer_count (leaving order owed.old.owed)) }
 {
+    numbers_above_one::<Owed>();
     match order {
-        Order::AsAnswered => remove_complete(owed, place),
+        Order::AsAnswered => remove_complete(owed, place).unwrap_or(0),
         Order::AsCame => remove_front(owed),
     }
 }
 
-/// The unit at this place is owed nothing any more, where it is complete. Says whether an answer went out, as 1 or 0.
-fn remove_complete(owed: &mut OwedAnswers, place: u64) -> u64
+/// The unit at this place is owed nothing any more, where it is complete. Says whether an answer went out then, as 1 or 0.
+fn remove_complete(owed: &mut OwedAnswers, place: u64) -> Option<u64>
+    ensures complete { is_some result ≡ complete_at place owed.old.owed }
     ensures owed { owed.new ≡ record owed.old {
       owed = if complete_at place owed.old.owed then without place owed.old.owed else owed.old.owed;
     } }
-    ensures count { result ≡ length (complete_text_at place owed.old.owed) }
+    ensures count { unwrap_or result 0 ≡ length (complete_text_at place owed.old.owed) }
     ensures ascending { Ascending owed.old.owed }
 {
-    if !is_complete(owed, place) {
-        return 0;
+    let Some(unit) = owed.get(place) else {
+        return None;
+    };
+    if unit.lacking() != 0 {
+        return None;
     }
-    let count = owed.has_answer(place) as u64;
+    let count = unit.has_answer() as u64;
     owed.remove(place);
-    count
+    Some(count)
 }
 
 /// The units in front that are complete are owed nothing any more. Says how many had an answer.
@@ -148,12 +156,14 @@ fn remove_front(owed: &mut OwedAnswers) -> u64
     ensures owed { owed.new ≡ record owed.old { owed = incomplete_rest owed.old.owed } }
     ensures count { result ≡ capped (answer_count (complete_front owed.old.owed)) }
 {
+    numbers_above_one::<Owed>();
+    an_entry_changes_or_goes::<Owed>();
     let mut count: u64 = 0;
     while let Some(place) = owed.first() {
-        if !is_complete(owed, place) {
+        let Some(went) = remove_complete(owed, place) else {
             break;
-        }
-        count = count.saturating_add(remove_complete(owed, place));
+        };
+        count = count.saturating_add(went);
     }
     count
 }

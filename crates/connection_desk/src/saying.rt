@@ -2,7 +2,7 @@
 
 ghost use Rattle.std.specs.Prelude.{◌≡◌, ◌+◌, ◌≤◌, ◌∷◌, [], length, None, IfOk, IfErr, OnOk, OnErr};
 ghost use Rattle.connection_history.specs.declared.refused.Refused.TheVariants.{Memory};
-ghost use Rattle.connection_states.specs.Steps.{withdrawn_by};
+ghost use Rattle.connection_steps.specs.Steps.{withdrawn_by};
 
 use crate::desk::Desk;
 use connection_history::Refused;
@@ -17,7 +17,7 @@ const MOST_KEYS: u64 = (1 << 53) - 1;
 
 impl Desk {
     ghost use Rattle.connection_history.specs.Refusals.{most_keys};
-    ghost use Rattle.connection_states.specs.Steps.{after_called};
+    ghost use Rattle.connection_steps.specs.Steps.{after_called};
     ghost use Rattle.connection_desk.specs.Desks.{IsRefusal, after_call, after_calls, after_notice, after_saying, after_withdrawal, call_refused, has_call, withdraw_refused};
 
     /// Calls the other side on behalf of the open call with this number, or of the host itself, and answers the call's key.

@@ -4,7 +4,7 @@
 ghost use Rattle.std.specs.Prelude.{◌≡◌, ◌≤◌, ◌<◌, ◌+◌, ◌^◌, ◌++◌, ◌∷◌, [], length, map, None, is_some, option_to_list, if◌then◌else◌};
 ghost use Rattle.connection_history.specs.Stream.{call_in, calls_in, entries_in};
 ghost use Rattle.connection_history.specs.declared.event.Event.TheVariants as event;
-ghost use Rattle.connection_states.specs.Steps.{own_after, own_after_all};
+ghost use Rattle.connection_steps.specs.Steps.{own_after, own_after_all};
 ghost use Rattle.open_calls.specs.Numbered.{at, without};
 ghost use Rattle.connection_desk.specs.Inner.{untold_of, room_of, IsOpenEnded, told_at, told_along, calls_at, calls_along, reached_to, cancelled_to, counted, counted_along, counted_in, with_call, with_ignored_if};
 

@@ -1,6 +1,6 @@
 ghost use Rattle.std.specs.Prelude.{◌≡◌, ◌==◌, ◌∷◌, [], true, None, length};
 
-use open_calls::Slot;
+use owed_answers::Slot;
 
 /// The slots of a unit's answer, each with its text where it is known already. Those of a unit that is no batch take no
 /// memory.

@@ -1,5 +1,5 @@
 -- The answers that go out are read as replies.
-use Rattle.std.proofs.Common.{◌≡◌, ℕ, suc, ◌<◌, ◌≤◌, ◌^◌, List, [], ◌∷◌, ◌++◌, get_or, IsUtf8, true, false, Option, Some, None, option_map, if◌then◌else◌, refl, sym, ap, ◌∙◌, arith, append_assoc, decimal}
+use Rattle.std.proofs.Common.{◌≡◌, ℕ, suc, ◌<◌, ◌≤◌, ◌^◌, List, [], ◌∷◌, ◌++◌, length, get_or, IsUtf8, true, false, Option, Some, None, option_map, if◌then◌else◌, refl, sym, ap, ◌∙◌, arith, append_assoc, decimal}
 use Rattle.std.specs.Prelude.{codes, option_and_then, ℤ, pos, negsuc, nat_lt, nat_le, ◌-◌, ◌&&◌}
 use Rattle.std.specs.Fmt.{signed_decimal}
 use Rattle.std.proofs.lemmas.Bool.Decides.{nat_tests}
@@ -19,15 +19,15 @@ use Rattle.message_ids.specs.declared.standard.Standard.{Standard}
 use Rattle.message_ids.specs.declared.standard.Standard.TheVariants.{ParseError, InvalidRequest, MethodNotFound, InvalidParams, InternalError, Cancelled, NoReply, InvalidReply}
 use Rattle.connection_messages.specs.Numbers.{unsigned_of, negated, small_of, or_negative, integer_of}
 use Rattle.connection_messages.specs.ReadBack.{IsData, IsI64, IsFailure, IsAnswer, IsId, AreAnswers, answer_texts, own_id, answer_as_read, answers_as_read}
-use Rattle.connection_messages.specs.Reading.{error_from, error_in, own_key, reply_entry, entry_of, value_unit, unit_of}
+use Rattle.connection_messages.specs.Reading.{error_from, error_in, own_key, reply_entry, entry_of, are_too_many, value_unit, unit_of}
 use Rattle.connection_messages.specs.Texts.{id_text, code_text, error_rest, error_text, error_head, error_end, result_text, error_answer_text, fixed_error, answer_text, batch_text}
 use Rattle.connection_messages.specs.declared.answer.Answer.{Answer}
 use Rattle.connection_messages.specs.declared.answer.Answer.TheVariants.{Result, Error, Standard as Fixed}
 use Rattle.connection_messages.specs.declared.answer.AnswerError.{AnswerError}
-use Rattle.connection_messages.specs.declared.cancels.Cancels.{Cancels}
 use Rattle.connection_messages.specs.declared.entry.Entry.{Entry}
 use Rattle.connection_messages.specs.declared.reply.Reply.TheVariants as reply
 use Rattle.connection_messages.specs.declared.unit.Unit.TheVariants.{Single, Batch}
+use Rattle.connection_messages.specs.declared.rules.Rules.{Rules}
 use Rattle.connection_messages.proofs.Batched.{AreRead, read_of}
 use Rattle.connection_messages.proofs.Decimals.{below_is_true, unsigned_of-decimal, unsigned_of-none, negative_of-none}
 use Rattle.connection_messages.proofs.SaidBack.{named, ascii_decimal, whole_version, unit_is}
@@ -130,8 +130,8 @@ result_whole id j is whole =
     (more_whole 120 (codes "jsonrpc") (string (codes "2.0")) (member (codes "result") j no_members) (IsUtf8-are_ascii (codes "jsonrpc") refl) (whole_version 120)
     (more_whole 120 (codes "result") j no_members (IsUtf8-are_ascii (codes "result") refl) whole (none_whole 120)))
 
-pub result_entry : (cancels : Option Cancels) (id : Id) (j : Json) → IsId id → entry_of cancels (result_value id j) ≡ reply_entry (own_id id) (reply.Result (json_text j))
-result_entry cancels id j is = ap (λ k. reply_entry k (reply.Result (json_text j))) (key_read id is)
+pub result_entry : (rules : Rules) (id : Id) (j : Json) → IsId id → entry_of rules (result_value id j) ≡ reply_entry (own_id id) (reply.Result (json_text j))
+result_entry rules id j is = ap (λ k. reply_entry k (reply.Result (json_text j))) (key_read id is)
 
 -- ---- errors
 
@@ -228,24 +228,24 @@ error_read e extra fits is =
     ∙ ap (λ m. error_from (Some e.code) (option_and_then as_str m) (option_map json_text (get (codes "data") j))) f.1
     ∙ ap (λ d. error_from (Some e.code) (Some e.message) (option_map json_text d)) f.2 ∙ ap (λ d. error_from (Some e.code) (Some e.message) d) is
 
-error_entry : (cancels : Option Cancels) (id : Id) (e : AnswerError) (extra : Option Json) → IsId id → IsI64 e.code → option_map json_text extra ≡ e.«data»
-    → entry_of cancels (answer_value id (error_value e.code e.message extra)) ≡ reply_entry (own_id id) (reply.Error (record { code = e.code; message = e.message; «data» = e.«data» }))
-error_entry cancels id e extra is fits same =
+error_entry : (rules : Rules) (id : Id) (e : AnswerError) (extra : Option Json) → IsId id → IsI64 e.code → option_map json_text extra ≡ e.«data»
+    → entry_of rules (answer_value id (error_value e.code e.message extra)) ≡ reply_entry (own_id id) (reply.Error (record { code = e.code; message = e.message; «data» = e.«data» }))
+error_entry rules id e extra is fits same =
     ap (λ r. reply_entry (own_key (option_and_then unsigned_of (as_number (id_value id)))) r) (error_read e extra fits same)
     ∙ ap (λ k. reply_entry k (reply.Error (record { code = e.code; message = e.message; «data» = e.«data» }))) (key_read id is)
 
 -- ---- answers
 
-pub record ReadsAs (cancels : Option Cancels) (text : List ℕ) (e : Entry) : Type 0 where
+pub record ReadsAs (rules : Rules) (text : List ℕ) (e : Entry) : Type 0 where
   pub value : Json
   pub is : json_text value ≡ text
   pub whole : IsWhole 122 value
-  pub alone : value_unit cancels value ≡ Single (entry_of cancels value)
-  pub entry : entry_of cancels value ≡ e
+  pub alone : value_unit rules value ≡ Single (entry_of rules value)
+  pub entry : entry_of rules value ≡ e
 
-failure_is : (cancels : Option Cancels) (id : Id) (e : AnswerError) → IsId id → IsFailure e
-    → ReadsAs cancels (error_answer_text id e) (reply_entry (own_id id) (reply.Error (record { code = e.code; message = e.message; «data» = e.«data» })))
-failure_is cancels id e is failure =
+failure_is : (rules : Rules) (id : Id) (e : AnswerError) → IsId id → IsFailure e
+    → ReadsAs rules (error_answer_text id e) (reply_entry (own_id id) (reply.Error (record { code = e.code; message = e.message; «data» = e.«data» })))
+failure_is rules id e is failure =
     let h = data_whole e.message e.«data» failure.message failure.extra in
     let j = error_value e.code e.message h.value in
     record {
@@ -253,7 +253,7 @@ failure_is cancels id e is failure =
       is = answer_value_text id e j (error_value_text e h.value h.is);
       whole = answer_whole id j is (error_whole e h failure.code);
       alone = refl;
-      entry = error_entry cancels id e h.value is failure.code h.is;
+      entry = error_entry rules id e h.value is failure.code h.is;
     }
 
 fixed_is : (s : Standard) → IsFailure (fixed_error s)
@@ -266,32 +266,36 @@ fixed_is Cancelled = record { code = omega arith; message = IsUtf8-are_ascii (me
 fixed_is NoReply = record { code = omega arith; message = IsUtf8-are_ascii (message_of NoReply) refl; extra = tt }
 fixed_is InvalidReply = record { code = omega arith; message = IsUtf8-are_ascii (message_of InvalidReply) refl; extra = tt }
 
-pub answer_is : (cancels : Option Cancels) (id : Id) (a : Answer) → IsId id → IsAnswer a → ReadsAs cancels (answer_text id a) (answer_as_read id a)
-answer_is cancels id (Result text) is answer =
+pub answer_is : (rules : Rules) (id : Id) (a : Answer) → IsId id → IsAnswer a → ReadsAs rules (answer_text id a) (answer_as_read id a)
+answer_is rules id (Result text) is answer =
     let it = json_of text answer in
     record {
       value = result_value id it.value;
       is = result_value_text id it.value text it.is;
       whole = whole_deeper 121 122 (result_value id it.value) (omega arith) (result_whole id it.value is it.whole);
       alone = refl;
-      entry = result_entry cancels id it.value is ∙ ap (λ s. reply_entry (own_id id) (reply.Result s)) it.is;
+      entry = result_entry rules id it.value is ∙ ap (λ s. reply_entry (own_id id) (reply.Result s)) it.is;
     }
-answer_is cancels id (Error e) is answer = failure_is cancels id e is answer
-answer_is cancels id (Fixed s) is answer = failure_is cancels id (fixed_error s) is (fixed_is s)
+answer_is rules id (Error e) is answer = failure_is rules id e is answer
+answer_is rules id (Fixed s) is answer = failure_is rules id (fixed_error s) is (fixed_is s)
 
-pub answer_read : (cancels : Option Cancels) (id : Id) (a : Answer) → IsId id → IsAnswer a → unit_of cancels false (answer_text id a) ≡ Single (answer_as_read id a)
-answer_read cancels id a is answer =
-    let it = answer_is cancels id a is answer in
-    unit_is cancels 122 it.value (answer_text id a) it.is it.whole (omega arith) ∙ it.alone ∙ ap Single it.entry
+pub answer_read : (rules : Rules) (id : Id) (a : Answer) → IsId id → IsAnswer a → unit_of rules false (answer_text id a) ≡ Single (answer_as_read id a)
+answer_read rules id a is answer =
+    let it = answer_is rules id a is answer in
+    unit_is rules 122 it.value (answer_text id a) it.is it.whole (omega arith) ∙ it.alone ∙ ap Single it.entry
 
-answers_are : (cancels : Option Cancels) (as_given : List (Id × Answer)) → AreAnswers as_given → AreRead cancels 122 (answer_texts as_given) (answers_as_read as_given)
-answers_are cancels [] are = record { items = no_items; are = tt }
-answers_are cancels (a ∷ more) are =
-    let it = answer_is cancels a.0 a.1 are.0 are.1 in
-    let others = answers_are cancels more are.2 in
+answers_are : (rules : Rules) (as_given : List (Id × Answer)) → AreAnswers as_given → AreRead rules 122 (answer_texts as_given) (answers_as_read as_given)
+answers_are rules [] are = record { items = no_items; are = tt }
+answers_are rules (a ∷ more) are =
+    let it = answer_is rules a.0 a.1 are.0 are.1 in
+    let others = answers_are rules more are.2 in
     record { items = item it.value others.items; are = (it.is, it.whole, it.entry, others.are) }
 
-pub answers_read : (cancels : Option Cancels) (a : Id × Answer) (more : List (Id × Answer)) → AreAnswers (a ∷ more)
-    → unit_of cancels false (batch_text (answer_texts (a ∷ more))) ≡ Batch (answers_as_read (a ∷ more))
-answers_read cancels a more are =
-    read_of cancels 122 (answer_text a.0 a.1) (answer_texts more) (answer_as_read a.0 a.1) (answers_as_read more) (omega arith) (answers_are cancels (a ∷ more) are)
+length-answers : (all : List (Id × Answer)) → length (answers_as_read all) ≡ length all
+length-answers [] = refl
+length-answers (a ∷ more) = ap suc (length-answers more)
+
+pub answers_read : (rules : Rules) (a : Id × Answer) (more : List (Id × Answer)) → are_too_many rules.most_entries (length (a ∷ more)) ≡ false → AreAnswers (a ∷ more)
+    → unit_of rules false (batch_text (answer_texts (a ∷ more))) ≡ Batch (answers_as_read (a ∷ more))
+answers_read rules a more kept are =
+    read_of rules 122 (answer_text a.0 a.1) (answer_texts more) (answer_as_read a.0 a.1) (answers_as_read more) (omega arith) (ap (are_too_many rules.most_entries) (length-answers (a ∷ more)) ∙ kept) (answers_are rules (a ∷ more) are)

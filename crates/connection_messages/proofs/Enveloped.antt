@@ -22,11 +22,12 @@ use Rattle.message_ids.specs.declared.id.Id.TheVariants.{Null, Text, Unsigned}
 use Rattle.connection_messages.specs.Envelope.{IsMember, MemberHasNumbers, HasEnvelopeAt, Names, GivesId, GivesParams, target_part, cancels_by, GivesTarget}
 use Rattle.connection_messages.specs.Numbers.{unsigned_of, negative_of}
 use Rattle.connection_messages.specs.Params.{is_structured}
-use Rattle.connection_messages.specs.Reading.{is_version_2, number_id_of, call_id, call_params, call_from, call_in, cancel_method, cancel_member, cancelled_id, target_in, cancel_or_call, call_entry, reply_in, own_key, key_in, reply_entry, entry_of}
+use Rattle.connection_messages.specs.Reading.{is_version_2, number_id_of, call_id, null_params, call_params, call_from, call_in, cancel_method, cancel_member, cancelled_id, target_in, cancel_or_call, call_entry, reply_in, own_key, key_in, reply_entry, entry_of}
 use Rattle.connection_messages.specs.declared.call.Call.{Call as Came}
 use Rattle.connection_messages.specs.declared.cancels.Cancels.{Cancels}
 use Rattle.connection_messages.specs.declared.cancels.Cancels.TheVariants.{Lsp, Mcp}
 use Rattle.connection_messages.specs.declared.entry.Entry.TheVariants.{Call, Cancel, Reply, Invalid}
+use Rattle.connection_messages.specs.declared.rules.Rules.{Rules}
 use Rattle.connection_messages.specs.declared.read.envelope.Envelope.{Envelope}
 use Rattle.connection_messages.specs.declared.reply.Reply.TheVariants.{Result}
 use Rattle.connection_messages.proofs.Decimals.{unsigned_of-is}
@@ -134,35 +135,36 @@ no_bracket x s is bracket =
           let f : None ≡ Some [] = subst (λ y. IsNumber (y ∷ s)) (eqb-true x 123 brace) is in cc
     ]
 
-pub structured_value : (v : Json) → HasNumbers v → is_structured (json_text v) ≡ true → call_params (Some v) ≡ Some (Some (json_text v))
+pub structured_value : (told : Bool) (v : Json) → HasNumbers v → is_structured (json_text v) ≡ true → call_params told (Some v) ≡ Some (Some (json_text v))
 unfolding json_text print_from
-structured_value null numbers is = absurd (let f : false ≡ true = is in cc)
-structured_value (boolean true) numbers is = absurd (let f : false ≡ true = is in cc)
-structured_value (boolean false) numbers is = absurd (let f : false ≡ true = is in cc)
-structured_value (number []) numbers is = absurd (let f : false ≡ true = is in cc)
-structured_value (number (x ∷ s)) numbers is = absurd (no_bracket x s numbers is)
-structured_value (string s) numbers is = absurd (let f : false ≡ true = is in cc)
-structured_value (array js) numbers is = refl
-structured_value (object ms) numbers is = refl
+structured_value told null numbers is = absurd (let f : false ≡ true = is in cc)
+structured_value told (boolean true) numbers is = absurd (let f : false ≡ true = is in cc)
+structured_value told (boolean false) numbers is = absurd (let f : false ≡ true = is in cc)
+structured_value told (number []) numbers is = absurd (let f : false ≡ true = is in cc)
+structured_value told (number (x ∷ s)) numbers is = absurd (no_bracket x s numbers is)
+structured_value told (string s) numbers is = absurd (let f : false ≡ true = is in cc)
+structured_value told (array js) numbers is = refl
+structured_value told (object ms) numbers is = refl
 
-pub params_give : (part : Option (Bor (List ℕ))) (text : Bor (List ℕ)) (copy : List ℕ) → part ≡ Some text → is_structured text.now ≡ true → copy ≡ text.now → GivesParams part (Some copy)
-params_give part text copy is structured copied member numbers named =
+pub params_give : (told : Bool) (part : Option (Bor (List ℕ))) (text : Bor (List ℕ)) (copy : List ℕ) → part ≡ Some text → is_structured text.now ≡ true → copy ≡ text.now → GivesParams told part (Some copy)
+params_give told part text copy is structured copied member numbers named =
     let f = member_found part text member is named in
-    ap call_params f.1 ∙ structured_value f.0 (numbers_of member f.0 numbers f.1) (ap is_structured f.2 ∙ structured) ∙ ap (λ s. Some (Some s)) (f.2 ∙ sym copied)
+    ap (call_params told) f.1 ∙ structured_value told f.0 (numbers_of member f.0 numbers f.1) (ap is_structured f.2 ∙ structured) ∙ ap (λ s. Some (Some s)) (f.2 ∙ sym copied)
 
-pub null_gives_none : (part : Option (Bor (List ℕ))) (text : Bor (List ℕ)) → part ≡ Some text → text.now ≡ codes "null" → GivesParams part None
-null_gives_none part text is same member numbers named =
+pub null_params_give : (told : Bool) (part : Option (Bor (List ℕ))) (text : Bor (List ℕ)) (params : Option (List ℕ)) → part ≡ Some text → text.now ≡ codes "null" → params ≡ null_params told
+    → GivesParams told part params
+null_params_give told part text params is same as_told member numbers named =
     let f = member_found part text member is named in
     let null_v : f.0 ≡ null = null_is f.0 (numbers_of member f.0 numbers f.1) (f.2 ∙ same) in
-    ap call_params (f.1 ∙ ap Some null_v)
+    ap (call_params told) (f.1 ∙ ap Some null_v) ∙ ap Some (sym as_told)
 
 -- ---- entries
 
-pub call_is : (j : Json) (method : List ℕ) (params : Option (List ℕ)) (id : Option Id) → is_version_2 j ≡ true → option_and_then as_str (get (codes "method") j) ≡ Some method
-    → call_params (get (codes "params") j) ≡ Some params → call_id (get (codes "id") j) ≡ Some id → call_in j ≡ Some (record { id = id; method = method; params = params })
-call_is j method params id version named given identified =
-    ap (λ b. call_from b (option_and_then as_str (get (codes "method") j)) (call_params (get (codes "params") j)) (call_id (get (codes "id") j))) version
-    ∙ ap (λ m. call_from true m (call_params (get (codes "params") j)) (call_id (get (codes "id") j))) named
+pub call_is : (told : Bool) (j : Json) (method : List ℕ) (params : Option (List ℕ)) (id : Option Id) → is_version_2 j ≡ true → option_and_then as_str (get (codes "method") j) ≡ Some method
+    → call_params told (get (codes "params") j) ≡ Some params → call_id (get (codes "id") j) ≡ Some id → call_in told j ≡ Some (record { id = id; method = method; params = params })
+call_is told j method params id version named given identified =
+    ap (λ b. call_from b (option_and_then as_str (get (codes "method") j)) (call_params told (get (codes "params") j)) (call_id (get (codes "id") j))) version
+    ∙ ap (λ m. call_from true m (call_params told (get (codes "params") j)) (call_id (get (codes "id") j))) named
     ∙ ap (λ p. call_from true (Some method) p (call_id (get (codes "id") j))) given
     ∙ ap (λ i. call_from true (Some method) (Some params) i) identified
 
@@ -182,11 +184,11 @@ some_call : (cancels : Option Cancels) (call : Came) (j : Json) → cancels_by c
 some_call None call j other = refl
 some_call (Some by) call j other = no_cancel by call (target_in by j) (none_by by (bytes_eq call.method (cancel_method by)) other)
 
-pub call_entry_is : (cancels : Option Cancels) (j : Json) (call : Came) → is_some (get (codes "method") j) ≡ true → call_in j ≡ Some call
-    → cancels_by cancels call.method ≡ None → Call call ≡ entry_of cancels j
-call_entry_is cancels j call named is other =
-    some_call cancels call j other ∙ ap (λ o. call_entry cancels o j) (sym is)
-    ∙ ap (λ b. if b then call_entry cancels (call_in j) j
+pub call_entry_is : (rules : Rules) (j : Json) (call : Came) → is_some (get (codes "method") j) ≡ true → call_in rules.null_params j ≡ Some call
+    → cancels_by rules.cancels call.method ≡ None → Call call ≡ entry_of rules j
+call_entry_is rules j call named is other =
+    some_call rules.cancels call j other ∙ ap (λ o. call_entry rules.cancels o j) (sym is)
+    ∙ ap (λ b. if b then call_entry rules.cancels (call_in rules.null_params j) j
     else (if is_some (get (codes "result") j) || is_some (get (codes "error") j) then reply_entry (key_in j) (reply_in j) else Invalid)) (sym named)
 
 pub key_is : (part : Option (Bor (List ℕ))) (text : Bor (List ℕ)) (k : ℕ) (j : Json) → part ≡ Some text → unsigned_of text.now ≡ Some k → 0 < k → HasNumbers j → IsMember part (get (codes "id") j)
@@ -201,9 +203,9 @@ key_is part text (suc k) j is read positive numbers member =
     ap (λ o. own_key (option_and_then unsigned_of (option_and_then as_number o))) (f.1 ∙ ap Some number_s) ∙ ap own_key read
     ∙ ap (λ b. if b then None else Some (suc k)) (ne_eqb (suc k) 0 (λ e. omega (arith, e)))
 
-pub result_entry_is : (cancels : Option Cancels) (j v : Json) (k : ℕ) → is_version_2 j ≡ true → get (codes "method") j ≡ None → get (codes "result") j ≡ Some v → get (codes "error") j ≡ None → key_in j ≡ Some k
-    → Reply k (Result (json_text v)) ≡ entry_of cancels j
-result_entry_is cancels j v k version no_method result no_error key = rw (no_method, result, no_error, key, version) refl
+pub result_entry_is : (rules : Rules) (j v : Json) (k : ℕ) → is_version_2 j ≡ true → get (codes "method") j ≡ None → get (codes "result") j ≡ Some v → get (codes "error") j ≡ None → key_in j ≡ Some k
+    → Reply k (Result (json_text v)) ≡ entry_of rules j
+result_entry_is rules j v k version no_method result no_error key = rw (no_method, result, no_error, key, version) refl
 
 pub some_holds : {X : Type 0} (P : X → Type 0) (o : Option X) (x : X) → o ≡ Some x → IfSome o P → P x
 some_holds P o x is holds = subst (λ p. IfSome p P) is holds
@@ -225,7 +227,7 @@ target_of by levels params end e part target h whole is gives p numbers same =
     let text : params ≡ json_text o = whole_object levels params end e h whole in
     let object_p : p ≡ o = json_text-same p o numbers h.numbers (same ∙ text) in
     let f = member_found (target_part by e) part (get (cancel_member by) o) is (target_member by e o h.names) in (
-      ap (λ q. call_params (Some q)) object_p ∙ ap (λ s. Some (Some s)) (sym text),
+      λ told. ap (λ q. call_params told (Some q)) object_p ∙ ap (λ s. Some (Some s)) (sym text),
       ap (λ q. option_and_then cancelled_id (get (cancel_member by) q)) object_p ∙ ap (option_and_then cancelled_id) f.1 ∙ gives f.0 (HasNumbers-get (cancel_member by) o f.0 h.numbers (sym f.1)) f.2,
     )
 
@@ -254,13 +256,14 @@ cancels_by_is (Some theirs) method by e = by_test (bytes_eq method (cancel_metho
         (is, (bytes_eq-Decides method (cancel_method theirs)).0 same ∙ ap cancel_method one)
     by_test false same is = cc
 
-pub cancel_is : (by : Cancels) (j p : Json) (params : List ℕ) (target : Id) → is_version_2 j ≡ true → is_some (get (codes "method") j) ≡ true
-    → option_and_then as_str (get (codes "method") j) ≡ Some (cancel_method by) → get (codes "id") j ≡ None → get (codes "params") j ≡ Some p → call_params (Some p) ≡ Some (Some params)
-    → option_and_then cancelled_id (get (cancel_member by) p) ≡ Some target → Cancel target ≡ entry_of (Some by) j
-cancel_is by j p params target version some named absent found given targeted =
+pub cancel_is : (rules : Rules) (by : Cancels) (j p : Json) (params : List ℕ) (target : Id) → rules.cancels ≡ Some by → is_version_2 j ≡ true → is_some (get (codes "method") j) ≡ true
+    → option_and_then as_str (get (codes "method") j) ≡ Some (cancel_method by) → get (codes "id") j ≡ None → get (codes "params") j ≡ Some p → call_params rules.null_params (Some p) ≡ Some (Some params)
+    → option_and_then cancelled_id (get (cancel_member by) p) ≡ Some target → Cancel target ≡ entry_of rules j
+cancel_is rules by j p params target theirs version some named absent found given targeted =
     let call : Came = record { id = None; method = cancel_method by; params = Some params } in
-    let came : call_in j ≡ Some call = call_is j (cancel_method by) (Some params) None version named (ap call_params found ∙ given) (ap call_id absent) in
+    let came : call_in rules.null_params j ≡ Some call = call_is rules.null_params j (cancel_method by) (Some params) None version named (ap (call_params rules.null_params) found ∙ given) (ap call_id absent) in
     let aimed : target_in by j ≡ Some target = ap (option_and_then (λ q. option_and_then cancelled_id (get (cancel_member by) q))) found ∙ targeted in
     cancelled by call target refl refl ∙ ap (λ t. cancel_or_call by call t) (sym aimed) ∙ ap (λ c. call_entry (Some by) c j) (sym came)
-    ∙ ap (λ b. if b then call_entry (Some by) (call_in j) j
+    ∙ ap (λ b. call_entry b (call_in rules.null_params j) j) (sym theirs)
+    ∙ ap (λ b. if b then call_entry rules.cancels (call_in rules.null_params j) j
     else (if is_some (get (codes "result") j) || is_some (get (codes "error") j) then reply_entry (key_in j) (reply_in j) else Invalid)) (sym some)

@@ -1,13 +1,12 @@
 pub mod AnswersBack
 pub mod Batched
-pub mod Behind
+pub mod CallRows
+pub mod Counted
 pub mod Decimals
 pub mod Enveloped
-pub mod Joined
 pub mod Lines
 pub mod Members
 pub mod Noted
-pub mod OnResults
 pub mod OneLine
 pub mod SaidBack
 pub mod Whole

@@ -15,11 +15,11 @@ use Rattle.json_texts.proofs.Placed.{MembersStand, stand_more, stand_last, Items
 use Rattle.json_texts.proofs.ReadBack.{value_of-json_text}
 use Rattle.connection_messages.specs.Envelope.{IsMember, HasEnvelope, HasEnvelopeAt, HasBatch}
 use Rattle.connection_messages.specs.Reading.{entry_of, entries_of}
-use Rattle.connection_messages.specs.declared.cancels.Cancels.{Cancels}
 use Rattle.connection_messages.specs.declared.entry.Entry.{Entry}
 use Rattle.json.specs.Tree.{depth, HasNumbers}
 use Rattle.connection_messages.specs.declared.read.unit.TheConstants.{MOST_DEPTH_IN}
 use Rattle.connection_messages.specs.declared.read.envelope.Envelope.{Envelope}
+use Rattle.connection_messages.specs.declared.rules.Rules.{Rules}
 
 -- each slot has the text that was noted for its name
 pub record AreNoted (e : Envelope) (note : List ℕ → Option Json) : Type 0 where
@@ -179,23 +179,23 @@ nothing_noted = record { version = refl; id = refl; method = refl; params = refl
 -- ---- batches
 
 -- the entries are those of the elements before this place
-abbrev pub AreBehind : Option Cancels → List ℕ → ℕ → List Entry → Type 0
-AreBehind cancels text at entries =
+abbrev pub AreBehind : Rules → List ℕ → ℕ → List Entry → Type 0
+AreBehind rules text at entries =
     (end : ℕ) (j : Json) (js : Items) → ItemsStand 126 text at (item j js) end
-    → (k : Json) × (ks : Items) × ItemsStand 126 text 1 (item k ks) end × (entries_of cancels (item k ks) ≡ entries ++ entries_of cancels (item j js))
+    → (k : Json) × (ks : Items) × ItemsStand 126 text 1 (item k ks) end × (entries_of rules (item k ks) ≡ entries ++ entries_of rules (item j js))
 
-pub none_behind : (cancels : Option Cancels) (text : List ℕ) → AreBehind cancels text 1 []
-none_behind cancels text end j js stand = (j, js, stand, refl)
+pub none_behind : (rules : Rules) (text : List ℕ) → AreBehind rules text 1 []
+none_behind rules text end j js stand = (j, js, stand, refl)
 
-pub entry_behind : (cancels : Option Cancels) (text : List ℕ) (at stop : ℕ) (entries : List Entry) (entry : Entry) (v : HasValue 126 text at stop) → entry ≡ entry_of cancels v.value → get_or text stop 0 ≡ 44
-    → AreBehind cancels text at entries → AreBehind cancels text (stop + 1) (entries ++ entry ∷ [])
-entry_behind cancels text at stop entries entry v is comma behind end j js stand =
+pub entry_behind : (rules : Rules) (text : List ℕ) (at stop : ℕ) (entries : List Entry) (entry : Entry) (v : HasValue 126 text at stop) → entry ≡ entry_of rules v.value → get_or text stop 0 ≡ 44
+    → AreBehind rules text at entries → AreBehind rules text (stop + 1) (entries ++ entry ∷ [])
+entry_behind rules text at stop entries entry v is comma behind end j js stand =
     let all = behind end v.value (item j js) (stand_more_items 126 text at stop end v comma j js stand) in
-    (all.0, all.1, all.2, all.3 ∙ ap (λ e. entries ++ e ∷ entries_of cancels (item j js)) (sym is) ∙ sym (append_assoc entries (entry ∷ []) (entries_of cancels (item j js))))
+    (all.0, all.1, all.2, all.3 ∙ ap (λ e. entries ++ e ∷ entries_of rules (item j js)) (sym is) ∙ sym (append_assoc entries (entry ∷ []) (entries_of rules (item j js))))
 
-pub batch_is : (cancels : Option Cancels) (text bytes : List ℕ) (at end : ℕ) (entries : List Entry) (entry : Entry) (v : HasValue 126 bytes at end) → entry ≡ entry_of cancels v.value → get_or bytes end 0 ≡ 93
-    → AreBehind cancels bytes at entries → get_or bytes 0 0 ≡ 91 → end + 1 ≡ length bytes → bytes ≡ text → IsUtf8 text → HasBatch cancels text (entries ++ entry ∷ [])
-batch_is cancels text bytes at end entries entry v is bracket behind first whole same utf8 =
+pub batch_is : (rules : Rules) (text bytes : List ℕ) (at end : ℕ) (entries : List Entry) (entry : Entry) (v : HasValue 126 bytes at end) → entry ≡ entry_of rules v.value → get_or bytes end 0 ≡ 93
+    → AreBehind rules bytes at entries → get_or bytes 0 0 ≡ 91 → end + 1 ≡ length bytes → bytes ≡ text → IsUtf8 text → HasBatch rules text (entries ++ entry ∷ [])
+batch_is rules text bytes at end entries entry v is bracket behind first whole same utf8 =
     let all = behind (end + 1) v.value no_items (stand_last_item 126 bytes at end v bracket) in
     let stand = all.2 in
     let nests = stand.1 in

@@ -1,5 +1,5 @@
 -- No text that goes out has a line feed.
-use Rattle.std.proofs.Common.{ℕ, suc, ◌+◌, ◌<◌, ◌≤◌, ◌^◌, List, [], ◌∷◌, length, None, subst, arith}
+use Rattle.std.proofs.Common.{ℕ, suc, ◌+◌, ◌<◌, ◌≤◌, ◌^◌, List, [], ◌∷◌, length, None, false, subst, arith}
 use Rattle.std.specs.Prelude.{⊤}
 use Rattle.std.specs.List.{join_with_byte}
 use Rattle.message_ids.specs.declared.id.Id.{Id}
@@ -27,7 +27,7 @@ withdrawal_line by k fits = subst IsLine (withdrawal_value_text by k) (json_line
 
 pub answer_line : (id : Id) (a : Answer) → IsId id → IsAnswer a → IsLine (answer_text id a)
 answer_line id a is answer =
-    let it = answer_is None id a is answer in
+    let it = answer_is (record { cancels = None; most_entries = None; null_params = false }) id a is answer in
     subst IsLine it.is (json_line it.value it.whole.numbers)
 
 -- ---- batches

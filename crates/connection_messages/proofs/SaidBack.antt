@@ -1,5 +1,5 @@
 -- The texts that go out are read as what was said.
-use Rattle.std.proofs.Common.{◌≡◌, ℕ, ◌<◌, ◌≤◌, ◌^◌, List, ◌∷◌, ◌++◌, IsUtf8, true, false, ◌||◌, Option, Some, None, option_map, is_some, if◌then◌else◌, refl, sym, ap, ◌∙◌, arith, append_assoc, decimal}
+use Rattle.std.proofs.Common.{◌≡◌, ℕ, ◌<◌, ◌≤◌, ◌^◌, List, ◌∷◌, ◌++◌, IsUtf8, Bool, true, false, ◌||◌, Option, Some, None, option_map, is_some, if◌then◌else◌, refl, sym, ap, ◌∙◌, arith, append_assoc, decimal}
 use Rattle.std.specs.Prelude.{codes, option_and_then}
 use Rattle.std.proofs.lemmas.Fmt.{IsAscii-decimal}
 use Rattle.std.proofs.lemmas.Str.{IsUtf8-from_ascii}
@@ -23,6 +23,7 @@ use Rattle.connection_messages.specs.declared.cancels.Cancels.TheVariants.{Lsp, 
 use Rattle.connection_messages.specs.declared.entry.Entry.TheVariants.{Call, Cancel, Invalid}
 use Rattle.connection_messages.specs.declared.outgoing.Outgoing.{Outgoing}
 use Rattle.connection_messages.specs.declared.read.unit.TheConstants.{MOST_DEPTH_IN}
+use Rattle.connection_messages.specs.declared.rules.Rules.{Rules}
 use Rattle.connection_messages.specs.declared.unit.Unit.TheVariants.{Single}
 use Rattle.connection_messages.proofs.Decimals.{unsigned_of-decimal}
 use Rattle.connection_messages.proofs.Enveloped.{call_is, call_entry_is, cancel_is, structured_value}
@@ -49,17 +50,17 @@ pub record HasParams (params : Option (List ℕ)) : Type 0 where
   pub value : Option Json
   pub is : option_map json_text value ≡ params
   pub whole : AreWhole 120 (params_members value)
-  pub read : call_params value ≡ Some params
+  pub read : (told : Bool) → call_params told value ≡ Some params
 
 pub params_of : (params : Option (List ℕ)) → AreParams params → HasParams params
-params_of None are = record { value = None; is = refl; whole = none_whole 120; read = refl }
+params_of None are = record { value = None; is = refl; whole = none_whole 120; read = λ told. refl }
 params_of (Some text) are =
     let it = json_of text are.0 in
     record {
       value = Some it.value;
       is = ap Some it.is;
       whole = more_whole 120 (codes "params") it.value no_members (IsUtf8-are_ascii (codes "params") refl) it.whole (none_whole 120);
-      read = structured_value it.value it.whole.numbers (ap is_structured it.is ∙ are.1) ∙ ap (λ s. Some (Some s)) it.is;
+      read = λ told. structured_value told it.value it.whole.numbers (ap is_structured it.is ∙ are.1) ∙ ap (λ s. Some (Some s)) it.is;
     }
 
 params_text : (params : Option (List ℕ)) (p : Option Json) → option_map json_text p ≡ params → rest_text (params_members p) ≡ params_member params ++ codes "}"
@@ -140,11 +141,11 @@ notice_found : (method : List ℕ) (p : Option Json) → (is_version_2 (notice_v
 notice_found method None = (refl, refl, refl, refl)
 notice_found method (Some p) = (refl, refl, refl, refl)
 
-call_is_entry : (cancels : Option Cancels) (j : Json) (c : Came) → is_some (get (codes "method") j) ≡ true → call_in j ≡ Some c → entry_of cancels j ≡ call_entry cancels (Some c) j
-call_is_entry cancels j c named came =
-    ap (λ b. if b then call_entry cancels (call_in j) j
+call_is_entry : (rules : Rules) (j : Json) (c : Came) → is_some (get (codes "method") j) ≡ true → call_in rules.null_params j ≡ Some c → entry_of rules j ≡ call_entry rules.cancels (Some c) j
+call_is_entry rules j c named came =
+    ap (λ b. if b then call_entry rules.cancels (call_in rules.null_params j) j
     else (if is_some (get (codes "result") j) || is_some (get (codes "error") j) then reply_entry (key_in j) (reply_in j) else Invalid)) named
-    ∙ ap (λ o. call_entry cancels o j) came
+    ∙ ap (λ o. call_entry rules.cancels o j) came
 
 -- a call with an id is no cancel
 request_entry : (cancels : Option Cancels) (c : Came) (j : Json) (i : Id) → c.id ≡ Some i → call_entry cancels (Some c) j ≡ Call c
@@ -158,36 +159,36 @@ request_entry (Some by) c j i is = by_target (target_in by j)
 id_read : (k : ℕ) → k < 2 ^ 64 → call_id (Some (number (decimal k))) ≡ Some (Some (Unsigned k))
 id_read k fits = ap (λ o. option_map Some (number_id_of o (negative_of (decimal k)))) (unsigned_of-decimal k fits)
 
-pub call_entry_read : (cancels : Option Cancels) (k : ℕ) (o : Outgoing) (h : HasParams o.params) → k < 2 ^ 64 → entry_of cancels (call_value k o.method h.value) ≡ Call (call_as_read k o)
-call_entry_read cancels k o h fits =
+pub call_entry_read : (rules : Rules) (k : ℕ) (o : Outgoing) (h : HasParams o.params) → k < 2 ^ 64 → entry_of rules (call_value k o.method h.value) ≡ Call (call_as_read k o)
+call_entry_read rules k o h fits =
     let j = call_value k o.method h.value in
     let f = found k o.method h.value in
-    let came : call_in j ≡ Some (call_as_read k o) =
-    call_is j o.method o.params (Some (Unsigned k)) f.0 (ap (option_and_then as_str) f.1) (ap call_params f.2 ∙ h.read) (ap call_id f.3 ∙ id_read k fits) in
-    call_is_entry cancels j (call_as_read k o) (ap is_some f.1) came ∙ request_entry cancels (call_as_read k o) j (Unsigned k) refl
+    let came : call_in rules.null_params j ≡ Some (call_as_read k o) =
+    call_is rules.null_params j o.method o.params (Some (Unsigned k)) f.0 (ap (option_and_then as_str) f.1) (ap (call_params rules.null_params) f.2 ∙ h.read rules.null_params) (ap call_id f.3 ∙ id_read k fits) in
+    call_is_entry rules j (call_as_read k o) (ap is_some f.1) came ∙ request_entry rules.cancels (call_as_read k o) j (Unsigned k) refl
 
-pub unit_is : (cancels : Option Cancels) (levels : ℕ) (j : Json) (text : List ℕ) → json_text j ≡ text → IsWhole levels j → levels ≤ MOST_DEPTH_IN → unit_of cancels false text ≡ value_unit cancels j
-unit_is cancels levels j text is whole few =
-    ap (λ t. unit_of_reading cancels (value_of MOST_DEPTH_IN t)) (sym is) ∙ ap (unit_of_reading cancels) (read_back MOST_DEPTH_IN j (whole_deeper levels MOST_DEPTH_IN j few whole))
+pub unit_is : (rules : Rules) (levels : ℕ) (j : Json) (text : List ℕ) → json_text j ≡ text → IsWhole levels j → levels ≤ MOST_DEPTH_IN → unit_of rules false text ≡ value_unit rules j
+unit_is rules levels j text is whole few =
+    ap (λ t. unit_of_reading rules (value_of MOST_DEPTH_IN t)) (sym is) ∙ ap (unit_of_reading rules) (read_back MOST_DEPTH_IN j (whole_deeper levels MOST_DEPTH_IN j few whole))
 
-pub call_read : (cancels : Option Cancels) (k : ℕ) (o : Outgoing) → k < 2 ^ 64 → IsSayable o → unit_of cancels false (call_text k o) ≡ Single (Call (call_as_read k o))
-call_read cancels k o fits sayable =
+pub call_read : (rules : Rules) (k : ℕ) (o : Outgoing) → k < 2 ^ 64 → IsSayable o → unit_of rules false (call_text k o) ≡ Single (Call (call_as_read k o))
+call_read rules k o fits sayable =
     let h = params_of o.params sayable.params in
-    unit_is cancels 121 (call_value k o.method h.value) (call_text k o) (call_value_text k o h.value h.is) (call_whole k o h fits sayable.method) (omega arith)
-    ∙ ap Single (call_entry_read cancels k o h fits)
+    unit_is rules 121 (call_value k o.method h.value) (call_text k o) (call_value_text k o h.value h.is) (call_whole k o h fits sayable.method) (omega arith)
+    ∙ ap Single (call_entry_read rules k o h fits)
 
-pub notice_entry_read : (cancels : Option Cancels) (o : Outgoing) (h : HasParams o.params) → cancels_by cancels o.method ≡ None → entry_of cancels (notice_value o.method h.value) ≡ Call (notice_as_read o)
-notice_entry_read cancels o h other =
+pub notice_entry_read : (rules : Rules) (o : Outgoing) (h : HasParams o.params) → cancels_by rules.cancels o.method ≡ None → entry_of rules (notice_value o.method h.value) ≡ Call (notice_as_read o)
+notice_entry_read rules o h other =
     let j = notice_value o.method h.value in
     let f = notice_found o.method h.value in
-    let came : call_in j ≡ Some (notice_as_read o) = call_is j o.method o.params None f.0 (ap (option_and_then as_str) f.1) (ap call_params f.2 ∙ h.read) (ap call_id f.3) in
-    sym (call_entry_is cancels j (notice_as_read o) (ap is_some f.1) came other)
+    let came : call_in rules.null_params j ≡ Some (notice_as_read o) = call_is rules.null_params j o.method o.params None f.0 (ap (option_and_then as_str) f.1) (ap (call_params rules.null_params) f.2 ∙ h.read rules.null_params) (ap call_id f.3) in
+    sym (call_entry_is rules j (notice_as_read o) (ap is_some f.1) came other)
 
-pub notice_read : (cancels : Option Cancels) (o : Outgoing) → IsSayable o → cancels_by cancels o.method ≡ None → unit_of cancels false (notice_text o) ≡ Single (Call (notice_as_read o))
-notice_read cancels o sayable other =
+pub notice_read : (rules : Rules) (o : Outgoing) → IsSayable o → cancels_by rules.cancels o.method ≡ None → unit_of rules false (notice_text o) ≡ Single (Call (notice_as_read o))
+notice_read rules o sayable other =
     let h = params_of o.params sayable.params in
-    unit_is cancels 121 (notice_value o.method h.value) (notice_text o) (notice_value_text o h.value h.is) (notice_whole o h sayable.method) (omega arith)
-    ∙ ap Single (notice_entry_read cancels o h other)
+    unit_is rules 121 (notice_value o.method h.value) (notice_text o) (notice_value_text o h.value h.is) (notice_whole o h sayable.method) (omega arith)
+    ∙ ap Single (notice_entry_read rules o h other)
 
 -- ---- withdrawals
 
@@ -248,7 +249,7 @@ withdrawal_params by k fits =
       value = Some p;
       is = ap Some (target_value_text by k);
       whole = more_whole 120 (codes "params") p no_members (IsUtf8-are_ascii (codes "params") refl) (whole_deeper 1 120 p (omega arith) (target_whole by k fits)) (none_whole 120);
-      read = ap (λ s. Some (Some s)) (target_value_text by k);
+      read = λ told. ap (λ s. Some (Some s)) (target_value_text by k);
     }
 
 pub withdrawal_whole : (by : Cancels) (k : ℕ) → k < 2 ^ 64 → IsWhole 121 (withdrawal_value by k)
@@ -259,12 +260,12 @@ target_read : (by : Cancels) (k : ℕ) → k < 2 ^ 64 → option_and_then cancel
 target_read Lsp k fits = ap (λ o. number_id_of o (negative_of (decimal k))) (unsigned_of-decimal k fits)
 target_read Mcp k fits = ap (λ o. number_id_of o (negative_of (decimal k))) (unsigned_of-decimal k fits)
 
-pub withdrawal_read : (by : Cancels) (k : ℕ) → k < 2 ^ 64 → unit_of (Some by) false (withdrawal_text by k) ≡ Single (Cancel (Unsigned k))
+pub withdrawal_read : (rules : Rules) (by : Cancels) (k : ℕ) → rules.cancels ≡ Some by → k < 2 ^ 64 → unit_of rules false (withdrawal_text by k) ≡ Single (Cancel (Unsigned k))
 unfolding withdrawal_params
-withdrawal_read by k fits =
+withdrawal_read rules by k theirs fits =
     let h = withdrawal_params by k fits in
     let p = target_value by k in
     let j = withdrawal_value by k in
     let f = notice_found (cancel_method by) (Some p) in
-    unit_is (Some by) 121 j (withdrawal_text by k) (withdrawal_value_text by k) (withdrawal_whole by k fits) (omega arith)
-    ∙ ap Single (sym (cancel_is by j p (target_text by k) (Unsigned k) f.0 (ap is_some f.1) (ap (option_and_then as_str) f.1) f.3 f.2 h.read (target_read by k fits)))
+    unit_is rules 121 j (withdrawal_text by k) (withdrawal_value_text by k) (withdrawal_whole by k fits) (omega arith)
+    ∙ ap Single (sym (cancel_is rules by j p (target_text by k) (Unsigned k) theirs f.0 (ap is_some f.1) (ap (option_and_then as_str) f.1) f.3 f.2 (h.read rules.null_params) (target_read by k fits)))

@@ -12,7 +12,7 @@ use Rattle.json.specs.Tree.{json_tokens, members_tokens, depth, members_depth, H
 use Rattle.json.proofs.Nesting.{value-depth}
 use Rattle.json.proofs.Numbered.{value-HasNumbers, ArePrintableOrBad-tokens}
 use Rattle.json.proofs.Printed.Utf8.{IsUtf8-are_ascii, IsUtf8-quoted}
-use Rattle.json_texts.specs.declared.json_text.TheConstants.{MOST_LEVELS}
+use Rattle.json_texts.specs.declared.json_text.TheConstants.{MOST_DEPTH_OUT}
 use Rattle.json_texts.specs.Texts.{json_text, text_value, value_of, IsJsonText}
 use Rattle.json_texts.proofs.Placed.{print-behind}
 use Rattle.json_texts.proofs.ReadBack.{value_of-json_text}
@@ -33,7 +33,7 @@ whole_deeper levels more j few whole = let nests = whole.nests in record { numbe
 
 pub record HasJson (text : List ℕ) : Type 0 where
   pub value : Json
-  pub whole : IsWhole MOST_LEVELS value
+  pub whole : IsWhole MOST_DEPTH_OUT value
   pub is : json_text value ≡ text
 
 last_is : (p : Option (Json × List Token)) (j : Json) → option_and_then (λ p. if_last p.0 p.1) p ≡ Some j → p ≡ Some (j, [])
@@ -45,23 +45,23 @@ pub json_of : (text : List ℕ) → IsJsonText text → HasJson text
 unfolding value_of
 json_of text is = by_test (is_utf8 text) refl is
   where
-    by_value : (o : Option Json) → text_value MOST_LEVELS text ≡ o → is_utf8 text ≡ true → option_map json_text o ≡ Some text → HasJson text
+    by_value : (o : Option Json) → text_value MOST_DEPTH_OUT text ≡ o → is_utf8 text ≡ true → option_map json_text o ≡ Some text → HasJson text
     by_value None read utf8 same = cc
     by_value (Some j) read utf8 same =
         let here : json_text j ≡ text = cc in
-        let first = last_is (value MOST_LEVELS (tokens text)) j read in
+        let first = last_is (value MOST_DEPTH_OUT (tokens text)) j read in
         record {
           value = j;
           whole = record {
-            numbers = value-HasNumbers MOST_LEVELS (tokens text) [] j (ArePrintableOrBad-tokens text) first;
-            nests = value-depth MOST_LEVELS (tokens text) [] j first;
+            numbers = value-HasNumbers MOST_DEPTH_OUT (tokens text) [] j (ArePrintableOrBad-tokens text) first;
+            nests = value-depth MOST_DEPTH_OUT (tokens text) [] j first;
             utf8 = subst IsUtf8 (sym here) (IsUtf8-from_is_utf8 text utf8);
           };
           is = here;
         }
 
-    by_test : (b : Bool) → is_utf8 text ≡ b → option_map json_text (if b then text_value MOST_LEVELS text else None) ≡ Some text → HasJson text
-    by_test true utf8 same = by_value (text_value MOST_LEVELS text) refl utf8 same
+    by_test : (b : Bool) → is_utf8 text ≡ b → option_map json_text (if b then text_value MOST_DEPTH_OUT text else None) ≡ Some text → HasJson text
+    by_test true utf8 same = by_value (text_value MOST_DEPTH_OUT text) refl utf8 same
     by_test false utf8 same = cc
 
 -- ---- texts of strings and numbers

@@ -1,6 +1,6 @@
 -- What a content is (JSON-RPC 2.0, sections 4 to 6), and what a cancel names (LSP 3.17, "Cancellation Support"; MCP 2025-06-18,
 -- "Cancellation").
-use Rattle.std.specs.Prelude.{ℕ, ◌==◌, ◌&&◌, ◌||◌, List, [], ◌∷◌, Bool, true, false, Option, Some, None, option_map, option_and_then, is_some, codes, if◌then◌else◌, ℤ, negsuc}
+use Rattle.std.specs.Prelude.{ℕ, ◌==◌, ◌&&◌, ◌||◌, nat_lt, List, [], ◌∷◌, length, Bool, true, false, Option, Some, None, option_map, option_and_then, is_some, codes, if◌then◌else◌, ℤ, negsuc}
 use Rattle.std.specs.Option.{option_map_or, is_none}
 use Rattle.std.specs.Str.{bytes_eq}
 use Rattle.json.specs.Json.{Json, null, number, string, array, object, Items, no_items, item}
@@ -17,6 +17,7 @@ use Rattle.connection_messages.specs.declared.entry.Entry.TheVariants.{Call, Can
 use Rattle.connection_messages.specs.declared.read.unit.TheConstants.{MOST_DEPTH_IN}
 use Rattle.connection_messages.specs.declared.reply.Reply.{Reply as Replied}
 use Rattle.connection_messages.specs.declared.reply.Reply.TheVariants.{Result, Error}
+use Rattle.connection_messages.specs.declared.rules.Rules.{Rules}
 use Rattle.connection_messages.specs.declared.unit.Unit.{Unit as Units}
 use Rattle.connection_messages.specs.declared.unit.Unit.TheVariants.{Unreadable, Single, Batch}
 
@@ -55,13 +56,17 @@ abbrev pub call_id : Option Json → Option (Option Id)
 call_id None = Some None
 call_id (Some j) = option_map Some (id_of j)
 
--- section 4.2: `params` may be omitted, and is an array or an object; null counts as omitted
-abbrev pub call_params : Option Json → Option (Option (List ℕ))
-call_params None = Some None
-call_params (Some null) = Some None
-call_params (Some (array js)) = Some (Some (json_text (array js)))
-call_params (Some (object ms)) = Some (Some (json_text (object ms)))
-call_params (Some _) = None
+-- section 4.2: `params` may be omitted, and is an array or an object. Null counts as omitted, or is told as null where that is
+-- asked for.
+abbrev pub null_params : Bool → Option (List ℕ)
+null_params told = if told then Some (codes "null") else None
+
+abbrev pub call_params : Bool → Option Json → Option (Option (List ℕ))
+call_params told None = Some None
+call_params told (Some null) = Some (null_params told)
+call_params told (Some (array js)) = Some (Some (json_text (array js)))
+call_params told (Some (object ms)) = Some (Some (json_text (object ms)))
+call_params told (Some _) = None
 
 -- ---- calls and cancels
 
@@ -70,8 +75,8 @@ abbrev pub call_from : Bool → Option (List ℕ) → Option (Option (List ℕ))
 call_from true (Some method) (Some params) (Some id) = Some (record { id = id; method = method; params = params })
 call_from _ _ _ _ = None
 
-abbrev pub call_in : Json → Option Came
-call_in j = call_from (is_version_2 j) (option_and_then as_str (get (codes "method") j)) (call_params (get (codes "params") j)) (call_id (get (codes "id") j))
+abbrev pub call_in : Bool → Json → Option Came
+call_in told j = call_from (is_version_2 j) (option_and_then as_str (get (codes "method") j)) (call_params told (get (codes "params") j)) (call_id (get (codes "id") j))
 
 -- LSP: a notification `$/cancelRequest`, whose params name a request by `id`;
 -- MCP: a notification `notifications/cancelled`, whose params name it by `requestId`
@@ -147,30 +152,39 @@ reply_entry (Some k) r = Reply k r
 -- ---- entries and units
 
 -- What has a member `method` is a call or invalid; what has `result` or `error` is a reply; anything else is invalid.
-abbrev pub entry_of : Option Cancels → Json → Entry
-entry_of cancels j =
-    if is_some (get (codes "method") j) then call_entry cancels (call_in j) j
+abbrev pub entry_of : Rules → Json → Entry
+entry_of rules j =
+    if is_some (get (codes "method") j) then call_entry rules.cancels (call_in rules.null_params j) j
     else (if is_some (get (codes "result") j) || is_some (get (codes "error") j) then reply_entry (key_in j) (reply_in j) else Invalid)
 
-abbrev pub entries_of : Option Cancels → Items → List Entry
-entries_of cancels no_items = []
-entries_of cancels (item j js) = entry_of cancels j ∷ entries_of cancels js
+abbrev pub entries_of : Rules → Items → List Entry
+entries_of rules no_items = []
+entries_of rules (item j js) = entry_of rules j ∷ entries_of rules js
 
 -- section 6: an empty array is no batch, but one invalid entry
 abbrev pub batch_of : List Entry → Units
 batch_of [] = Single Invalid
 batch_of (e ∷ es) = Batch (e ∷ es)
 
-abbrev pub value_unit : Option Cancels → Json → Units
-value_unit cancels (array js) = batch_of (entries_of cancels js)
-value_unit cancels j = Single (entry_of cancels j)
+-- whether so many are more than a batch may have
+abbrev pub are_too_many : Option ℕ → ℕ → Bool
+are_too_many None n = false
+are_too_many (Some most) n = nat_lt most n
 
-abbrev pub unit_of_reading : Option Cancels → Option Json → Units
-unit_of_reading cancels None = Unreadable
-unit_of_reading cancels (Some j) = value_unit cancels j
+-- a batch of too many entries is one invalid entry too
+abbrev pub batch_within : Option ℕ → List Entry → Units
+batch_within most es = if are_too_many most (length es) then Single Invalid else batch_of es
 
--- The content of a foreign frame, and one that is no JSON of at most 127 levels, are unreadable. The cancels are those that are
--- told apart from calls, and the truth value says whether the frame is foreign.
-abbrev pub unit_of : Option Cancels → Bool → List ℕ → Units
-unit_of cancels true content = Unreadable
-unit_of cancels false content = unit_of_reading cancels (value_of MOST_DEPTH_IN content)
+abbrev pub value_unit : Rules → Json → Units
+value_unit rules (array js) = batch_within rules.most_entries (entries_of rules js)
+value_unit rules j = Single (entry_of rules j)
+
+abbrev pub unit_of_reading : Rules → Option Json → Units
+unit_of_reading rules None = Unreadable
+unit_of_reading rules (Some j) = value_unit rules j
+
+-- The content of a foreign frame, and one that is no JSON of at most 127 levels, are unreadable. The truth value says whether
+-- the frame is foreign.
+abbrev pub unit_of : Rules → Bool → List ℕ → Units
+unit_of rules true content = Unreadable
+unit_of rules false content = unit_of_reading rules (value_of MOST_DEPTH_IN content)

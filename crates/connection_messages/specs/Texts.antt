@@ -1,68 +1,32 @@
--- The texts of the messages that go out (JSON-RPC 2.0, sections 4 to 6): compact, an object's members in the byte order of
--- their names.
-use Rattle.std.specs.Prelude.{ℕ, ℤ, ◌+◌, List, [], ◌∷◌, ◌++◌, codes, decimal, Option, Some, None}
-use Rattle.std.specs.Fmt.{signed_decimal}
-use Rattle.std.specs.List.{join_with_byte}
-use Rattle.json.specs.Print.{quoted}
+-- The texts of the messages that go out (JSON-RPC 2.0, sections 4 to 6), of the parts that message_texts defines: compact, an
+-- object's members in the byte order of their names.
+use Rattle.std.specs.Prelude.{ℕ, ◌+◌, List, [], ◌∷◌, None}
 use Rattle.message_ids.specs.Standard.{code_of, message_of}
 use Rattle.message_ids.specs.declared.id.Id.{Id}
-use Rattle.message_ids.specs.declared.id.Id.TheVariants.{Null, Text, Signed, Unsigned}
 use Rattle.message_ids.specs.declared.standard.Standard.{Standard}
+pub use Rattle.message_texts.specs.Texts.{id_text, data_member, params_member, result_text, batch_text}
+unfoldable pub use Rattle.message_texts.specs.Texts.{code_text, error_rest, error_head, error_end}
+use Rattle.message_texts.specs.Texts as texts
+use Rattle.message_texts.specs.declared.keys.CallKey.TheVariants.{Number}
+use Rattle.connection_messages.specs.Reading.{cancel_method, cancel_member}
 use Rattle.connection_messages.specs.declared.answer.Answer.{Answer}
 use Rattle.connection_messages.specs.declared.answer.Answer.TheVariants.{Result, Error, Standard as Fixed}
 use Rattle.connection_messages.specs.declared.answer.AnswerError.{AnswerError}
 use Rattle.connection_messages.specs.declared.cancels.Cancels.{Cancels}
-use Rattle.connection_messages.specs.declared.cancels.Cancels.TheVariants.{Lsp, Mcp}
 use Rattle.connection_messages.specs.declared.outgoing.Outgoing.{Outgoing}
 
--- ---- parts
+-- ---- answers
 
--- an id as JSON
-abbrev pub id_text : Id → List ℕ
-id_text Null = codes "null"
-id_text (Text s) = quoted s
-id_text (Signed z) = signed_decimal z
-id_text (Unsigned n) = decimal n
-
--- the member `data` of an error and the comma after it, where there is data
-abbrev pub data_member : Option (List ℕ) → List ℕ
-data_member None = []
-data_member (Some text) = codes "\"data\":" ++ text ++ codes ","
-
--- the member `params` and the comma before it, where there are params
-abbrev pub params_member : Option (List ℕ) → List ℕ
-params_member None = []
-params_member (Some text) = codes ",\"params\":" ++ text
-
--- an error object (section 5.1): its code, and what stands after it
-unfoldable pub code_text : ℤ → List ℕ
-code_text code = codes "{\"code\":" ++ signed_decimal code ++ codes ","
-
-unfoldable pub error_rest : List ℕ → Option (List ℕ) → List ℕ
-error_rest message extra = data_member extra ++ codes "\"message\":" ++ quoted message ++ codes "}"
-
+-- an error object (section 5.1)
 abbrev pub error_text : AnswerError → List ℕ
-error_text e = code_text e.code ++ error_rest e.message e.«data»
+error_text e = texts.error_text e.code e.message e.«data»
 
 -- a fixed error, which has no data
 abbrev pub fixed_error : Standard → AnswerError
 fixed_error s = record { code = code_of s; message = message_of s; «data» = None }
 
--- ---- messages
-
--- a response with a result (section 5)
-abbrev pub result_text : Id → List ℕ → List ℕ
-result_text id text = codes "{\"id\":" ++ id_text id ++ codes ",\"jsonrpc\":\"2.0\",\"result\":" ++ text ++ codes "}"
-
--- a response with an error (section 5): what stands before it, and after it
-unfoldable pub error_head : List ℕ
-error_head = codes "{\"error\":"
-
-unfoldable pub error_end : Id → List ℕ
-error_end id = codes ",\"id\":" ++ id_text id ++ codes ",\"jsonrpc\":\"2.0\"}"
-
 abbrev pub error_answer_text : Id → AnswerError → List ℕ
-error_answer_text id e = error_head ++ error_text e ++ error_end id
+error_answer_text id e = texts.error_answer_text id (error_text e)
 
 -- a response (section 5)
 abbrev pub answer_text : Id → Answer → List ℕ
@@ -70,17 +34,15 @@ answer_text id (Result text) = result_text id text
 answer_text id (Error e) = error_answer_text id e
 answer_text id (Fixed s) = error_answer_text id (fixed_error s)
 
--- the texts in one array (section 6)
-abbrev pub batch_text : List (List ℕ) → List ℕ
-batch_text texts = codes "[" ++ join_with_byte 44 texts ++ codes "]"
+-- ---- calls and notifications
 
 -- the members `method` and `params` and the end of a call or notification; without params the member `params` is absent
 abbrev pub method_text : Outgoing → List ℕ
-method_text o = codes ",\"method\":" ++ quoted o.method ++ params_member o.params ++ codes "}"
+method_text o = texts.method_text o.method o.params
 
 -- our call with the key k, a request whose id is the number k (section 4)
 abbrev pub call_text : ℕ → Outgoing → List ℕ
-call_text k o = codes "{\"id\":" ++ decimal k ++ codes ",\"jsonrpc\":\"2.0\"" ++ method_text o
+call_text k o = texts.call_text (Number k) o.method o.params
 
 -- the texts of calls whose keys count up from k
 abbrev pub call_texts : ℕ → List Outgoing → List (List ℕ)
@@ -93,13 +55,12 @@ calls_text k os = batch_text (call_texts k os)
 
 -- a notification (section 4.1)
 abbrev pub notice_text : Outgoing → List ℕ
-notice_text o = codes "{\"jsonrpc\":\"2.0\"" ++ method_text o
+notice_text o = texts.notice_text o.method o.params
 
--- the notification that withdraws our call k (LSP 3.17, "Cancellation Support"; MCP 2025-06-18, "Cancellation"): what stands
--- before the key, and the whole
+-- the notification that withdraws our call k (LSP 3.17, "Cancellation Support"; MCP 2025-06-18, "Cancellation"): a cancel as we
+-- read it, of the id k; what stands before the key, and the whole
 abbrev pub withdrawal_head : Cancels → List ℕ
-withdrawal_head Lsp = codes "{\"jsonrpc\":\"2.0\",\"method\":\"$/cancelRequest\",\"params\":{\"id\":"
-withdrawal_head Mcp = codes "{\"jsonrpc\":\"2.0\",\"method\":\"notifications/cancelled\",\"params\":{\"requestId\":"
+withdrawal_head by = texts.withdrawal_head (cancel_method by) (cancel_member by)
 
 abbrev pub withdrawal_text : Cancels → ℕ → List ℕ
-withdrawal_text by k = withdrawal_head by ++ decimal k ++ codes "}}"
+withdrawal_text by k = texts.withdrawal_text (cancel_method by) (cancel_member by) (Number k)

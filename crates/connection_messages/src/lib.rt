@@ -3,6 +3,7 @@
 
 mod answer;
 mod call;
+mod call_row;
 mod cancels;
 mod entry;
 mod law;
@@ -10,6 +11,7 @@ mod outgoing;
 mod params;
 mod read;
 mod reply;
+mod rules;
 mod texts;
 mod unit;
 
@@ -18,13 +20,14 @@ pub use call::Call;
 pub use cancels::Cancels;
 pub use entry::Entry;
 pub use law::{
-    a_batch_of_answers_reads_back, a_batch_of_calls_reads_back, a_call_reads_back,
-    a_notification_reads_back, a_withdrawal_reads_back, an_answer_reads_back,
-    each_text_is_one_line,
+    a_batch_of_answers_reads_back, a_batch_of_calls_reads_back,
+    a_batch_within_the_limit_is_read_as_without_one, a_call_reads_back, a_notification_reads_back,
+    a_withdrawal_reads_back, an_answer_reads_back, each_text_is_one_line, rules_worked,
 };
 pub use outgoing::Outgoing;
 pub use params::OutgoingParams;
 pub use read::unit::{MOST_DEPTH_IN, UnitReader, limit_of_depth_in_figures};
 pub use reply::{Reply, ReplyError};
+pub use rules::Rules;
 pub use texts::{write_answer, write_call, write_calls, write_notice, write_withdrawal};
 pub use unit::Unit;

@@ -1,5 +1,6 @@
 //! From contents to units.
 
+pub(crate) mod batch;
 pub(crate) mod call;
 pub(crate) mod compact;
 pub(crate) mod entry;

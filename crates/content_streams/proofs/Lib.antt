@@ -14,3 +14,4 @@ pub mod LineSteps
 pub mod LinePlaces
 pub mod Peeling
 pub mod Streaming
+pub mod GreaterLimits

@@ -1,5 +1,5 @@
 -- A stream: what it was fed, and the contents and the end that are read of that.
-use Rattle.std.specs.Prelude.{ℕ, ◌-◌, ◌^◌, min, false, List, Option, Some, None, map, take_while, slice_get, option_map, if◌then◌else◌}
+use Rattle.std.specs.Prelude.{ℕ, ◌-◌, ◌^◌, min, false, List, Option, Some, None, map, take_while, slice_get, if◌then◌else◌}
 use Rattle.std.specs.List.{list_all, concat}
 use Rattle.lsp_frames.specs.Contents as frames
 use Rattle.lsp_frames.specs.Contents.{Standing}

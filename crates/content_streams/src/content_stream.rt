@@ -1,14 +1,14 @@
 //! The input side of a connection: from pieces to contents.
 
 ghost use Rattle.std.specs.Prelude.{◌≡◌, ◌≤◌, ◌+◌, ◌++◌, ◌∷◌, [], Some, None, IsSome, IsOk, IsTrue, OnOk, OnErr, is_some, option_copied, option_map};
-ghost use Rattle.lsp_frames.specs.declared.limits.TheConstants.{LARGEST_CONTENT as MOST_BYTES};
+ghost use Rattle.lsp_frames.specs.declared.limits.TheConstants.{LONGEST_CONTENT as MOST_BYTES};
 
 use crate::cutter::Cutter;
 use crate::ending::{HowEnded, StreamEnd};
 use crate::framing::Framing;
-use crate::past::Past;
 use crate::places::Places;
 use crate::row::Row;
+use ghost_log::GhostLog;
 use lsp_frames::Frame;
 use std::alloc::{AllocError, Global};
 use std::marker::Model;
@@ -23,7 +23,7 @@ pub struct ContentStream {
     row: Row,
     places: Places,
     ended: Option<HowEnded>,
-    past: Past,
+    log: GhostLog,
 }
 
 impl Model for ContentStream {
@@ -35,12 +35,12 @@ impl Model for ContentStream {
     ghost view = { λ a. record {
       framing = framing_of a.cutter;
       limit = limit_of a.cutter;
-      pieces = a.past.pieces;
+      pieces = a.log.texts;
       ended = a.ended;
-      taken = a.past.taken;
+      taken = a.log.taken;
     } };
 
-    ghost invariant = { λ a. IsHeld a.cutter a.row a.places a.past.pieces a.ended a.past.taken };
+    ghost invariant = { λ a. IsHeld a.cutter a.row a.places a.log.texts a.ended a.log.taken };
 }
 
 impl ContentStream {
@@ -63,7 +63,7 @@ impl ContentStream {
             row: Row::new(alloc),
             places: Places::new(alloc),
             ended: None,
-            past: Past::new(),
+            log: GhostLog::new(),
         }
     }
 
@@ -80,7 +80,7 @@ impl ContentStream {
             let contents = self.cutter.feed(piece, &mut self.places.waiting)?;
             self.row.add(contents);
         }
-        self.past = Past::with_piece(&self.past, piece);
+        self.log = self.log.with_text(piece);
         Ok(())
     }
 
@@ -132,7 +132,7 @@ impl ContentStream {
     {
         self.row.pop();
         self.places.pop();
-        self.past = Past::with_one_taken(&self.past);
+        self.log = self.log.with_taken(1);
     }
 
     /// How the stream has ended, once it has shown a fault or the host has said that it ended.

@@ -3,7 +3,7 @@
 ghost use Rattle.std.specs.Prelude.{◌≡◌, ◌≤◌, ◌++◌, [], ℕ, List, OnOk, OnErr, IfOk};
 ghost use Rattle.lsp_frames.specs.Decoding.{StandsAfter};
 ghost use Rattle.lsp_frames.specs.declared.frame.Frame.{Frame};
-ghost use Rattle.lsp_frames.specs.declared.limits.TheConstants.{LARGEST_CONTENT as MOST_BYTES};
+ghost use Rattle.lsp_frames.specs.declared.limits.TheConstants.{LONGEST_CONTENT as MOST_BYTES};
 ghost use Rattle.content_streams.specs.Framed.{frames_of, placed_frames};
 ghost use Rattle.content_streams.specs.Inner.Cutters.{FramesStand, fault_at_end};
 ghost use Rattle.content_streams.specs.Streams.{capped_places, stream_end};
@@ -35,7 +35,7 @@ impl FrameCutter {
         ensures stands { FramesStand result [] }
     {
         FrameCutter {
-            decoder: Decoder::new(alloc, limit),
+            decoder: Decoder::for_long_contents(alloc, limit),
             under_way: UnderWay::at(0),
         }
     }

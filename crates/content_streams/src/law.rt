@@ -1,10 +1,11 @@
 //! What holds of contents and ends, whatever code there is. Each law is the contract of a function that does nothing.
 
-ghost use Rattle.std.specs.Prelude.{◌≡◌, ◌≢◌, ◌+◌, ◌<◌, ◌↔◌, ◌⊎◌, ℕ, List, ◌++◌, Option, Some, None, Bool, false, length, slice_get, unwrap_or, option_map, map, IsSome};
+ghost use Rattle.std.specs.Prelude.{◌≡◌, ◌≢◌, ◌+◌, ◌<◌, ◌≤◌, ◌↔◌, ◌⊎◌, ℕ, List, ◌++◌, Option, Some, None, Bool, false, length, slice_get, unwrap_or, option_map, map, IsSome};
 ghost use Rattle.std.specs.List.{join_with_byte};
 ghost use Rattle.lsp_frames.specs.Contents as frames;
 ghost use Rattle.lsp_frames.specs.Contents.{IsContents, Standing};
 ghost use Rattle.lsp_frames.specs.declared.frame.Frame.{Frame};
+ghost use Rattle.lsp_frames.specs.declared.frame.FrameFault.TheVariants.{TooLarge};
 ghost use Rattle.content_streams.specs.Lines.{fits, parts, without_cr};
 ghost use Rattle.content_streams.specs.Streams.{contents_of, placed_contents_of, fault_place_of, end_of, fault_left, joined, stream_end};
 ghost use Rattle.content_streams.specs.declared.ending.HowEnded.{HowEnded as How};
@@ -13,6 +14,7 @@ ghost use Rattle.content_streams.specs.declared.framing.Framing.{Framing as Cut}
 
 use crate::ending::{HowEnded, StreamEnd};
 use crate::framing::Framing;
+use lsp_frames::a_greater_limit_reads_the_same;
 
 /// In frames and lines it doesn't matter how the bytes are cut into pieces.
 pub fn cuts_do_not_matter()
@@ -40,6 +42,20 @@ pub fn faults_stay()
         (ended : Option How) (close : End) → end_of framing limit pieces None ≡ Some close →
         contents_of framing limit (pieces ++ more) ended ≡ contents_of framing limit pieces None }
 {}
+
+/// Where no content is too large, a greater limit reads the same: a host that allows more than before has what it had.
+pub fn greater_limits_read_the_same()
+    ensures contents { (framing : Cut) (limit greater : ℕ) (pieces : List (List ℕ))
+        (ended : Option How) → limit ≤ greater →
+        end_of framing limit pieces ended ≢ Some (StreamEnd.Fault TooLarge) →
+        contents_of framing greater pieces ended ≡ contents_of framing limit pieces ended }
+    ensures end { (framing : Cut) (limit greater : ℕ) (pieces : List (List ℕ))
+        (ended : Option How) → limit ≤ greater →
+        end_of framing limit pieces ended ≢ Some (StreamEnd.Fault TooLarge) →
+        end_of framing greater pieces ended ≡ end_of framing limit pieces ended }
+{
+    a_greater_limit_reads_the_same();
+}
 
 /// Contents with their places are the contents.
 pub fn placed_contents_are_the_contents()

@@ -9,7 +9,6 @@ mod frames;
 mod framing;
 mod law;
 mod line_cutter;
-mod past;
 mod places;
 mod row;
 mod under_way;
@@ -19,7 +18,8 @@ pub use ending::{HowEnded, StreamEnd};
 pub use framing::Framing;
 pub use law::{
     contents_only_grow, cuts_do_not_matter, faults_stay, frames_are_those_of_the_bytes,
-    lines_are_those_of_the_bytes, placed_contents_are_the_contents, places_stay,
+    greater_limits_read_the_same, lines_are_those_of_the_bytes, placed_contents_are_the_contents,
+    places_stay,
 };
 
 #[cfg(test)]

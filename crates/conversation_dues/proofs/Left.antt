@@ -261,7 +261,7 @@ without-by : (id : WrittenId) (owed : Owed) (left : List Owed) (e : Option Writt
 without-by id owed left None is others = others ∙ later_none owed left (position (is_expected id) left) is
 without-by id owed left (Some y) is others = without-test id owed left y (same_id id y) is others
 
-without-is : (id : WrittenId) (left : List Owed) → without_id id (expected_of left) ≡ option_map (λ place. expected_of (remove left place)) (position (is_expected id) left)
+pub without-is : (id : WrittenId) (left : List Owed) → without_id id (expected_of left) ≡ option_map (λ place. expected_of (remove left place)) (position (is_expected id) left)
 without-is id [] = refl
 without-is id (owed ∷ left) =
     without-by id owed left owed.expected refl (without-is id left)

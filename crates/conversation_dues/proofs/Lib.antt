@@ -1,7 +1,6 @@
-pub mod Changed
 pub mod Fits
+pub mod Firsts
 pub mod Left
-pub mod Oldest
-pub mod Places
+pub mod Marked
 pub mod Steps
 pub mod Targeted

@@ -13,7 +13,7 @@ no_ids [] none = refl
 no_ids (None ∷ ids) none = no_ids ids none
 no_ids (Some id ∷ ids) none = absurd (let e : true ≡ false = none in cc)
 
-some_ids : (ids : List (Option WrittenId)) → list_any is_some ids ≡ true → ids_read ids ≡ [] → ⊥
+pub some_ids : (ids : List (Option WrittenId)) → list_any is_some ids ≡ true → ids_read ids ≡ [] → ⊥
 some_ids [] some none = let e : false ≡ true = some in cc
 some_ids (None ∷ ids) some none = some_ids ids some none
 some_ids (Some id ∷ ids) some none = let e : id ∷ ids_read ids ≡ [] = none in cc
@@ -30,12 +30,11 @@ just_target ids dues content some is =
     sym (ap (λ o. option_map_or Some o (position (can_be_answered (ids_read ids) (count_by is_none ids)) dues)) is)
     ∙ target-by (ids_read ids) (count_by is_none ids) dues (some_ids ids some)
 
-other_target : (ids : List (Option WrittenId)) (dues : List Due) → list_any is_some ids ≡ true → position (is_just (ids_read ids)) dues ≡ None → position (can_be_answered (ids_read ids) (count_by is_none ids)) dues ≡ array_target ids dues
+pub other_target : (ids : List (Option WrittenId)) (dues : List Due) → list_any is_some ids ≡ true → position (is_just (ids_read ids)) dues ≡ None → position (can_be_answered (ids_read ids) (count_by is_none ids)) dues ≡ array_target ids dues
 other_target ids dues some is =
     sym (ap (λ o. option_map_or Some o (position (can_be_answered (ids_read ids) (count_by is_none ids)) dues)) is)
     ∙ target-by (ids_read ids) (count_by is_none ids) dues (some_ids ids some)
 
-pub other_targets : {E : Type 0} (r : Result (Option ℕ) E) (ids : List (Option WrittenId)) (dues : List Due) → list_any is_some ids ≡ true → position (is_just (ids_read ids)) dues ≡ None →
-    IfOk r (λ target. target ≡ position (can_be_answered (ids_read ids) (count_by is_none ids)) dues) → IfOk r (λ target. target ≡ array_target ids dues)
-other_targets (Ok target) ids dues some is here = here ∙ other_target ids dues some is
-other_targets (Err e) ids dues some is here = tt
+pub if_ok_then : {X E : Type 0} {P Q : X → Type 0} (r : Result X E) → ((x : X) → P x → Q x) → IfOk r P → IfOk r Q
+if_ok_then (Ok x) f p = f x p
+if_ok_then (Err e) f p = tt

@@ -1,3 +1,3 @@
-pub mod Inner
+pub mod Answered
+pub mod Found
 pub mod Left
-pub mod Ways

@@ -1,16 +1,17 @@
-ghost use Rattle.std.specs.Prelude.{◌≡◌, ◌++◌, ◌∷◌, [], List, Option, Some, false, position, remove, drop, count_by, slice_get, is_some, option_map, option_and_then, IfOk, OnOk};
+//! What the answers of an array take of a batch.
+
+ghost use Rattle.std.specs.Prelude.{◌≡◌, ◌++◌, ◌∷◌, [], List, Option, Some, false, position, remove, drop, count_by, slice_get, option_map, option_and_then, IfOk, OnOk};
 ghost use Rattle.std.specs.List.{list_any};
-ghost use Rattle.std.specs.Option.{option_map_or, is_none};
+ghost use Rattle.std.specs.Option.{option_map_or};
 ghost use Rattle.conversation_reading.specs.declared.entry.WrittenId.{WrittenId};
-ghost use Rattle.conversation_rules.specs.Dues.{ids_read, array_target, array_fits, fits_of, fit_of, in_order, first_or_none};
+ghost use Rattle.conversation_rules.specs.Dues.{ids_read, array_fits, fits_of, fit_of, in_order, first_or_none};
 ghost use Rattle.conversation_rules.specs.Matching.{taken_by, left_by, nulls_last, leaves_no_request, same_ids, is_just, can_be_answered};
 ghost use Rattle.conversation_rules.specs.Owed.{Owed as OwedValue, is_expected, may_have};
 ghost use Rattle.conversation_dues.specs.Left.{IsLeftOf, IsTaken, all_taken, choice, ids_of, is_of, expects_any, expected_of, left_after, left_of};
-ghost use Rattle.conversation_dues.specs.Ways.{fits};
+ghost use Rattle.conversation_owed.specs.Ways.{fits};
 
-use crate::due::Due;
-use crate::owed::{Owed, is_null};
-use crate::ways::Way;
+use conversation_ids::is_null;
+use conversation_owed::{Due, Owed, Way};
 use conversation_reading::WrittenId;
 use conversation_rules::Fit;
 use std::alloc::{AllocError, Global};
@@ -38,67 +39,12 @@ impl Which {
     }
 }
 
-/// The place of the batch that an array of answers with these ids is for: the oldest from which just these are expected, else
-/// the oldest whose answer they can be.
-pub(crate) fn array_target(
-    alloc: Global,
-    dues: &[Due],
-    ids: &[Option<WrittenId>],
-) -> Result<Option<usize>, AllocError>
-    ensures { IfOk result (λ target. target ≡ array_target ids.now dues.now) }
-{
-    if !has_named(ids) {
-        return Ok(None);
-    }
-    match just_these(alloc, dues, ids)? {
-        Some(content) => Ok(Some(content)),
-        None => answerable(alloc, dues, ids),
-    }
-}
-
-/// Whether any id can be read.
-fn has_named(ids: &[Option<WrittenId>]) -> bool
-    ensures { result ≡ list_any is_some ids.now }
-{
-    ids.iter().any(|id| id.is_some())
-}
-
-/// The oldest batch from which just these ids are expected.
-fn just_these(
-    alloc: Global,
-    dues: &[Due],
-    ids: &[Option<WrittenId>],
-) -> Result<Option<usize>, AllocError>
-    ensures { IfOk result (λ target. target ≡ position (is_just (ids_read ids.now)) dues.now) }
-{
-    for (content, due) in dues.iter().enumerate() {
-        if is_just(alloc, due, ids)? {
-            return Ok(Some(content));
-        }
-    }
-    Ok(None)
-}
-
-/// The oldest batch whose answer they can be.
-fn answerable(
-    alloc: Global,
-    dues: &[Due],
-    ids: &[Option<WrittenId>],
-) -> Result<Option<usize>, AllocError>
-    ensures { IfOk result (λ target. target ≡
-        position (can_be_answered (ids_read ids.now) (count_by is_none ids.now)) dues.now) }
-{
-    let unnamed = ids.iter().filter(|id| id.is_none()).count();
-    for (content, due) in dues.iter().enumerate() {
-        if can_be_answered(alloc, due, ids, unnamed)? {
-            return Ok(Some(content));
-        }
-    }
-    Ok(None)
-}
-
 /// Whether just these ids are expected from a batch, each as often.
-fn is_just(alloc: Global, due: &Due, ids: &[Option<WrittenId>]) -> Result<bool, AllocError>
+pub(crate) fn is_just(
+    alloc: Global,
+    due: &Due,
+    ids: &[Option<WrittenId>],
+) -> Result<bool, AllocError>
     ensures { IfOk result (λ b. b ≡ is_just (ids_read ids.now) due.now) }
 {
     if due.is_batch() {
@@ -135,7 +81,7 @@ fn expects_at(entries: &[Owed], place: usize) -> bool
 }
 
 /// Whether answers with these ids, and so many whose id can't be read, can be the answer of a batch.
-fn can_be_answered(
+pub(crate) fn can_be_answered(
     alloc: Global,
     due: &Due,
     ids: &[Option<WrittenId>],

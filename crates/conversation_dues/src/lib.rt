@@ -2,14 +2,13 @@
 #![tactic(auto)]
 
 mod arrays;
-mod due;
+mod batches;
 mod dues;
-mod owed;
+mod settling;
+mod sought;
 mod targets;
-mod ways;
 
 pub use dues::Dues;
-pub use owed::Owed;
 
 #[cfg(test)]
 mod tests;

@@ -1,139 +1,159 @@
-ghost use Rattle.std.specs.Prelude.{◌≡◌, false, true, position};
-ghost use Rattle.conversation_rules.specs.Matching.{oldest, or_else, is_null_request, named_in, named_target, null_in, null_target, parse_error_target, refused_batch};
-ghost use Rattle.conversation_rules.specs.Dues.{unreadable_target};
-ghost use Rattle.conversation_dues.specs.Ways.{fits};
+//! What an answer is for, among the contents on which something is owed.
 
-use crate::due::Due;
-use crate::ways::Way;
+ghost use Rattle.std.specs.Prelude.{◌≡◌, false, true, position, option_map};
+ghost use Rattle.conversation_dues.specs.Found.{target_at, whole_target};
+ghost use Rattle.conversation_open.specs.Open.{open_entries, contents_of, IsOpen};
+ghost use Rattle.conversation_owed.specs.Ways.{fits};
+ghost use Rattle.conversation_rules.specs.Dues.{unreadable_target};
+ghost use Rattle.conversation_rules.specs.Matching.{oldest, or_else, is_null_request, named_in, named_target, null_in, null_target, parse_error_target, refused_batch};
+ghost use Rattle.conversation_rules.specs.declared.found.Target.TheVariants.{WholeOf};
+
+use crate::sought::{Sought, first};
+use conversation_open::OpenContents;
+use conversation_owed::Way;
 use conversation_reading::WrittenId;
-use conversation_rules::Target;
+
+/// What an answer is for, by the number of a content.
+#[derive(Clone, Copy)]
+pub(crate) enum Place {
+    EntryOf(u64, usize),
+    WholeOf(u64),
+}
 
 /// The oldest entry that fits, in single contents or in batches.
-fn oldest(dues: &[Due], batches: bool, way: Way, id: &WrittenId) -> Option<Target>
-    ensures { result ≡ oldest batches (fits way id.now) dues.now }
+fn oldest(contents: &OpenContents, batches: bool, way: Way, id: &WrittenId) -> Option<Place>
+    requires { IsOpen contents.now }
+    ensures { oldest batches (fits way id.now) (contents_of (open_entries contents.now)) ≡ target_at (open_entries contents.now) result }
 {
-    for (content, due) in dues.iter().enumerate() {
-        if let Some(place) = due.place_in(batches, way, id) {
-            return Some(Target::EntryOf(content, place));
-        }
+    match first(contents, Sought::entry(batches, way), id) {
+        Some((number, place)) => Some(Place::EntryOf(number, place)),
+        None => None,
     }
-    None
+}
+
+/// The oldest content that is such a one.
+fn oldest_whole(contents: &OpenContents, sought: Sought) -> Option<Place>
+    requires { IsOpen contents.now }
+    ensures { target_at (open_entries contents.now) result ≡ whole_target sought (open_entries contents.now) }
+{
+    match first(contents, sought, &WrittenId::Null) {
+        Some((number, _)) => Some(Place::WholeOf(number)),
+        None => None,
+    }
 }
 
 /// What a single answer with an id that isn't null is for.
-pub(crate) fn named_target(dues: &[Due], id: &WrittenId) -> Option<Target>
-    ensures { result ≡ named_target id.now dues.now }
+pub(crate) fn named_target(contents: &OpenContents, id: &WrittenId) -> Option<Place>
+    requires { IsOpen contents.now }
+    ensures { named_target id.now (contents_of (open_entries contents.now)) ≡ target_at (open_entries contents.now) result }
 {
-    match named_in(dues, false, id) {
+    match named_in(contents, false, id) {
         Some(target) => Some(target),
-        None => named_in(dues, true, id),
+        None => named_in(contents, true, id),
     }
 }
 
-fn named_in(dues: &[Due], batches: bool, id: &WrittenId) -> Option<Target>
-    ensures { result ≡ named_in batches id.now dues.now }
+fn named_in(contents: &OpenContents, batches: bool, id: &WrittenId) -> Option<Place>
+    requires { IsOpen contents.now }
+    ensures { named_in batches id.now (contents_of (open_entries contents.now)) ≡ target_at (open_entries contents.now) result }
 {
-    if let Some(target) = oldest(dues, batches, Way::Asks, id) {
+    if let Some(target) = oldest(contents, batches, Way::Asks, id) {
         return Some(target);
     }
-    match oldest(dues, batches, Way::Expects, id) {
+    match oldest(contents, batches, Way::Expects, id) {
         Some(target) => Some(target),
-        None => oldest(dues, batches, Way::MayHave, id),
+        None => oldest(contents, batches, Way::MayHave, id),
     }
 }
 
 /// What a single answer with the id null is for, where its code isn't -32700.
-pub(crate) fn null_target(dues: &[Due], says_invalid: bool, may_refuse: bool) -> Option<Target>
-    ensures { result ≡ null_target says_invalid may_refuse dues.now }
+pub(crate) fn null_target(
+    contents: &OpenContents,
+    says_invalid: bool,
+    may_refuse: bool,
+) -> Option<Place>
+    requires { IsOpen contents.now }
+    ensures { null_target says_invalid may_refuse (contents_of (open_entries contents.now)) ≡ target_at (open_entries contents.now) result }
 {
-    if let Some(target) = null_in(dues, says_invalid, false) {
+    if let Some(target) = null_in(contents, says_invalid, false) {
         return Some(target);
     }
-    match refused_batch(dues, may_refuse) {
+    match refused_batch(contents, may_refuse) {
         Some(target) => Some(target),
-        None => null_in(dues, says_invalid, true),
+        None => null_in(contents, says_invalid, true),
     }
 }
 
-fn null_in(dues: &[Due], says_invalid: bool, batches: bool) -> Option<Target>
-    ensures { result ≡ null_in says_invalid batches dues.now }
+fn null_in(contents: &OpenContents, says_invalid: bool, batches: bool) -> Option<Place>
+    requires { IsOpen contents.now }
+    ensures { null_in says_invalid batches (contents_of (open_entries contents.now)) ≡ target_at (open_entries contents.now) result }
 {
     let (first, second) = if says_invalid {
         (Way::ExpectsNull, Way::AsksWithNull)
     } else {
         (Way::AsksWithNull, Way::ExpectsNull)
     };
-    if let Some(target) = oldest(dues, batches, first, &WrittenId::Null) {
+    if let Some(target) = oldest(contents, batches, first, &WrittenId::Null) {
         return Some(target);
     }
-    match oldest(dues, batches, second, &WrittenId::Null) {
+    match oldest(contents, batches, second, &WrittenId::Null) {
         Some(target) => Some(target),
-        None => oldest(dues, batches, Way::MayBeNull, &WrittenId::Null),
+        None => oldest(contents, batches, Way::MayBeNull, &WrittenId::Null),
     }
 }
 
 /// What a single -32700 with the id null is for.
-pub(crate) fn parse_error_target(dues: &[Due], may_refuse: bool) -> Option<Target>
-    ensures { result ≡ parse_error_target may_refuse dues.now }
+pub(crate) fn parse_error_target(contents: &OpenContents, may_refuse: bool) -> Option<Place>
+    requires { IsOpen contents.now }
+    ensures { parse_error_target may_refuse (contents_of (open_entries contents.now)) ≡ target_at (open_entries contents.now) result }
 {
-    if let Some(target) = unreadable_target(dues) {
+    if let Some(target) = unreadable_target(contents) {
         return Some(target);
     }
-    if let Some(target) = null_request(dues) {
+    if let Some(target) = null_request(contents) {
         return Some(target);
     }
-    match place_of_huge(dues) {
-        Some(content) => Some(Target::WholeOf(content)),
-        None => refused_batch(dues, may_refuse),
+    match huge_content(contents) {
+        Some(target) => Some(target),
+        None => refused_batch(contents, may_refuse),
     }
 }
 
-fn null_request(dues: &[Due]) -> Option<Target>
-    ensures { result ≡ or_else (oldest false is_null_request dues.now) (oldest true is_null_request dues.now) }
+fn null_request(contents: &OpenContents) -> Option<Place>
+    requires { IsOpen contents.now }
+    ensures { or_else (oldest false is_null_request (contents_of (open_entries contents.now))) (oldest true is_null_request (contents_of (open_entries contents.now)))
+        ≡ target_at (open_entries contents.now) result }
 {
-    match oldest(dues, false, Way::AsksWithNull, &WrittenId::Null) {
+    match oldest(contents, false, Way::AsksWithNull, &WrittenId::Null) {
         Some(target) => Some(target),
-        None => oldest(dues, true, Way::AsksWithNull, &WrittenId::Null),
+        None => oldest(contents, true, Way::AsksWithNull, &WrittenId::Null),
     }
 }
 
 /// The oldest content that couldn't be read.
-pub(crate) fn unreadable_target(dues: &[Due]) -> Option<Target>
-    ensures { result ≡ unreadable_target dues.now }
+pub(crate) fn unreadable_target(contents: &OpenContents) -> Option<Place>
+    requires { IsOpen contents.now }
+    ensures { unreadable_target (contents_of (open_entries contents.now)) ≡ target_at (open_entries contents.now) result }
 {
-    match place_of_unreadable(dues) {
-        Some(content) => Some(Target::WholeOf(content)),
-        None => None,
-    }
+    oldest_whole(contents, Sought::Unreadable)
+}
+
+/// The oldest content with a number beyond a float's range.
+fn huge_content(contents: &OpenContents) -> Option<Place>
+    requires { IsOpen contents.now }
+    ensures { option_map WholeOf (position (λ due. due.has_huge) (contents_of (open_entries contents.now))) ≡ target_at (open_entries contents.now) result }
+{
+    oldest_whole(contents, Sought::Huge)
 }
 
 /// The oldest batch, where it may be refused.
-fn refused_batch(dues: &[Due], may_refuse: bool) -> Option<Target>
-    ensures { result ≡ refused_batch may_refuse dues.now }
+fn refused_batch(contents: &OpenContents, may_refuse: bool) -> Option<Place>
+    requires { IsOpen contents.now }
+    ensures { refused_batch may_refuse (contents_of (open_entries contents.now)) ≡ target_at (open_entries contents.now) result }
 {
-    if !may_refuse {
-        return None;
+    if may_refuse {
+        oldest_whole(contents, Sought::Batch)
+    } else {
+        None
     }
-    match place_of_batch(dues) {
-        Some(content) => Some(Target::WholeOf(content)),
-        None => None,
-    }
-}
-
-fn place_of_unreadable(dues: &[Due]) -> Option<usize>
-    ensures { result ≡ position (λ due. due.is_unreadable) dues.now }
-{
-    dues.iter().position(|due| due.is_unreadable())
-}
-
-fn place_of_huge(dues: &[Due]) -> Option<usize>
-    ensures { result ≡ position (λ due. due.has_huge) dues.now }
-{
-    dues.iter().position(|due| due.has_huge())
-}
-
-fn place_of_batch(dues: &[Due]) -> Option<usize>
-    ensures { result ≡ position (λ due. due.is_batch) dues.now }
-{
-    dues.iter().position(|due| due.is_batch())
 }

@@ -1,4 +1,5 @@
 use super::*;
+use conversation_owed::Owed;
 use conversation_reading::{Reading, StrictReader, WrittenId};
 use conversation_rules::{Found, Protocol};
 use json_values::Text;

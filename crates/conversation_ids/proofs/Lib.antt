@@ -1,4 +1,5 @@
 pub mod Having
+pub mod OneMark
 pub mod Numbers
 pub mod Running
 pub mod Steps

@@ -70,7 +70,7 @@ fn same_sign(a: bool, b: bool) -> bool
 }
 
 /// Whether a number is below zero, its digits before the point and behind it, and its power.
-fn parts_of<'a>(number: &'a str) -> (bool, &'a [u8], &'a [u8], &'a [u8])
+pub(crate) fn parts_of<'a>(number: &'a str) -> (bool, &'a [u8], &'a [u8], &'a [u8])
     ensures { amount_of number.now ≡ amount_of_parts result.0 result.1.now result.2.now result.3.now }
 {
     let bytes = number.as_bytes();

@@ -7,7 +7,7 @@ ghost use Rattle.conversation_reading.specs.Numbers.{number_of};
 const BEYOND: u128 = 1 << 104;
 
 /// What a digit is worth.
-fn worth(digit: u8) -> u64
+pub(crate) fn worth(digit: u8) -> u64
     ensures { result ≡ digit - 48 }
 {
     u64::from(digit.saturating_sub(b'0'))

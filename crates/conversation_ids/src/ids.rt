@@ -1,5 +1,5 @@
 ghost use Rattle.std.specs.Prelude.{◌≡◌};
-ghost use Rattle.conversation_rules.specs.Amounts.{same_id, is_odd};
+ghost use Rattle.conversation_rules.specs.Amounts.{same_id, is_odd, is_null};
 
 use crate::amounts::{is_plain, same_amount};
 use conversation_reading::WrittenId;
@@ -24,4 +24,10 @@ pub fn is_odd(id: &WrittenId) -> bool
         WrittenId::Number(number) => !is_plain(number.as_str()),
         _ => false,
     }
+}
+
+pub fn is_null(id: &WrittenId) -> bool
+    ensures { result ≡ is_null id.now }
+{
+    matches!(id, WrittenId::Null)
 }

@@ -5,13 +5,13 @@ use Rattle.content_streams.specs.Streams.{Stream, next_placed}
 use Rattle.content_streams.specs.declared.ending.HowEnded.{HowEnded}
 use Rattle.content_streams.specs.declared.ending.HowEnded.TheVariants.{Closed, ReadFailed}
 use Rattle.conversation_judge.specs.declared.arrays.Looked.{Looked}
-use Rattle.conversation_judge.specs.declared.speaker.Speaker.{Speaker}
+use Rattle.conversation_entries.specs.Said.{said}
+use Rattle.conversation_entries.specs.declared.speaker.Speaker.{Speaker}
 use Rattle.conversation_rules.specs.Answers.{Each, taken_findings}
 use Rattle.conversation_rules.specs.Contents.{content_outcome}
 use Rattle.conversation_rules.specs.Judging as judging
 use Rattle.conversation_rules.specs.Judging.{Seen, State}
 use Rattle.conversation_rules.specs.Owed.{Due}
-use Rattle.conversation_rules.specs.Speakers as rules
 use Rattle.conversation_rules.specs.Speakers.{Pair}
 use Rattle.conversation_rules.specs.declared.finding.Finding.{Finding}
 use Rattle.conversation_rules.specs.declared.found.Fit.{Fit}
@@ -20,9 +20,6 @@ use Rattle.conversation_rules.specs.declared.protocol.Protocol.{Protocol}
 use Rattle.conversation_rules.specs.declared.reply.Reply.{Reply}
 use Rattle.conversation_rules.specs.declared.reply.Sight.{Sight}
 use Rattle.conversation_rules.specs.declared.side.Side.{Side}
-
-abbrev pub said : Speaker → rules.Speaker
-said speaker = record { count = speaker.count; owed = speaker.owed; used = speaker.used; initialize = speaker.initialize; has_exited = speaker.has_exited; has_unreadable = speaker.has_unreadable; is_over = speaker.is_over; has_ended = speaker.has_ended }
 
 abbrev pub pair : Speaker → Speaker → Pair
 pair own other = record { own = said own; other = said other }

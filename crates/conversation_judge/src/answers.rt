@@ -2,15 +2,15 @@
 
 ghost use Rattle.std.specs.Prelude.{◌≡◌, ◌++◌, ◌∷◌, [], OnOk, false};
 ghost use Rattle.std.specs.Option.{option_map_or};
-ghost use Rattle.conversation_rules.specs.Amounts as amounts;
 ghost use Rattle.conversation_rules.specs.Answers as rules;
 ghost use Rattle.conversation_rules.specs.Answers.{says_cancelled, is_uncalled, reply_of, cancelled_code_level, fit_findings, stray_of, not_owed_level, not_owed_findings, behind_not_owed, target_of_null, target_of_id, target_of, single_fit_findings, single_findings, behind_single, target_in_array, target_in_array_of_id};
 ghost use Rattle.conversation_rules.specs.Dues as dues;
 ghost use Rattle.conversation_rules.specs.Dues.{settled};
 ghost use Rattle.conversation_rules.specs.Protocols as protocols;
 
-use crate::entries::{code_of, is_between, is_lsp, is_mcp, is_well, put_if};
 use conversation_dues::Dues;
+use conversation_entries::{code_of, is_between, is_lsp, is_mcp, is_well, put_if};
+use conversation_ids::is_null;
 use conversation_reading::{Entry, WrittenId};
 use conversation_rules::{
     Finding, Fit, Found, Level, Message, Protocol, Reply, Rule, Sight, Stray,
@@ -152,15 +152,6 @@ pub(crate) fn put_stray(
     let may_be_read = owed.answer_unreadable();
     let level = not_owed_level(sight, may_be_read);
     put_if(true, findings, message, stray.at, Rule::NotOwed, level)
-}
-
-fn is_null(id: &WrittenId) -> bool
-    ensures { result ≡ amounts.is_null id.now }
-{
-    match id {
-        WrittenId::Null => true,
-        WrittenId::Text(_) | WrittenId::Number(_) => false,
-    }
 }
 
 fn has_batches(protocol: Protocol) -> bool

@@ -6,8 +6,8 @@ ghost use Rattle.conversation_rules.specs.Answers as rules;
 ghost use Rattle.conversation_rules.specs.Answers.{each_not_owed, not_owed_findings, behind_not_owed, array_findings, among_findings, apart_findings, each_of, new_each, strays_findings, behind_strays, rest_findings, behind_rest, each_findings, behind_each, answers_findings, behind_answers};
 
 use crate::answers::{not_owed_level, or_note, put_fit, put_stray, settle_in_array, stray_of};
-use crate::entries::put_if;
 use conversation_dues::Dues;
+use conversation_entries::put_if;
 use conversation_reading::WrittenId;
 use conversation_rules::{
     Finding, Fit, Found, Level, Message, Protocol, Reply, Rule, Sight, Stray,

@@ -2,7 +2,8 @@
 
 ghost use Rattle.std.specs.Prelude.{◌≡◌, ◌++◌, ℕ, OnOk, IfOk};
 ghost use Rattle.content_streams.specs.Streams.{capped};
-ghost use Rattle.conversation_judge.specs.Said.{said, pair};
+ghost use Rattle.conversation_entries.specs.Said.{said};
+ghost use Rattle.conversation_judge.specs.Said.{pair};
 ghost use Rattle.conversation_rules.specs.Contents as rules;
 ghost use Rattle.conversation_rules.specs.Contents.{sight_of, not_json_rule, unreadable, single_outcome, empty_outcome, batch_findings, entries_findings, behind_entries, replies_in, reply_ids, array_outcome, behind_line_end, reading_outcome, content_outcome};
 ghost use Rattle.conversation_rules.specs.Protocols as protocols;
@@ -10,10 +11,9 @@ ghost use Rattle.lsp_frames.specs.declared.frame.Frame.{Frame as FrameValue};
 
 use crate::answers::{put_single, reply_of};
 use crate::arrays::put_answers;
-use crate::entries::{is_answer, put_if};
-use crate::ids::{owe, say_entry, take_entry};
-use crate::speaker::Speaker;
-use conversation_dues::{Dues, Owed};
+use conversation_dues::Dues;
+use conversation_entries::{Speaker, is_answer, owe, put_if, say_entry, take_entry};
+use conversation_owed::Owed;
 use conversation_reading::{Entry, Reading, StrictReader, WrittenId};
 use conversation_rules::{Finding, Level, Message, Protocol, Reply, Rule, Side, Sight};
 use json_values::{Items, Text};

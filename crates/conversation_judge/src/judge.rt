@@ -5,8 +5,8 @@ ghost use Rattle.std.specs.Option.{option_to_list};
 ghost use Rattle.lsp_frames.specs.declared.limits.TheConstants.{LARGEST_CONTENT as MOST_BYTES};
 
 use crate::seeing::{see_bytes_of, see_end_of};
-use crate::speaker::{Speaker, new_speaker};
 use content_streams::{ContentStream, Framing, HowEnded};
+use conversation_entries::{Speaker, new_speaker};
 use conversation_reading::StrictReader;
 use conversation_rules::{Finding, Limits, Protocol, Side};
 use std::alloc::{AllocError, Global};
@@ -33,7 +33,7 @@ pub struct Judge {
 
 impl Model for Judge {
     ghost use Rattle.conversation_judge.specs.Judged.{Judged};
-    ghost use Rattle.conversation_judge.specs.Said.{said};
+    ghost use Rattle.conversation_entries.specs.Said.{said};
 
     ghost Value = { Judged };
 

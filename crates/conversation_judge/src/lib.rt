@@ -4,10 +4,7 @@
 mod answers;
 mod arrays;
 mod contents;
-mod entries;
-mod ids;
 mod judge;
 mod seeing;
-mod speaker;
 
 pub use judge::Judge;

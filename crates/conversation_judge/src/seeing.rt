@@ -8,9 +8,8 @@ ghost use Rattle.conversation_rules.specs.Judging.{contents_findings, behind_con
 
 use crate::answers::or_note;
 use crate::contents::take_content;
-use crate::entries::put_if;
-use crate::speaker::Speaker;
 use content_streams::{ContentStream, HowEnded, StreamEnd, placed_contents_are_the_contents};
+use conversation_entries::{Speaker, put_if};
 use conversation_reading::StrictReader;
 use conversation_rules::{Finding, Level, Message, Protocol, Rule, Side, Unanswered};
 use lsp_frames::FrameFault;

@@ -4,7 +4,7 @@ use Rattle.std.specs.Prelude.{ℕ, ◌==◌, ◌&&◌, ◌||◌, List, [], ◌�
 use Rattle.json_texts.specs.Texts.{value_of}
 use Rattle.conversation_reading.specs.declared.front.Place.{Place}
 use Rattle.conversation_reading.specs.declared.front.Place.TheVariants.{Outside, InString, AfterBackslash}
-use Rattle.conversation_reading.specs.declared.reading.TheConstants.{MOST_DEPTH}
+use Rattle.conversation_reading.specs.declared.reading.TheConstants.{MOST_DEPTH_IN}
 
 -- ---- half of a surrogate pair
 
@@ -23,7 +23,7 @@ without_halves seen (b ∷ bs) = (if is_surrogate_digit seen b then 48 else b) �
 
 -- whether a text is JSON by its grammar, of at most so many levels as are read
 abbrev pub is_json : List ℕ → Bool
-is_json text = is_some (value_of MOST_DEPTH (without_halves 0 text))
+is_json text = is_some (value_of MOST_DEPTH_IN (without_halves 0 text))
 
 -- ---- nesting
 
@@ -39,7 +39,7 @@ is_opening AfterBackslash b = false
 
 -- a bracket opens one level too many
 abbrev pub is_too_deep : Place → List ℕ → ℕ → Bool
-is_too_deep place closers b = is_opening place b && (length closers == MOST_DEPTH)
+is_too_deep place closers b = is_opening place b && (length closers == MOST_DEPTH_IN)
 
 -- what closes the arrays and objects that are open, the innermost first
 abbrev pub closers_outside : List ℕ → ℕ → List ℕ

@@ -18,7 +18,7 @@ use Rattle.conversation_reading.specs.declared.entry.WrittenId.{WrittenId}
 use Rattle.conversation_reading.specs.declared.entry.WrittenId.TheVariants.{Null, Text, Number}
 use Rattle.conversation_reading.specs.declared.reading.Reading.{Reading}
 use Rattle.conversation_reading.specs.declared.reading.Reading.TheVariants.{Foreign, NotText, NotJson, TooDeep, HalfPair, Single, Array}
-use Rattle.conversation_reading.specs.declared.reading.TheConstants.{MOST_DEPTH}
+use Rattle.conversation_reading.specs.declared.reading.TheConstants.{MOST_DEPTH_IN}
 
 -- ---- members: null is there, and of a name that stands twice the last counts
 
@@ -136,4 +136,4 @@ json_reading text (Some j) = value_reading j
 -- A content whose frame is foreign isn't looked into. JSON is a text in UTF-8 (RFC 8259, section 8.1).
 abbrev pub reading_of : Bool → List ℕ → Reading
 reading_of true content = Foreign
-reading_of false content = if is_utf8 content then json_reading content (value_of MOST_DEPTH content) else NotText
+reading_of false content = if is_utf8 content then json_reading content (value_of MOST_DEPTH_IN content) else NotText

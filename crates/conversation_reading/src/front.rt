@@ -3,7 +3,7 @@
 ghost use Rattle.std.specs.Prelude.{◌≡◌, IfOk, OnOk, option_map, if◌then◌else◌};
 ghost use Rattle.conversation_reading.specs.Fronts.{escape_after, is_surrogate_digit, without_halves, place_after, is_opening, is_too_deep, closers_after, front_of};
 
-use crate::reading::MOST_DEPTH;
+use crate::reading::MOST_DEPTH_IN;
 use std::alloc::{AllocError, Global};
 
 /// Where in a text a byte stands.
@@ -73,7 +73,7 @@ pub(crate) fn front_of(alloc: Global, text: &[u8]) -> Result<Option<Vec<u8>>, Al
 fn is_too_deep(place: Place, closers: &[u8], byte: u8) -> bool
     ensures { result ≡ is_too_deep place closers.now byte }
 {
-    is_opening(place, byte) && closers.len() == MOST_DEPTH
+    is_opening(place, byte) && closers.len() == MOST_DEPTH_IN
 }
 
 fn is_opening(place: Place, byte: u8) -> bool

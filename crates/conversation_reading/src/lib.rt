@@ -17,7 +17,7 @@ pub use law::{
     broken_entries, fractions, members, messages, messages_break_no_rule, whole_numbers,
 };
 pub use number::is_whole;
-pub use reading::{MOST_DEPTH, Reading, StrictReader, limit_of_depth_in_figures};
+pub use reading::{MOST_DEPTH_IN, Reading, StrictReader, limit_of_depth_in_figures};
 pub use whole::{Whole, whole_of};
 
 #[cfg(test)]

@@ -6,7 +6,7 @@ ghost use Rattle.json.specs.Value.{value_view};
 ghost use Rattle.json_texts.specs.Texts.{value_of};
 ghost use Rattle.conversation_reading.specs.Fronts.{is_json};
 ghost use Rattle.conversation_reading.specs.Strictly.{value_reading, unreadable, json_reading, reading_of};
-ghost use Rattle.conversation_reading.specs.declared.reading.TheConstants.{MOST_DEPTH};
+ghost use Rattle.conversation_reading.specs.declared.reading.TheConstants.{MOST_DEPTH_IN};
 
 use crate::entry::Entry;
 use crate::front::{front_of, without_halves};
@@ -17,11 +17,11 @@ use json_values::Items;
 use std::alloc::{AllocError, Global};
 
 /// A content that nests deeper isn't read, each array or object counting one.
-pub const MOST_DEPTH: usize = 127;
+pub const MOST_DEPTH_IN: usize = 127;
 
 /// The limit in figures. All other definitions and clauses cite the constant.
 pub fn limit_of_depth_in_figures()
-    ensures { MOST_DEPTH ≡ 127 }
+    ensures { MOST_DEPTH_IN ≡ 127 }
 {}
 
 /// The room that reading takes is kept from one content to the next where the content is at most this long, in bytes.
@@ -78,7 +78,7 @@ impl StrictReader {
 
     fn read_text(&mut self, text: &str) -> Result<Reading, AllocError>
         ensures { IfOk result
-            (λ reading. reading ≡ json_reading text.now (value_of MOST_DEPTH text.now)) }
+            (λ reading. reading ≡ json_reading text.now (value_of MOST_DEPTH_IN text.now)) }
     {
         let mut scratch = self.take_scratch()?;
         let reading = read_json(self.alloc, text, &mut scratch);
@@ -99,7 +99,7 @@ impl StrictReader {
 }
 
 fn read_json(alloc: Global, text: &str, scratch: &mut Scratch) -> Result<Reading, AllocError>
-    ensures { IfOk result (λ reading. reading ≡ json_reading text.now (value_of MOST_DEPTH text.now)) }
+    ensures { IfOk result (λ reading. reading ≡ json_reading text.now (value_of MOST_DEPTH_IN text.now)) }
 {
     match read_readable(alloc, text, scratch)? {
         Some(reading) => Ok(reading),
@@ -113,9 +113,9 @@ fn read_readable(
     text: &str,
     scratch: &mut Scratch,
 ) -> Result<Option<Reading>, AllocError>
-    ensures { IfOk result (λ reading. reading ≡ option_map value_reading (value_of MOST_DEPTH text.now)) }
+    ensures { IfOk result (λ reading. reading ≡ option_map value_reading (value_of MOST_DEPTH_IN text.now)) }
 {
-    match read_str(alloc, text, MOST_DEPTH, scratch)? {
+    match read_str(alloc, text, MOST_DEPTH_IN, scratch)? {
         Some(value) => Ok(Some(read_value(alloc, &value)?)),
         None => Ok(None),
     }
@@ -150,7 +150,7 @@ fn is_json(alloc: Global, text: &[u8], scratch: &mut Scratch) -> Result<bool, Al
     ensures { IfOk result (λ is. is ≡ is_json text.now) }
 {
     let whole = without_halves(alloc, text)?;
-    match json_texts::read_value(alloc, whole.as_slice(), MOST_DEPTH, scratch)? {
+    match json_texts::read_value(alloc, whole.as_slice(), MOST_DEPTH_IN, scratch)? {
         Some(value) => {
             drop(value);
             Ok(true)

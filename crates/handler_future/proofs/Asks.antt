@@ -8,9 +8,9 @@ use Rattle.rpc_messages.specs.declared.outgoing.Outgoing.{Outgoing}
 use Rattle.rpc_messages.specs.declared.reply.Reply.TheVariants.{Done}
 use Rattle.message_ids.specs.declared.standard.Standard.{Standard}
 use Rattle.message_ids.specs.declared.standard.Standard.TheVariants.{InvalidParams}
-use Rattle.method_steps.specs.declared.step.ListedCall.{ListedCall}
-use Rattle.method_steps.specs.declared.step.Step.TheVariants as step
-use Rattle.method_steps.specs.Steps.{Step, KeepsLimits, calls_in}
+use Rattle.method_templates.specs.declared.step.ListedCall.{ListedCall}
+use Rattle.method_templates.specs.declared.step.Step.TheVariants as step
+use Rattle.method_templates.specs.Steps.{Step, KeepsLimits, calls_in}
 use Rattle.handler_future.specs.declared.act.Act.{Act}
 use Rattle.handler_future.specs.declared.act.Act.TheVariants as act
 use Rattle.handler_future.specs.Act.{or_end, template_value, sum_of, are_alike, outgoing_of, outgoings_of, calls_for, calls_for_array, calls_for_each, act_of_calls, act_of}

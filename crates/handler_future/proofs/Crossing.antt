@@ -16,14 +16,14 @@ use Rattle.json_values.specs.contracts.json_value.Json as Json
 use Rattle.rpc_messages.specs.contracts.call.Call as Call
 use Rattle.rpc_messages.specs.contracts.reply.Reply as Reply
 use Rattle.rpc_messages.specs.contracts.outgoing.Outgoing as Outgoing
-use Rattle.method_steps.proofs.template.Template.TheLaws.TheKnot as template
-use Rattle.method_steps.proofs.step.Step.TheSendSync as step
-use Rattle.method_steps.proofs.step.OnError.TheSendSync as on_error
-use Rattle.method_steps.specs.contracts.step.ListedCall as ListedCall
-use Rattle.method_steps.specs.contracts.template.Template as Template
-use Rattle.method_steps.specs.contracts.frame.Frame as Frame
-use Rattle.method_steps.specs.contracts.frame.Row as Row
-use Rattle.method_steps.specs.contracts.name.Name as Name
+use Rattle.method_templates.proofs.template.Template.TheLaws.TheKnot as template
+use Rattle.method_templates.proofs.step.Step.TheSendSync as step
+use Rattle.method_templates.proofs.step.OnError.TheSendSync as on_error
+use Rattle.method_templates.specs.contracts.step.ListedCall as ListedCall
+use Rattle.method_templates.specs.contracts.template.Template as Template
+use Rattle.method_templates.specs.contracts.locals.Locals as Locals
+use Rattle.method_templates.specs.contracts.locals.Row as Row
+use Rattle.method_templates.specs.contracts.name.Name as Name
 use Rattle.json_values.proofs.items.Items.TheSendSync as items
 use Rattle.handler_future.proofs.course.CourseOf.TheSendSync as course
 use Rattle.handler_future.specs.contracts.message.Message as Message
@@ -107,8 +107,8 @@ name_send = search known depth 12
 row_send : IsSend Row.the_row
 row_send = search (known, json_send, name_send) depth 12
 
-frame_send : IsSend Frame.the_row
-frame_send = search (known, row_send) depth 12
+locals_send : IsSend Locals.the_row
+locals_send = search (known, row_send) depth 12
 
 run_send : IsSend Run.the_row
 run_send = declared_send Run.the_type (
@@ -119,7 +119,7 @@ run_send = declared_send Run.the_type (
       search (known, call_send, call_sync) depth 12,
       (
         search (known, step.the_send, step.the_sync, items.the_send, items.the_sync, template_send, template_sync, listed_send, listed_sync) depth 12,
-        (search (known, course.the_field_send, frame_send, message_send, reply_send) depth 12, (search known depth 12, tt)),
+        (search (known, course.the_field_send, locals_send, message_send, reply_send) depth 12, (search known depth 12, tt)),
       ),
     ),
   ),

@@ -9,7 +9,7 @@ use Rattle.std.specs.List.{list_all, range_with_len}
 use Rattle.serde_json.specs.Data.{Data, null, Members}
 use Rattle.rpc_messages.specs.declared.reply.Reply.{Reply}
 use Rattle.rpc_messages.specs.declared.reply.Reply.TheVariants.{Done}
-use Rattle.method_steps.specs.Steps.{Step, KeepsLimits, calls_in, calls_of}
+use Rattle.method_templates.specs.Steps.{Step, KeepsLimits, calls_in, calls_of}
 use Rattle.handler_future.specs.declared.act.Act.{Act}
 use Rattle.handler_future.specs.declared.act.Act.TheVariants as act
 use Rattle.handler_future.specs.declared.course.Progress.{Progress}

@@ -3,7 +3,7 @@ use Rattle.std.proofs.Common.{◌≡◌, ℕ, suc, ◌+◌, ◌-◌, ◌<◌, Li
 use Rattle.serde_json.specs.Data.{Data, array, Items, no_items, item}
 use Rattle.serde_json.specs.View.{items_of}
 use Rattle.rpc_messages.specs.declared.reply.Reply.{Reply}
-use Rattle.method_steps.specs.declared.step.OnError.{OnError}
+use Rattle.method_templates.specs.declared.step.OnError.{OnError}
 use Rattle.handler_future.specs.Evaluation.{Replies, replies_from}
 use Rattle.handler_future.specs.ReplyValues.{kept_reply, kept_items, kept_array, kept_first}
 use Rattle.handler_future.specs.Results.{and_then}

@@ -2,7 +2,7 @@
 use Rattle.std.proofs.Common.{ℕ, zero, suc, ◌+◌, ◌≤◌, List, [], ◌∷◌, length, arith, Result, Ok, Err}
 use Rattle.serde_json.specs.Data.{Data, Members, put}
 use Rattle.rpc_messages.specs.declared.reply.Reply.{Reply}
-use Rattle.method_steps.specs.Steps.{Step}
+use Rattle.method_templates.specs.Steps.{Step}
 use Rattle.handler_future.specs.declared.act.Act.{Act}
 use Rattle.handler_future.specs.declared.act.Act.TheVariants as act
 use Rattle.handler_future.specs.Act.{act_of}

@@ -3,7 +3,7 @@ use Rattle.std.proofs.Common.{◌≡◌, List, [], ◌∷◌, ◌++◌, Result, 
 use Rattle.serde_json.specs.Data.{Members}
 use Rattle.rpc_messages.specs.declared.outgoing.Outgoing.{Outgoing}
 use Rattle.message_ids.specs.declared.standard.Standard.{Standard}
-use Rattle.method_steps.specs.declared.step.ListedCall.{ListedCall}
+use Rattle.method_templates.specs.declared.step.ListedCall.{ListedCall}
 use Rattle.handler_future.specs.Act.{outgoing_of, outgoings_of}
 use Rattle.handler_future.specs.Results.{and_then}
 

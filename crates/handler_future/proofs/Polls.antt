@@ -5,7 +5,7 @@ use Rattle.std.proofs.lemmas.List.Elements.{All-filter, All-same, All-nil, All-c
 use Rattle.std.proofs.lemmas.List.FromFn.{length-range_with_len, get_or-range_with_len}
 use Rattle.std.specs.List.{range_with_len, list_all}
 use Rattle.rpc_messages.specs.declared.reply.Reply.{Reply}
-use Rattle.method_steps.specs.Steps.{AreWithinLimits, calls_of}
+use Rattle.method_templates.specs.Steps.{AreWithinLimits, calls_of}
 use Rattle.handler_future.specs.declared.outcome.Outcome.TheVariants.{Answer, Failed}
 use Rattle.handler_future.specs.declared.message.Message.{Message}
 use Rattle.handler_future.specs.declared.phase.Phase.{Phase}

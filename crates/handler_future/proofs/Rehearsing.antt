@@ -10,7 +10,7 @@ use Rattle.std.proofs.lemmas.List.Elements.{All-contains, All-same, filter_passe
 use Rattle.rpc_messages.specs.declared.reply.Reply.{Reply}
 use Rattle.rpc_messages.specs.declared.reply.Reply.TheVariants.{Standard}
 use Rattle.message_ids.specs.declared.standard.Standard.TheVariants.{NoReply}
-use Rattle.method_steps.specs.Steps.{calls_of}
+use Rattle.method_templates.specs.Steps.{calls_of}
 use Rattle.handler_future.specs.declared.outcome.Outcome.{Outcome}
 use Rattle.handler_future.specs.Evaluation.{Replies}
 use Rattle.handler_future.specs.Front.{Heard, AgreesWith, find_heard, is_heard, heard_replies, unheard, last_turns}

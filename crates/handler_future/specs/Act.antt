@@ -8,14 +8,14 @@ use Rattle.rpc_messages.specs.declared.outgoing.Outgoing.{Outgoing}
 use Rattle.rpc_messages.specs.declared.reply.Reply.TheVariants.{Done, Error, Standard as Fixed}
 use Rattle.message_ids.specs.declared.standard.Standard.{Standard}
 use Rattle.message_ids.specs.declared.standard.Standard.TheVariants.{InvalidParams, InternalError}
-use Rattle.method_steps.specs.declared.filling.FillFault.{FillFault}
-use Rattle.method_steps.specs.declared.filling.FillFault.TheVariants as fault
-use Rattle.method_steps.specs.declared.limits.TheConstants.{MOST_LISTED}
-use Rattle.method_steps.specs.declared.step.ListedCall.{ListedCall}
-use Rattle.method_steps.specs.Steps.{Step}
-use Rattle.method_steps.specs.declared.step.Step.TheVariants as step
-use Rattle.method_steps.specs.Shape.{Shape}
-use Rattle.method_steps.specs.Value.{value_of}
+use Rattle.method_templates.specs.declared.filling.FillFault.{FillFault}
+use Rattle.method_templates.specs.declared.filling.FillFault.TheVariants as fault
+use Rattle.method_templates.specs.declared.limits.TheConstants.{MOST_LISTED}
+use Rattle.method_templates.specs.declared.step.ListedCall.{ListedCall}
+use Rattle.method_templates.specs.Steps.{Step}
+use Rattle.method_templates.specs.declared.step.Step.TheVariants as step
+use Rattle.method_templates.specs.Shape.{Shape}
+use Rattle.method_templates.specs.Value.{value_of}
 use Rattle.handler_future.specs.declared.act.Act.{Act}
 use Rattle.handler_future.specs.declared.act.Act.TheVariants.{Put, Skip, Notify, Call, Calls, End}
 use Rattle.handler_future.specs.Results.{and_then}

@@ -6,4 +6,5 @@ pub mod Ready
 pub mod Rehearsed
 pub mod ReplyValues
 pub mod Results
+pub mod Rooms
 pub mod State

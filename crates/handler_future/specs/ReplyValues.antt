@@ -6,10 +6,10 @@ use Rattle.rpc_messages.specs.declared.error_value.ErrorValue.{ErrorValue}
 use Rattle.rpc_messages.specs.declared.reply.Reply.{Reply}
 use Rattle.rpc_messages.specs.declared.reply.Reply.TheVariants.{Done, Error, Standard as Fixed}
 use Rattle.message_ids.specs.declared.standard.Standard.TheVariants.{NoReply}
-use Rattle.method_steps.specs.declared.step.OnError.{OnError}
-use Rattle.method_steps.specs.declared.step.OnError.TheVariants.{Fail, Keep}
-use Rattle.method_steps.specs.Steps.{Step}
-use Rattle.method_steps.specs.declared.step.Step.TheVariants as step
+use Rattle.method_templates.specs.declared.step.OnError.{OnError}
+use Rattle.method_templates.specs.declared.step.OnError.TheVariants.{Fail, Keep}
+use Rattle.method_templates.specs.Steps.{Step}
+use Rattle.method_templates.specs.declared.step.Step.TheVariants as step
 use Rattle.handler_future.specs.Results.{and_then}
 
 -- the register that the step puts a value into

@@ -10,7 +10,8 @@ use Rattle.rpc_messages.specs.declared.outgoing.Outgoing.{Outgoing}
 use Rattle.rpc_messages.specs.declared.params.Params.{Params}
 use Rattle.rpc_messages.specs.declared.params.Params.TheVariants.{Omitted, Whole, Fractional}
 use Rattle.rpc_messages.specs.declared.reply.Reply.{Reply}
-use Rattle.method_steps.specs.Steps.{Step, NamedSteps, steps_at, calls_of}
+use Rattle.method_templates.specs.Steps.{Step, calls_of}
+use Rattle.method_steps.specs.Steps.{NamedSteps, steps_at}
 use Rattle.handler_future.specs.declared.message.Message.{Message}
 use Rattle.handler_future.specs.declared.message.Message.TheVariants as message
 use Rattle.handler_future.specs.declared.outcome.Outcome.{Outcome}

@@ -4,8 +4,8 @@ ghost use Rattle.std.specs.Prelude.{◌≡◌, ◌+ℤ◌, IfOk, IfSome, IfNone,
 ghost use Rattle.std.specs.Str.{bytes_eq};
 ghost use Rattle.serde_json.specs.Data.{Data};
 ghost use Rattle.serde_json.specs.Written.{compact_text};
-ghost use Rattle.method_steps.specs.Frame.{with_lent};
-ghost use Rattle.method_steps.specs.Value.{i64_in};
+ghost use Rattle.method_templates.specs.Locals.{with_lent};
+ghost use Rattle.method_templates.specs.Value.{i64_in};
 ghost use Rattle.handler_future.specs.Act.{act_of, act_or_error, template_value, sum_of, number_of, are_alike, outgoing_of, array_or_object, outgoings_of, calls_for_each, act_of_calls};
 ghost use Rattle.handler_future.specs.Inner.Fault.{Gives, IsStepFault};
 ghost use Rattle.handler_future.specs.Results.{and_then};
@@ -13,8 +13,8 @@ ghost use Rattle.handler_future.specs.Results.{and_then};
 use crate::each::calls_for_each;
 use crate::fault::StepFault;
 use json_values::{Items, Json, JsonArray, Text};
-use method_steps::{
-    FillFault, Frame, ListedCall, Step, Template, fill_integer, fill_lent, lend_whole, take_whole,
+use method_templates::{
+    FillFault, ListedCall, Locals, Step, Template, fill_integer, fill_lent, lend_whole, take_whole,
 };
 use rpc_messages::{ErrorValue, Outgoing, Reply, Standard};
 use std::alloc::{AllocError, Global};
@@ -40,12 +40,12 @@ pub(crate) enum Act {
 pub(crate) fn decide(
     alloc: Global,
     step: &Step,
-    frame: &Frame,
+    locals: &Locals,
     lent: &Json,
 ) -> Result<Act, AllocError>
-    ensures { IfOk result (λ act. act ≡ act_of (with_lent lent.now frame.now) step.now) }
+    ensures { IfOk result (λ act. act ≡ act_of (with_lent lent.now locals.now) step.now) }
 {
-    match try_decide(alloc, step, frame, lent) {
+    match try_decide(alloc, step, locals, lent) {
         Ok(act) => Ok(act),
         Err(StepFault::Ended(standard)) => Ok(Act::End(Reply::Standard(standard))),
         Err(StepFault::Memory) => Err(AllocError),
@@ -53,35 +53,35 @@ pub(crate) fn decide(
 }
 
 /// What the step answers, where that is the whole of a register: it is taken out.
-pub(crate) fn whole_answer(step: &Step, frame: &mut Frame) -> Option<Json>
+pub(crate) fn whole_answer(step: &Step, locals: &mut Locals) -> Option<Json>
     ensures some { IfSome result (λ value. (lent : Data)
-        → act_of (with_lent lent frame.old) step.now ≡ Act.End (Reply.Done value)) }
-    ensures none { IfNone result (frame.new ≡ frame.old) }
+        → act_of (with_lent lent locals.old) step.now ≡ Act.End (Reply.Done value)) }
+    ensures none { IfNone result (locals.new ≡ locals.old) }
 {
     match step {
-        Step::Answer { value } => take_whole(value, frame),
+        Step::Answer { value } => take_whole(value, locals),
         _ => None,
     }
 }
 
-fn try_decide(alloc: Global, step: &Step, frame: &Frame, lent: &Json) -> Result<Act, StepFault>
-    ensures { Gives (act_or_error (with_lent lent.now frame.now) step.now) result }
+fn try_decide(alloc: Global, step: &Step, locals: &Locals, lent: &Json) -> Result<Act, StepFault>
+    ensures { Gives (act_or_error (with_lent lent.now locals.now) step.now) result }
 {
     match step {
-        Step::Set { value, .. } => template_value(alloc, value, frame, lent).map(Act::Put),
-        Step::Add { left, right, .. } => sum(alloc, left, right, frame, lent).map(Act::Put),
-        Step::Skip { left, right, count } => skip(alloc, left, right, *count, frame, lent),
+        Step::Set { value, .. } => template_value(alloc, value, locals, lent).map(Act::Put),
+        Step::Add { left, right, .. } => sum(alloc, left, right, locals, lent).map(Act::Put),
+        Step::Skip { left, right, count } => skip(alloc, left, right, *count, locals, lent),
         Step::Call { method, params, .. } => {
-            outgoing(alloc, method, params, frame, lent).map(Act::Call)
+            outgoing(alloc, method, params, locals, lent).map(Act::Call)
         }
         Step::Calls { list, .. } => {
-            all_outgoing(alloc, list.as_slice(), frame, lent).map(Act::Calls)
+            all_outgoing(alloc, list.as_slice(), locals, lent).map(Act::Calls)
         }
-        Step::Each { over, method, .. } => act_for_each(alloc, over, method, frame, lent),
+        Step::Each { over, method, .. } => act_for_each(alloc, over, method, locals, lent),
         Step::Notify { method, params } => {
-            outgoing(alloc, method, params, frame, lent).map(Act::Notify)
+            outgoing(alloc, method, params, locals, lent).map(Act::Notify)
         }
-        Step::Answer { value } => answer(alloc, value, frame, lent),
+        Step::Answer { value } => answer(alloc, value, locals, lent),
         Step::Fail { code, message } => failure(*code, message),
     }
 }
@@ -92,13 +92,13 @@ fn skip(
     left: &Template,
     right: &Template,
     count: u32,
-    frame: &Frame,
+    locals: &Locals,
     lent: &Json,
 ) -> Result<Act, StepFault>
-    ensures { Gives (and_then (are_alike (with_lent lent.now frame.now) left.now right.now)
+    ensures { Gives (and_then (are_alike (with_lent lent.now locals.now) left.now right.now)
         (λ alike. Ok (Act.Skip (if alike then count else 0)))) result }
 {
-    if are_alike(alloc, left, right, frame, lent)? {
+    if are_alike(alloc, left, right, locals, lent)? {
         Ok(Act::Skip(count))
     } else {
         Ok(Act::Skip(0))
@@ -110,28 +110,28 @@ fn act_for_each(
     alloc: Global,
     over: &Template,
     method: &Text,
-    frame: &Frame,
+    locals: &Locals,
     lent: &Json,
 ) -> Result<Act, StepFault>
-    ensures { Gives (and_then (template_value (with_lent lent.now frame.now) over.now) (λ over.
+    ensures { Gives (and_then (template_value (with_lent lent.now locals.now) over.now) (λ over.
         and_then (calls_for_each method.now over) (λ calls. Ok (act_of_calls calls)))) result }
 {
-    if let Some(over) = lend_whole(over, frame, lent) {
+    if let Some(over) = lend_whole(over, locals, lent) {
         let calls = calls_for_each(alloc, method, over)?;
         return Ok(act_of_calls(alloc, calls));
     }
-    let over = template_value(alloc, over, frame, lent)?;
+    let over = template_value(alloc, over, locals, lent)?;
     let calls = calls_for_each(alloc, method, &over);
     drop(over);
     Ok(act_of_calls(alloc, calls?))
 }
 
 /// Ends the method with the template's value.
-fn answer(alloc: Global, value: &Template, frame: &Frame, lent: &Json) -> Result<Act, StepFault>
-    ensures { Gives (and_then (template_value (with_lent lent.now frame.now) value.now)
+fn answer(alloc: Global, value: &Template, locals: &Locals, lent: &Json) -> Result<Act, StepFault>
+    ensures { Gives (and_then (template_value (with_lent lent.now locals.now) value.now)
         (λ value. Ok (Act.End (Reply.Done value)))) result }
 {
-    let value = template_value(alloc, value, frame, lent)?;
+    let value = template_value(alloc, value, locals, lent)?;
     Ok(Act::End(Reply::Done(value)))
 }
 
@@ -151,12 +151,12 @@ fn failure(code: i64, message: &Text) -> Result<Act, StepFault>
 fn template_value(
     alloc: Global,
     template: &Template,
-    frame: &Frame,
+    locals: &Locals,
     lent: &Json,
 ) -> Result<Json, StepFault>
-    ensures { Gives (template_value (with_lent lent.now frame.now) template.now) result }
+    ensures { Gives (template_value (with_lent lent.now locals.now) template.now) result }
 {
-    match fill_lent(alloc, template, frame, lent) {
+    match fill_lent(alloc, template, locals, lent) {
         Ok(value) => Ok(value),
         Err(fault) => Err(step_fault(fault)),
     }
@@ -178,13 +178,13 @@ fn sum(
     alloc: Global,
     left: &Template,
     right: &Template,
-    frame: &Frame,
+    locals: &Locals,
     lent: &Json,
 ) -> Result<Json, StepFault>
-    ensures { Gives (sum_of (with_lent lent.now frame.now) left.now right.now) result }
+    ensures { Gives (sum_of (with_lent lent.now locals.now) left.now right.now) result }
 {
-    let left = whole(alloc, left, frame, lent)?;
-    let right = whole(alloc, right, frame, lent)?;
+    let left = whole(alloc, left, locals, lent)?;
+    let right = whole(alloc, right, locals, lent)?;
     sum_of_both(left, right)
 }
 
@@ -192,13 +192,13 @@ fn sum(
 fn whole(
     alloc: Global,
     template: &Template,
-    frame: &Frame,
+    locals: &Locals,
     lent: &Json,
 ) -> Result<Option<i64>, StepFault>
-    ensures { Gives (and_then (template_value (with_lent lent.now frame.now) template.now)
+    ensures { Gives (and_then (template_value (with_lent lent.now locals.now) template.now)
         (λ value. Ok (i64_in value))) result }
 {
-    match fill_integer(alloc, template, frame, lent) {
+    match fill_integer(alloc, template, locals, lent) {
         Ok(integer) => Ok(integer),
         Err(fault) => Err(step_fault(fault)),
     }
@@ -229,16 +229,16 @@ fn are_alike(
     alloc: Global,
     left: &Template,
     right: &Template,
-    frame: &Frame,
+    locals: &Locals,
     lent: &Json,
 ) -> Result<bool, StepFault>
-    ensures { Gives (are_alike (with_lent lent.now frame.now) left.now right.now) result }
+    ensures { Gives (are_alike (with_lent lent.now locals.now) left.now right.now) result }
 {
-    if let Some(left) = lend_whole(left, frame, lent) {
-        return is_like(alloc, left, right, frame, lent);
+    if let Some(left) = lend_whole(left, locals, lent) {
+        return is_like(alloc, left, right, locals, lent);
     }
-    let left = template_value(alloc, left, frame, lent)?;
-    let alike = is_like(alloc, &left, right, frame, lent);
+    let left = template_value(alloc, left, locals, lent)?;
+    let alike = is_like(alloc, &left, right, locals, lent);
     drop(left);
     alike
 }
@@ -248,16 +248,16 @@ fn is_like(
     alloc: Global,
     left: &Json,
     right: &Template,
-    frame: &Frame,
+    locals: &Locals,
     lent: &Json,
 ) -> Result<bool, StepFault>
-    ensures { Gives (and_then (template_value (with_lent lent.now frame.now) right.now)
+    ensures { Gives (and_then (template_value (with_lent lent.now locals.now) right.now)
         (λ right. Ok (bytes_eq (compact_text left.now) (compact_text right)))) result }
 {
-    if let Some(right) = lend_whole(right, frame, lent) {
+    if let Some(right) = lend_whole(right, locals, lent) {
         return Ok(left.has_text_of(alloc, right)?);
     }
-    let right = template_value(alloc, right, frame, lent)?;
+    let right = template_value(alloc, right, locals, lent)?;
     let alike = left.has_text_of(alloc, &right);
     drop(right);
     Ok(alike?)
@@ -268,13 +268,13 @@ fn outgoing(
     alloc: Global,
     method: &Text,
     params: &Option<Template>,
-    frame: &Frame,
+    locals: &Locals,
     lent: &Json,
 ) -> Result<Outgoing, StepFault>
-    ensures { Gives (outgoing_of (with_lent lent.now frame.now) method.now params.now) result }
+    ensures { Gives (outgoing_of (with_lent lent.now locals.now) method.now params.now) result }
 {
     let params = match params {
-        Some(params) => Some(array_or_object(template_value(alloc, params, frame, lent)?)?),
+        Some(params) => Some(array_or_object(template_value(alloc, params, locals, lent)?)?),
         None => None,
     };
     Ok(Outgoing {
@@ -298,14 +298,14 @@ fn array_or_object(value: Json) -> Result<Json, StepFault>
 fn all_outgoing(
     alloc: Global,
     list: &[ListedCall],
-    frame: &Frame,
+    locals: &Locals,
     lent: &Json,
 ) -> Result<Items<Outgoing>, StepFault>
-    ensures { Gives (outgoings_of (with_lent lent.now frame.now) list.now) result }
+    ensures { Gives (outgoings_of (with_lent lent.now locals.now) list.now) result }
 {
     let mut calls = Vec::with_capacity(alloc, list.len())?;
     for listed in list {
-        let call = outgoing(alloc, &listed.method, &listed.params, frame, lent)?;
+        let call = outgoing(alloc, &listed.method, &listed.params, locals, lent)?;
         calls.push_reserved(call);
     }
     Ok(Items::from(calls))

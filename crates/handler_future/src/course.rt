@@ -4,9 +4,9 @@ ghost use Rattle.std.specs.Prelude.{◌≡◌, ◌≢◌, ◌+◌, ◌≤◌, �
 ghost use Rattle.std.specs.List.{range_with_len};
 ghost use Rattle.rpc_messages.specs.declared.key.TheConstants.{MOST_TURNS};
 ghost use Rattle.serde_json.specs.Data.{Data};
-ghost use Rattle.method_steps.specs.Frame.{with_lent};
-ghost use Rattle.method_steps.specs.declared.limits.TheConstants.{MOST_STEPS};
-ghost use Rattle.method_steps.specs.Steps.{AreWithinLimits, KeepsLimits, calls_in};
+ghost use Rattle.method_templates.specs.Locals.{with_lent};
+ghost use Rattle.method_templates.specs.declared.limits.TheConstants.{MOST_STEPS};
+ghost use Rattle.method_templates.specs.Steps.{AreWithinLimits, KeepsLimits, calls_in};
 ghost use Rattle.handler_future.specs.Act.{act_of};
 ghost use Rattle.handler_future.specs.Inner.Course.{seen, without_registers, with_value, with_notice, asking, after_act, after_replies, HasRoom};
 ghost use Rattle.handler_future.specs.ReplyValues.{register_of};
@@ -18,7 +18,7 @@ use crate::act::{Act, decide, whole_answer};
 use crate::message::Message;
 use crate::reply_values::value_of_replies;
 use json_values::Json;
-use method_steps::{Frame, Step};
+use method_templates::{Locals, Step};
 use rpc_messages::{Outgoing, Reply};
 use std::alloc::{AllocError, Global};
 
@@ -40,7 +40,7 @@ pub(crate) struct CourseOf<R, M, H> {
     pub(crate) heard: H,
 }
 
-pub(crate) type Course = CourseOf<Frame, Vec<Message>, Vec<(u32, Reply)>>;
+pub(crate) type Course = CourseOf<Locals, Vec<Message>, Vec<(u32, Reply)>>;
 
 /// What a course has come to.
 #[derive(Drop)]

@@ -8,7 +8,7 @@ ghost use Rattle.handler_future.specs.Inner.Fault.{GivesItems};
 
 use crate::fault::StepFault;
 use json_values::{Json, JsonArray, Text};
-use method_steps::MOST_LISTED;
+use method_templates::MOST_LISTED;
 use rpc_messages::{Outgoing, Standard};
 use serde_json::Value;
 use std::alloc::{AllocError, Global};

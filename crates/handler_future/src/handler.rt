@@ -3,10 +3,12 @@ ghost use Rattle.std.specs.Arc.{arc_value};
 ghost use Rattle.std.specs.List.{list_any};
 ghost use Rattle.rpc_messages.specs.declared.params.Params.TheVariants as Params;
 ghost use Rattle.rpc_messages.specs.declared.key.TheConstants.{MOST_NUMBERS};
-ghost use Rattle.method_steps.specs.declared.limits.TheConstants.{MOST_CALLS};
-ghost use Rattle.method_steps.specs.Steps.{AreWithinLimits, shared_steps, steps_at, calls_of};
+ghost use Rattle.method_templates.specs.declared.limits.TheConstants.{MOST_CALLS};
+ghost use Rattle.method_templates.specs.Steps.{AreWithinLimits, calls_of};
+ghost use Rattle.method_steps.specs.Steps.{shared_steps, steps_at};
 ghost use Rattle.handler_future.specs.Front.{HasTurnsUpTo, unheard, last_turns};
 ghost use Rattle.handler_future.specs.Inner.Handler.{params_in};
+ghost use Rattle.handler_future.specs.Rooms.{IsVacant};
 ghost use Rattle.handler_future.specs.State.{new_state, opening_state, program_at, with_heard, IsPoll};
 
 use crate::course::Course;
@@ -15,7 +17,8 @@ use crate::outcome::{NotWaiting, Outcome};
 use crate::phase::Phase;
 use crate::room::Room;
 use crate::run::{Run, clear, hear, poll, restart};
-use method_steps::{Frame, Step, Table};
+use method_steps::Table;
+use method_templates::{Locals, Step};
 use rpc_messages::{Call, Reply};
 use std::alloc::{AllocError, Global};
 use std::marker::Model;
@@ -37,7 +40,7 @@ impl Drop for Handler {
 impl Model for Handler {
     ghost use Rattle.std.specs.Coded.{codes};
     ghost use Rattle.json_values.specs.Codes.{coded_data};
-    ghost use Rattle.method_steps.specs.Shape.{coded_shape};
+    ghost use Rattle.method_templates.specs.Shape.{coded_shape};
     ghost use Rattle.handler_future.specs.State.{HandlerState};
 
     ghost Value = { HandlerState };
@@ -95,7 +98,7 @@ impl Handler {
         ensures { IfOk result (λ handler. handler ≡ new_state number
             (record { steps = shared_steps steps; params = params_in call })) }
     {
-        let registers = Frame::new(alloc)?;
+        let registers = Locals::new(alloc)?;
         let run = Run {
             alloc,
             number,
@@ -139,7 +142,9 @@ impl Handler {
     }
 
     /// The room of a handler that is over. All else that it held is let go, its call too.
-    pub fn into_room(self) -> Room {
+    pub fn into_room(self) -> Room
+        ensures { IsVacant result.run.value }
+    {
         let Handler { mut run } = self;
         clear(&mut run);
         Room { run }

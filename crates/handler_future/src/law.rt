@@ -1,7 +1,7 @@
 //! What holds of evaluations, whatever handler there is. Each law is the contract of a function that does nothing.
 
 ghost use Rattle.std.specs.Prelude.{◌≡◌, ℕ, ◌<◌, ◌≤◌, ◌++◌, List, Bool, All, length, nat_lt};
-ghost use Rattle.method_steps.specs.Steps.{AreWithinLimits, calls_of};
+ghost use Rattle.method_templates.specs.Steps.{AreWithinLimits, calls_of};
 ghost use Rattle.handler_future.specs.declared.message.Message.{Message};
 ghost use Rattle.handler_future.specs.Evaluation.{Replies, Program, evaluation};
 ghost use Rattle.handler_future.specs.Front.{Heard, AgreesWith, HasTurnsUpTo, is_heard, until_waiting, front};

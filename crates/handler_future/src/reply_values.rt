@@ -7,7 +7,7 @@ ghost use Rattle.handler_future.specs.Front.{heard_replies, find_heard};
 ghost use Rattle.handler_future.specs.ReplyValues.{kept_reply, kept_result, kept_error, kept_array, value_of_replies};
 
 use json_values::{Json, JsonArray, JsonObject};
-use method_steps::{OnError, Step};
+use method_templates::{OnError, Step};
 use rpc_messages::{ErrorValue, Reply, Standard};
 use std::alloc::{AllocError, Global};
 

@@ -1,19 +1,21 @@
 //! What a handler holds.
 
-ghost use Rattle.std.specs.Prelude.{◌≡◌, ◌==◌, [], not, is_ok, IfErr, OnOk, OnErr};
+ghost use Rattle.std.specs.Prelude.{◌≡◌, ◌==◌, ◌≤◌, [], not, is_ok, IfErr, OnOk, OnErr, vec_capacity};
 ghost use Rattle.std.specs.Arc.{arc_value};
 ghost use Rattle.std.specs.List.{filter, list_any};
 ghost use Rattle.serde_json.specs.Data.{null as null_data};
-ghost use Rattle.method_steps.specs.Steps.{AreWithinLimits, shared_steps};
+ghost use Rattle.method_templates.specs.Steps.{AreWithinLimits};
+ghost use Rattle.method_steps.specs.Steps.{shared_steps};
 ghost use Rattle.handler_future.specs.Front.{unheard, last_turns};
 ghost use Rattle.handler_future.specs.Inner.Handler.{params_in, run_state, IsRun};
+ghost use Rattle.handler_future.specs.Rooms.{IsVacant};
 ghost use Rattle.handler_future.specs.State.{IsPoll, new_state, params_data, with_heard};
 
 use crate::course::{Course, Progress, proceed};
 use crate::outcome::{NotWaiting, Outcome};
 use crate::phase::Phase;
 use json_values::Json;
-use method_steps::Step;
+use method_templates::Step;
 use rpc_messages::{Call, Params, Reply};
 use std::alloc::{AllocError, Global};
 use std::mem;
@@ -145,7 +147,9 @@ pub(crate) fn restart(
 }
 
 /// Lets go of the call, and of all that was set, made and heard for it.
-pub(crate) fn clear(run: &mut Run) {
+pub(crate) fn clear(run: &mut Run)
+    ensures { IsVacant run.new }
+{
     drop(mem::replace(&mut run.call, None));
     run.course.registers.clear();
     empty(run.alloc, &mut run.course.messages, MOST_KEPT);
@@ -158,7 +162,8 @@ const MOST_KEPT: usize = 32;
 
 /// Empties a list. Room for more than so many is given back.
 fn empty<T: Drop>(alloc: Global, list: &mut Vec<T>, most: usize)
-    ensures { list.new.items ≡ [] }
+    ensures items { list.new.items ≡ [] }
+    ensures room { vec_capacity list.new ≤ most }
 {
     if list.capacity() > most {
         drop(mem::replace(list, Vec::new(alloc)));

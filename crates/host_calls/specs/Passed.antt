@@ -1,7 +1,7 @@
 -- What bytes that the host passes are read as, or why they aren't.
 use Rattle.std.specs.Prelude.{◌≡◌, ◌≢◌, ◌⊎◌, ℕ, ℤ, List, [], Option, Some, None, true, false, IsUtf8}
 use Rattle.json_texts.specs.Texts.{compact_text}
-use Rattle.json_texts.specs.declared.json_text.TheConstants.{MOST_LEVELS}
+use Rattle.json_texts.specs.declared.json_text.TheConstants.{MOST_DEPTH_OUT}
 use Rattle.connection_messages.specs.Params.{is_structured}
 use Rattle.connection_messages.specs.declared.answer.Answer.{Answer}
 use Rattle.connection_messages.specs.declared.answer.Answer.TheVariants.{Result, Error, Standard}
@@ -24,10 +24,10 @@ IsntText bytes why = IsMemory why ⊎ ((why ≡ NotText) × ¬ (IsUtf8 bytes))
 -- ---- a JSON value
 
 abbrev pub IsJson : List ℕ → List ℕ → Type 0
-IsJson bytes text = compact_text MOST_LEVELS bytes ≡ Some text
+IsJson bytes text = compact_text MOST_DEPTH_OUT bytes ≡ Some text
 
 abbrev pub IsntJson : List ℕ → Why → Type 0
-IsntJson bytes why = IsMemory why ⊎ ((why ≡ NotJson) × (compact_text MOST_LEVELS bytes ≡ None))
+IsntJson bytes why = IsMemory why ⊎ ((why ≡ NotJson) × (compact_text MOST_DEPTH_OUT bytes ≡ None))
 
 -- no bytes are none
 abbrev pub IsData : List ℕ → Option (List ℕ) → Type 0

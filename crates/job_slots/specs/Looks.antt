@@ -1,5 +1,5 @@
 -- What a seat's view shows, and how it changes.
-use Rattle.std.specs.Prelude.{◌≡◌, ℕ, ◌+◌, ◌-◌, Bool, true, false, List, [], ◌∷◌, slice_get, slice_set, length, Option, Some}
+use Rattle.std.specs.Prelude.{◌≡◌, ℕ, ◌+◌, ◌-◌, Bool, true, false, List, [], ◌∷◌, ◌++◌, slice_get, slice_set, length, Option, Some}
 use Rattle.std.specs.List.{list_all}
 use Rattle.atomic_table.specs.Table.{Me}
 use Rattle.job_slots.specs.declared.view.Look.{Look}
@@ -81,6 +81,11 @@ module _ {J : Type 0} where
   -- between two calls the clerk holds no slot, and no job is on its way in or home
   abbrev pub IsClerkAtRest : Me (Option J) (View J) → Type 0
   IsClerkAtRest m = (is_clerk m.0 ≡ true) × (length m.1 ≡ 0) × (list_all is_settled (view_looks m.0) ≡ true)
+
+  -- a worker tried a slot: it has claimed, turned and shut the job there, or nothing has changed
+  abbrev pub HasTried : ℕ → Me (Option J) (View J) → Bool → Me (Option J) (View J) → Type 0
+  HasTried slot before true after = after ≡ (Idle (view_shut before.0 ++ slot ∷ []), [])
+  HasTried slot before false after = after ≡ before
 
   -- between two calls a worker holds no slot and has no job
   abbrev pub IsWorkerAtRest : Me (Option J) (View J) → Type 0

@@ -1,7 +1,9 @@
 -- What callers see of the slots and of the seats.
-use Rattle.std.specs.Prelude.{◌≡◌, ℕ, List}
+use Rattle.std.specs.Prelude.{◌≡◌, ℕ, ◌<◌, List, [], ◌∷◌, ◌++◌}
 use Rattle.job_slots.specs.declared.slots.JobSlots.{JobSlots}
 use Rattle.job_slots.specs.declared.clerk.ClerkSeat.{ClerkSeat}
+use Rattle.job_slots.specs.declared.worker.Ran.{Ran}
+use Rattle.job_slots.specs.declared.worker.Ran.TheVariants.{One, Nothing}
 use Rattle.job_slots.specs.declared.worker.WorkerSeat.{WorkerSeat}
 use Rattle.job_slots.specs.declared.view.Look.{Look}
 use Rattle.job_slots.specs.declared.view.View.{View}
@@ -34,3 +36,8 @@ module _ {J : Type 0} where
   -- the slots that this worker has shut, in order: one for each job that it turned
   abbrev pub shut_of : WorkerSeat J → List ℕ
   shut_of worker = view_shut worker.seat.me.0
+
+  -- what a worker tells of a call: it has turned one job, of a slot of the table, which it shut last; or none, and it has shut none
+  abbrev pub TellsTurn : JobSlots J → WorkerSeat J → Ran → WorkerSeat J → Type 0
+  TellsTurn slots before (One slot) after = (slot < slot_count slots) × (shut_of after ≡ shut_of before ++ slot ∷ [])
+  TellsTurn slots before Nothing after = shut_of after ≡ shut_of before

@@ -1,7 +1,6 @@
 //! How a worker runs the job of a slot.
-ghost use Rattle.std.specs.Prelude.{◌≡◌, ◌<◌, [], ◌∷◌, ◌++◌, true, IsTrue, IsFalse};
-ghost use Rattle.job_slots.specs.declared.view.View.TheVariants.{Idle};
-ghost use Rattle.job_slots.specs.Looks.{is_idle, view_shut};
+ghost use Rattle.std.specs.Prelude.{◌≡◌, ◌<◌, [], true};
+ghost use Rattle.job_slots.specs.Looks.{is_idle, HasTried};
 
 use crate::exchange::exchange;
 use crate::plays::{Claim, Shut};
@@ -16,8 +15,7 @@ pub(crate) fn run_at<J: Turns>(shared: &SharedSlots<J>, seat: &mut Place<J>, slo
     requires slot { slot < shared.now.table_id.words }
     requires idle { (is_idle seat.old.me.0 ≡ true) × (seat.old.me.1 ≡ []) }
     ensures table { seat.new.table_id ≡ seat.old.table_id }
-    ensures ran { IsTrue result → seat.new.me ≡ (Idle (view_shut seat.old.me.0 ++ slot ∷ []), []) }
-    ensures nothing { IsFalse result → seat.new.me ≡ seat.old.me }
+    ensures tried { HasTried slot seat.old.me result seat.new.me }
 {
     shared.peek(slot) == READY && run_ready(shared, seat, slot)
 }
@@ -28,8 +26,7 @@ fn run_ready<J: Turns>(shared: &SharedSlots<J>, seat: &mut Place<J>, slot: usize
     requires slot { slot < shared.now.table_id.words }
     requires idle { (is_idle seat.old.me.0 ≡ true) × (seat.old.me.1 ≡ []) }
     ensures table { seat.new.table_id ≡ seat.old.table_id }
-    ensures ran { IsTrue result → seat.new.me ≡ (Idle (view_shut seat.old.me.0 ++ slot ∷ []), []) }
-    ensures nothing { IsFalse result → seat.new.me ≡ seat.old.me }
+    ensures tried { HasTried slot seat.old.me result seat.new.me }
 {
     if shared.compare_exchange::<Claim>(seat, slot, READY, RUNNING) != READY {
         return false;

@@ -1,8 +1,7 @@
 //! The slots, and all that is done with them.
-ghost use Rattle.std.specs.Prelude.{◌≡◌, ℕ, ◌+◌, ◌-◌, ◌<◌, ◌≤◌, [], ◌∷◌, ◌++◌, Some, None, IsOk, IfOk, IfErr, OnErr, IfSome, OnSome, IfNone, IsTrue, position, replicate, slice_get, slice_set};
+ghost use Rattle.std.specs.Prelude.{◌≡◌, ℕ, ◌+◌, ◌-◌, ◌<◌, ◌≤◌, [], Some, None, IsOk, IfOk, IfErr, OnErr, IfSome, OnSome, IfNone, IsTrue, position, replicate, slice_get, slice_set};
 ghost use Rattle.job_slots.specs.declared.limits.TheConstants.{MOST_SLOTS};
 ghost use Rattle.job_slots.specs.declared.view.Look.TheVariants.{Free, In};
-ghost use Rattle.job_slots.specs.declared.worker.Ran.TheVariants.{One, Nothing};
 ghost use Rattle.job_slots.specs.Looks.{is_free, HasJob, HasTurned};
 
 use crate::clerk::ClerkSeat;
@@ -33,7 +32,7 @@ pub struct JobSlots<J: Turns> {
 pub struct Refused;
 
 impl<J: Turns> JobSlots<J> {
-    ghost use Rattle.job_slots.specs.Seats.{IsClerkOf, IsWorkerOf, looks_of, live_of, shut_of, slot_count};
+    ghost use Rattle.job_slots.specs.Seats.{IsClerkOf, IsWorkerOf, TellsTurn, looks_of, live_of, shut_of, slot_count};
 
     /// A table of 1 to 128 slots, all free, with its clerk's seat and no worker's. Refused where memory runs out.
     pub fn make(alloc: Global, slots: u32) -> Result<(JobSlots<J>, ClerkSeat<J>), Refused>
@@ -107,10 +106,7 @@ impl<J: Turns> JobSlots<J> {
     pub fn run_one(&self, worker: &mut WorkerSeat<J>) -> Ran
         requires { IsWorkerOf self.now worker.old }
         ensures table { IsWorkerOf self.now worker.new }
-        ensures within { (slot : ℕ) → result ≡ One slot → slot < slot_count self.now }
-        ensures one { (slot : ℕ) → result ≡ One slot →
-            shut_of worker.new ≡ shut_of worker.old ++ slot ∷ [] }
-        ensures nothing { result ≡ Nothing → shut_of worker.new ≡ shut_of worker.old }
+        ensures told { TellsTurn self.now worker.old result worker.new }
     {
         self.run_among(worker, 0, self.count)
     }
@@ -120,10 +116,7 @@ impl<J: Turns> JobSlots<J> {
     pub fn run_one_from(&self, worker: &mut WorkerSeat<J>, from: u32) -> Ran
         requires { IsWorkerOf self.now worker.old }
         ensures table { IsWorkerOf self.now worker.new }
-        ensures within { (slot : ℕ) → result ≡ One slot → slot < slot_count self.now }
-        ensures one { (slot : ℕ) → result ≡ One slot →
-            shut_of worker.new ≡ shut_of worker.old ++ slot ∷ [] }
-        ensures nothing { result ≡ Nothing → shut_of worker.new ≡ shut_of worker.old }
+        ensures told { TellsTurn self.now worker.old result worker.new }
     {
         let from = from.min(self.count);
         match self.run_among(worker, from, self.count) {
@@ -137,10 +130,7 @@ impl<J: Turns> JobSlots<J> {
         requires worker { IsWorkerOf self.now worker.old }
         requires to { to ≤ slot_count self.now }
         ensures table { IsWorkerOf self.now worker.new }
-        ensures within { (slot : ℕ) → result ≡ One slot → slot < slot_count self.now }
-        ensures one { (slot : ℕ) → result ≡ One slot →
-            shut_of worker.new ≡ shut_of worker.old ++ slot ∷ [] }
-        ensures nothing { result ≡ Nothing → shut_of worker.new ≡ shut_of worker.old }
+        ensures told { TellsTurn self.now worker.old result worker.new }
     {
         for slot in from..to {
             if run_at(&self.table.shared, &mut worker.seat, slot as usize) {
@@ -173,7 +163,9 @@ impl<J: Turns> JobSlots<J> {
     /// Whether the job of a slot that is in use lies there turned, by a look: then `collect` gives it. A caller that asks
     /// first makes no room for a job that isn't there.
     pub fn is_turned(&self, clerk: &ClerkSeat<J>, slot: u32) -> bool
-        ensures { IsTrue result → slot < slot_count self.now }
+        ensures within { IsTrue result → slot < slot_count self.now }
+        ensures in_use { IsTrue result → IsClerkOf self.now clerk.now →
+            HasJob (looks_of clerk.now) slot }
     {
         slot < self.count && !clerk.free.has(slot) && self.table.shared.peek(slot as usize) == DONE
     }

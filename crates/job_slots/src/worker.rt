@@ -5,8 +5,10 @@ use crate::rule::Place;
 
 /// A worker's right to run jobs. It knows which slots it has shut.
 pub struct WorkerSeat<J> {
+    /// The worker's seat at the table, with its view: the slots that it has shut.
     pub(crate) seat: Place<J>,
-    // This is what it is between two calls.
+    // While nobody calls, a worker holds no slot and has no job: a call that claims one shuts the slot before it returns. So
+    // a seat that was not joined loses no job, unless its thread was cut off in a turn.
     ghost rests: { IsWorkerAtRest seat.me },
 }
 

@@ -1,3 +1,7 @@
+pub mod Ahead
+pub mod FoundNumbers
+pub mod FoundStrings
+pub mod FoundValues
 pub mod Lanes
 pub mod Lexed
 pub mod Placed

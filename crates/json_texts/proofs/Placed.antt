@@ -144,7 +144,7 @@ pub print-behind : (j : Json) (ts : List Token) → print (json_tokens j ++ ts) 
 unfolding json_text
 print-behind j ts = print_from-append false (json_tokens j) ts ∙ ap (λ c. print (json_tokens j) ++ print_from c ts) (value_ends j)
 
-comma_first : (j : Json) (ts : List Token) → print_from true (json_tokens j ++ ts) ≡ 44 ∷ print (json_tokens j ++ ts)
+pub comma_first : (j : Json) (ts : List Token) → print_from true (json_tokens j ++ ts) ≡ 44 ∷ print (json_tokens j ++ ts)
 unfolding print_from
 comma_first null ts = refl
 comma_first (boolean b) ts = refl
@@ -153,19 +153,19 @@ comma_first (string s) ts = refl
 comma_first (array js) ts = refl
 comma_first (object ms) ts = refl
 
-print-last_item : print_from true (items_tokens no_items) ≡ 93 ∷ []
+pub print-last_item : print_from true (items_tokens no_items) ≡ 93 ∷ []
 unfolding print_from
 print-last_item = refl
 
-print-last_member : print_from true (members_tokens no_members) ≡ 125 ∷ []
+pub print-last_member : print_from true (members_tokens no_members) ≡ 125 ∷ []
 unfolding print_from
 print-last_member = refl
 
-key_first : (k : List ℕ) (ts : List Token) → print_from true (Token.key k ∷ ts) ≡ 44 ∷ print_from false (Token.key k ∷ ts)
+pub key_first : (k : List ℕ) (ts : List Token) → print_from true (Token.key k ∷ ts) ≡ 44 ∷ print_from false (Token.key k ∷ ts)
 unfolding print_from
 key_first k ts = refl
 
-print-key : (k : List ℕ) (ts : List Token) → print_from false (Token.key k ∷ ts) ≡ (quoted k ++ 58 ∷ []) ++ print ts
+pub print-key : (k : List ℕ) (ts : List Token) → print_from false (Token.key k ∷ ts) ≡ (quoted k ++ 58 ∷ []) ++ print ts
 unfolding print_from
 print-key k ts = refl
 
@@ -368,6 +368,9 @@ pub starts_with-is : (text word : List ℕ) → starts_with nat_eq text word ≡
 starts_with-is text word is =
     let same : word ≡ take (length word) text = (bytes_eq-Decides word (take (length word) text)).0 is in
     sym (take-append-drop (length word) text) ∙ ap (λ l. l ++ drop (length word) text) (sym same)
+
+pub starts_with-so : (text word : List ℕ) → word ≡ take (length word) text → starts_with nat_eq text word ≡ true
+starts_with-so text word same = (bytes_eq-Decides word (take (length word) text)).1 same
 
 pub some_weaker : {X : Type 0} {P Q : X → Type 0} (r : Option X) → ((x : X) → P x → Q x) → IfSome r P → IfSome r Q
 some_weaker None f h = h

@@ -10,7 +10,7 @@ use Rattle.json.specs.Print.{print}
 use Rattle.json.specs.Tree.{json_tokens, depth, HasNumbers}
 use Rattle.json.proofs.Printed.Tokens.{tokens-print}
 use Rattle.json.proofs.Printed.Trees.{value-json_tokens, ArePrintable-json_tokens}
-use Rattle.json_texts.specs.declared.json_text.TheConstants.{MOST_LEVELS}
+use Rattle.json_texts.specs.declared.json_text.TheConstants.{MOST_DEPTH_OUT}
 use Rattle.json_texts.specs.Texts.{json_text, text_value, value_of, compact_text, IsJsonText}
 
 pub value_of-json_text : (levels : ℕ) (j : Json) → HasNumbers j → depth j ≤ levels → is_utf8 (json_text j) ≡ true → value_of levels (json_text j) ≡ Some j
@@ -25,8 +25,8 @@ pub compact_text-json_text : (levels : ℕ) (j : Json) → HasNumbers j → dept
 compact_text-json_text levels j numbers shallow utf8 = ap (option_map json_text) (value_of-json_text levels j numbers shallow utf8)
 
 -- what was read and written again is such a text
-pub is_json_text : (j : Json) → HasNumbers j → depth j ≤ MOST_LEVELS → IsUtf8 (json_text j) → IsJsonText (json_text j)
-is_json_text j numbers shallow utf8 = compact_text-json_text MOST_LEVELS j numbers shallow (is_utf8-from_IsUtf8 (json_text j) utf8)
+pub is_json_text : (j : Json) → HasNumbers j → depth j ≤ MOST_DEPTH_OUT → IsUtf8 (json_text j) → IsJsonText (json_text j)
+is_json_text j numbers shallow utf8 = compact_text-json_text MOST_DEPTH_OUT j numbers shallow (is_utf8-from_IsUtf8 (json_text j) utf8)
 
 -- ---- bytes that are UTF-8, or aren't
 

@@ -5,7 +5,7 @@ use Rattle.json.specs.Json.{Json, value, if_last}
 use Rattle.json.specs.Lex.{tokens}
 use Rattle.json.specs.Print.{print}
 use Rattle.json.specs.Tree.{json_tokens}
-use Rattle.json_texts.specs.declared.json_text.TheConstants.{MOST_LEVELS}
+use Rattle.json_texts.specs.declared.json_text.TheConstants.{MOST_DEPTH_OUT}
 
 -- A value's compact text: no space, the shortest escapes, and each number as it was spelled.
 unfoldable pub json_text : Json → List ℕ
@@ -25,4 +25,4 @@ compact_text levels bytes = option_map json_text (value_of levels bytes)
 
 -- The text is a value's, and compact: it is the compact text of the value that it is.
 abbrev pub IsJsonText : List ℕ → Type 0
-IsJsonText text = compact_text MOST_LEVELS text ≡ Some text
+IsJsonText text = compact_text MOST_DEPTH_OUT text ≡ Some text

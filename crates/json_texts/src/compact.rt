@@ -1,6 +1,6 @@
 //! Compact values, told apart from others without a look at their tokens.
 
-ghost use Rattle.std.specs.Prelude.{◌≡◌, ◌≢◌, ◌≤◌, ◌<◌, ◌+◌, ◌-◌, IfSome, IsTrue, ◌∷◌, length, get_or, drop, slice_range};
+ghost use Rattle.std.specs.Prelude.{◌≡◌, ◌≢◌, ◌≤◌, ◌<◌, ◌+◌, ◌-◌, ◌||◌, ◌==◌, Some, IfSome, IsTrue, ◌∷◌, length, get_or, drop, slice_range, true};
 ghost use Rattle.std.specs.List.{prefix_len};
 ghost use Rattle.std.specs.Char.{is_ascii_digit};
 ghost use Rattle.std.specs.Str.{IsUtf8};
@@ -8,26 +8,30 @@ ghost use Rattle.json.specs.Print.{IsNumber, escape};
 ghost use Rattle.json_texts.specs.Texts.{IsJsonText};
 ghost use Rattle.json_texts.specs.Standing.{Stands, HasString, HasNumber, HasValue, HasItems, HasMembers, HasName, is_escape_letter};
 ghost use Rattle.json_texts.specs.Compacting.{HasShortest};
+ghost use Rattle.json_texts.specs.Found.{FindsValue, FindsItems, FindsMembers, FindsName, FindsString, FindsQuote, FindsNumber, FindsWord, is_of_number, after_natural};
+ghost use Rattle.json.specs.Word.{after_number};
 
-use crate::json_text::MOST_LEVELS;
-use crate::plain::plain_end;
+use crate::json_text::MOST_DEPTH_OUT;
+use crate::plain::next_stop;
 
 /// Whether the text is a `JsonText`. It may be one also where this isn't seen.
 pub(crate) fn is_compact(text: &str) -> bool
     ensures { IsTrue result → IsJsonText text.now }
 {
-    match value_end(text.as_bytes(), 0, MOST_LEVELS) {
+    match value_end(text.as_bytes(), 0, MOST_DEPTH_OUT) {
         Some(end) => end == text.len(),
         None => false,
     }
 }
 
 /// The end of the compact value that begins there. There is none where it isn't compact, nests more than `levels` deep, or
-/// has an escape of four digits.
+/// has an escape of four digits. Else it is found, if a number would end there: at the text's end, or before a byte that
+/// numbers aren't written with.
 #[cycle(value)]
 pub fn value_end(text: &[u8], from: usize, levels: usize) -> Option<usize>
     requires { from ≤ length text.now }
     ensures value { IfSome result (λ end. HasValue levels text.now from end) }
+    ensures found { FindsValue levels text.now from result }
     ensures bounds { IfSome result (λ end. (from < end) × (end ≤ length text.now)) }
 {
     match byte_at(text, from) {
@@ -55,6 +59,7 @@ pub fn value_end(text: &[u8], from: usize, levels: usize) -> Option<usize>
 fn items_end(text: &[u8], from: usize, levels: usize) -> Option<usize>
     requires { from ≤ length text.now }
     ensures items { IfSome result (λ end. HasItems levels text.now from end) }
+    ensures found { FindsItems levels text.now from result }
     ensures bounds { IfSome result (λ end. (from < end) × (end ≤ length text.now)) }
 {
     if byte_at(text, from) == b']' {
@@ -62,7 +67,7 @@ fn items_end(text: &[u8], from: usize, levels: usize) -> Option<usize>
     }
     let mut at = from;
     while at < text.len() {
-        let end = value_end(text, at, levels)?;
+        let end = part_end(text, at, levels)?;
         let next = byte_at(text, end);
         if next == b']' {
             return Some(end + 1);
@@ -79,6 +84,7 @@ fn items_end(text: &[u8], from: usize, levels: usize) -> Option<usize>
 fn members_end(text: &[u8], from: usize, levels: usize) -> Option<usize>
     requires { from ≤ length text.now }
     ensures members { IfSome result (λ end. HasMembers levels text.now from end) }
+    ensures found { FindsMembers levels text.now from result }
     ensures bounds { IfSome result (λ end. (from < end) × (end ≤ length text.now)) }
 {
     if byte_at(text, from) == b'}' {
@@ -87,7 +93,7 @@ fn members_end(text: &[u8], from: usize, levels: usize) -> Option<usize>
     let mut at = from;
     while at < text.len() {
         let name_end = name_end(text, at)?;
-        let end = value_end(text, name_end, levels)?;
+        let end = part_end(text, name_end, levels)?;
         let next = byte_at(text, end);
         if next == b'}' {
             return Some(end + 1);
@@ -100,10 +106,26 @@ fn members_end(text: &[u8], from: usize, levels: usize) -> Option<usize>
     None
 }
 
-/// The end of the name of a member, with its colon.
+/// The same of an item, or of a member's value. A whole number, of which a text can have many, is passed over without a call.
+#[cycle(value)]
+#[inline(always)]
+fn part_end(text: &[u8], from: usize, levels: usize) -> Option<usize>
+    requires { from ≤ length text.now }
+    ensures value { IfSome result (λ end. HasValue levels text.now from end) }
+    ensures found { FindsValue levels text.now from result }
+    ensures bounds { IfSome result (λ end. (from < end) × (end ≤ length text.now)) }
+{
+    match natural_end(text, from) {
+        Some(end) => Some(end),
+        None => value_end(text, from, levels),
+    }
+}
+
+/// The end of the name of a member, with its colon. There is none where it isn't compact, or has an escape of four digits.
 pub fn name_end(text: &[u8], from: usize) -> Option<usize>
     requires { from ≤ length text.now }
     ensures name { IfSome result (λ end. HasName text.now from end) }
+    ensures found { FindsName text.now from result }
     ensures colon { IfSome result (λ end. get_or text.now (end - 1) 0 ≡ 58) }
     ensures bounds { IfSome result (λ end. (from + 3 ≤ end) × (end ≤ length text.now)) }
 {
@@ -121,6 +143,7 @@ pub fn name_end(text: &[u8], from: usize) -> Option<usize>
 fn string_end(text: &[u8], from: usize) -> Option<usize>
     requires { from ≤ length text.now }
     ensures string { IfSome result (λ end. HasString text.now from end) }
+    ensures found { FindsString text.now from result }
     ensures bounds { IfSome result (λ end. (from < end) × (end ≤ length text.now)) }
 {
     let end = shortest_end(text, from)?;
@@ -136,12 +159,14 @@ fn string_end(text: &[u8], from: usize) -> Option<usize>
 pub(crate) fn shortest_end(text: &[u8], from: usize) -> Option<usize>
     requires { from ≤ length text.now }
     ensures part { IfSome result (λ end. HasShortest text.now from end) }
+    ensures found { FindsQuote text.now from result }
     ensures stop { IfSome result (λ end. get_or text.now end 0 ≢ 34 → get_or text.now end 0 ≡ 92) }
     ensures bounds { IfSome result (λ end. (from ≤ end) × (end < length text.now)) }
 {
     let mut at = from;
+    let mut seen = 0;
     while at < text.len() {
-        let stop = plain_end(text, at);
+        let (stop, ahead) = next_stop(text, at, seen);
         let byte = byte_at(text, stop);
         if byte == b'"' {
             return Some(stop);
@@ -153,6 +178,7 @@ pub(crate) fn shortest_end(text: &[u8], from: usize) -> Option<usize>
             return Some(stop);
         }
         at = stop + 2;
+        seen = ahead >> 2;
     }
     None
 }
@@ -162,18 +188,13 @@ pub(crate) fn shortest_end(text: &[u8], from: usize) -> Option<usize>
 fn is_short_escape(letter: u8) -> bool
     ensures { result ≡ is_escape_letter letter }
 {
-    (letter == b'"')
-        | (letter == b'\\')
-        | (letter == b'b')
-        | (letter == b'f')
-        | (letter == b'n')
-        | (letter == b'r')
-        | (letter == b't')
+    matches!(letter, b'"' | b'\\' | b'b' | b'f' | b'n' | b'r' | b't')
 }
 
 pub(crate) fn word_end(text: &[u8], from: usize, word: &[u8]) -> Option<usize>
     requires { from ≤ length text.now }
     ensures word { IfSome result (λ end. Stands text.now from word.now end) }
+    ensures found { FindsWord text.now from word.now result }
     ensures bounds { IfSome result (λ end. end ≡ from + length word.now) }
     ensures within { IfSome result (λ end. end ≤ length text.now) }
 {
@@ -187,6 +208,7 @@ pub(crate) fn word_end(text: &[u8], from: usize, word: &[u8]) -> Option<usize>
 pub(crate) fn number_end(text: &[u8], from: usize) -> Option<usize>
     requires { from ≤ length text.now }
     ensures number { IfSome result (λ end. HasNumber text.now from end) }
+    ensures found { FindsNumber text.now from result }
     ensures bounds { IfSome result (λ end. (from < end) × (end ≤ length text.now)) }
 {
     if !begins_number(byte_at(text, from)) {
@@ -199,7 +221,9 @@ pub(crate) fn number_end(text: &[u8], from: usize) -> Option<usize>
 }
 
 #[inline(always)]
-fn begins_number(byte: u8) -> bool {
+fn begins_number(byte: u8) -> bool
+    ensures { result ≡ (is_ascii_digit byte || (byte == 45)) }
+{
     (byte >= b'0') & (byte <= b'9') | (byte == b'-')
 }
 
@@ -208,6 +232,7 @@ fn begins_number(byte: u8) -> bool {
 fn whole_end(text: &[u8], from: usize) -> Option<usize>
     requires { from ≤ length text.now }
     ensures number { IfSome result (λ end. HasNumber text.now from end) }
+    ensures rest { IfSome result (λ end. after_number (drop from text.now) ≡ Some (drop end text.now)) }
     ensures bounds { IfSome result (λ end. (from < end) × (end ≤ length text.now)) }
 {
     if byte_at(text, from) == b'-' {
@@ -218,10 +243,12 @@ fn whole_end(text: &[u8], from: usize) -> Option<usize>
 
 /// The same of one without a sign.
 #[inline(always)]
-fn natural_end(text: &[u8], from: usize) -> Option<usize>
+pub(crate) fn natural_end(text: &[u8], from: usize) -> Option<usize>
     requires { from ≤ length text.now }
     ensures number { IfSome result (λ end. IsNumber (slice_range text.now from end)) }
     ensures signed { IfSome result (λ end. IsNumber (45 ∷ slice_range text.now from end)) }
+    ensures rest { IfSome result (λ end. after_natural (drop from text.now) ≡ Some (drop end text.now)) }
+    ensures digit { IfSome result (λ _. is_ascii_digit (get_or text.now from 0) ≡ true) }
     ensures bounds { IfSome result (λ end. (from < end) × (end ≤ length text.now)) }
 {
     let end = digits_end(text, from);
@@ -255,6 +282,7 @@ fn digits_end(text: &[u8], from: usize) -> usize
 fn any_number_end(text: &[u8], from: usize) -> Option<usize>
     requires { from ≤ length text.now }
     ensures number { IfSome result (λ end. HasNumber text.now from end) }
+    ensures found { FindsNumber text.now from result }
     ensures bounds { IfSome result (λ end. (from < end) × (end ≤ length text.now)) }
 {
     let mut at = from;
@@ -271,7 +299,8 @@ fn any_number_end(text: &[u8], from: usize) -> Option<usize>
 
 #[inline(always)]
 fn is_of_number(byte: u8) -> bool
-    ensures { IsTrue result → byte < 128 }
+    ensures value { result ≡ is_of_number byte }
+    ensures ascii { IsTrue result → byte < 128 }
 {
     (byte >= b'0') & (byte <= b'9')
         | (byte == b'-')

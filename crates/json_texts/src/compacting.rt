@@ -1,14 +1,14 @@
 //! Texts that aren't compact, made so without a tree of their values.
 
-ghost use Rattle.std.specs.Prelude.{◌≡◌, ◌≤◌, ◌<◌, ◌+◌, ◌-◌, ◌++◌, IfOk, OnOk, IfSome, IsTrue, length, get_or, drop, slice_range, string_bytes, true};
+ghost use Rattle.std.specs.Prelude.{◌≡◌, ◌≢◌, ◌≤◌, ◌<◌, ◌+◌, ◌-◌, ◌++◌, IfOk, OnOk, IfSome, IsTrue, length, get_or, drop, slice_range, string_bytes, true};
 ghost use Rattle.std.specs.Str.{IsCharBoundary};
 ghost use Rattle.json.specs.Lex.{tokens};
 ghost use Rattle.json.specs.Text.{code_unit};
 ghost use Rattle.json.specs.Word.{is_space, is_operator, ends_word};
 ghost use Rattle.std.specs.Char.{digit_value};
-ghost use Rattle.json_texts.specs.Compacting.{HasWord, HasLongEscape, HasCompactString};
+ghost use Rattle.json_texts.specs.Compacting.{HasShortest, HasWord, HasLongEscape, HasCompactString};
 
-use crate::compact::{byte_at, number_end, shortest_end, word_end};
+use crate::compact::{byte_at, natural_end, number_end, shortest_end, word_end};
 use json_values::Text;
 use std::alloc::{AllocError, Global};
 
@@ -87,7 +87,7 @@ fn append_string(
     let mut kept = kept;
     let mut at = from;
     while at < bytes.len() {
-        let Some(stop) = shortest_end(bytes, at) else {
+        let Some(stop) = stop_from(bytes, at) else {
             return Ok(None);
         };
         if bytes[stop] == b'"' {
@@ -102,6 +102,20 @@ fn append_string(
         kept = end;
     }
     Ok(None)
+}
+
+/// As `shortest_end`. Escapes of four digits come in rows, so the next one is looked for right there.
+#[inline(always)]
+fn stop_from(text: &[u8], from: usize) -> Option<usize>
+    requires { from ≤ length text.now }
+    ensures part { IfSome result (λ end. HasShortest text.now from end) }
+    ensures stop { IfSome result (λ end. get_or text.now end 0 ≢ 34 → get_or text.now end 0 ≡ 92) }
+    ensures bounds { IfSome result (λ end. (from ≤ end) × (end < length text.now)) }
+{
+    if byte_at(text, from) == b'\\' && byte_at(text, from + 1) == b'u' {
+        return Some(from);
+    }
+    shortest_end(text, from)
 }
 
 /// What the escape that begins there stands for, and its end. There is none where it has no shorter form, or is rare.
@@ -153,8 +167,8 @@ fn digit(letter: u8) -> u32
 {
     match letter {
         b'0'..=b'9' => (letter - b'0') as u32,
-        b'A'..=b'Z' => (letter - b'A') as u32 + 10,
         b'a'..=b'z' => (letter - b'a') as u32 + 10,
+        b'A'..=b'Z' => (letter - b'A') as u32 + 10,
         _ => 36,
     }
 }
@@ -179,6 +193,10 @@ fn some_word_end(text: &[u8], from: usize) -> Option<usize>
     ensures word { IfSome result (λ end. HasWord text.now from end) }
     ensures bounds { IfSome result (λ end. (from < end) × (end ≤ length text.now)) }
 {
+    // (a whole number, of which a text can have many, is passed over without a call)
+    if let Some(end) = natural_end(text, from) {
+        return Some(end);
+    }
     match byte_at(text, from) {
         b't' => word_end(text, from, b"true"),
         b'f' => word_end(text, from, b"false"),
@@ -203,19 +221,14 @@ fn ends_word(text: &[u8], at: usize) -> bool
 fn is_blank(byte: u8) -> bool
     ensures { result ≡ is_space byte }
 {
-    (byte == b' ') | (byte == b'\t') | (byte == b'\n') | (byte == b'\r')
+    matches!(byte, b' ' | b'\t' | b'\n' | b'\r')
 }
 
 #[inline(always)]
 fn is_punctuation(byte: u8) -> bool
     ensures { result ≡ is_operator byte }
 {
-    (byte == b'{')
-        | (byte == b'}')
-        | (byte == b'[')
-        | (byte == b']')
-        | (byte == b':')
-        | (byte == b',')
+    matches!(byte, b'{' | b'}' | b'[' | b']' | b':' | b',')
 }
 
 /// Appends this part of the text. What a whole text takes is asked for at once, and only where something is appended.

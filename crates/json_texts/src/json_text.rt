@@ -11,7 +11,7 @@ use std::marker::Model;
 
 /// The arrays and objects of a `JsonText` nest at most this deep, each counting one. So a message that holds it, and a
 /// batch of such messages, nest no deeper than readers allow.
-pub const MOST_LEVELS: usize = 120;
+pub const MOST_DEPTH_OUT: usize = 120;
 
 /// The compact text of a JSON value, seen by contracts as the list of its bytes.
 #[derive(Debug, Drop)]
@@ -34,7 +34,7 @@ impl JsonText {
     /// The compact text of the value that the bytes are. There is none where they aren't UTF-8, aren't one JSON value, or
     /// nest too deep. A `TextReader` reads many texts over the same room.
     pub fn parse(alloc: Global, bytes: &[u8]) -> Result<Option<JsonText>, AllocError>
-        ensures { IfOk result (λ text. text ≡ compact_text MOST_LEVELS bytes.now) }
+        ensures { IfOk result (λ text. text ≡ compact_text MOST_DEPTH_OUT bytes.now) }
     {
         TextReader::new(alloc).read(bytes)
     }
@@ -42,7 +42,7 @@ impl JsonText {
     /// The compact text of a value, as one that was read or `Value::String(text)`.
     pub fn of_value(alloc: Global, value: &Value<'_>) -> Result<JsonText, AllocError>
         requires numbers { HasNumbers (value_view value.now) }
-        requires nests { depth (value_view value.now) ≤ MOST_LEVELS }
+        requires nests { depth (value_view value.now) ≤ MOST_DEPTH_OUT }
         ensures { IfOk result (λ text. text ≡ json_text (value_view value.now)) }
     {
         Ok(JsonText {
@@ -85,5 +85,5 @@ impl JsonText {
 
 /// The limit, in figures.
 pub fn limits_of_texts_in_figures()
-    ensures { MOST_LEVELS ≡ 120 }
+    ensures { MOST_DEPTH_OUT ≡ 120 }
 {}

@@ -4,6 +4,7 @@ ghost use Rattle.std.specs.Prelude.{◌≡◌, ◌+◌, ◌≤◌, length, drop,
 ghost use Rattle.std.specs.List.{prefix_len};
 ghost use Rattle.std.specs.Simd.Lanes.{mask_l};
 ghost use Rattle.json.specs.Run.{is_stop, is_plain};
+ghost use Rattle.json_texts.specs.Ahead.{IsAhead};
 
 use std::simd::prelude::*;
 
@@ -83,13 +84,41 @@ pub fn plain_end(text: &[u8], from: usize) -> usize
     ensures value { result ≡ from + prefix_len is_plain (drop from text.now) }
     ensures bound { result ≤ length text.now }
 {
+    look_ahead(text, from).0
+}
+
+/// The same place, and the stops from it on, as far as they are seen: many stand close to one another, as the escapes of a
+/// program's text.
+fn look_ahead(text: &[u8], from: usize) -> (usize, u64)
+    requires { from ≤ length text.now }
+    ensures value { result.0 ≡ from + prefix_len is_plain (drop from text.now) }
+    ensures bound { result.0 ≤ length text.now }
+    ensures ahead { IsAhead text.now result.0 result.1 }
+{
     let mut i = from;
     while text.len() - i >= 32 {
         let found = stops(u8x32::from_slice(&text[i..]));
         if found != 0 {
-            return i + found.trailing_zeros() as usize;
+            let place = found.trailing_zeros();
+            return (i + place as usize, found >> place);
         }
         i += 32;
     }
-    plain_end_16(text, i)
+    (plain_end_16(text, i), 0)
+}
+
+/// The same, where some stops from there on are seen already.
+#[inline(always)]
+pub(crate) fn next_stop(text: &[u8], from: usize, ahead: u64) -> (usize, u64)
+    requires place { from ≤ length text.now }
+    requires ahead { IsAhead text.now from ahead }
+    ensures value { result.0 ≡ from + prefix_len is_plain (drop from text.now) }
+    ensures bound { result.0 ≤ length text.now }
+    ensures ahead { IsAhead text.now result.0 result.1 }
+{
+    if ahead == 0 {
+        return look_ahead(text, from);
+    }
+    let place = ahead.trailing_zeros();
+    (from + place as usize, ahead >> place)
 }

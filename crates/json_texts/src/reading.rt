@@ -5,11 +5,11 @@ ghost use Rattle.std.specs.Str.{IsUtf8};
 ghost use Rattle.json.specs.Tree.{HasNumbers, depth};
 ghost use Rattle.json.specs.Value.{value_view};
 ghost use Rattle.json_texts.specs.Texts.{json_text, text_value, value_of, compact_text};
-ghost use Rattle.json_texts.specs.declared.json_text.TheConstants.{MOST_LEVELS};
+ghost use Rattle.json_texts.specs.declared.json_text.TheConstants.{MOST_DEPTH_OUT};
 
 use crate::compact::is_compact;
 use crate::compacting::compacted;
-use crate::json_text::{JsonText, MOST_LEVELS};
+use crate::json_text::{JsonText, MOST_DEPTH_OUT};
 use crate::utf8::utf8_text;
 use json::{Error, Reader, Scratch, Value};
 use json_values::Text;
@@ -105,7 +105,7 @@ impl TextReader {
     /// The compact text of the value that the bytes are. There is none where they aren't UTF-8, aren't one JSON value, or
     /// nest too deep.
     pub fn read(&mut self, bytes: &[u8]) -> Result<Option<JsonText>, AllocError>
-        ensures { IfOk result (λ text. text ≡ compact_text MOST_LEVELS bytes.now) }
+        ensures { IfOk result (λ text. text ≡ compact_text MOST_DEPTH_OUT bytes.now) }
     {
         let Some(text) = utf8_text(bytes) else {
             return Ok(None);
@@ -120,7 +120,7 @@ impl TextReader {
     }
 
     fn read_tokens(&mut self, text: &str) -> Result<Option<JsonText>, AllocError>
-        ensures { IfOk result (λ read. read ≡ compact_text MOST_LEVELS text.now) }
+        ensures { IfOk result (λ read. read ≡ compact_text MOST_DEPTH_OUT text.now) }
     {
         let mut scratch = self.take_scratch()?;
         let read = read_text(self.alloc, text, &mut scratch);
@@ -142,7 +142,7 @@ impl TextReader {
 
 /// The compact text of a value whose text is made compact first. There is none where this isn't seen to be one.
 fn read_compacted(alloc: Global, text: &str) -> Result<Option<JsonText>, AllocError>
-    ensures { IfOk result (λ r. IfSome r (λ read. compact_text MOST_LEVELS text.now ≡ Some read)) }
+    ensures { IfOk result (λ r. IfSome r (λ read. compact_text MOST_DEPTH_OUT text.now ≡ Some read)) }
 {
     let Some(compact) = compacted(alloc, text)? else {
         return Ok(None);
@@ -158,9 +158,9 @@ fn read_text(
     text: &str,
     scratch: &mut Scratch,
 ) -> Result<Option<JsonText>, AllocError>
-    ensures { IfOk result (λ read. read ≡ compact_text MOST_LEVELS text.now) }
+    ensures { IfOk result (λ read. read ≡ compact_text MOST_DEPTH_OUT text.now) }
 {
-    match read_str(alloc, text, MOST_LEVELS, scratch)? {
+    match read_str(alloc, text, MOST_DEPTH_OUT, scratch)? {
         Some(value) => Ok(Some(JsonText::of_value(alloc, &value)?)),
         None => Ok(None),
     }

@@ -10,6 +10,7 @@ mod polls;
 mod rows;
 
 use crate::rows::{holds, is_same};
+use crate::tables::SIX as TABLE;
 use futures::executor::block_on;
 use handler_future::{Handler, Message, Outcome, Rehearsal};
 use json_values::Items;
@@ -24,79 +25,6 @@ use std::process::Abort;
 use std::random::RandomSource;
 use std::sync::{Arc, Wait};
 use std::test::Fail;
-
-/// The methods of most tests.
-const TABLE: &str = r#"version = 1
-
-[[method]]
-name = "add"
-[[method.step]]
-kind = "add"
-to = "s"
-left = "$params/0"
-right = "$params/1"
-[[method.step]]
-kind = "answer"
-value = "$s"
-
-[[method]]
-name = "ask"
-[[method.step]]
-kind = "call"
-to = "r"
-method = "confirm"
-params = ["$params/0"]
-[[method.step]]
-kind = "answer"
-value = "$r"
-
-[[method]]
-name = "two"
-[[method.step]]
-kind = "calls"
-to = "r"
-list = [{ method = "a" }, { method = "b" }]
-[[method.step]]
-kind = "answer"
-value = "$r"
-
-[[method]]
-name = "gate"
-[[method.step]]
-kind = "call"
-to = "r"
-method = "confirm"
-[[method.step]]
-kind = "skip"
-left = "$r"
-right = true
-count = 1
-[[method.step]]
-kind = "fail"
-code = 7
-message = "no"
-[[method.step]]
-kind = "answer"
-value = "yes"
-
-[[method]]
-name = "keep"
-[[method.step]]
-kind = "call"
-to = "r"
-method = "confirm"
-on_error = "keep"
-[[method.step]]
-kind = "answer"
-value = "$r"
-
-[[method]]
-name = "note"
-[[method.step]]
-kind = "notify"
-method = "log"
-params = ["$params/0"]
-"#;
 
 fn table(alloc: Global, text: &str) -> Result<Table, Fail> {
     Ok(Table::read(alloc, text.as_bytes()).ok().ok_or("no table")?)

@@ -103,6 +103,17 @@ fn collect_from(
     assert!(rt; slots.collect(clerk, slot) == want);
 }
 
+// Looks whether the job of the slot lies there turned.
+fn look_at(
+    rt: &impl Abort,
+    slots: &JobSlots<Counted>,
+    clerk: &ClerkSeat<Counted>,
+    slot: u32,
+    want: bool,
+) {
+    assert!(rt; slots.is_turned(clerk, slot) == want);
+}
+
 // Closes the slots, which gives these jobs.
 fn close_with(
     rt: &impl Abort,
@@ -142,6 +153,25 @@ fn a_job_comes_home_turned_once_and_its_slot_is_filled_again(rt: HostRuntime) ->
     offer(&rt, &slots, &mut clerk, 12, Ok(0));
     slots.join(&mut clerk, worker);
     close_with(&rt, slots, clerk, &[fresh(12), fresh(11)]);
+    Ok(())
+}
+
+#[test]
+fn a_slot_looks_turned_from_its_turn_until_its_job_is_taken_home(
+    rt: HostRuntime,
+) -> Result<(), Fail> {
+    let (slots, mut clerk) = JobSlots::make(rt.alloc(), 2)?;
+    let mut worker = seat(&rt, &slots, &mut clerk);
+    look_at(&rt, &slots, &clerk, 0, false);
+    fill_two_and_run_one(&rt, &slots, &mut clerk, &mut worker);
+    look_at(&rt, &slots, &clerk, 0, true);
+    look_at(&rt, &slots, &clerk, 1, false);
+    look_at(&rt, &slots, &clerk, 2, false);
+    look_at(&rt, &slots, &clerk, u32::MAX, false);
+    collect_from(&rt, &slots, &mut clerk, 0, Some(turned(10)));
+    look_at(&rt, &slots, &clerk, 0, false);
+    slots.join(&mut clerk, worker);
+    close_with(&rt, slots, clerk, &[fresh(11)]);
     Ok(())
 }
 

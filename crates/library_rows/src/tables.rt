@@ -7,6 +7,7 @@ mod large;
 mod rows;
 mod sizes;
 
+pub(crate) use self::rows::SIX;
 use crate::rows::is_text;
 use method_steps::{Table, TableFault};
 use std::alloc::{AllocError, Global};

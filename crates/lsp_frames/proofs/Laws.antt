@@ -31,11 +31,11 @@ no_frame_extends_another limit bytes more frame other h k =
     (cc, cc)
 
 -- A written content is a frame with that content.
-pub written_frame_has_form : (limit : ℕ) (content : List ℕ) → length content ≤ limit → limit ≤ 16777216 → HasForm limit (written content) (record { content = content; foreign = false })
+pub written_frame_has_form : (limit : ℕ) (content : List ℕ) → length content ≤ limit → limit ≤ 2147483647 → HasForm limit (written content) (record { content = content; foreign = false })
 written_frame_has_form limit content h k = written_form limit content h k
 
 -- It is read back, whatever follows it.
-pub written_frame_is_read_back : (limit : ℕ) (content more : List ℕ) → length content ≤ limit → limit ≤ 16777216 → front limit (written content ++ more) ≡ Whole (record { content = content; foreign = false }) more
+pub written_frame_is_read_back : (limit : ℕ) (content more : List ℕ) → length content ≤ limit → limit ≤ 2147483647 → front limit (written content ++ more) ≡ Whole (record { content = content; foreign = false }) more
 written_frame_is_read_back limit content more h k = form_is_whole limit (written content) (record { content = content; foreign = false }) more (written_form limit content h k)
 
 -- All bytes have contents.

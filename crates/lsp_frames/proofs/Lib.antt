@@ -14,3 +14,4 @@ pub mod DeviceSteps
 pub mod Cuts
 pub mod Units
 pub mod Standings
+pub mod GreaterLimits

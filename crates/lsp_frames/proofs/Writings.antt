@@ -114,7 +114,7 @@ usual_is limit n k bytes value is first last h digits some few within number =
     let behind : more ≡ drop (16 + k + 4) bytes = ap (λ (xs : List ℕ). drop 4 (drop k xs)) is ∙ ap (drop 4) (drop-drop k 16 bytes) ∙ drop-drop 4 (16 + k) bytes in
     ap (head_at limit) whole ∙ head_is limit n ds more h digits (omega (arith, size)) (omega (arith, size)) number ∙ ap (Ends n false) behind
 
-pub written_form : (limit : ℕ) (content : List ℕ) → length content ≤ limit → limit ≤ 16777216 → HasForm limit (written content) (record { content = content; foreign = false })
+pub written_form : (limit : ℕ) (content : List ℕ) → length content ≤ limit → limit ≤ 2147483647 → HasForm limit (written content) (record { content = content; foreign = false })
 written_form limit content h k =
     let n : ℕ = length content in
     let small : length content < 2 ^ 64 = omega arith in

@@ -9,7 +9,7 @@ ghost use Rattle.lsp_frames.specs.Decoding.{Broken, IfEnded, IfFed, IsOpen, Stan
 
 use crate::fault::FeedFault;
 use crate::frame::{End, Frame};
-use crate::limits::LARGEST_CONTENT;
+use crate::limits::{LARGEST_CONTENT, LONGEST_CONTENT};
 use crate::partial::{Partial, Place, Stage};
 use json_values::Items;
 use std::alloc::Global;
@@ -44,6 +44,15 @@ impl Decoder {
     /// A decoder of contents of at most `limit` bytes, at a stream's start. Takes no memory.
     pub fn new(alloc: Global, limit: u32) -> Decoder
         requires { limit ≤ LARGEST_CONTENT }
+        ensures limit { result.limit ≡ limit }
+        ensures start { StandsAfter result [] [] }
+    {
+        Decoder::for_long_contents(alloc, limit)
+    }
+
+    /// The same, where the host may set a limit beyond `LARGEST_CONTENT`. Takes no memory.
+    pub fn for_long_contents(alloc: Global, limit: u32) -> Decoder
+        requires { limit ≤ LONGEST_CONTENT }
         ensures limit { result.limit ≡ limit }
         ensures start { StandsAfter result [] [] }
     {

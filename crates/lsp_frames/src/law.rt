@@ -3,12 +3,12 @@
 ghost use Rattle.std.specs.Prelude.{◌≡◌, ◌≢◌, ◌≤◌, ◌↔◌, ℕ, List, [], ◌++◌, length, false};
 ghost use Rattle.lsp_frames.specs.declared.frame.Frame.{Frame};
 ghost use Rattle.lsp_frames.specs.declared.frame.FrameFault.{FrameFault};
-ghost use Rattle.lsp_frames.specs.declared.frame.FrameFault.TheVariants.{Truncated};
-ghost use Rattle.lsp_frames.specs.declared.limits.TheConstants.{LARGEST_CONTENT as MOST_BYTES, LONGEST_HEAD, LONGEST_NUMBER};
+ghost use Rattle.lsp_frames.specs.declared.frame.FrameFault.TheVariants.{TooLarge, Truncated};
+ghost use Rattle.lsp_frames.specs.declared.limits.TheConstants.{LARGEST_CONTENT as MOST_BYTES, LONGEST_CONTENT as MOST_LONG_BYTES, LONGEST_HEAD, LONGEST_NUMBER};
 ghost use Rattle.lsp_frames.specs.Frames.{HasForm, ShowsFault, front, Whole, Faulty, written};
 ghost use Rattle.lsp_frames.specs.Contents.{Standing, Open, Broken, IsContents};
 
-use crate::limits::LARGEST_CONTENT;
+use crate::limits::LONGEST_CONTENT;
 
 /// A frame is peeled off the front exactly where some front of the bytes has a frame's form.
 pub fn front_is_a_frame()
@@ -34,10 +34,10 @@ pub fn no_frame_extends_another()
 /// A written content is a frame with that content, and is read back whatever follows it.
 pub fn written_frame_is_read_back()
     ensures form { (limit : ℕ) (content : List ℕ) → length content ≤ limit →
-        limit ≤ LARGEST_CONTENT →
+        limit ≤ LONGEST_CONTENT →
         HasForm limit (written content) (record { content = content; foreign = false }) }
     ensures read { (limit : ℕ) (content more : List ℕ) → length content ≤ limit →
-        limit ≤ LARGEST_CONTENT →
+        limit ≤ LONGEST_CONTENT →
         front limit (written content ++ more) ≡
         Whole (record { content = content; foreign = false }) more }
 {}
@@ -63,6 +63,14 @@ pub fn contents_stay()
         IsContents limit (bytes ++ more) (frames ++ later) standing }
 {}
 
+/// Where no content is too large, a greater limit reads the same: bytes that a decoder takes, each decoder with a greater
+/// limit takes too.
+pub fn a_greater_limit_reads_the_same()
+    ensures { (limit greater : ℕ) (bytes : List ℕ) (frames : List Frame) (standing : Standing) →
+        limit ≤ greater → standing ≢ Broken TooLarge →
+        IsContents limit bytes frames standing → IsContents greater bytes frames standing }
+{}
+
 /// The end inside a frame is no fault of the bytes that came.
 pub fn no_bytes_show_an_end()
     ensures { (limit : ℕ) (bytes : List ℕ) (frames : List Frame) (fault : FrameFault) →
@@ -71,5 +79,6 @@ pub fn no_bytes_show_an_end()
 
 /// The limits of frames, in figures. All other definitions and clauses cite the constants.
 pub fn limits_of_frames_in_figures()
-    ensures { (MOST_BYTES ≡ 16777216) × (LONGEST_HEAD ≡ 4096) × (LONGEST_NUMBER ≡ 10) }
+    ensures { (MOST_BYTES ≡ 16777216) × (LONGEST_HEAD ≡ 4096) × (LONGEST_NUMBER ≡ 10)
+        × (MOST_LONG_BYTES ≡ 2147483647) }
 {}

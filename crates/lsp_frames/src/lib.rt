@@ -23,11 +23,11 @@ pub use device::{IoFault, PutFault, Sink, Source, put_all};
 pub use fault::FeedFault;
 pub use frame::{End, Frame, FrameFault};
 pub use law::{
-    contents_are_a_function_of_the_bytes, contents_stay, front_is_a_frame, front_shows_a_fault,
-    limits_of_frames_in_figures, no_bytes_show_an_end, no_frame_extends_another,
-    written_frame_is_read_back,
+    a_greater_limit_reads_the_same, contents_are_a_function_of_the_bytes, contents_stay,
+    front_is_a_frame, front_shows_a_fault, limits_of_frames_in_figures, no_bytes_show_an_end,
+    no_frame_extends_another, written_frame_is_read_back,
 };
-pub use limits::LARGEST_CONTENT;
+pub use limits::{LARGEST_CONTENT, LONGEST_CONTENT};
 pub use mem_sink::MemSink;
 pub use mem_source::MemSource;
 pub use std_device::{StdSink, StdSource};

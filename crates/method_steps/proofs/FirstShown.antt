@@ -2,21 +2,23 @@
 use Rattle.std.proofs.Common.{◌≡◌, ℕ, ◌+◌, ◌≤◌, List, codes, Bool, true, false, not, ◌||◌, ◌==◌, nat_lt, cond, Option, Some, None, Result, Ok, Err, ◌⊎◌, inl, inr, refl, sym, ap, ◌∙◌, subst, arith, true≢false}
 use Rattle.std.specs.Option.{option_map_or}
 use Rattle.toml.specs.Data.{Data, string, integer, float, boolean, datetime, array, table, push_item, Items, no_items, item, Members}
-use Rattle.method_steps.specs.declared.fault.FaultKind.{FaultKind}
-use Rattle.method_steps.specs.declared.fault.FaultKind.TheVariants as fault
-use Rattle.method_steps.specs.declared.fault.TableFault.{TableFault}
-use Rattle.method_steps.specs.declared.read.kind.Kind.{Kind}
-use Rattle.method_steps.specs.declared.read.version.Version.{Version}
-use Rattle.method_steps.specs.Fault.{in_document, in_method, in_step}
-use Rattle.method_steps.specs.Fields.{kind_of, is_kind_of, step_in}
-use Rattle.method_steps.specs.Judged.{first_of, has_free_code, fault_of_said, fault_of_kind, step_fault, at_step, steps_fault, has_method_fields, is_used, fault_of_method, method_fault, methods_fault, document_fields_hold, fault_of_document, document_fault, list_at, word_at}
-use Rattle.method_steps.specs.Limits.{items_len, is_step_within}
+use Rattle.table_reading.specs.declared.fault.FaultKind.{FaultKind}
+use Rattle.table_reading.specs.declared.fault.FaultKind.TheVariants as fault
+use Rattle.table_reading.specs.declared.fault.TableFault.{TableFault}
+use Rattle.table_reading.specs.declared.kind.Kind.{Kind}
+use Rattle.table_reading.specs.declared.version.Version.{Version}
+use Rattle.table_reading.specs.Fault.{in_document, in_method, in_step}
+use Rattle.table_reading.specs.Fields.{kind_of, is_kind_of, step_in}
+use Rattle.table_reading.specs.Judged.{first_of, has_free_code, fault_of_said, fault_of_kind, step_fault, at_step, steps_fault}
+use Rattle.method_steps.specs.Judged.{has_method_fields, is_used, fault_of_method, method_fault, methods_fault, document_fields_hold, fault_of_document, document_fault, list_at, word_at}
+use Rattle.table_reading.specs.Limits.{items_len, is_step_within}
 use Rattle.method_steps.specs.Made.{made_of, ok_unless, table_of_document, document_of, table_of}
-use Rattle.method_steps.specs.Names.{is_method_name}
-use Rattle.method_steps.specs.References.{refers_back}
+use Rattle.method_templates.specs.Names.{is_method_name}
+use Rattle.table_reading.specs.References.{refers_back}
 use Rattle.method_steps.specs.Shown.{rank, NoLater, SaidShows, KindShows, StepShows, StepsShow, TableShows, MethodShows, MethodsShow, VersionShows, DocumentShows, Shows, ShowsFirst}
-use Rattle.method_steps.specs.Steps.{Step, MethodTable}
-use Rattle.method_steps.specs.Version.{version_of}
+use Rattle.method_templates.specs.Steps.{Step}
+use Rattle.method_steps.specs.Steps.{MethodTable}
+use Rattle.table_reading.specs.Version.{version_of}
 
 -- ---- what comes first
 

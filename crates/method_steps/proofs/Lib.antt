@@ -1,12 +1,7 @@
-pub mod Calls
 pub mod DocumentOf
-pub mod Filled
 pub mod FirstShown
-pub mod ItemsLaws
-pub mod MadeSteps
-pub mod MadeTemplates
+pub mod MethodsLaws
 pub mod MethodsOf
 pub mod Opening
 pub mod PlacesOf
-pub mod Rows
 pub mod Within

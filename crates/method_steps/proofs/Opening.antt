@@ -4,9 +4,10 @@ use Rattle.std.specs.declared.alloc.Global.{Global}
 use Rattle.std.specs.declared.sync.Arc.{Arc}
 use Rattle.toml.specs.declared.value.Value.{Value}
 use Rattle.toml.specs.View.{items_view}
-use Rattle.method_steps.specs.Made.{steps_from}
+use Rattle.table_reading.specs.Made.{steps_from}
 use Rattle.method_steps.specs.Inner.Methods.{opening_seen, IsOpening}
-use Rattle.method_steps.specs.Steps.{Step, AreWithinLimits, shared_steps, unless_empty}
+use Rattle.method_templates.specs.Steps.{Step, AreWithinLimits}
+use Rattle.method_steps.specs.Steps.{shared_steps, unless_empty}
 
 steps_back : (steps : List Step) → unwrap_or (unless_empty steps) [] ≡ steps
 steps_back [] = refl

@@ -4,21 +4,24 @@ use Rattle.std.proofs.lemmas.Bool.{and_parts, leb-true, ltb-false}
 use Rattle.std.proofs.lemmas.List.Sums.{sum_by-cons}
 use Rattle.std.specs.List.{All}
 use Rattle.toml.specs.Data.{Data, string, integer, float, boolean, datetime, array, table, push_item, Items, no_items, item, Members}
-use Rattle.method_steps.specs.declared.fault.FaultKind.{FaultKind}
-use Rattle.method_steps.specs.declared.fault.TableFault.{TableFault}
-use Rattle.method_steps.specs.declared.read.version.Version.{Version}
-use Rattle.method_steps.specs.declared.read.kind.Kind.{Kind}
-use Rattle.method_steps.specs.Steps.{Step}
-use Rattle.method_steps.specs.declared.step.Step.TheVariants as step
-use Rattle.method_steps.specs.Fields.{kind_of, is_kind_of, step_in}
-use Rattle.method_steps.specs.Judged.{first_of, at_step, fault_of_said, fault_of_kind, step_fault, steps_fault, has_method_fields, is_used, fault_of_method, method_fault, methods_fault, list_at, word_at}
-use Rattle.method_steps.specs.Fault.{in_method}
-use Rattle.method_steps.specs.Names.{is_method_name}
-use Rattle.method_steps.specs.declared.fault.FaultKind.TheVariants as fault
-use Rattle.method_steps.specs.Limits.{items_len, is_shallow, is_count, is_list_length, are_calls_within, is_step_within}
-use Rattle.method_steps.specs.Made.{step_from, steps_from, method_from, methods_from}
-use Rattle.method_steps.specs.Shape.{plain}
-use Rattle.method_steps.specs.Steps.{calls_in, calls_of, KeepsLimits, AreWithinLimits, NamedSteps}
+use Rattle.table_reading.specs.declared.fault.FaultKind.{FaultKind}
+use Rattle.table_reading.specs.declared.fault.TableFault.{TableFault}
+use Rattle.table_reading.specs.declared.version.Version.{Version}
+use Rattle.table_reading.specs.declared.kind.Kind.{Kind}
+use Rattle.method_templates.specs.Steps.{Step}
+use Rattle.method_templates.specs.declared.step.Step.TheVariants as step
+use Rattle.table_reading.specs.Fields.{kind_of, is_kind_of, step_in}
+use Rattle.table_reading.specs.Judged.{first_of, at_step, fault_of_said, fault_of_kind, step_fault, steps_fault}
+use Rattle.method_steps.specs.Judged.{has_method_fields, is_used, fault_of_method, method_fault, methods_fault, list_at, word_at}
+use Rattle.table_reading.specs.Fault.{in_method}
+use Rattle.method_templates.specs.Names.{is_method_name}
+use Rattle.table_reading.specs.declared.fault.FaultKind.TheVariants as fault
+use Rattle.table_reading.specs.Limits.{items_len, is_shallow, is_count, is_list_length, are_calls_within, is_step_within}
+use Rattle.table_reading.specs.Made.{step_from, steps_from}
+use Rattle.method_steps.specs.Made.{method_from, methods_from}
+use Rattle.method_templates.specs.Shape.{plain}
+use Rattle.method_templates.specs.Steps.{calls_in, calls_of, KeepsLimits, AreWithinLimits}
+use Rattle.method_steps.specs.Steps.{NamedSteps}
 use Rattle.serde_json.specs.Data.{null}
 
 -- ---- tests in order

@@ -1,16 +1,5 @@
-pub mod Fault
-pub mod Fields
-pub mod Form
-pub mod Frame
 pub mod Inner
 pub mod Judged
-pub mod Limits
 pub mod Made
-pub mod Names
-pub mod References
-pub mod Shape
 pub mod Shown
 pub mod Steps
-pub mod Templates
-pub mod Value
-pub mod Version

@@ -1,29 +1,17 @@
 -- The table of methods that a text stands for.
-use Rattle.std.specs.Prelude.{ℕ, List, [], ◌∷◌, codes, Option, Some, None, unwrap_or, option_and_then, Result, Ok, Err, if◌then◌else◌}
+use Rattle.std.specs.Prelude.{ℕ, List, [], ◌∷◌, codes, Option, Some, None, Result, Ok, Err, if◌then◌else◌}
 use Rattle.std.specs.Option.{option_map_or}
 use Rattle.std.specs.Str.{is_utf8}
-use Rattle.serde_json.specs.Data.{null}
 use Rattle.toml.specs.Data.{Data, table, Items, no_items, item, Members}
 use Rattle.toml.specs.Parse.{parse_document}
-use Rattle.method_steps.specs.declared.fault.FaultKind.TheVariants as fault
-use Rattle.method_steps.specs.declared.fault.TableFault.{TableFault}
-use Rattle.method_steps.specs.declared.step.Step.TheVariants as step
-use Rattle.method_steps.specs.Fault.{in_document}
-use Rattle.method_steps.specs.Fields.{kind_of, step_in}
 use Rattle.method_steps.specs.Judged.{list_at, word_at, document_fault}
-use Rattle.method_steps.specs.Shape.{plain}
-use Rattle.method_steps.specs.Steps.{Step, NamedSteps, MethodTable}
+use Rattle.method_steps.specs.Steps.{NamedSteps, MethodTable}
+use Rattle.table_reading.specs.declared.fault.FaultKind.TheVariants as fault
+use Rattle.table_reading.specs.declared.fault.TableFault.{TableFault}
+use Rattle.table_reading.specs.Fault.{in_document}
+use Rattle.table_reading.specs.Made.{steps_from}
 
--- ---- steps and methods
-
--- what the item says; where it has a fault, anything
-abbrev pub step_from : Data → Step
-step_from (table ms) = unwrap_or (option_and_then (λ k. step_in k ms) (kind_of ms)) (step.Answer (plain null))
-step_from _ = step.Answer (plain null)
-
-abbrev pub steps_from : Items → List Step
-steps_from no_items = []
-steps_from (item d ds) = step_from d ∷ steps_from ds
+-- ---- methods
 
 abbrev pub method_from : Data → NamedSteps
 method_from (table ms) = record { name = word_at (codes "name") ms; steps = steps_from (list_at (codes "step") ms) }

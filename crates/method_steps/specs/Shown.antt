@@ -2,21 +2,22 @@
 use Rattle.std.specs.Prelude.{◌≡◌, ℕ, ◌+◌, ◌≤◌, List, codes, true, false, not, ◌||◌, nat_lt, Option, Some, None, is_some, ◌⊎◌}
 use Rattle.std.specs.Option.{option_map_or}
 use Rattle.toml.specs.Data.{Data, table, push_item, Items, no_items, item, Members}
-use Rattle.method_steps.specs.declared.fault.FaultKind.{FaultKind}
-use Rattle.method_steps.specs.declared.fault.FaultKind.TheVariants as fault
-use Rattle.method_steps.specs.declared.fault.TableFault.{TableFault}
-use Rattle.method_steps.specs.declared.limits.TheConstants.{MOST_METHODS, MOST_STEPS}
-use Rattle.method_steps.specs.declared.read.kind.Kind.{Kind}
-use Rattle.method_steps.specs.declared.read.version.Version.{Version}
-use Rattle.method_steps.specs.Fault.{in_document, in_method, in_step}
-use Rattle.method_steps.specs.Fields.{kind_of, is_kind_of, step_in}
-use Rattle.method_steps.specs.Judged.{has_free_code, has_method_fields, is_used, document_fields_hold, list_at, word_at}
-use Rattle.method_steps.specs.Limits.{items_len, is_step_within}
+use Rattle.table_reading.specs.declared.fault.FaultKind.{FaultKind}
+use Rattle.table_reading.specs.declared.fault.FaultKind.TheVariants as fault
+use Rattle.table_reading.specs.declared.fault.TableFault.{TableFault}
+use Rattle.method_templates.specs.declared.limits.TheConstants.{MOST_METHODS, MOST_STEPS}
+use Rattle.table_reading.specs.declared.kind.Kind.{Kind}
+use Rattle.table_reading.specs.declared.version.Version.{Version}
+use Rattle.table_reading.specs.Fault.{in_document, in_method, in_step}
+use Rattle.table_reading.specs.Fields.{kind_of, is_kind_of, step_in}
+use Rattle.table_reading.specs.Judged.{has_free_code}
+use Rattle.method_steps.specs.Judged.{has_method_fields, is_used, document_fields_hold, list_at, word_at}
+use Rattle.table_reading.specs.Limits.{items_len, is_step_within}
 use Rattle.method_steps.specs.Made.{document_of}
-use Rattle.method_steps.specs.Names.{is_method_name}
-use Rattle.method_steps.specs.References.{refers_back}
-use Rattle.method_steps.specs.Steps.{Step}
-use Rattle.method_steps.specs.Version.{version_of}
+use Rattle.method_templates.specs.Names.{is_method_name}
+use Rattle.table_reading.specs.References.{refers_back}
+use Rattle.method_templates.specs.Steps.{Step}
+use Rattle.table_reading.specs.Version.{version_of}
 
 -- ---- the order
 

@@ -3,23 +3,24 @@
 ghost use Rattle.std.specs.Prelude.{◌≡◌, ◌≢◌, ◌<◌, ◌≤◌, [], length, Ok, Err, Some, None, IfOk, IfErr, IfSome, option_map};
 ghost use Rattle.toml.specs.Data.{no_items};
 ghost use Rattle.toml.specs.View.{items_view, table_view};
-ghost use Rattle.method_steps.specs.Fault.{in_document};
-ghost use Rattle.method_steps.specs.Judged.{first_of, steps_fault, methods_fault, fault_of_document};
-ghost use Rattle.method_steps.specs.Made.{document_of, table_of, made_of, steps_from, methods_from};
-ghost use Rattle.method_steps.specs.Steps.{AreWithinLimits, place_of, shared_steps, steps_at, calls_at, calls_of, unless_empty};
+ghost use Rattle.table_reading.specs.Fault.{in_document};
+ghost use Rattle.table_reading.specs.Judged.{first_of, steps_fault};
+ghost use Rattle.method_steps.specs.Judged.{methods_fault, fault_of_document};
+ghost use Rattle.table_reading.specs.Made.{steps_from};
+ghost use Rattle.method_steps.specs.Made.{document_of, table_of, made_of, methods_from};
+ghost use Rattle.method_templates.specs.Steps.{AreWithinLimits, calls_of};
+ghost use Rattle.method_steps.specs.Steps.{place_of, shared_steps, steps_at, calls_at, unless_empty};
 
-use crate::fault::{FaultKind, TableFault, in_document};
-use crate::limits::{MOST_CALLS, MOST_METHODS, MOST_STEPS};
-use crate::read::entry::{Entry, has_only};
-use crate::read::lookup::{count_of, tables_at};
-use crate::read::methods::{methods_of, opening_of, places_of};
-use crate::read::version::{Version, version_of};
-use crate::step::Step;
+use crate::methods::{methods_of, opening_of, places_of};
 use json_values::Text;
+use method_templates::{MOST_CALLS, MOST_METHODS, MOST_STEPS, Step};
 use std::alloc::Global;
 use std::collections::BTreeMap;
 use std::marker::Model;
 use std::sync::Arc;
+use table_reading::{
+    Entry, FaultKind, TableFault, Version, count_of, has_only, in_document, tables_at, version_of,
+};
 use toml::Value;
 
 /// A method: its name, and its steps, which handlers share.
@@ -58,7 +59,7 @@ impl Drop for Table {
 impl Model for Table {
     ghost use Rattle.std.specs.Coded.{codes};
     ghost use Rattle.json_values.specs.Codes.{coded_data};
-    ghost use Rattle.method_steps.specs.Shape.{coded_shape};
+    ghost use Rattle.method_templates.specs.Shape.{coded_shape};
     ghost use Rattle.method_steps.specs.Steps.{MethodTable};
 
     ghost Value = { MethodTable };

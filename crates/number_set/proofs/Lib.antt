@@ -5,3 +5,4 @@ mod Along
 mod Chains
 mod Bits
 mod Gathered
+mod DenseLemmas

@@ -1,3 +1,4 @@
 pub mod Numbered
 pub mod PageLemmas
 pub mod Rows
+pub mod StandIns

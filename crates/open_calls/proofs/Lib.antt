@@ -1,10 +1,8 @@
 pub mod Ids
 pub mod Listed
 pub mod Numbered
-pub mod OwedLemmas
-pub mod OwedTexts
 pub mod Own
 pub mod Pairs
 pub mod Rows
-pub mod StandIns
+pub mod States
 pub mod Theirs

@@ -19,7 +19,6 @@ use Rattle.open_calls.specs.declared.scattered_numbers.ScatteredNumbers.{Scatter
 use Rattle.number_windows.specs.declared.number_window.NumberWindow.{NumberWindow}
 use Rattle.number_windows.specs.Windows.{IsWindow, window_entries}
 use Rattle.number_windows.specs.Numbered.{at, Above, Below, Ascending}
-use Rattle.open_calls.specs.Owed.{OwedUnit}
 use Rattle.open_calls.specs.Own.{is_wanted_by}
 use Rattle.open_calls.specs.Theirs.{is_reached}
 
@@ -89,10 +88,6 @@ pub record IsTheirs (came : ℕ) (calls : NumberWindow TheirCall) (index : Numbe
   pub numbered : Below (suc came) (window_entries calls)
   pub by_id : IsNumberIndex index (window_entries calls)
 
-pub record IsOwed (places : ℕ) (owed : NumberWindow OwedUnit) : Type 0 where
-  pub window : IsWindow owed
-  pub numbered : Below places (window_entries owed)
-
 -- the index with this number of a request
 abbrev pub IsWithNumber : NumbersById → NumbersById → Option Id → ℕ → Type 0
 IsWithNumber now was id number = (q : Id) (k : ℕ) → is_listed now q k ≡ (if has_id q id && (number == k) then true else is_listed was q k)
@@ -100,15 +95,3 @@ IsWithNumber now was id number = (q : Id) (k : ℕ) → is_listed now q k ≡ (i
 -- the index without this number of a request
 abbrev pub IsWithoutNumber : NumbersById → NumbersById → Option Id → ℕ → Type 0
 IsWithoutNumber now was id number = (q : Id) (k : ℕ) → is_listed now q k ≡ (if has_id q id && (number == k) then false else is_listed was q k)
-
--- ---- the text of a batch
-
--- an answer behind this mark, where there is one
-abbrev pub behind : ℕ → List ℕ → List ℕ
-behind mark [] = []
-behind mark (b ∷ bs) = mark ∷ b ∷ bs
-
--- the mark of the next answer: the first stands behind a bracket, the others behind a comma
-abbrev pub next_mark : ℕ → List ℕ → ℕ
-next_mark mark [] = mark
-next_mark mark (b ∷ bs) = 44

@@ -10,7 +10,8 @@ use std::mem;
 /// Room for so many bytes is kept, however few are left.
 const KEPT_ROOM: usize = 4096;
 
-/// Bytes that are put at the end and taken at the front. Their memory follows those that aren't taken.
+/// Bytes that are put at the end and taken at the front. Their memory follows those that aren't taken: of those that were,
+/// no more are held than are left.
 #[derive(Drop)]
 pub struct BytesLeft {
     bytes: Vec<u8>,
@@ -19,13 +20,13 @@ pub struct BytesLeft {
 }
 
 impl Model for BytesLeft {
-    ghost use Rattle.std.specs.Prelude.{List, ℕ, ◌≤◌, length, drop};
+    ghost use Rattle.std.specs.Prelude.{List, ℕ, ◌+◌, ◌≤◌, length, drop};
 
     ghost Value = { List ℕ };
 
     ghost view = { λ a. drop a.start a.bytes.items };
 
-    ghost invariant = { λ a. a.start ≤ length a.bytes.items };
+    ghost invariant = { λ a. a.start + a.start ≤ length a.bytes.items };
 }
 
 impl BytesLeft {
@@ -71,8 +72,8 @@ impl BytesLeft {
             Framing::Lines => room.push(b'\n')?,
             Framing::Contents => {}
         }
+        // (with no bytes left none are held, by the invariant: they begin at 0)
         mem::swap(&mut self.bytes, room);
-        self.start = 0;
         Ok(())
     }
 
@@ -82,7 +83,7 @@ impl BytesLeft {
         ensures { self.new ≡ take count self.old }
     {
         self.bytes.truncate(self.start + count);
-        self.close_up();
+        self.start = close_up(&mut self.bytes, self.start);
     }
 
     /// Moves the first so many bytes to the front of the room.
@@ -94,21 +95,34 @@ impl BytesLeft {
     {
         let end = self.start + count;
         room[..count].copy_from_slice(&self.bytes[self.start..end]);
-        self.start = end;
-        self.close_up();
+        self.start = close_up(&mut self.bytes, end);
     }
+}
 
-    /// Moves the bytes to the start of their memory, once no more are left than were taken. So each byte is moved a
-    /// constant number of times on average.
-    fn close_up(&mut self)
-        ensures { self.new ≡ self.old }
-    {
-        if self.start >= self.bytes.len() - self.start {
-            move_to_front(&mut self.bytes, self.start);
-            self.start = 0;
-        }
-        give_room_back(&mut self.bytes);
+/// Lets go of what was taken before this place, once it is worth it, and of memory. The result is where what is left then
+/// begins.
+fn close_up(bytes: &mut Vec<u8>, start: usize) -> usize
+    requires { start ≤ length bytes.old.items }
+    ensures left { drop result bytes.new.items ≡ drop start bytes.old.items }
+    ensures few { result + result ≤ length bytes.new.items }
+{
+    let start = move_up(bytes, start);
+    give_room_back(bytes);
+    start
+}
+
+/// Moves what is left to the start of the memory, once it is no more than was taken. So each byte is moved a constant
+/// number of times on average, and a host that leaves a byte doesn't make all stay that was ever written.
+fn move_up(bytes: &mut Vec<u8>, start: usize) -> usize
+    requires { start ≤ length bytes.old.items }
+    ensures left { drop result bytes.new.items ≡ drop start bytes.old.items }
+    ensures few { result + result ≤ length bytes.new.items }
+{
+    if start < bytes.len() - start {
+        return start;
     }
+    move_to_front(bytes, start);
+    0
 }
 
 /// Keeps the bytes from this place on.
@@ -144,3 +158,6 @@ fn put_line(bytes: &mut Vec<u8>, text: &[u8]) -> Result<(), AllocError>
     bytes.push(b'\n')?;
     Ok(())
 }
+
+#[cfg(test)]
+mod tests;

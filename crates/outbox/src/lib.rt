@@ -2,7 +2,6 @@
 #![tactic(auto)]
 
 mod bytes_left;
-mod history;
 mod law;
 mod mark;
 mod outbox;

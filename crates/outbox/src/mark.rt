@@ -1,5 +1,5 @@
-use crate::history::History;
 use content_streams::Framing;
+use ghost_log::GhostLog;
 use std::marker::Model;
 
 /// What an outbox had at some moment. Contracts see all of it; in memory two counts stand for it.
@@ -10,7 +10,7 @@ pub struct Mark {
     pub(crate) byte_count: usize,
     /// How many lengths of texts were kept.
     pub(crate) length_count: usize,
-    pub(crate) history: History,
+    pub(crate) log: GhostLog,
 }
 
 impl Model for Mark {
@@ -22,10 +22,10 @@ impl Model for Mark {
 
     ghost view = { λ a. record {
       framing = a.framing;
-      written = a.history.written;
-      taken = a.history.taken;
+      written = a.log.texts;
+      taken = a.log.taken;
     } };
 
     ghost invariant = { λ a.
-        IsMarked a.framing a.history.written a.history.taken a.byte_count a.length_count };
+        IsMarked a.framing a.log.texts a.log.taken a.byte_count a.length_count };
 }

@@ -2,9 +2,9 @@ ghost use Rattle.std.specs.Prelude.{◌≡◌, ◌≢◌, ◌↔◌, ◌≤◌, 
 ghost use Rattle.outbox.specs.Inner.{lengths_of};
 
 use crate::bytes_left::BytesLeft;
-use crate::history::History;
 use crate::mark::Mark;
 use content_streams::Framing;
+use ghost_log::GhostLog;
 use std::alloc::{AllocError, Global};
 use std::collections::VecDeque;
 use std::marker::Model;
@@ -19,7 +19,7 @@ pub struct Outbox {
     bytes: BytesLeft,
     /// In Contents, the lengths of the texts that aren't taken.
     lengths: VecDeque<usize>,
-    history: History,
+    log: GhostLog,
 }
 
 impl Model for Outbox {
@@ -31,12 +31,12 @@ impl Model for Outbox {
 
     ghost view = { λ a. record {
       framing = a.framing;
-      written = a.history.written;
-      taken = a.history.taken;
+      written = a.log.texts;
+      taken = a.log.taken;
     } };
 
     ghost invariant = { λ a.
-        IsKept a.framing a.history.written a.history.taken a.bytes a.lengths.items };
+        IsKept a.framing a.log.texts a.log.taken a.bytes a.lengths.items };
 }
 
 impl Outbox {
@@ -50,7 +50,7 @@ impl Outbox {
             framing,
             bytes: BytesLeft::new(alloc),
             lengths: VecDeque::new(alloc),
-            history: History::new(),
+            log: GhostLog::new(),
         }
     }
 
@@ -63,7 +63,7 @@ impl Outbox {
         self.bytes.put(self.framing, text)?;
         match put_length(&mut self.lengths, self.framing, text) {
             Ok(()) => {
-                self.history = self.history.with_text(text);
+                self.log = self.log.with_text(text);
                 Ok(())
             }
             Err(refused) => {
@@ -80,11 +80,11 @@ impl Outbox {
         ensures err { OnErr result (self.new ≡ self.old) }
     {
         let count = self.lengths.len();
-        let history = self.history.with_text(room.as_slice());
+        let log = self.log.with_text(room.as_slice());
         put_length(&mut self.lengths, self.framing, room.as_slice())?;
         match self.bytes.put_from(self.framing, room) {
             Ok(()) => {
-                self.history = history;
+                self.log = log;
                 Ok(())
             }
             Err(refused) => {
@@ -102,7 +102,7 @@ impl Outbox {
             framing: self.framing,
             byte_count: self.bytes.len(),
             length_count: self.lengths.len(),
-            history: self.history.again(),
+            log: self.log.again(),
         }
     }
 
@@ -114,7 +114,7 @@ impl Outbox {
         self.bytes.truncate(mark.byte_count);
         self.lengths.truncate(mark.length_count);
         give_lengths_back(&mut self.lengths);
-        self.history = mark.history;
+        self.log = mark.log;
     }
 
     /// How many bytes are to be taken; in Contents the length of the next text, and 0 where there is none.
@@ -149,7 +149,7 @@ impl Outbox {
     {
         let count = self.bytes.len().min(room.len());
         self.bytes.take(count, room);
-        self.history = self.history.with_taken(count);
+        self.log = self.log.with_taken(count);
         count
     }
 
@@ -166,7 +166,7 @@ impl Outbox {
         self.bytes.take(count, room);
         self.lengths.pop_front();
         give_lengths_back(&mut self.lengths);
-        self.history = self.history.with_taken(1);
+        self.log = self.log.with_taken(1);
         count
     }
 
@@ -206,3 +206,6 @@ fn give_lengths_back(lengths: &mut VecDeque<usize>)
         lengths.shrink_to((2 * lengths.len()).max(KEPT_LENGTHS));
     }
 }
+
+#[cfg(test)]
+mod tests;

@@ -8,7 +8,8 @@ use Rattle.rpc_messages.specs.declared.params.Params.{Params}
 use Rattle.rpc_messages.specs.declared.params.Params.TheVariants.{Omitted, Whole, Fractional}
 use Rattle.message_ids.specs.declared.standard.Standard.{Standard}
 use Rattle.message_ids.specs.declared.standard.Standard.TheVariants.{MethodNotFound, InvalidParams}
-use Rattle.method_steps.specs.Steps.{Step, MethodTable, place_of}
+use Rattle.method_templates.specs.Steps.{Step}
+use Rattle.method_steps.specs.Steps.{MethodTable, place_of}
 use Rattle.handler_future.specs.Evaluation.{Program}
 use Rattle.handler_future.specs.State.{program_for, opening_program}
 

@@ -6,9 +6,9 @@ use Rattle.peer_session.specs.declared.limits.Limits.{Limits}
 use Rattle.handler_future.specs.State.{HandlerState, IsPoll}
 use Rattle.handler_future.specs.declared.outcome.Outcome.{Outcome}
 use Rattle.peer_output.specs.Events.{with_at}
-use Rattle.session_state.specs.Core.{Core}
-use Rattle.session_state.specs.Turning.{Leaves, drained, returned}
-use Rattle.session_state.specs.Turns.{all_turns_left}
+use Rattle.peer_events.specs.Core.{Core}
+use Rattle.peer_events.specs.Turning.{Leaves, drained, returned}
+use Rattle.peer_events.specs.Turns.{all_turns_left}
 use Rattle.peer_session.specs.Events.{DrainsIn, FailsToWriteIn, LeavesAt, StopsIn, picked, with_job_back}
 use Rattle.stream_framing.specs.declared.framing.Framing.{Framing}
 use Rattle.stream_framing.specs.declared.framing.Framing.TheVariants.{Frames, Lines}

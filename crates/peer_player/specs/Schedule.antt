@@ -6,7 +6,7 @@ use Rattle.peer_player.specs.declared.schedule.Picks.{Picks}
 use Rattle.peer_player.specs.declared.schedule.Picks.TheVariants.{First, Last, List}
 use Rattle.peer_session.specs.Events.{LeavesAt, with_job_back}
 use Rattle.peer_session.specs.SessionState.{SessionState}
-use Rattle.session_state.specs.Turning.{ready}
+use Rattle.peer_events.specs.Turning.{ready}
 
 -- The place, among the handlers that are ready, of the one that is turned where so many were turned before; behind the last of the listed places the first.
 abbrev pub place_of : Picks → ℕ → ℕ → ℕ

@@ -2,19 +2,18 @@
 
 ghost use Rattle.std.specs.Prelude.{◌≡◌, ◌<◌, [], IsTrue, false, IfOk, OnOk, OnErr};
 ghost use Rattle.lsp_frames.specs.Devices.{Unfinished};
-ghost use Rattle.session_state.specs.Turns.{all_turns_left};
-ghost use Rattle.session_state.specs.Turning.{ready};
-ghost use Rattle.peer_session.specs.Events.{CountsDrain};
+ghost use Rattle.peer_events.specs.Turns.{all_turns_left};
+ghost use Rattle.peer_events.specs.Turning.{ready};
 ghost use Rattle.stream_session.specs.Stream.{Fed, IsTaken, StopsShort, stream_of, with_piece};
 ghost use Rattle.peer_player.specs.Player.{IsPlayIn, IsPlayShortIn};
-ghost use Rattle.peer_player.specs.Playing.{Plays, HasWritten, HasSettled, KeepsInput};
+ghost use Rattle.peer_player.specs.Playing.{Plays, HasWritten, HasSettled, KeepsInput, PlaysOn, MayStopShort, CountsPlay, StaysAsBroken};
 ghost use Rattle.peer_player.specs.Schedule.{TurnsPicked, turns_after};
 
 use crate::schedule::Schedule;
 use job_slots::Turns;
 use lsp_frames::Sink;
+use peer_events::turned_handlers_have_fewer_turns_left;
 use peer_session::{DrainFault, Report};
-use session_state::turned_handlers_have_fewer_turns_left;
 use stream_session::{InputEnd, Next, StreamSession, what_a_stream_wrote, what_sessions_wrote};
 
 /// A session, the sink that it writes to, and how many jobs were turned by the schedule.
@@ -36,10 +35,8 @@ impl<'a, S: Sink> Playing<'a, S> {
         ensures err { (fed : Fed) → fed.ending ≡ Unfinished →
             Plays fed (stream_of self.old.stream) (S.bytes_taken self.old.sink) →
             OnErr result (StopsShort (with_piece fed piece.now) (S.bytes_taken self.new.sink)) }
-        ensures cause { CountsDrain (stream_of self.old.stream).session (S.failures self.old.sink)
-            result (S.failures self.new.sink) }
-        ensures same { OnOk result ((stream_of self.new.stream).session.is_broken
-            ≡ (stream_of self.old.stream).session.is_broken) }
+        ensures cause { CountsPlay S.failures self.old result self.new }
+        ensures same { StaysAsBroken self.old result self.new }
     {
         what_a_stream_wrote();
         self.stream.feed(piece)?;
@@ -56,8 +53,7 @@ impl<'a, S: Sink> Playing<'a, S> {
             Plays fed (stream_of self.old.stream) (S.bytes_taken self.old.sink) →
             OnErr result (IsPlayShortIn fed.framing fed.table fed.limits fed.bytes fed.before
             (S.bytes_taken self.new.sink)) }
-        ensures cause { CountsDrain (stream_of self.old.stream).session (S.failures self.old.sink)
-            result (S.failures self.new.sink) }
+        ensures cause { CountsPlay S.failures self.old result self.new }
     {
         what_sessions_wrote();
         what_a_stream_wrote();
@@ -69,18 +65,12 @@ impl<'a, S: Sink> Playing<'a, S> {
 
     /// Takes all that waits. An eager player settles after each content.
     fn take_contents(&mut self) -> Result<(), DrainFault>
-        ensures ok { (fed : Fed) →
-            Plays fed (stream_of self.old.stream) (S.bytes_taken self.old.sink) →
-            OnOk result (Plays fed (stream_of self.new.stream) (S.bytes_taken self.new.sink)) }
-        ensures err { (fed : Fed) →
-            Plays fed (stream_of self.old.stream) (S.bytes_taken self.old.sink) →
-            OnErr result (StopsShort fed (S.bytes_taken self.new.sink)) }
+        ensures ok { PlaysOn S.bytes_taken Plays self.old result self.new }
+        ensures err { MayStopShort S.bytes_taken self.old result self.new }
         ensures taken { OnOk result (IsTaken (stream_of self.new.stream)) }
         ensures last { (stream_of self.new.stream).last ≡ (stream_of self.old.stream).last }
-        ensures cause { CountsDrain (stream_of self.old.stream).session (S.failures self.old.sink)
-            result (S.failures self.new.sink) }
-        ensures same { OnOk result ((stream_of self.new.stream).session.is_broken
-            ≡ (stream_of self.old.stream).session.is_broken) }
+        ensures cause { CountsPlay S.failures self.old result self.new }
+        ensures same { StaysAsBroken self.old result self.new }
     {
         what_a_stream_wrote();
         while let Next::Content = self.stream.take_next()? {
@@ -91,17 +81,11 @@ impl<'a, S: Sink> Playing<'a, S> {
 
     /// An eager player writes what is due, and turns all handlers that are ready.
     pub(crate) fn settle_if_eager(&mut self) -> Result<(), DrainFault>
-        ensures ok { (fed : Fed) →
-            Plays fed (stream_of self.old.stream) (S.bytes_taken self.old.sink) →
-            OnOk result (Plays fed (stream_of self.new.stream) (S.bytes_taken self.new.sink)) }
-        ensures err { (fed : Fed) →
-            Plays fed (stream_of self.old.stream) (S.bytes_taken self.old.sink) →
-            OnErr result (StopsShort fed (S.bytes_taken self.new.sink)) }
+        ensures ok { PlaysOn S.bytes_taken Plays self.old result self.new }
+        ensures err { MayStopShort S.bytes_taken self.old result self.new }
         ensures input { KeepsInput (stream_of self.old.stream) (stream_of self.new.stream) }
-        ensures cause { CountsDrain (stream_of self.old.stream).session (S.failures self.old.sink)
-            result (S.failures self.new.sink) }
-        ensures same { OnOk result ((stream_of self.new.stream).session.is_broken
-            ≡ (stream_of self.old.stream).session.is_broken) }
+        ensures cause { CountsPlay S.failures self.old result self.new }
+        ensures same { StaysAsBroken self.old result self.new }
     {
         if self.schedule.lazy {
             return Ok(());
@@ -111,17 +95,11 @@ impl<'a, S: Sink> Playing<'a, S> {
 
     /// Writes what is due, and turns handlers until none is ready.
     fn settle(&mut self) -> Result<(), DrainFault>
-        ensures ok { (fed : Fed) →
-            Plays fed (stream_of self.old.stream) (S.bytes_taken self.old.sink) →
-            OnOk result (HasSettled fed (stream_of self.new.stream) (S.bytes_taken self.new.sink)) }
-        ensures err { (fed : Fed) →
-            Plays fed (stream_of self.old.stream) (S.bytes_taken self.old.sink) →
-            OnErr result (StopsShort fed (S.bytes_taken self.new.sink)) }
+        ensures ok { PlaysOn S.bytes_taken HasSettled self.old result self.new }
+        ensures err { MayStopShort S.bytes_taken self.old result self.new }
         ensures input { KeepsInput (stream_of self.old.stream) (stream_of self.new.stream) }
-        ensures cause { CountsDrain (stream_of self.old.stream).session (S.failures self.old.sink)
-            result (S.failures self.new.sink) }
-        ensures same { OnOk result ((stream_of self.new.stream).session.is_broken
-            ≡ (stream_of self.old.stream).session.is_broken) }
+        ensures cause { CountsPlay S.failures self.old result self.new }
+        ensures same { StaysAsBroken self.old result self.new }
     {
         self.drain()?;
         while self.turn_next() {
@@ -132,19 +110,13 @@ impl<'a, S: Sink> Playing<'a, S> {
 
     /// Writes what is due.
     fn drain(&mut self) -> Result<(), DrainFault>
-        ensures ok { (fed : Fed) →
-            Plays fed (stream_of self.old.stream) (S.bytes_taken self.old.sink) →
-            OnOk result (HasWritten fed (stream_of self.new.stream) (S.bytes_taken self.new.sink)) }
-        ensures err { (fed : Fed) →
-            Plays fed (stream_of self.old.stream) (S.bytes_taken self.old.sink) →
-            OnErr result (StopsShort fed (S.bytes_taken self.new.sink)) }
+        ensures ok { PlaysOn S.bytes_taken HasWritten self.old result self.new }
+        ensures err { MayStopShort S.bytes_taken self.old result self.new }
         ensures input { KeepsInput (stream_of self.old.stream) (stream_of self.new.stream) }
         ensures turns { OnOk result (all_turns_left (stream_of self.new.stream).session.core.stages
             ≡ all_turns_left (stream_of self.old.stream).session.core.stages) }
-        ensures cause { CountsDrain (stream_of self.old.stream).session (S.failures self.old.sink)
-            result (S.failures self.new.sink) }
-        ensures same { OnOk result ((stream_of self.new.stream).session.is_broken
-            ≡ (stream_of self.old.stream).session.is_broken) }
+        ensures cause { CountsPlay S.failures self.old result self.new }
+        ensures same { StaysAsBroken self.old result self.new }
     {
         turned_handlers_have_fewer_turns_left();
         self.stream.drain(&mut self.sink)

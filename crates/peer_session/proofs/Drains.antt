@@ -4,15 +4,15 @@ use Rattle.std.proofs.lemmas.List.{take_all}
 use Rattle.std.specs.Io.KnownBytes.{Keeps, Appends}
 use Rattle.answer_desk.specs.State.{front_texts}
 use Rattle.peer_output.specs.Items.{count_sendings, count_calls}
-use Rattle.session_state.specs.Core.{Core}
-use Rattle.session_state.specs.Turning.{drained}
+use Rattle.peer_events.specs.Core.{Core}
+use Rattle.peer_events.specs.Turning.{drained}
 use Rattle.stream_framing.specs.Framed.{framed}
 use Rattle.stream_framing.specs.declared.framing.Framing.{Framing}
 use Rattle.stream_framing.specs.declared.framing.Framing.TheVariants.{Frames, Lines}
 use Rattle.peer_session.specs.Framings.{bytes_in, due_in}
 use Rattle.peer_session.specs.declared.writing.Written.{Written}
 use Rattle.peer_session.specs.Events.{due_sendings, drained_session, StopsIn, WritesSomeIn, FailsToWriteIn}
-use Rattle.peer_session.specs.Inner.Runs.{NothingDue}
+use Rattle.session_runs.specs.Runs.{NothingDue}
 use Rattle.peer_session.specs.Inner.Writing.{Counts, CountsOn}
 use Rattle.peer_session.specs.SessionState.{SessionState, counted}
 

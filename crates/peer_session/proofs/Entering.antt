@@ -3,9 +3,9 @@ use Rattle.std.proofs.Common.{◌≡◌, ◌≤◌, ℕ, ◌+◌, List, [], ◌�
 use Rattle.std.proofs.lemmas.List.{map_push}
 use Rattle.rpc_messages.specs.Entry.{SeenEntry}
 use Rattle.rpc_messages.specs.Numbering.{numbers_in, numbers_of}
-use Rattle.session_state.specs.Core.{Core}
-use Rattle.session_state.specs.Taking.{PassesEntry, PassesEntries}
-use Rattle.session_state.specs.Taking.PassesEntries.{none_left, next}
+use Rattle.peer_events.specs.Core.{Core}
+use Rattle.peer_events.specs.Taking.{PassesEntry, PassesEntries}
+use Rattle.peer_events.specs.Taking.PassesEntries.{none_left, next}
 
 -- a front and one more entry take no more numbers than all
 pub numbers_in-among : {X : Type 0} (f : X → SeenEntry) (ys : List X) (x : X) (more : List X) →

@@ -5,16 +5,18 @@ use Rattle.message_ids.specs.declared.id.Id.{Id}
 use Rattle.rpc_messages.specs.declared.reply.Reply.{Reply}
 use Rattle.rpc_messages.specs.declared.reply.Reply.TheVariants.{Standard as Fixed}
 use Rattle.message_ids.specs.declared.standard.Standard.TheVariants.{Cancelled}
-use Rattle.answer_desk.specs.declared.open_call.OpenCall.{OpenCall}
-use Rattle.answer_desk.specs.State.{State, numbers_with, marked, is_in_reach, is_open, number_at, reply_of, without_reply, with_reached, with_end}
+use Rattle.open_numbers.specs.declared.open_call.OpenCall.{OpenCall}
+use Rattle.answer_desk.specs.State.{State, numbers_with, is_open, number_at, reply_of, without_reply, with_reached, with_end}
+use Rattle.open_numbers.specs.OpenCalls.{marked, is_in_reach}
 use Rattle.handler_future.specs.State.{HandlerState}
-use Rattle.session_stages.specs.declared.stage.Stage.{Stage}
-use Rattle.session_stages.specs.declared.stage.Stage.TheVariants.{Gone, Faulty, Idle, Out, Over, Failed}
-use Rattle.session_state.specs.Core.{Core, stage_at, with_stage, with_desk}
-use Rattle.session_state.specs.Hearing.{hear_if, hear_turns, hear_waits}
-use Rattle.session_state.specs.Finishing.{over_or_gone, cancelled, told_at, told}
+use Rattle.peer_events.specs.declared.stage.Stage.{Stage}
+use Rattle.peer_events.specs.declared.stage.Stage.TheVariants.{Gone, Faulty, Idle, Out, Over, Failed}
+use Rattle.peer_events.specs.Core.{Core, stage_at, with_stage, with_desk}
+use Rattle.peer_events.specs.Hearing.{hear_if, hear_turns, hear_waits}
+use Rattle.peer_events.specs.Finishing.{over_or_gone, cancelled, told_at, told}
 use Rattle.peer_session.specs.Inner.Marks.{count_in_reach}
-use Rattle.peer_session.proofs.Boards.{take-open}
+use Rattle.session_runs.proofs.Boards.{take-open}
+use Rattle.session_runs.proofs.Unwritten.{set-again}
 
 -- ---- what hearing leaves
 
@@ -40,20 +42,15 @@ hears-open d h k = hears-open-of d h h.waits k
 
 -- ---- a handler that was taken out is finished as if it were in its place
 
-set-again : (stages : List Stage) (n : ℕ) (a b : Stage) → set (set stages n a) n b ≡ set stages n b
-set-again [] n a b = refl
-set-again (s ∷ ss) zero a b = refl
-set-again (s ∷ ss) (suc n) a b = ap (λ xs. s ∷ xs) (set-again ss n a b)
-
 pub set-over : (stages : List Stage) (n m : ℕ) (a b : Stage) → m ≡ n → set (set stages n a) m b ≡ set stages m b
 set-over stages n m a b same = rw same (set-again stages n a b)
 
-pub cancelled-over : (core : Core) (n : ℕ) (h : HandlerState) (written : ℕ) → h.number ≡ n → cancelled (with_stage core n Failed) h written ≡ cancelled core h written
-cancelled-over core n h written number =
+pub cancelled-over : (core : Core) (n : ℕ) (stage : Stage) (h : HandlerState) (written : ℕ) → h.number ≡ n → cancelled (with_stage core n stage) h written ≡ cancelled core h written
+cancelled-over core n stage h written number =
     let hearing = hear_waits core.desk h in
     let same : hearing.handler.number ≡ n = hears-number core.desk h ∙ number in
     ap (λ ss. record { desk = with_end hearing.desk hearing.handler.number (Fixed Cancelled); stages = ss })
-    (set-over core.stages n hearing.handler.number Failed (over_or_gone hearing.handler written) same)
+    (set-over core.stages n hearing.handler.number stage (over_or_gone hearing.handler written) same)
 
 -- ---- what a cancel can reach yet
 

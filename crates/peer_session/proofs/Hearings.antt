@@ -6,7 +6,7 @@ use Rattle.std.proofs.lemmas.List.{length-drop}
 use Rattle.rpc_messages.specs.declared.reply.Reply.{Reply}
 use Rattle.answer_desk.specs.State.{State, reply_of, without_reply}
 use Rattle.handler_future.specs.State.{HandlerState, with_heard}
-use Rattle.session_state.specs.Hearing.{hear_turns, hear_if}
+use Rattle.peer_events.specs.Hearing.{hear_turns, hear_if}
 use Rattle.peer_session.specs.Inner.Waits.{StandsAlone}
 
 pub on-ok : {T E : Type 0} {P : Type 0} (r : Result T E) → is_ok r ≡ true → OnOk r P → P

@@ -1,15 +1,12 @@
 -- The handler at a place of those that are ready.
-use Rattle.std.proofs.Common.{◌≡◌, ℕ, zero, suc, ◌%◌, ◌<◌, List, [], ◌∷◌, length, slice_get, slice_index_or, Option, Some, None, refl, subst, ap, ◌∙◌, arith}
+use Rattle.std.proofs.Common.{◌≡◌, ℕ, zero, suc, ◌%◌, ◌<◌, List, [], ◌∷◌, length, slice_get, slice_index_or, Option, Some, None, refl, subst, sym, ap, ◌∙◌, arith}
 use Rattle.std.proofs.lemmas.Nat.{mod_below}
-use Rattle.rpc_messages.specs.declared.reply.Reply.{Reply}
-use Rattle.answer_desk.specs.State.{State, reply_of, without_reply}
+use Rattle.std.proofs.lemmas.Option.{get_or_from_slice_get}
 use Rattle.handler_future.specs.State.{HandlerState}
-use Rattle.session_stages.specs.declared.stage.Stage.TheVariants.{Idle}
-use Rattle.session_state.specs.Core.{Core, stage_at}
-use Rattle.session_state.specs.Hearing.{hear_if, hear_turns}
-use Rattle.session_state.specs.Turning.{Leaves, ready}
+use Rattle.peer_events.specs.Core.{Core}
+use Rattle.peer_events.specs.Turning.{Leaves, ready}
 use Rattle.peer_session.specs.Events.{picked}
-use Rattle.peer_session.specs.Inner.Runs.{StageFits, LeavesFrom}
+use Rattle.peer_session.specs.Inner.Turns.{LeavesFrom}
 
 pub no-numbers : (xs : List ℕ) → length xs ≡ 0 → xs ≡ []
 no-numbers [] none = refl
@@ -29,19 +26,7 @@ picked-leaves core pick count job after many some leaves =
     let is : slice_index_or (ready core) (pick % count) 0 ≡ picked core pick = ap (λ n. slice_index_or (ready core) (pick % n) 0) many in
     subst (λ o. LeavesFrom core o (Some job) after) (place ∙ ap Some is) leaves
 
--- ---- its number
-
-heard_if : (h : HandlerState) (turn : ℕ) (o : Option Reply) → (hear_if h turn o).number ≡ h.number
-heard_if h turn None = refl
-heard_if h turn (Some r) = refl
-
-hears-number : (turns : List ℕ) (desk : State) (h : HandlerState) → (hear_turns desk h turns).handler.number ≡ h.number
-hears-number [] desk h = refl
-hears-number (turn ∷ turns) desk h =
-    hears-number turns (without_reply desk h.number turn) (hear_if h turn (reply_of desk h.number turn)) ∙ heard_if h turn (reply_of desk h.number turn)
-
--- a handler that goes out has the number of its stage
-pub leaves-number : (core : Core) (n : ℕ) (job : HandlerState) (after : Core) → Leaves core n job after → StageFits core.desk n (stage_at core n) → job.number ≡ n
-leaves-number core n job after leaves fits =
-    let idle : StageFits core.desk n (Idle leaves.handler leaves.so_far) = subst (StageFits core.desk n) leaves.stage fits in
-    ap (λ (h : HandlerState). h.number) leaves.job_is ∙ hears-number leaves.handler.waits core.desk leaves.handler ∙ idle.1
+-- the number at that place is the one that is picked
+pub picked-number : (core : Core) (pick count n : ℕ) → count ≡ length (ready core) → slice_get (ready core) (pick % count) ≡ Some n → n ≡ picked core pick
+picked-number core pick count n many is =
+    sym (get_or_from_slice_get (ready core) (pick % count) n 0 is) ∙ ap (λ k. slice_index_or (ready core) (pick % k) 0) many

@@ -10,9 +10,9 @@ use Rattle.peer_session.specs.declared.report.Close.TheVariants.{Full}
 use Rattle.rpc_messages.specs.Numbering.{unit_numbers}
 use Rattle.rpc_messages.specs.Unit.{SeenUnit}
 use Rattle.peer_output.specs.Items.{Item, count_sendings, count_calls}
-use Rattle.session_state.specs.Core.{Core, unwritten_from}
-use Rattle.session_state.specs.Taking.{Takes}
-use Rattle.session_state.specs.Turning.{Leaves, closed, drained, ready, returned}
+use Rattle.peer_events.specs.Core.{Core, unwritten_from}
+use Rattle.peer_events.specs.Taking.{Takes}
+use Rattle.peer_events.specs.Turning.{Leaves, closed, drained, ready, returned}
 use Rattle.stream_framing.specs.declared.framing.Framing.{Framing}
 use Rattle.stream_framing.specs.declared.framing.Framing.TheVariants.{Frames, Lines}
 use Rattle.peer_session.specs.Framings.{due_in}

@@ -2,7 +2,7 @@
 use Rattle.std.specs.Prelude.{ℕ, List, ◌++◌, flat_map}
 use Rattle.answer_desk.specs.State.{front_texts}
 use Rattle.peer_output.specs.Items.{Item, item_text}
-use Rattle.session_state.specs.Core.{Core, unwritten_from}
+use Rattle.peer_events.specs.Core.{Core, unwritten_from}
 use Rattle.stream_framing.specs.Framed.{framed}
 use Rattle.stream_framing.specs.declared.framing.Framing.{Framing}
 

@@ -5,9 +5,9 @@ use Rattle.peer_session.specs.declared.report.Close.{Close}
 use Rattle.peer_session.specs.declared.report.Close.TheVariants.{Clean}
 use Rattle.peer_session.specs.declared.report.Report.{Report}
 use Rattle.method_steps.specs.Steps.{MethodTable}
-use Rattle.session_stages.specs.declared.stage.Stage.TheVariants.{Gone}
-use Rattle.session_state.specs.Core.{Core, stage_at}
-use Rattle.session_state.specs.Turning.{start}
+use Rattle.peer_events.specs.declared.stage.Stage.TheVariants.{Gone}
+use Rattle.peer_events.specs.Core.{Core, stage_at}
+use Rattle.peer_events.specs.Turning.{start}
 
 -- The table and the limits; what is kept of units and numbers; how the input was ended, once it was; how many messages and withdrawals were
 -- written, how many of them await a reply, how many answers were written, and how many polls were made; whether a sink has failed, and

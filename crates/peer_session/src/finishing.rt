@@ -3,31 +3,34 @@
 
 ghost use Rattle.std.specs.Prelude.{◌≡◌, MatchOption, true, false};
 ghost use Rattle.answer_desk.specs.State.{is_open};
-ghost use Rattle.session_stages.specs.declared.stage.Stage.TheVariants.{Idle, Failed};
-ghost use Rattle.session_stages.specs.Stages.{is_gone};
-ghost use Rattle.session_state.specs.Core.{stage_at, with_stage};
-ghost use Rattle.session_state.specs.Finishing.{finished, cancelled, Reaches, fault_passed};
-ghost use Rattle.peer_session.specs.Inner.Runs.{is_idle, told_here};
+ghost use Rattle.peer_events.specs.declared.stage.Stage.TheVariants.{Idle, Out};
+ghost use Rattle.peer_events.specs.Stages.{is_gone};
+ghost use Rattle.peer_events.specs.Core.{stage_at, with_stage};
+ghost use Rattle.peer_events.specs.Finishing.{finished, cancelled, Reaches, fault_passed};
+ghost use Rattle.session_runs.specs.Runs.{is_idle};
+ghost use Rattle.peer_session.specs.Inner.Turns.{told_here};
 
 use crate::hearing::hear_waits;
-use crate::runs::{Runs, is_more_than};
 use handler_future::Handler;
+use peer_events::Stage;
 use rpc_messages::{Id, Reply, Standard};
-use session_stages::Stage;
+use session_runs::{Runs, is_more_than};
 
-/// Takes the handler of a number out of the runs, where it is here. Its place is kept.
+/// Takes the handler of a number out of the runs, where it is here, and tells how many of its messages are written. The
+/// number is out until it is put into another stage.
 pub(crate) fn take_idle(runs: &mut Runs, number: u32) -> Option<(Handler, usize)>
     ensures { MatchOption result
         ((runs.new ≡ runs.old) × (is_idle (stage_at runs.old number) ≡ false))
-        (λ taken. (runs.new ≡ with_stage runs.old number Failed)
+        (λ taken. (runs.new ≡ with_stage runs.old number (Out taken.1))
         × (stage_at runs.old number ≡ Idle taken.0 taken.1) × (taken.0.number ≡ number)
         × (is_open runs.old.desk number ≡ true)) }
 {
-    let Some(Stage::Idle(..)) = runs.stage(number) else {
+    let Some(Stage::Idle(_, written)) = runs.stage(number) else {
         return None;
     };
-    match runs.take_out(number) {
-        Stage::Idle(handler, written) => Some((handler, written)),
+    let written = *written;
+    match runs.replace(number, Stage::Out(written)) {
+        Stage::Idle(handler, _) => Some((handler, written)),
         other => {
             drop(other);
             None

@@ -1,27 +1,13 @@
 //! What a handler waits for, and hears.
 
 ghost use Rattle.std.specs.Prelude.{◌≡◌, ◌<◌, ◌^◌, length, false};
-ghost use Rattle.answer_desk.specs.Desk.{view as desk_view};
-ghost use Rattle.session_state.specs.Core.{stage_at, with_desk};
-ghost use Rattle.session_state.specs.Hearing.{is_ready, hear_waits};
-ghost use Rattle.peer_session.specs.Inner.Runs.{is_idle};
+ghost use Rattle.peer_events.specs.Core.{stage_at, with_desk};
+ghost use Rattle.peer_events.specs.Hearing.{hear_waits};
+ghost use Rattle.session_runs.specs.Runs.{is_idle};
 ghost use Rattle.peer_session.specs.Inner.Waits.{IsNextWait};
 
-use crate::runs::Runs;
-use answer_desk::Desk;
 use handler_future::Handler;
-
-/// Whether the replies to all that the handler waits for are on the board. One that was never
-/// polled waits for none.
-pub(crate) fn is_ready(desk: &Desk, handler: &Handler) -> bool
-    ensures { result ≡ is_ready (desk_view desk.now) handler.now }
-{
-    let number = handler.number();
-    handler
-        .waits()
-        .iter()
-        .all(|turn| desk.has_reply(number, *turn))
-}
+use session_runs::Runs;
 
 /// The handler hears, of all that it waits for, what is there. It isn't among the session's runs
 /// meanwhile.

@@ -3,8 +3,6 @@
 //! Its limits say how much a peer takes, its report what a run tells of itself.
 #![tactic(auto)]
 
-mod admission;
-mod arrival;
 mod drain_fault;
 mod finishing;
 mod hearing;
@@ -12,12 +10,9 @@ mod job;
 mod limits;
 mod passing;
 mod report;
-mod runs;
 mod session;
-mod spare;
 mod taken;
 mod turning;
-mod work;
 mod writing;
 
 pub use drain_fault::DrainFault;

@@ -5,13 +5,13 @@ ghost use Rattle.std.specs.Prelude.{◌≡◌, ◌≤◌, ◌+◌, OnOk, OnErr, 
 ghost use Rattle.rpc_messages.specs.Entry.{entry_seen};
 ghost use Rattle.rpc_messages.specs.Numbering.{numbers_in, numbers_of, unit_numbers, entries_in};
 ghost use Rattle.rpc_messages.specs.Unit.{unit_seen};
-ghost use Rattle.session_state.specs.Finishing.{fault_passed, Cancels};
-ghost use Rattle.session_state.specs.Taking.{PassesEntry, PassesEntries, Takes};
+ghost use Rattle.peer_events.specs.Finishing.{fault_passed, Cancels};
+ghost use Rattle.peer_events.specs.Taking.{PassesEntry, PassesEntries, Takes};
 
 use crate::finishing::{cancel_requests, pass_fault};
-use crate::runs::Runs;
 use method_steps::Table;
 use rpc_messages::{Call, Entry, Unit, cancel_target};
+use session_runs::Runs;
 use std::alloc::{AllocError, Global};
 
 /// Opens a unit, and goes through its entries.

@@ -4,19 +4,17 @@ ghost use Rattle.std.specs.Prelude.{◌≡◌, ◌↔◌, ◌<◌, ◌≤◌, �
 ghost use Rattle.std.specs.Io.KnownBytes.{Appends};
 ghost use Rattle.lsp_frames.specs.Devices.{HandsOnAll};
 ghost use Rattle.rpc_messages.specs.Unit.{unit_of};
-ghost use Rattle.session_state.specs.Turning.{due_bytes, ready};
+ghost use Rattle.peer_events.specs.Turning.{due_bytes, ready};
 ghost use Rattle.stream_framing.specs.declared.framing.Framing.TheVariants.{Frames, Lines};
 ghost use Rattle.peer_session.specs.Events.{ended, TakesUnit, LeavesAt, picked, with_job_back, DrainsIn, DrainsTo, CountsDrain};
 ghost use Rattle.peer_session.specs.Framings.{due_in};
 ghost use Rattle.peer_session.specs.SessionState.{SessionState, IsDone, new_session, report_of};
 
-use crate::arrival::numbers_of;
 use crate::drain_fault::DrainFault;
 use crate::job::Job;
 use crate::limits::Limits;
 use crate::passing::take_unit;
 use crate::report::{Close, Report};
-use crate::runs::Runs;
 use crate::taken::Taken;
 use crate::turning::{come_back, leave};
 use crate::writing::{NOTHING, Written, put_due};
@@ -24,6 +22,7 @@ use handler_future::Outcome;
 use lsp_frames::{Frame, Sink, put_all};
 use method_steps::Table;
 use rpc_messages::UnitReader;
+use session_runs::{Runs, numbers_of};
 use std::alloc::{AllocError, Global};
 use stream_framing::Framing;
 
@@ -179,7 +178,6 @@ impl<'a> Session<'a> {
         ensures number { IfSome result
             (λ job. job.handler.number ≡ picked (view self.old).core pick) }
     {
-        self.runs.stages_fit();
         let count = self.runs.ready_len();
         if count == 0 {
             return None;

@@ -1,19 +1,21 @@
 //! Handlers go out for a turn, and come back.
 
-ghost use Rattle.std.specs.Prelude.{◌≡◌, slice_get};
-ghost use Rattle.session_state.specs.Turning.{ready, returned};
-ghost use Rattle.peer_session.specs.Inner.Runs.{LeavesFrom, SendsOut};
+ghost use Rattle.std.specs.Prelude.{◌≡◌, Some, IfSome, slice_get};
+ghost use Rattle.peer_events.specs.Turning.{ready, returned};
+ghost use Rattle.peer_session.specs.Inner.Turns.{LeavesFrom, SendsOut};
 
-use crate::finishing::{cancel, finish};
+use crate::finishing::{cancel, finish, take_idle};
 use crate::hearing::hear_waits;
-use crate::runs::Runs;
 use handler_future::{Handler, Outcome};
-use session_stages::Stage;
+use peer_events::Stage;
+use session_runs::Runs;
 
 /// The handler at a place of those that are ready goes out. It hears the replies that it waited
 /// for.
 pub(crate) fn leave(runs: &mut Runs, place: u32) -> Option<Handler>
-    ensures { LeavesFrom runs.old (slice_get (ready runs.old) place) result runs.new }
+    ensures leaves { LeavesFrom runs.old (slice_get (ready runs.old) place) result runs.new }
+    ensures number { IfSome result (λ handler.
+        slice_get (ready runs.old) place ≡ Some handler.number) }
 {
     let number = runs.ready_at(place)?;
     let mut handler = send_out(runs, number)?;
@@ -25,17 +27,8 @@ pub(crate) fn leave(runs: &mut Runs, place: u32) -> Option<Handler>
 fn send_out(runs: &mut Runs, number: u32) -> Option<Handler>
     ensures { SendsOut runs.old number result runs.new }
 {
-    let Some(Stage::Idle(_, written)) = runs.stage(number) else {
-        return None;
-    };
-    let written = *written;
-    match runs.replace(number, Stage::Out(written)) {
-        Stage::Idle(handler, _) => Some(handler),
-        other => {
-            drop(other);
-            None
-        }
-    }
+    let (handler, _) = take_idle(runs, number)?;
+    Some(handler)
 }
 
 /// A handler that was out is here again, with what its poll answered. One that isn't out is let go.

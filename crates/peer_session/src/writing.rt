@@ -5,19 +5,20 @@ ghost use Rattle.handler_future.specs.Front.{HasTurnsUpTo};
 ghost use Rattle.answer_desk.specs.State.{front_texts, without_front};
 ghost use Rattle.peer_output.specs.Course.{message as sends_message, withdrawal};
 ghost use Rattle.peer_output.specs.Items.{sent, message_text};
-ghost use Rattle.session_state.specs.Core.{stage_at, with_desk, with_stage, unwritten, unwritten_from};
-ghost use Rattle.session_state.specs.Turning.{written_stage, drained};
+ghost use Rattle.peer_events.specs.Core.{stage_at, with_desk, with_stage, unwritten, unwritten_from};
+ghost use Rattle.peer_events.specs.Turning.{written_stage, drained};
 ghost use Rattle.stream_framing.specs.Framed.{framed};
 ghost use Rattle.stream_framing.specs.declared.framing.Framing.TheVariants.{Frames};
 ghost use Rattle.peer_session.specs.Framings.{bytes_in, due_in};
-ghost use Rattle.peer_session.specs.Inner.Runs.{has_unwritten};
+ghost use Rattle.session_runs.specs.Runs.{has_unwritten};
 ghost use Rattle.peer_session.specs.Inner.Writing.{Counts, CountsOn};
 
-use crate::runs::Runs;
+use crate::finishing::take_idle;
 use handler_future::Message;
 use json_values::Items;
+use peer_events::Stage;
 use rpc_messages::{put_call, put_calls, put_notice, put_withdrawal};
-use session_stages::Stage;
+use session_runs::Runs;
 use std::alloc::{AllocError, Global};
 use stream_framing::{Framing, put_text};
 
@@ -50,7 +51,9 @@ impl Written {
         }
     }
 
-    /// What holds of the counts.
+    /// Does nothing that a caller sees: it reads the counts, so that callers learn the range of their type. A clause knows
+    /// that range of what is behind a reference only where a body reads it, and a drain that has nothing to write doesn't.
+    /// An invariant of this type can't carry it: a loop that adds counts up would lose it.
     pub(crate) fn counts_fit(&self)
         ensures messages { self.now.messages < 2 ^ 64 }
         ensures call_frames { self.now.call_frames < 2 ^ 64 }
@@ -264,23 +267,20 @@ fn note_written(runs: &mut Runs)
     while let Some(number) = runs.unwritten_at(0) {
         note_number(runs, number);
     }
-    runs.stages_fit();
 }
 
+/// All that a number has sent is written: one that is over is gone.
 fn note_number(runs: &mut Runs, number: u32)
     requires { has_unwritten (stage_at runs.old number) ≡ true }
     ensures { runs.new ≡ with_stage runs.old number (written_stage (stage_at runs.old number)) }
 {
-    runs.stages_fit();
-    match runs.take_out(number) {
-        Stage::Idle(handler, so_far) => {
-            let written = so_far.max(handler.messages().len());
-            drop(runs.replace(number, Stage::Idle(handler, written)));
-        }
-        Stage::Over(handler, _) => {
-            drop(runs.replace(number, Stage::Gone));
-            runs.keep(handler);
-        }
-        other => drop(runs.replace(number, other)),
+    if let Some((handler, so_far)) = take_idle(runs, number) {
+        let written = so_far.max(handler.messages().len());
+        drop(runs.replace(number, Stage::Idle(handler, written)));
+        return;
+    }
+    match runs.replace(number, Stage::Gone) {
+        Stage::Over(handler, _) => runs.keep(handler),
+        other => drop(other),
     }
 }

@@ -1,5 +1,7 @@
 //! Programs, commands and options in clap's own form. No other file makes any.
-use crate::options::{ChoiceOption, CommandOption, FlagOption, NumberOption, TextOption};
+use crate::options::{
+    ChoiceOption, CommandOption, FlagGroup, FlagOption, NumberOption, TextOption,
+};
 use crate::program::{Program, ProgramCommand};
 use clap::builder::ValueParser;
 use clap::{Arg, ArgAction, Command};
@@ -45,18 +47,40 @@ fn with_options<'a>(
     options: &[CommandOption],
 ) -> Result<Command<'a>, AllocError> {
     for option in options {
-        command = command.arg(option_of(alloc, option))?;
+        command = with_option(alloc, command, option)?;
     }
     Ok(command)
 }
 
-fn option_of<'a>(alloc: Global, option: &CommandOption) -> Arg<'a> {
+fn with_option<'a>(
+    alloc: Global,
+    command: Command<'a>,
+    option: &CommandOption,
+) -> Result<Command<'a>, AllocError> {
     match option {
-        CommandOption::Flag(flag) => flag_of(alloc, flag),
-        CommandOption::Text(text) => text_of(alloc, text),
-        CommandOption::Number(number) => number_of(alloc, number),
-        CommandOption::Choice(choice) => choice_of(alloc, choice),
+        CommandOption::Flag(flag) => command.arg(flag_of(alloc, flag)),
+        CommandOption::OneFlag(group) => with_flags(alloc, command, group),
+        CommandOption::Text(text) => command.arg(text_of(alloc, text)),
+        CommandOption::Number(number) => command.arg(number_of(alloc, number)),
+        CommandOption::Choice(choice) => command.arg(choice_of(alloc, choice)),
     }
+}
+
+fn with_flags<'a>(
+    alloc: Global,
+    mut command: Command<'a>,
+    group: &FlagGroup,
+) -> Result<Command<'a>, AllocError> {
+    for flag in group.flags {
+        match flag_of(alloc, flag).group(group.name) {
+            Ok(flag) => command = command.arg(flag)?,
+            Err(error) => {
+                drop(command);
+                return Err(error);
+            }
+        }
+    }
+    Ok(command)
 }
 
 fn flag_of<'a>(alloc: Global, option: &FlagOption) -> Arg<'a> {
@@ -86,10 +110,14 @@ fn number_of<'a>(alloc: Global, option: &NumberOption) -> Arg<'a> {
 }
 
 fn choice_of<'a>(alloc: Global, option: &ChoiceOption) -> Arg<'a> {
-    Arg::new(alloc, option.name)
+    let choice = Arg::new(alloc, option.name)
         .long(option.name)
         .value_name(option.value_name)
         .help(option.help)
-        .value_parser(ValueParser::Names(option.words))
-        .default_value(option.usual)
+        .value_parser(ValueParser::Names(option.words));
+    if option.usual.is_empty() {
+        choice
+    } else {
+        choice.default_value(option.usual)
+    }
 }

@@ -14,7 +14,7 @@ mod telling;
 mod words;
 
 pub use failure::Failure;
-pub use options::{ChoiceOption, CommandOption, FlagOption, NumberOption, TextOption};
+pub use options::{ChoiceOption, CommandOption, FlagGroup, FlagOption, NumberOption, TextOption};
 pub use program::{Program, ProgramCommand};
 pub use reading::read_words;
 pub use refusal::Refusal;

@@ -34,6 +34,14 @@ pub struct NumberOption {
     pub usual: &'static str,
 }
 
+/// Options without a value, of which a command line has one at most.
+#[derive(Clone, Copy)]
+pub struct FlagGroup {
+    /// The name of the group. No option has it.
+    pub name: &'static str,
+    pub flags: &'static [FlagOption],
+}
+
 /// An option whose value is one of several words.
 #[derive(Clone, Copy)]
 pub struct ChoiceOption {
@@ -42,7 +50,7 @@ pub struct ChoiceOption {
     pub value_name: &'static str,
     pub help: &'static str,
     pub words: &'static [&'static str],
-    /// The word that stands where none is asked for.
+    /// The word that stands where none is asked for, or an empty one, which help doesn't name.
     pub usual: &'static str,
 }
 
@@ -50,6 +58,7 @@ pub struct ChoiceOption {
 #[derive(Clone, Copy)]
 pub enum CommandOption {
     Flag(FlagOption),
+    OneFlag(FlagGroup),
     Text(TextOption),
     Number(NumberOption),
     Choice(ChoiceOption),

@@ -1,68 +1,88 @@
 -- A response's text, part by part, and that it is read back.
-use Rattle.std.proofs.Common.{◌≡◌, ℕ, ◌<◌, ◌≤◌, ◌^◌, ◌++◌, List, codes, false, Some, Result, Ok, Err, OnOk, refl, ap, sym, subst, ◌∙◌, arith, [], ◌∷◌, append-nil, decimal, ℤ, pos, negsuc, FitsSigned, w64, ◌||◌}
-use Rattle.std.specs.Fmt.{digits}
+use Rattle.std.proofs.Common.{◌≡◌, ℕ, ◌<◌, ◌≤◌, ◌^◌, ◌++◌, List, codes, false, Option, Some, None, option_map, Result, Ok, Err, OnOk, refl, ap, sym, subst, ◌∙◌, arith, append_assoc, decimal, ℤ, pos, negsuc, ◌||◌}
+use Rattle.std.specs.Fmt.{digits, signed_decimal}
 use Rattle.std.specs.Prelude.{option_and_then}
-use Rattle.json.specs.Print.{print, quoted}
-use Rattle.json.specs.Token as token
+use Rattle.json.specs.Print.{quoted}
 use Rattle.json.proofs.OnLiterals.{json_on_literals}
 use Rattle.serde_json.specs.Data.{Data, null, boolean, number, string, array, object, unsigned, negative, float, depth}
-use Rattle.serde_json.specs.Find.{as_number, as_u64}
+use Rattle.serde_json.specs.Find.{as_number, as_u64, of_integer}
 use Rattle.serde_json.specs.Read.{read, max_depth}
 use Rattle.serde_json.specs.Written.{compact_text, has_float}
 use Rattle.message_ids.specs.declared.standard.Standard.{Standard}
 use Rattle.message_ids.specs.declared.standard.Standard.TheVariants.{ParseError, InvalidRequest, MethodNotFound, InvalidParams, InternalError, Cancelled, NoReply, InvalidReply}
+use Rattle.message_texts.specs.Texts.{CodeFits, IdFits, id_text, code_text, error_rest, error_head, error_end, error_text, fixed_error_text, result_text, error_answer_text}
 use Rattle.rpc_messages.specs.Texts.{standard_error, answer_text_of, answer_of, error_answer_of, error_data, id_data}
-use Rattle.rpc_messages.specs.Parts.{IsReadBack, done_text, error_text}
+use Rattle.rpc_messages.specs.Parts.{IsReadBack, AreReadBack}
 use Rattle.rpc_messages.specs.declared.error_value.ErrorValue.{ErrorValue}
 use Rattle.message_ids.specs.declared.id.Id.{Id}
 use Rattle.message_ids.specs.declared.id.Id.TheVariants.{Null, Text, Signed, Unsigned}
-use Rattle.rpc_messages.specs.declared.reply.Reply.{Reply}
-use Rattle.rpc_messages.specs.declared.reply.Reply.TheVariants.{Done}
+use Rattle.rpc_messages.specs.declared.reply.Reply.TheVariants.{Done, Error, Standard as Fixed}
 use Rattle.json_values.proofs.ReadBack.{Sound, read-sound, read-compact_text}
+use Rattle.rpc_messages.proofs.Flat.{flat_four, flat_five}
 
-pub done_text-is : (id : Id) (d : Data) → done_text id (compact_text d) ≡ compact_text (answer_of id (Done d))
+-- ---- texts of their parts
+
+id_is : (id : Id) → id_text id ≡ compact_text (id_data id)
 unfolding json_on_literals digits
-done_text-is id d = refl
+id_is Null = refl
+id_is (Text s) = refl
+id_is (Signed (pos n)) = refl
+id_is (Signed (negsuc n)) = refl
+id_is (Unsigned n) = refl
 
-pub error_text-is : (id : Id) (e : ErrorValue) → error_text id (compact_text (error_data e)) ≡ compact_text (error_answer_of id e)
+done_parts : (id : Id) (d : Data)
+    → (codes "{\"id\":" ++ (compact_text (id_data id) ++ (codes ",\"jsonrpc\":\"2.0\",\"result\":" ++ (compact_text d ++ codes "}")))) ≡ answer_text_of id (Done d)
 unfolding json_on_literals digits
-error_text-is id e = refl
+done_parts id d = refl
 
--- the error object of a fixed error, as text
-abbrev pub fixed_text : Standard → List ℕ
-fixed_text ParseError = codes "{\"code\":-32700,\"message\":\"Parse error\"}"
-fixed_text InvalidRequest = codes "{\"code\":-32600,\"message\":\"Invalid Request\"}"
-fixed_text MethodNotFound = codes "{\"code\":-32601,\"message\":\"Method not found\"}"
-fixed_text InvalidParams = codes "{\"code\":-32602,\"message\":\"Invalid params\"}"
-fixed_text InternalError = codes "{\"code\":-32603,\"message\":\"Internal error\"}"
-fixed_text Cancelled = codes "{\"code\":-32800,\"message\":\"Request cancelled\"}"
-fixed_text NoReply = codes "{\"code\":-32000,\"message\":\"No reply\"}"
-fixed_text InvalidReply = codes "{\"code\":-32603,\"message\":\"Invalid reply\"}"
+pub result_is : (id : Id) (d : Data) → result_text id (compact_text d) ≡ answer_text_of id (Done d)
+result_is id d =
+    ap (λ s. codes "{\"id\":" ++ s) (flat_four (id_text id) (codes ",\"jsonrpc\":\"2.0\",\"result\":") (compact_text d) (codes "}"))
+    ∙ ap (λ i. codes "{\"id\":" ++ (i ++ (codes ",\"jsonrpc\":\"2.0\",\"result\":" ++ (compact_text d ++ codes "}")))) (id_is id) ∙ done_parts id d
 
-pub fixed_text-is : (s : Standard) → fixed_text s ≡ compact_text (error_data (standard_error s))
+error_parts : (id : Id) (e : ErrorValue)
+    → (codes "{\"error\":" ++ (compact_text (error_data e) ++ (codes ",\"id\":" ++ (compact_text (id_data id) ++ codes ",\"jsonrpc\":\"2.0\"}")))) ≡ compact_text (error_answer_of id e)
 unfolding json_on_literals digits
-fixed_text-is ParseError = refl
-fixed_text-is InvalidRequest = refl
-fixed_text-is MethodNotFound = refl
-fixed_text-is InvalidParams = refl
-fixed_text-is InternalError = refl
-fixed_text-is Cancelled = refl
-fixed_text-is NoReply = refl
-fixed_text-is InvalidReply = refl
+error_parts id e = refl
 
-pub fixed_text-of : (s t : Standard) → t ≡ s → fixed_text s ≡ compact_text (error_data (standard_error t))
-fixed_text-of s t is = fixed_text-is s ∙ ap (λ u. compact_text (error_data (standard_error u))) (sym is)
+error_whole_is : (id : Id) (e : ErrorValue) (text : List ℕ) → text ≡ compact_text (error_data e) → error_answer_text id text ≡ compact_text (error_answer_of id e)
+unfolding error_head error_end
+error_whole_is id e text is =
+    ap (λ s. codes "{\"error\":" ++ (s ++ (codes ",\"id\":" ++ (id_text id ++ codes ",\"jsonrpc\":\"2.0\"}")))) is
+    ∙ ap (λ i. codes "{\"error\":" ++ (compact_text (error_data e) ++ (codes ",\"id\":" ++ (i ++ codes ",\"jsonrpc\":\"2.0\"}")))) (id_is id) ∙ error_parts id e
+
+code_parts : (z : ℤ) (m : List ℕ) → (codes "{\"code\":" ++ (signed_decimal z ++ (codes ",\"message\":" ++ (quoted m ++ codes "}")))) ≡ compact_text (error_data (record { code = z; message = m; extra = None }))
+unfolding json_on_literals digits
+code_parts (pos n) m = refl
+code_parts (negsuc n) m = refl
+
+extra_parts : (z : ℤ) (m : List ℕ) (d : Data)
+    → (codes "{\"code\":" ++ (signed_decimal z ++ (codes ",\"data\":" ++ (compact_text d ++ (codes ",\"message\":" ++ (quoted m ++ codes "}")))))) ≡ compact_text (error_data (record { code = z; message = m; extra = Some d }))
+unfolding json_on_literals digits
+extra_parts (pos n) m d = refl
+extra_parts (negsuc n) m d = refl
+
+pub error_object_is : (e : ErrorValue) → error_text e.code e.message (option_map compact_text e.extra) ≡ compact_text (error_data e)
+unfolding code_text error_rest
+error_object_is e = by_extra e.code e.message e.extra
+  where
+    by_extra : (z : ℤ) (m : List ℕ) (x : Option Data) → error_text z m (option_map compact_text x) ≡ compact_text (error_data (record { code = z; message = m; extra = x }))
+    by_extra z m None = ap (λ s. codes "{\"code\":" ++ s) (append_assoc (signed_decimal z) (codes ",") (codes "\"message\":" ++ (quoted m ++ codes "}"))) ∙ code_parts z m
+    by_extra z m (Some d) =
+        ap (λ s. codes "{\"code\":" ++ ((signed_decimal z ++ codes ",") ++ (codes "\"data\":" ++ s))) (flat_five (compact_text d) (codes ",") (codes "\"message\":") (quoted m) (codes "}"))
+        ∙ ap (λ s. codes "{\"code\":" ++ s) (append_assoc (signed_decimal z) (codes ",") (codes "\"data\":" ++ (compact_text d ++ (codes ",\"message\":" ++ (quoted m ++ codes "}")))))
+        ∙ extra_parts z m d
+
+pub error_is : (id : Id) (e : ErrorValue) → error_answer_text id (error_text e.code e.message (option_map compact_text e.extra)) ≡ answer_text_of id (Error e)
+error_is id e = error_whole_is id e _ (error_object_is e)
+
+pub fixed_is : (id : Id) (s : Standard) → error_answer_text id (fixed_error_text s) ≡ answer_text_of id (Fixed s)
+fixed_is id s = error_whole_is id (standard_error s) _ (error_object_is (standard_error s))
 
 -- a part that is told whatever the outcome
 pub always : {X E P : Type 0} (r : Result X E) → P → OnOk r P
 always (Ok x) p = p
 always (Err e) p = tt
-
--- An id whose number fits is read back.
-pub id_reads_back : (id seen : Id) → seen ≡ id → Sound (id_data id) → has_float (id_data id) ≡ false → depth (id_data id) ≤ max_depth → read (compact_text (id_data seen)) ≡ Some (id_data seen)
-id_reads_back id seen is sound whole shallow =
-    let P : Id → Type 0 = λ i. read (compact_text (id_data i)) ≡ Some (id_data i) in
-    subst P (sym is) (read-compact_text (id_data id) sound whole shallow)
 
 -- a value that is shown to be this whole number
 pub unsigned_is : (d : Data) (n : ℕ) → Some n ≡ option_and_then as_u64 (as_number d) → d ≡ number (unsigned n)
@@ -84,16 +104,6 @@ pub unsigned_is_read_back : (d : Data) (n : ℕ) → d ≡ number (unsigned n) �
 unsigned_is_read_back d n is fits =
     subst (λ v. IsReadBack v) (sym is) (record { whole = refl; back = λ shallow. read-compact_text (number (unsigned n)) fits refl shallow })
 
--- a number of i64 fits
-pub signed_sound : (z : ℤ) → FitsSigned w64 z → Sound (id_data (Signed z))
-signed_sound (pos n) fits = omega (arith, fits)
-signed_sound (negsuc n) fits = omega (arith, fits)
-
--- a string's text is its one token's
-pub print-string : (s : List ℕ) → print (token.string s ∷ []) ≡ quoted s
-unfolding json_on_literals
-print-string s = append-nil (quoted s)
-
 -- ---- reading back
 
 pub id_whole : (id : Id) → has_float (id_data id) ≡ false
@@ -102,6 +112,35 @@ id_whole (Text s) = refl
 id_whole (Signed (pos n)) = refl
 id_whole (Signed (negsuc n)) = refl
 id_whole (Unsigned n) = refl
+
+code_sound : (z : ℤ) → CodeFits z → Sound (number (of_integer z))
+code_sound (pos n) fits = omega (arith, fits)
+code_sound (negsuc n) fits = fits
+
+-- an id whose number fits is read back
+pub id_read : (id : Id) → IdFits id → read (compact_text (id_data id)) ≡ Some (id_data id)
+id_read Null fits = read-compact_text null tt refl (omega arith)
+id_read (Text s) fits = read-compact_text (string s) tt refl (omega arith)
+id_read (Signed z) fits = read-compact_text (id_data (Signed z)) (code_sound z fits) (id_whole (Signed z)) (omega arith)
+id_read (Unsigned n) fits = read-compact_text (number (unsigned n)) fits refl (omega arith)
+
+-- an error is sound where its code fits and its data is read back, and has no fraction
+pub error_sound : (e : ErrorValue) → CodeFits e.code → AreReadBack e.extra → depth (error_data e) ≤ max_depth → Sound (error_data e)
+error_sound e fits back = by_extra e.code e.message e.extra fits back
+  where
+    by_extra : (z : ℤ) (m : List ℕ) (x : Option Data) → CodeFits z → AreReadBack x → depth (error_data (record { code = z; message = m; extra = x })) ≤ max_depth
+        → Sound (error_data (record { code = z; message = m; extra = x }))
+    by_extra z m None fits back shallow = (code_sound z fits, (refl, tt), (tt, tt, tt))
+    by_extra z m (Some d) fits back shallow =
+        let below : depth d ≤ max_depth = omega arith in
+        (code_sound z fits, (refl, (refl, tt)), (read-sound _ d (back.back below), (refl, tt), (tt, tt, tt)))
+
+pub error_whole : (e : ErrorValue) → AreReadBack e.extra → has_float (error_data e) ≡ false
+error_whole e back = by_extra e.code e.message e.extra back
+  where
+    by_extra : (z : ℤ) (m : List ℕ) (x : Option Data) → AreReadBack x → has_float (error_data (record { code = z; message = m; extra = x })) ≡ false
+    by_extra z m None back = rw (id_whole (Signed z)) refl
+    by_extra z m (Some d) back = rw (id_whole (Signed z), back.whole) refl
 
 no_float : (a b : Data) → has_float a ≡ false → has_float b ≡ false → (has_float a || (has_float b || false)) ≡ false
 no_float a b h k = rw (h, k)
@@ -143,16 +182,6 @@ fixed_whole InternalError = refl
 fixed_whole Cancelled = refl
 fixed_whole NoReply = refl
 fixed_whole InvalidReply = refl
-
--- ---- what `put_answer` puts
-
-pub put_done : (old new : List ℕ) (id : Id) (d : Data) (seen : Reply) → seen ≡ Done d → new ≡ old ++ done_text id (compact_text d) → new ≡ old ++ answer_text_of id seen
-put_done old new id d seen is put = put ∙ ap (λ t. old ++ t) (done_text-is id d ∙ ap (answer_text_of id) (sym is))
-
-pub put_error : (old new : List ℕ) (id : Id) (e : ErrorValue) (seen : Reply) (text : List ℕ) → answer_of id seen ≡ error_answer_of id e → text ≡ compact_text (error_data e)
-    → new ≡ old ++ error_text id text → new ≡ old ++ answer_text_of id seen
-put_error old new id e seen text is same put =
-    put ∙ ap (λ t. old ++ error_text id t) same ∙ ap (λ t. old ++ t) (error_text-is id e ∙ ap compact_text (sym is))
 
 -- one fact for an `Ok` gives another
 pub OnOk-map : {X E P Q : Type 0} (r : Result X E) → (P → Q) → OnOk r P → OnOk r Q

@@ -1,5 +1,5 @@
 -- A batch of texts that are read as values is read as the array of these values.
-use Rattle.std.proofs.Common.{◌≡◌, ℕ, ◌≤◌, List, [], ◌∷◌, ◌++◌, ◌||◌, true, false, Some, refl, ap, ◌∙◌, append_assoc}
+use Rattle.std.proofs.Common.{◌≡◌, ℕ, ◌≤◌, List, [], ◌∷◌, ◌++◌, map, ◌||◌, true, false, Some, refl, ap, ◌∙◌, append_assoc}
 use Rattle.std.specs.List.{join_with_byte}
 use Rattle.serde_json.specs.Data.{Data, array, depth}
 use Rattle.serde_json.specs.Read.{read, max_depth}
@@ -16,6 +16,15 @@ later (s ∷ ss) = 44 ∷ (s ++ later ss)
 pub join-later : (s : List ℕ) (ss : List (List ℕ)) → join_with_byte 44 (s ∷ ss) ++ 93 ∷ [] ≡ s ++ later ss
 join-later s [] = refl
 join-later s (u ∷ ss) = append_assoc s _ _ ∙ ap (λ t. s ++ 44 ∷ t) (join-later u ss)
+
+later_values : (ds : List Data) → later (map compact_text ds) ≡ items_text true (items_of ds)
+later_values [] = refl
+later_values (d ∷ ds) = ap (λ s. 44 ∷ (compact_text d ++ s)) (later_values ds)
+
+-- the texts of values in one array are the text of the array
+pub batch_text-values : (ds : List Data) → batch_text_of (map compact_text ds) ≡ compact_text (array (items_of ds))
+batch_text-values [] = refl
+batch_text-values (d ∷ ds) = ap (λ t. 91 ∷ t) (join-later (compact_text d) (map compact_text ds) ∙ ap (λ s. compact_text d ++ s) (later_values ds))
 
 later-items_text : (ss : List (List ℕ)) (ds : List Data) → AreTextsOf ss ds → later ss ≡ items_text true (items_of ds)
 later-items_text [] [] h = refl

@@ -1,6 +1,5 @@
 -- Texts of calls, notifications and withdrawals, part by part, and that they are read back.
-use Rattle.std.proofs.Common.{◌≡◌, ℕ, ◌+◌, ◌≤◌, ◌<◌, ◌^◌, List, [], ◌∷◌, ◌++◌, codes, true, false, Option, Some, None, refl, ap, sym, ◌∙◌, arith, append_assoc, append-nil, decimal, ◌-◌, length, take, drop, get_or, drop-cons, add-one}
-use Rattle.std.proofs.lemmas.List.{take_all}
+use Rattle.std.proofs.Common.{◌≡◌, ℕ, ◌+◌, ◌≤◌, ◌<◌, ◌^◌, List, [], ◌∷◌, ◌++◌, codes, true, false, Option, Some, None, refl, ap, sym, ◌∙◌, arith, append_assoc, append-nil, decimal, option_map}
 use Rattle.std.specs.Str.Parse.{AllDigits}
 use Rattle.std.proofs.lemmas.Fmt.{decimal_is_IsNumeral}
 use Rattle.std.proofs.lemmas.Str.Parse.{digit_from_value}
@@ -10,12 +9,14 @@ use Rattle.json.proofs.OnLiterals.{json_on_literals}
 use Rattle.serde_json.specs.Data.{Data, depth, array, items_depth}
 use Rattle.serde_json.specs.Read.{read, max_depth}
 use Rattle.serde_json.specs.View.{items_of}
-use Rattle.serde_json.specs.Written.{has_float, items_text, items_have_float}
+use Rattle.serde_json.specs.Written.{compact_text, members_text, has_float, items_have_float}
 use Rattle.rpc_messages.specs.Key.{key_text, dot}
-use Rattle.rpc_messages.specs.Parts.{method_text, params_text, AreReadBack, AllAreReadBack}
-use Rattle.rpc_messages.specs.Texts.{call_of, call_text_of, calls_of, calls_text_of, notice_of, notice_text_of, withdrawal_of, withdraw_text_of}
+use Rattle.message_texts.specs.Texts.{call_text, method_text, notice_text, params_member, withdrawal_text}
+use Rattle.message_texts.specs.declared.keys.CallKey.TheVariants.{Pair}
+use Rattle.rpc_messages.specs.Parts.{AreReadBack, AllAreReadBack}
+use Rattle.rpc_messages.specs.Texts.{method_members, call_of, call_text_of, calls_of, calls_text_of, notice_of, notice_text_of, withdrawal_of, withdraw_text_of}
 use Rattle.rpc_messages.specs.declared.outgoing.Outgoing.{Outgoing}
-use Rattle.rpc_messages.proofs.Fronts.{put_two}
+use Rattle.rpc_messages.proofs.Flat.{flat_four}
 use Rattle.json_values.proofs.ReadBack.{Sound, ItemsSound, read-sound, read-compact_text}
 
 -- ---- a key needs no escapes
@@ -35,60 +36,64 @@ escape_key n t n_fits t_fits =
 pub quoted_key : (n t : ℕ) → n < 2 ^ 64 → t < 2 ^ 64 → quoted (key_text n t) ≡ 34 ∷ (key_text n t ++ 34 ∷ [])
 quoted_key n t n_fits t_fits = ap (λ s. 34 ∷ (s ++ 34 ∷ [])) (escape_key n t n_fits t_fits)
 
+-- the member `params` with the comma before it, where there are params
+abbrev params_text : Option Data → List ℕ
+params_text None = []
+params_text (Some d) = codes ",\"params\":" ++ compact_text d
+
 -- ---- texts of their parts
 
-pub method_text-is : (o : Outgoing) → (codes ",\"method\":" ++ (quoted o.method ++ (params_text o.params ++ codes "}"))) ≡ method_text o
+params_is : (p : Option Data) → params_member (option_map compact_text p) ≡ params_text p
+params_is None = refl
+params_is (Some d) = refl
+
+method_parts : (o : Outgoing) → (codes ",\"method\":" ++ (quoted o.method ++ (params_text o.params ++ codes "}"))) ≡ members_text true (method_members o)
 unfolding json_on_literals
-method_text-is o = by_params o.params
+method_parts o = by_params o.params
   where
-    by_params : (p : Option Data) → (codes ",\"method\":" ++ (quoted o.method ++ (params_text p ++ codes "}"))) ≡ method_text (record o { params = p })
+    by_params : (p : Option Data) → (codes ",\"method\":" ++ (quoted o.method ++ (params_text p ++ codes "}"))) ≡ members_text true (method_members (record o { params = p }))
     by_params None = refl
     by_params (Some d) = refl
 
-pub call_text-is : (n t : ℕ) (o : Outgoing) → n < 2 ^ 64 → t < 2 ^ 64 → (codes "{\"id\":\"" ++ (key_text n t ++ (codes "\",\"jsonrpc\":\"2.0\"" ++ method_text o))) ≡ call_text_of n t o
-unfolding json_on_literals
-call_text-is n t o n_fits t_fits =
-    ap (λ s. codes "{\"id\":" ++ 34 ∷ s) (sym (append_assoc (key_text n t) (34 ∷ []) (codes ",\"jsonrpc\":\"2.0\"" ++ method_text o)))
-    ∙ ap (λ s. codes "{\"id\":" ++ (s ++ (codes ",\"jsonrpc\":\"2.0\"" ++ method_text o))) (sym (quoted_key n t n_fits t_fits))
+method_is : (o : Outgoing) → method_text o.method (option_map compact_text o.params) ≡ members_text true (method_members o)
+method_is o =
+    ap (λ s. codes ",\"method\":" ++ s) (append_assoc (quoted o.method) (params_member (option_map compact_text o.params)) (codes "}"))
+    ∙ ap (λ s. codes ",\"method\":" ++ (quoted o.method ++ (s ++ codes "}"))) (params_is o.params) ∙ method_parts o
 
-pub notice_text-is : (o : Outgoing) → (codes "{\"jsonrpc\":\"2.0\"" ++ method_text o) ≡ notice_text_of o
+call_parts : (n t : ℕ) (o : Outgoing) → n < 2 ^ 64 → t < 2 ^ 64
+    → (codes "{\"id\":\"" ++ (key_text n t ++ (codes "\",\"jsonrpc\":\"2.0\"" ++ members_text true (method_members o)))) ≡ call_text_of n t o
 unfolding json_on_literals
-notice_text-is o = refl
+call_parts n t o n_fits t_fits =
+    let method = members_text true (method_members o) in
+    ap (λ s. codes "{\"id\":" ++ 34 ∷ s) (sym (append_assoc (key_text n t) (34 ∷ []) (codes ",\"jsonrpc\":\"2.0\"" ++ method)))
+    ∙ ap (λ s. codes "{\"id\":" ++ (s ++ (codes ",\"jsonrpc\":\"2.0\"" ++ method))) (sym (quoted_key n t n_fits t_fits))
 
-pub withdraw_text-is : (n t : ℕ) → n < 2 ^ 64 → t < 2 ^ 64
+pub call_is : (n t : ℕ) (o : Outgoing) → n < 2 ^ 64 → t < 2 ^ 64 → call_text (Pair n t) o.method (option_map compact_text o.params) ≡ call_text_of n t o
+call_is n t o n_fits t_fits =
+    let method = method_text o.method (option_map compact_text o.params) in
+    ap (λ s. codes "{\"id\":\"" ++ s) (flat_four (key_text n t) (34 ∷ []) (codes ",\"jsonrpc\":\"2.0\"") method)
+    ∙ ap (λ s. codes "{\"id\":\"" ++ (key_text n t ++ (codes "\",\"jsonrpc\":\"2.0\"" ++ s))) (method_is o) ∙ call_parts n t o n_fits t_fits
+
+notice_parts : (o : Outgoing) → (codes "{\"jsonrpc\":\"2.0\"" ++ members_text true (method_members o)) ≡ notice_text_of o
+unfolding json_on_literals
+notice_parts o = refl
+
+pub notice_is : (o : Outgoing) → notice_text o.method (option_map compact_text o.params) ≡ notice_text_of o
+notice_is o = ap (λ s. codes "{\"jsonrpc\":\"2.0\"" ++ s) (method_is o) ∙ notice_parts o
+
+withdrawal_parts : (n t : ℕ) → n < 2 ^ 64 → t < 2 ^ 64
     → (codes "{\"jsonrpc\":\"2.0\",\"method\":\"$/cancelRequest\",\"params\":{\"id\":\"" ++ (key_text n t ++ codes "\"}}")) ≡ withdraw_text_of n t
 unfolding json_on_literals
-withdraw_text-is n t n_fits t_fits =
+withdrawal_parts n t n_fits t_fits =
     let start = codes "{\"jsonrpc\":\"2.0\",\"method\":\"$/cancelRequest\",\"params\":{\"id\":" in
     ap (λ s. start ++ 34 ∷ s) (sym (append_assoc (key_text n t) (34 ∷ []) (codes "}}")))
     ∙ ap (λ s. start ++ (s ++ codes "}}")) (sym (quoted_key n t n_fits t_fits))
     ∙ ap (λ s. start ++ s) (sym (append_assoc (quoted (key_text n t)) (125 ∷ []) (125 ∷ [])))
 
--- ---- a batch of calls, call by call
-
-pub drop_here : {X : Type 0} (xs : List X) (i : ℕ) (x : X) → i < length xs → x ≡ get_or xs i x → drop i xs ≡ x ∷ drop (i + 1) xs
-drop_here xs i x lt is = rw (drop-cons xs i x lt, add-one, ← is)
-
--- the first, and the others behind it
-pub first_and_others : {X : Type 0} (xs : List X) (x : X) → 0 < length xs → x ≡ get_or xs 0 x → x ∷ take (length xs - 1) (drop 1 xs) ≡ xs
-first_and_others [] x some is = absurd (omega arith)
-first_and_others (y ∷ ys) x some is = ap (λ z. z ∷ take (length (y ∷ ys) - 1) ys) is ∙ ap (λ zs. y ∷ zs) (take_all (length (y ∷ ys) - 1) ys (omega arith))
-
--- one call more
-pub next_call : (n t i : ℕ) (bytes more : List ℕ) (os : List Outgoing) (o : Outgoing) → i < length os → o ≡ get_or os i o → more ≡ (bytes ++ 44 ∷ []) ++ call_text_of n t o
-    → more ++ items_text true (items_of (calls_of n (t + 1) (drop (i + 1) os))) ≡ bytes ++ items_text true (items_of (calls_of n t (drop i os)))
-next_call n t i bytes more os o lt is e =
-    let rest = items_text true (items_of (calls_of n (t + 1) (drop (i + 1) os))) in
-    ap (λ s. s ++ rest) e ∙ append_assoc (bytes ++ 44 ∷ []) (call_text_of n t o) rest ∙ append_assoc bytes (44 ∷ []) (call_text_of n t o ++ rest)
-    ∙ ap (λ left. bytes ++ items_text true (items_of (calls_of n t left))) (sym (drop_here os i o lt is))
-
--- the first call behind its bracket, and then the others
-pub whole_batch : (n t : ℕ) (old opened begun : List ℕ) (os : List Outgoing) (o : Outgoing) → 0 < length os → o ≡ get_or os 0 o → opened ≡ old ++ 91 ∷ [] → begun ≡ opened ++ call_text_of n t o
-    → begun ++ items_text true (items_of (calls_of n (t + 1) (take (length os - 1) (drop 1 os)))) ≡ old ++ calls_text_of n t os
-whole_batch n t old opened begun os o some is open_is begun_is =
-    let rest = items_text true (items_of (calls_of n (t + 1) (take (length os - 1) (drop 1 os)))) in
-    ap (λ s. s ++ rest) (put_two old (91 ∷ []) (call_text_of n t o) opened begun open_is begun_is) ∙ append_assoc old (91 ∷ call_text_of n t o) rest
-    ∙ ap (λ all. old ++ calls_text_of n t all) (first_and_others os o some is)
+pub withdrawal_is : (n t : ℕ) → n < 2 ^ 64 → t < 2 ^ 64 → withdrawal_text (codes "$/cancelRequest") (codes "id") (Pair n t) ≡ withdraw_text_of n t
+withdrawal_is n t n_fits t_fits =
+    ap (λ s. codes "{\"jsonrpc\":\"2.0\",\"method\":\"$/cancelRequest\",\"params\":{\"id\":\"" ++ s) (append_assoc (key_text n t) (34 ∷ []) (codes "}}"))
+    ∙ withdrawal_parts n t n_fits t_fits
 
 -- ---- reading back
 

@@ -3,21 +3,13 @@ use Rattle.std.proofs.Common.{◌≡◌, List, [], ◌∷◌, ◌++◌, map, Opt
 use Rattle.json.specs.Json.{parse_map}
 use Rattle.json.specs.Token.{Token}
 use Rattle.serde_json.specs.Data.{Data, Items, no_items, item}
+use Rattle.compact_values.proofs.Elements.{elements_before, push}
 use Rattle.rpc_messages.specs.Entry.{entry_of}
 use Rattle.rpc_messages.specs.Unit.{entries_of}
-
--- the elements ds before others
-abbrev pub elements_before : List Data → Items → Items
-elements_before [] rest = rest
-elements_before (d ∷ ds) rest = item d (elements_before ds rest)
 
 pub none_before : (r : Option (Items × List Token)) → r ≡ parse_map (elements_before []) r
 none_before None = refl
 none_before (Some p) = refl
-
-pub push : (ds : List Data) (d : Data) (rest : Items) → elements_before ds (item d rest) ≡ elements_before (ds ++ d ∷ []) rest
-push [] d rest = refl
-push (e ∷ ds) d rest = ap (item e) (push ds d rest)
 
 pub one_more : (ds : List Data) (d : Data) (r : Option (Items × List Token)) → parse_map (elements_before ds) (parse_map (item d) r) ≡ parse_map (elements_before (ds ++ d ∷ [])) r
 one_more ds d None = refl

@@ -1,14 +1,12 @@
-mod AnswerArrays
 mod AnswerTexts
-mod BatchLemmas
 mod BatchReadBack
 mod CallTexts
-mod Compact
 mod Contents
 mod Elements
 mod Envelopes
-mod Fronts
+mod Flat
 mod KeyLemmas
+mod Placed
 mod TakenMember
 mod Tokens
 pub mod Stream

@@ -1,8 +1,9 @@
 -- Keys: the id of the t-th call that the handler of call entry n makes is the string `n.t`.
-use Rattle.std.specs.Prelude.{◌≡◌, ◌≤◌, ℕ, List, ◌∷◌, ◌++◌, ◌&&◌, ◌==◌, nat_le, if◌then◌else◌, Option, Some, None, option_and_then, decimal}
+use Rattle.std.specs.Prelude.{◌≡◌, ◌≤◌, ℕ, List, ◌&&◌, ◌==◌, nat_le, if◌then◌else◌, Option, Some, None, option_and_then, decimal}
 use Rattle.std.specs.List.{before_first, after_first}
 use Rattle.std.specs.Str.{bytes_eq}
 use Rattle.std.specs.Str.Parse.{digits_value}
+use Rattle.message_texts.specs.Texts.{pair_text}
 use Rattle.rpc_messages.specs.declared.key.TheConstants.{MOST_NUMBERS, MOST_TURNS}
 
 -- the byte between the two numbers, `.`
@@ -11,7 +12,7 @@ dot = 46
 
 -- the key of call t of handler n, both in decimal
 abbrev pub key_text : ℕ → ℕ → List ℕ
-key_text n t = decimal n ++ dot ∷ decimal t
+key_text n t = pair_text n t
 
 -- the number, `most` at most, that the text writes in decimal: with digits alone, and without leading zeros, since it has
 -- to be what `decimal` writes

@@ -4,7 +4,6 @@ pub mod Dues
 pub mod Entry
 pub mod Envelope
 pub mod Held
-pub mod Inner
 pub mod Key
 pub mod Numbering
 pub mod Parts

@@ -1,12 +1,13 @@
 -- The messages that go out, as JSON values (JSON-RPC 2.0, sections 4 to 6). An object's members stand in the byte order of
--- their names. A message's text is the compact text of its value: `compact_text` of serde_json, with no space.
-use Rattle.std.specs.Prelude.{◌≡◌, ℕ, ◌+◌, List, [], ◌∷◌, ◌++◌, codes, false, Option, Some, None, ⊤}
-use Rattle.std.specs.List.{join_with_byte}
+-- their names. A message's text is the compact text of its value: `compact_text` of serde_json, with no space. The law
+-- `each_text_is_of_its_parts` has these texts as message_texts puts them together.
+use Rattle.std.specs.Prelude.{◌≡◌, ℕ, ◌+◌, List, [], ◌∷◌, codes, false, Option, Some, None, ⊤}
 use Rattle.serde_json.specs.Data.{Data, null, number, string, array, object, unsigned, Members, member, no_members}
 use Rattle.serde_json.specs.Find.{of_integer}
 use Rattle.serde_json.specs.View.{items_of}
 use Rattle.serde_json.specs.Read.{read}
 use Rattle.serde_json.specs.Written.{compact_text, has_float}
+use Rattle.message_texts.specs.Texts.{batch_text}
 use Rattle.rpc_messages.specs.Key.{key_text}
 use Rattle.message_ids.specs.Standard.{code_of, message_of}
 use Rattle.rpc_messages.specs.declared.error_value.ErrorValue.{ErrorValue}
@@ -94,7 +95,7 @@ withdraw_text_of n t = compact_text (withdrawal_of n t)
 
 -- a batch of answers (JSON-RPC 2.0, section 6): the texts with commas between, in brackets
 abbrev pub batch_text_of : List (List ℕ) → List ℕ
-batch_text_of texts = codes "[" ++ join_with_byte 44 texts ++ codes "]"
+batch_text_of texts = batch_text texts
 
 -- ---- reading back
 

@@ -7,12 +7,14 @@ mod entry;
 mod error_value;
 mod key;
 mod kind;
+mod law;
 mod our_calls;
 mod outgoing;
 mod params;
 mod parts;
 mod read;
 mod reply;
+mod rows;
 mod unit;
 mod unit_answer;
 mod unit_reader;
@@ -26,6 +28,7 @@ pub use key::{
     read_key,
 };
 pub use kind::Kind;
+pub use law::each_text_is_of_its_parts;
 pub use message_ids::{Id, Standard};
 pub use our_calls::{
     call_text, calls_text, notice_text, put_call, put_calls, put_notice, put_withdrawal,

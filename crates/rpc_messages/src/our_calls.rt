@@ -1,17 +1,17 @@
 //! The texts of our calls, of our notifications and of the withdrawals of our calls.
 
-ghost use Rattle.std.specs.Prelude.{◌≡◌, ◌≤◌, ◌<◌, ◌+◌, ◌++◌, Some, IfOk, OnOk, OnErr, codes, length};
-ghost use Rattle.std.specs.Io.{StartsWith};
+ghost use Rattle.std.specs.Prelude.{◌≡◌, ◌≤◌, ◌<◌, ◌+◌, ◌++◌, Some, IfOk, OnOk, OnErr, length};
 ghost use Rattle.serde_json.specs.Data.{depth, array};
 ghost use Rattle.serde_json.specs.Read.{read, max_depth};
 ghost use Rattle.serde_json.specs.View.{items_of};
 ghost use Rattle.rpc_messages.specs.declared.key.TheConstants.{MOST_TURNS};
-ghost use Rattle.rpc_messages.specs.Parts.{method_text, params_text, AreReadBack, AllAreReadBack};
+ghost use Rattle.rpc_messages.specs.Parts.{AreReadBack};
 ghost use Rattle.rpc_messages.specs.Texts.{call_of, call_text_of, calls_of, calls_text_of, notice_of, notice_text_of, withdrawal_of, withdraw_text_of};
 
 use crate::outgoing::Outgoing;
-use crate::parts::{put_key, put_quoted};
-use json_values::Json;
+use crate::parts::{lent, optional_text};
+use crate::rows::CallRow;
+use message_texts::{CallKey, write_array, write_call, write_notice, write_withdrawal};
 use std::alloc::{AllocError, Global};
 
 /// The room that is made for a text at first, in bytes. Long params take more.
@@ -47,14 +47,7 @@ pub fn put_call(
         → read (call_text_of number turn outgoing.now) ≡ Some (call_of number turn outgoing.now)) }
     ensures err { OnErr result (bytes.new.items ≡ bytes.old.items) }
 {
-    let before = bytes.len();
-    match put_one_call(alloc, bytes, number, turn, outgoing) {
-        Ok(()) => Ok(()),
-        Err(error) => {
-            bytes.truncate(before);
-            Err(error)
-        }
-    }
+    put_one_call(alloc, bytes, number, turn, outgoing)
 }
 
 /// The text of a batch of calls of the handler `number` (JSON-RPC 2.0, section 6), with no space. Their turns count up
@@ -96,14 +89,12 @@ pub fn put_calls(
         Some (array (items_of (calls_of number first calls.now)))) }
     ensures err { OnErr result (bytes.new.items ≡ bytes.old.items) }
 {
-    let before = bytes.len();
-    match put_each_call(alloc, bytes, number, first, calls) {
-        Ok(()) => Ok(()),
-        Err(error) => {
-            bytes.truncate(before);
-            Err(error)
-        }
-    }
+    let row = CallRow {
+        number,
+        first,
+        calls,
+    };
+    write_array(alloc, bytes, &row)
 }
 
 /// The text of a notification (JSON-RPC 2.0, section 4.1), with no space.
@@ -124,14 +115,8 @@ pub fn put_notice(alloc: Global, bytes: &mut Vec<u8>, outgoing: &Outgoing) -> Re
         → read (notice_text_of outgoing.now) ≡ Some (notice_of outgoing.now)) }
     ensures err { OnErr result (bytes.new.items ≡ bytes.old.items) }
 {
-    let before = bytes.len();
-    match put_one_notice(alloc, bytes, outgoing) {
-        Ok(()) => Ok(()),
-        Err(error) => {
-            bytes.truncate(before);
-            Err(error)
-        }
-    }
+    let params = optional_text(alloc, &outgoing.params)?;
+    write_notice(alloc, bytes, outgoing.method.as_str(), lent(&params))
 }
 
 /// The text of the notification that withdraws call `turn` of the handler `number` (LSP 3.17, "Cancellation Support"),
@@ -153,18 +138,12 @@ pub fn put_withdrawal(bytes: &mut Vec<u8>, number: u32, turn: u32) -> Result<(),
     ensures reads_back { read (withdraw_text_of number turn) ≡ Some (withdrawal_of number turn) }
     ensures err { OnErr result (bytes.new.items ≡ bytes.old.items) }
 {
-    let before = bytes.len();
-    match put_one_withdrawal(bytes, number, turn) {
-        Ok(()) => Ok(()),
-        Err(error) => {
-            bytes.truncate(before);
-            Err(error)
-        }
-    }
+    let key = CallKey::Pair(number, turn);
+    write_withdrawal(bytes, "$/cancelRequest", "id", key)
 }
 
-/// Where it can't be put whole, what was there still stands in front; so it is with each function below.
-fn put_one_call(
+/// Puts a call, and tells that its params are read back.
+pub(crate) fn put_one_call(
     alloc: Global,
     bytes: &mut Vec<u8>,
     number: u32,
@@ -174,82 +153,9 @@ fn put_one_call(
     ensures text { OnOk result (bytes.new.items ≡
         bytes.old.items ++ call_text_of number turn outgoing.now) }
     ensures params { OnOk result (AreReadBack outgoing.now.params) }
-    ensures front { OnErr result (StartsWith bytes.new.items bytes.old.items) }
+    ensures err { OnErr result (bytes.new.items ≡ bytes.old.items) }
 {
-    bytes.extend_from_slice(b"{\"id\":\"")?;
-    put_key(bytes, number, turn)?;
-    bytes.extend_from_slice(b"\",\"jsonrpc\":\"2.0\"")?;
-    put_method(alloc, bytes, outgoing)
-}
-
-fn put_each_call(
-    alloc: Global,
-    bytes: &mut Vec<u8>,
-    number: u32,
-    first: u32,
-    calls: &[Outgoing],
-) -> Result<(), AllocError>
-    requires some { 0 < length calls.now }
-    requires turns { first + length calls.now ≤ MOST_TURNS + 1 }
-    ensures text { OnOk result (bytes.new.items ≡
-        bytes.old.items ++ calls_text_of number first calls.now) }
-    ensures params { OnOk result (AllAreReadBack calls.now) }
-    ensures front { OnErr result (StartsWith bytes.new.items bytes.old.items) }
-{
-    bytes.push(b'[')?;
-    put_one_call(alloc, bytes, number, first, &calls[0])?;
-    let mut turn = first;
-    for outgoing in &calls[1..] {
-        turn += 1;
-        bytes.push(b',')?;
-        put_one_call(alloc, bytes, number, turn, outgoing)?;
-    }
-    bytes.extend_from_slice(b"]")
-}
-
-fn put_one_notice(alloc: Global, bytes: &mut Vec<u8>, outgoing: &Outgoing) -> Result<(), AllocError>
-    ensures text { OnOk result (bytes.new.items ≡ bytes.old.items ++ notice_text_of outgoing.now) }
-    ensures params { OnOk result (AreReadBack outgoing.now.params) }
-    ensures front { OnErr result (StartsWith bytes.new.items bytes.old.items) }
-{
-    bytes.extend_from_slice(b"{\"jsonrpc\":\"2.0\"")?;
-    put_method(alloc, bytes, outgoing)
-}
-
-/// Puts what a call and a notification share: the method, the params and the end.
-fn put_method(alloc: Global, bytes: &mut Vec<u8>, outgoing: &Outgoing) -> Result<(), AllocError>
-    ensures text { OnOk result (bytes.new.items ≡ bytes.old.items ++ method_text outgoing.now) }
-    ensures params { OnOk result (AreReadBack outgoing.now.params) }
-    ensures front { OnErr result (StartsWith bytes.new.items bytes.old.items) }
-{
-    bytes.extend_from_slice(b",\"method\":")?;
-    put_quoted(alloc, bytes, outgoing.method.as_str())?;
-    put_params(alloc, bytes, &outgoing.params)?;
-    bytes.extend_from_slice(b"}")
-}
-
-fn put_params(alloc: Global, bytes: &mut Vec<u8>, params: &Option<Json>) -> Result<(), AllocError>
-    ensures text { OnOk result (bytes.new.items ≡ bytes.old.items ++ params_text params.now) }
-    ensures params { OnOk result (AreReadBack params.now) }
-    ensures front { OnErr result (StartsWith bytes.new.items bytes.old.items) }
-{
-    match params {
-        None => Ok(()),
-        Some(params) => {
-            let text = params.to_bytes(alloc)?;
-            bytes.extend_from_slice(b",\"params\":")?;
-            bytes.extend_from_slice(text.as_slice())
-        }
-    }
-}
-
-fn put_one_withdrawal(bytes: &mut Vec<u8>, number: u32, turn: u32) -> Result<(), AllocError>
-    ensures text { OnOk result (bytes.new.items ≡ bytes.old.items ++ withdraw_text_of number turn) }
-    ensures front { OnErr result (StartsWith bytes.new.items bytes.old.items) }
-{
-    bytes.extend_from_slice(
-        b"{\"jsonrpc\":\"2.0\",\"method\":\"$/cancelRequest\",\"params\":{\"id\":\"",
-    )?;
-    put_key(bytes, number, turn)?;
-    bytes.extend_from_slice(b"\"}}")
+    let params = optional_text(alloc, &outgoing.params)?;
+    let key = CallKey::Pair(number, turn);
+    write_call(alloc, bytes, key, outgoing.method.as_str(), lent(&params))
 }

@@ -19,7 +19,6 @@ use json_values::Items;
 use std::alloc::{AllocError, Global};
 
 pub(crate) mod compact;
-pub(crate) mod compact_value;
 mod envelope;
 mod members;
 mod reply;
@@ -27,7 +26,7 @@ mod their_call;
 mod version;
 
 /// Values of a text nest at most this deep.
-const MOST_LEVELS: usize = 127;
+const MOST_DEPTH_IN: usize = 127;
 
 /// The unit of a text. It is refused where it is no JSON of at most 127 levels.
 pub(crate) fn read_text(alloc: Global, text: &str, scratch: &mut Scratch) -> Result<Unit, ReadFault>
@@ -51,8 +50,8 @@ fn read_whole(alloc: Global, reader: &mut Reader<'_>) -> Result<Unit, ReadFault>
         → converted of_json (value max_depth reader.old) ≡ None }
 {
     match reader.next().ok_or(ReadFault::Refused)? {
-        Token::BeginArray => read_array(alloc, reader, MOST_LEVELS - 1),
-        token => Ok(Unit::Single(entry_from(alloc, token, reader, MOST_LEVELS)?)),
+        Token::BeginArray => read_array(alloc, reader, MOST_DEPTH_IN - 1),
+        token => Ok(Unit::Single(entry_from(alloc, token, reader, MOST_DEPTH_IN)?)),
     }
 }
 

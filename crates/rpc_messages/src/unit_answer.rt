@@ -1,14 +1,14 @@
 //! What a unit is answered with.
 
-ghost use Rattle.std.specs.Prelude.{◌≡◌, ◌<◌, ◌++◌, [], IfOk, OnOk, OnErr, is_some, length, map, unwrap_or};
-ghost use Rattle.std.specs.Io.{StartsWith};
+ghost use Rattle.std.specs.Prelude.{◌≡◌, ◌++◌, [], IfOk, OnOk, OnErr, is_some, map, unwrap_or};
 ghost use Rattle.rpc_messages.specs.Dues.{answer_seen, text_of, unit_text};
-ghost use Rattle.rpc_messages.specs.Texts.{batch_text_of};
 
 use crate::answer::put_answer;
 use crate::kind::Kind;
 use crate::reply::Reply;
+use crate::rows::AnswerRow;
 use message_ids::{Id, Standard};
+use message_texts::write_array;
 use std::alloc::{AllocError, Global};
 
 /// What an entry is answered with.
@@ -40,48 +40,16 @@ pub fn put_unit_answer(
     }
     match kind {
         Kind::Single => put_one_answer(alloc, bytes, &answers[0])?,
-        Kind::Batch => put_array(alloc, bytes, answers)?,
+        Kind::Batch => write_array(alloc, bytes, &AnswerRow { answers })?,
     }
     Ok(true)
 }
 
-fn put_array(alloc: Global, bytes: &mut Vec<u8>, answers: &[Answer<'_>]) -> Result<(), AllocError>
-    requires { 0 < length answers.now }
-    ensures text { OnOk result (bytes.new.items
-        ≡ bytes.old.items ++ batch_text_of (map text_of (map answer_seen answers.now))) }
-    ensures err { OnErr result (bytes.new.items ≡ bytes.old.items) }
-{
-    let before = bytes.len();
-    match put_each_answer(alloc, bytes, answers) {
-        Ok(()) => Ok(()),
-        Err(error) => {
-            bytes.truncate(before);
-            Err(error)
-        }
-    }
-}
-
-/// Where they can't be put whole, what was there still stands in front.
-fn put_each_answer(
+pub(crate) fn put_one_answer(
     alloc: Global,
     bytes: &mut Vec<u8>,
-    answers: &[Answer<'_>],
+    answer: &Answer<'_>,
 ) -> Result<(), AllocError>
-    requires { 0 < length answers.now }
-    ensures text { OnOk result (bytes.new.items
-        ≡ bytes.old.items ++ batch_text_of (map text_of (map answer_seen answers.now))) }
-    ensures front { OnErr result (StartsWith bytes.new.items bytes.old.items) }
-{
-    bytes.push(b'[')?;
-    put_one_answer(alloc, bytes, &answers[0])?;
-    for answer in &answers[1..] {
-        bytes.push(b',')?;
-        put_one_answer(alloc, bytes, answer)?;
-    }
-    bytes.extend_from_slice(b"]")
-}
-
-fn put_one_answer(alloc: Global, bytes: &mut Vec<u8>, answer: &Answer<'_>) -> Result<(), AllocError>
     ensures text { OnOk result (bytes.new.items ≡
         bytes.old.items ++ text_of (answer_seen answer.now)) }
     ensures err { OnErr result (bytes.new.items ≡ bytes.old.items) }

@@ -5,9 +5,9 @@ ghost use Rattle.serde_json.specs.Read.{read};
 ghost use Rattle.rpc_messages.specs.Unit.{unit_seen, unit_of, unit_of_reading};
 
 use crate::read::compact::{read_compact, read_compacted};
-use crate::read::compact_value::Unread;
 use crate::read::read_text;
 use crate::unit::Unit;
+use compact_values::Unread;
 use json::Scratch;
 use json_reading::ReadFault;
 use json_texts::utf8_text;

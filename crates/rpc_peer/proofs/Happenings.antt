@@ -19,6 +19,7 @@ use Rattle.stream_framing.specs.declared.framing.Framing.{Framing}
 use Rattle.stream_session.specs.Framings.{IsShortIn}
 use Rattle.stream_session.specs.Standing.{HasDrained}
 use Rattle.stream_session.specs.Stream.{Fed, StreamState, StreamStands, StopsShort, IsTaken, stream_of}
+use Rattle.rpc_peer.specs.Clerk.{clerk_framing, clerk_table, clerk_limits}
 use Rattle.rpc_peer.specs.Arriving.{bytes_of, ending_of}
 use Rattle.rpc_peer.specs.declared.arrival.Arrival.{Arrival}
 use Rattle.rpc_peer.specs.declared.clerk.Clerk.{Clerk}
@@ -123,11 +124,11 @@ none-out (suc count) zero gated is = cc
 none-out (suc count) (suc slot) gated is = none-out count slot gated is
 
 module _ {G K : Type 0} (clerk : Clerk G K) (new : IsNew clerk) (before : Option (List ℕ)) where
-  starts-at : ServesAfter clerk.framing clerk.table.now clerk.limits [] before (stream_of clerk.stream) (replicate {A = Look (Gated G)} (slot_count clerk.slots.now) Free) before
+  starts-at : ServesAfter (clerk_framing clerk) (clerk_table clerk) (clerk_limits clerk) [] before (stream_of clerk.stream) (replicate {A = Look (Gated G)} (slot_count clerk.slots.now) Free) before
   starts-at = record {
     jobs = λ n. None;
-    stands = subst (λ (bytes : List ℕ). StreamStands (record { framing = clerk.framing; table = clerk.table.now; limits = clerk.limits; bytes = bytes; ending = Unfinished; before = before })
-        (λ n. None) (stream_of clerk.stream) before) (sym (text_unfinished clerk.framing [])) (new.session before);
+    stands = subst (λ (bytes : List ℕ). StreamStands (record { framing = clerk_framing clerk; table = clerk_table clerk; limits = clerk_limits clerk; bytes = bytes; ending = Unfinished; before = before })
+        (λ n. None) (stream_of clerk.stream) before) (sym (text_unfinished (clerk_framing clerk) [])) (new.session before);
     goes_on = λ still. refl;
     are_out = record {
       each = λ slot gated there. absurd (none-out (slot_count clerk.slots.now) slot gated there);
@@ -135,7 +136,7 @@ module _ {G K : Type 0} (clerk : Clerk G K) (new : IsNew clerk) (before : Option
     };
   }
 
-  pub starts-new : ServesAfter clerk.framing clerk.table.now clerk.limits (received clerk.ring) before (stream_of clerk.stream) (looks_of clerk.seat) before
+  pub starts-new : ServesAfter (clerk_framing clerk) (clerk_table clerk) (clerk_limits clerk) (received clerk.ring) before (stream_of clerk.stream) (looks_of clerk.seat) before
   starts-new =
-      subst (λ xs. ServesAfter clerk.framing clerk.table.now clerk.limits xs before (stream_of clerk.stream) (looks_of clerk.seat) before) (sym new.empty)
-      (subst (λ looks. ServesAfter clerk.framing clerk.table.now clerk.limits [] before (stream_of clerk.stream) looks before) (sym new.free) starts-at)
+      subst (λ xs. ServesAfter (clerk_framing clerk) (clerk_table clerk) (clerk_limits clerk) xs before (stream_of clerk.stream) (looks_of clerk.seat) before) (sym new.empty)
+      (subst (λ looks. ServesAfter (clerk_framing clerk) (clerk_table clerk) (clerk_limits clerk) [] before (stream_of clerk.stream) looks before) (sym new.free) starts-at)

@@ -1,5 +1,8 @@
--- Which crews are impossible, and what a fault does to a sink's count of failures.
-use Rattle.std.specs.Prelude.{◌≡◌, ℕ, ◌+◌, ◌-◌, ◌^◌, ◌<◌, min, ◌⊎◌}
+-- What a call that serves promises of its result: which crews are impossible, and what a fault does to a sink's count of failures.
+use Rattle.std.specs.Prelude.{◌≡◌, ◌↔◌, ℕ, ◌<◌, ◌⊎◌, List, Option, Result, Ok, Err}
+use Rattle.peer_session.specs.declared.drain_fault.DrainFault.TheVariants as drain
+use Rattle.peer_session.specs.declared.report.Report.{Report}
+use Rattle.stream_session.specs.Promise.{CountsFault}
 use Rattle.rpc_peer.specs.declared.fault.ServeFault.{ServeFault}
 use Rattle.rpc_peer.specs.declared.fault.ServeFault.TheVariants.{Workers, Memory, Write}
 use Rattle.rpc_peer.specs.declared.server.TheConstants.{MOST_WORKERS}
@@ -8,8 +11,20 @@ use Rattle.rpc_peer.specs.declared.server.TheConstants.{MOST_WORKERS}
 abbrev pub IsImpossible : ℕ → Type 0
 IsImpossible workers = (workers ≡ 0) ⊎ (MOST_WORKERS < workers)
 
--- A sink's count of failures rises by a `Write`, and by nothing else.
-abbrev pub CountsFault : ℕ → ServeFault → ℕ → Type 0
-CountsFault before Workers after = after ≡ before
-CountsFault before Memory after = after ≡ before
-CountsFault before Write after = after ≡ min (before + 1) (2 ^ 64 - 1)
+-- A sink's failures are counted as by the fault of a drain; where a crew is refused, nothing is written, and the count stays.
+abbrev pub CountsServeFault : ℕ → ServeFault → ℕ → Type 0
+CountsServeFault before Workers after = after ≡ before
+CountsServeFault before Memory after = CountsFault before drain.Memory after
+CountsServeFault before Write after = CountsFault before drain.Write after
+
+-- By so many workers an input was served into a sink. What the sink has taken since is a whole run, or a part of one: `Whole` and `Part` say which. An
+-- impossible number of workers is refused, no other is, and of the refusal nothing comes. The sink's failures are counted.
+abbrev pub IsServing : {K : Type 0} → (K → Option (List ℕ)) → (K → ℕ) → (Option (List ℕ) → Option (List ℕ) → Report → Type 0) → (Option (List ℕ) → Option (List ℕ) → Type 0)
+    → ℕ → K → Result (Report × K) (ServeFault × K) → Type 0
+IsServing taken failures Whole Part workers sink (Ok done) =
+    Whole (taken sink) (taken done.1) done.0 × (IsImpossible workers → ⊥) × (failures done.1 ≡ failures sink)
+IsServing taken failures Whole Part workers sink (Err failed) =
+    Part (taken sink) (taken failed.1)
+    × ((failed.0 ≡ Workers) ↔ IsImpossible workers)
+    × (failed.0 ≡ Workers → failed.1 ≡ sink)
+    × CountsServeFault (failures sink) failed.0 (failures failed.1)

@@ -12,8 +12,8 @@ use Rattle.stream_framing.specs.declared.framing.Framing.{Framing}
 use Rattle.stream_session.specs.Framings.{IsRunIn, IsShortIn}
 use Rattle.peer_session.specs.declared.drain_fault.DrainFault.{DrainFault}
 use Rattle.stream_session.specs.Stream.{stream_of}
-use Rattle.session_state.specs.Core.{Core}
-use Rattle.session_state.specs.Turning.{drained}
+use Rattle.peer_events.specs.Core.{Core}
+use Rattle.peer_events.specs.Turning.{drained}
 use Rattle.peer_session.specs.SessionState.{SessionState}
 use Rattle.rpc_peer.specs.Arriving.{bytes_of, ending_of}
 use Rattle.rpc_peer.specs.declared.arrival.Arrival.{Arrival}

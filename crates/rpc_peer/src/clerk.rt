@@ -19,18 +19,23 @@ use stream_session::StreamSession;
 /// The owner of the session of a server.
 #[derive(Drop)]
 pub struct Clerk<'a, G: Gate, K> {
-    pub(crate) framing: Framing,
-    pub(crate) table: &'a Table,
-    pub(crate) limits: Limits,
+    /// The session, and what of its input waits.
     pub(crate) stream: StreamSession<'a>,
-    /// One for each slot that is free.
+    /// One for each slot that is free, so that a hand-out takes no memory.
     pub(crate) gates: Vec<Arc<G, Global>>,
+    /// What its reader sends comes out here.
     pub(crate) ring: Consumer<Arrival>,
+    /// Jobs go out to the workers through these, and come home.
     pub(crate) slots: &'a JobSlots<Gated<G>>,
+    /// The right to do so.
     pub(crate) seat: ClerkSeat<Gated<G>>,
+    /// What wakes it, its reader and its workers.
     pub(crate) bells: &'a Bells,
+    /// How often it looks again before it sleeps.
     pub(crate) yields: u32,
+    /// What is due is written to it.
     pub(crate) sink: K,
+    // The seat is that of these slots, as each call of theirs requires.
     ghost seated: { IsClerkOf slots.now seat },
 }
 
@@ -49,7 +54,7 @@ impl<'a, G: Gate, K: Sink> Clerk<'a, G, K> {
     ghost use Rattle.job_slots.specs.declared.view.Look.TheVariants.{Free};
     ghost use Rattle.rpc_peer.specs.Arriving.{bytes_of, ending_of};
     ghost use Rattle.stream_session.specs.Framings.{IsRunIn, IsShortIn};
-    ghost use Rattle.rpc_peer.specs.Clerk.{CountsRun, IsNew};
+    ghost use Rattle.rpc_peer.specs.Clerk.{CountsRun, IsNew, clerk_framing, clerk_table, clerk_limits};
     ghost use Rattle.job_slots.specs.Seats.{looks_of, slot_count};
 
     /// A clerk before the first event. Nothing has come through its ring yet, and no job is out.
@@ -73,9 +78,9 @@ impl<'a, G: Gate, K: Sink> Clerk<'a, G, K> {
         requires seat { IsClerkOf slots.now seat }
         requires free { looks_of seat ≡ replicate (slot_count slots.now) Free }
         ensures new { IfOk result IsNew }
-        ensures framing { IfOk result (λ clerk. clerk.framing ≡ framing) }
-        ensures table { IfOk result (λ clerk. clerk.table.now ≡ table.now) }
-        ensures limits { IfOk result (λ clerk. clerk.limits ≡ limits) }
+        ensures framing { IfOk result (λ clerk. clerk_framing clerk ≡ framing) }
+        ensures table { IfOk result (λ clerk. clerk_table clerk ≡ table.now) }
+        ensures limits { IfOk result (λ clerk. clerk_limits clerk ≡ limits) }
         ensures ring { IfOk result (λ clerk. clerk.ring ≡ ring) }
         ensures sink { IfOk result (λ clerk. clerk.sink ≡ sink) }
         ensures err { IfErr result (λ back. back ≡ sink) }
@@ -85,9 +90,6 @@ impl<'a, G: Gate, K: Sink> Clerk<'a, G, K> {
         };
         match StreamSession::new(alloc, framing, table, limits) {
             Ok(stream) => Ok(Clerk {
-                framing,
-                table,
-                limits,
                 stream,
                 gates,
                 ring,
@@ -113,12 +115,12 @@ impl<'a, G: Gate, K: Sink> Clerk<'a, G, K> {
     pub fn run<R: Wait>(self, rt: &R) -> Served<K>
         requires { IsNew self }
         ensures ring { SameConsumer self.entry.ring result.ring }
-        ensures ok { IfOk result.outcome (λ report. IsRunIn self.entry.framing
-            self.entry.table.now self.entry.limits
+        ensures ok { IfOk result.outcome (λ report. IsRunIn (clerk_framing self.entry)
+            (clerk_table self.entry) (clerk_limits self.entry)
             (bytes_of (received result.ring)) (ending_of (received result.ring))
             (K.bytes_taken self.entry.sink) (K.bytes_taken result.sink) report) }
-        ensures err { OnErr result.outcome (IsShortIn self.entry.framing self.entry.table.now
-            self.entry.limits (bytes_of (received result.ring)) (ending_of (received result.ring))
+        ensures err { OnErr result.outcome (IsShortIn (clerk_framing self.entry)
+            (clerk_table self.entry) (clerk_limits self.entry) (bytes_of (received result.ring)) (ending_of (received result.ring))
             (K.bytes_taken self.entry.sink) (K.bytes_taken result.sink)) }
         ensures cause { CountsRun (K.failures self.entry.sink) result.outcome
             (K.failures result.sink) }

@@ -49,7 +49,7 @@ mod taking;
 mod threads;
 mod worker;
 
-pub use crew::Crew;
+pub use crew::{Crew, USUAL_YIELDS};
 pub use fault::ServeFault;
 pub use gate::{Gate, OpenGate};
 pub use gated::Gated;

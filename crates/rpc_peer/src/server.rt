@@ -1,6 +1,6 @@
 //! The server: a peer of several threads.
 
-ghost use Rattle.std.specs.Prelude.{◌≡◌, ◌≢◌, ◌↔◌, ℕ, ◌<◌, ◌≤◌, All, IsTrue, IfOk, IfErr, IsErr};
+ghost use Rattle.std.specs.Prelude.{◌≡◌, ◌≢◌, ◌↔◌, ℕ, ◌<◌, ◌≤◌, All, IsTrue, IfOk, IfErr};
 ghost use Rattle.job_slots.specs.Seats.{IsClerkOf, IsWorkerOf, looks_of};
 ghost use Rattle.method_steps.specs.Steps.{MethodTable};
 ghost use Rattle.peer_session.specs.declared.limits.Limits.{Limits as LimitsOf};
@@ -13,7 +13,7 @@ ghost use Rattle.stream_framing.specs.declared.framing.Framing.{Framing as Frami
 ghost use Rattle.stream_framing.specs.declared.framing.Framing.TheVariants.{Lines};
 ghost use Rattle.stream_session.specs.Framings.{IsServedIn, IsServedInPartIn};
 ghost use Rattle.stream_session.specs.Promise.{IsServed, IsServedInPart};
-ghost use Rattle.rpc_peer.specs.Serve.{IsImpossible, CountsFault};
+ghost use Rattle.rpc_peer.specs.Serve.{CountsServeFault, IsServing};
 
 use crate::arrival::Arrival;
 use crate::bells::Bells;
@@ -58,30 +58,20 @@ where
     S: Source + Drop + Send,
     K: Sink + Drop,
     R: Threads + Wait + Sync,
-    ensures ok { IfOk result (λ done. IsServed table.now limits (S.gave source)
-        (K.bytes_taken sink) (K.bytes_taken done.1) done.0) }
-    ensures in_part { IfErr result (λ failed. IsServedInPart table.now limits (S.gave source)
-        (K.bytes_taken sink) (K.bytes_taken failed.1)) }
-
-    // No number of workers is refused but an impossible one, and of that nothing comes but the refusal.
-    ensures refused { IfErr result (λ failed. (failed.0 ≡ Workers) ↔ IsImpossible workers) }
-    ensures impossible { IsImpossible workers → IsErr result }
-    ensures untouched { IfErr result (λ failed. failed.0 ≡ Workers → failed.1 ≡ sink) }
-
-    // The sink's failures are counted.
-    ensures failures { IfOk result (λ done. K.failures done.1 ≡ K.failures sink) }
-    ensures cause { IfErr result (λ failed. CountsFault (K.failures sink) failed.0
-        (K.failures failed.1)) }
+    ensures { IsServing K.bytes_taken K.failures (IsServed table.now limits (S.gave source))
+        (IsServedInPart table.now limits (S.gave source)) workers sink result }
 {
-    nothing_is_served_in_part::<S>();
     served_in_frames_is_served::<S>();
-    if !is_possible(workers) {
-        return Err((ServeFault::Workers, sink));
-    }
-    let Ok(gate) = Arc::new(alloc, OpenGate) else {
-        return Err((ServeFault::Memory, sink));
-    };
-    serve_with(rt, alloc, table, limits, workers, gate, source, sink)
+    serve_openly(
+        rt,
+        alloc,
+        Framing::Frames,
+        table,
+        limits,
+        workers,
+        source,
+        sink,
+    )
 }
 
 /// Serves an input to its end: reads the source, runs the methods of the table by `workers` threads, and writes to the
@@ -101,20 +91,8 @@ where
     K: Sink + Drop,
     G: Gate + Send + Sync,
     R: Threads + Wait + Sync,
-    ensures ok { IfOk result (λ done. IsServed table.now limits (S.gave source)
-        (K.bytes_taken sink) (K.bytes_taken done.1) done.0) }
-    ensures in_part { IfErr result (λ failed. IsServedInPart table.now limits (S.gave source)
-        (K.bytes_taken sink) (K.bytes_taken failed.1)) }
-
-    // No number of workers is refused but an impossible one, and of that nothing comes but the refusal.
-    ensures refused { IfErr result (λ failed. (failed.0 ≡ Workers) ↔ IsImpossible workers) }
-    ensures impossible { IsImpossible workers → IsErr result }
-    ensures untouched { IfErr result (λ failed. failed.0 ≡ Workers → failed.1 ≡ sink) }
-
-    // The sink's failures are counted.
-    ensures failures { IfOk result (λ done. K.failures done.1 ≡ K.failures sink) }
-    ensures cause { IfErr result (λ failed. CountsFault (K.failures sink) failed.0
-        (K.failures failed.1)) }
+    ensures { IsServing K.bytes_taken K.failures (IsServed table.now limits (S.gave source))
+        (IsServedInPart table.now limits (S.gave source)) workers sink result }
 {
     serve_by(
         rt,
@@ -144,20 +122,8 @@ where
     K: Sink + Drop,
     G: Gate + Send + Sync,
     R: Threads + Wait + Sync,
-    ensures ok { IfOk result (λ done. IsServed table.now limits (S.gave source)
-        (K.bytes_taken sink) (K.bytes_taken done.1) done.0) }
-    ensures in_part { IfErr result (λ failed. IsServedInPart table.now limits (S.gave source)
-        (K.bytes_taken sink) (K.bytes_taken failed.1)) }
-
-    // No number of workers is refused but an impossible one, and of that nothing comes but the refusal.
-    ensures refused { IfErr result (λ failed. (failed.0 ≡ Workers) ↔ IsImpossible crew.workers) }
-    ensures impossible { IsImpossible crew.workers → IsErr result }
-    ensures untouched { IfErr result (λ failed. failed.0 ≡ Workers → failed.1 ≡ sink) }
-
-    // The sink's failures are counted.
-    ensures failures { IfOk result (λ done. K.failures done.1 ≡ K.failures sink) }
-    ensures cause { IfErr result (λ failed. CountsFault (K.failures sink) failed.0
-        (K.failures failed.1)) }
+    ensures { IsServing K.bytes_taken K.failures (IsServed table.now limits (S.gave source))
+        (IsServedInPart table.now limits (S.gave source)) crew.workers sink result }
 {
     served_in_frames_is_served::<S>();
     serve_in(
@@ -189,20 +155,38 @@ where
     S: Source + Drop + Send,
     K: Sink + Drop,
     R: Threads + Wait + Sync,
-    ensures ok { IfOk result (λ done. IsServedIn Lines table.now limits (S.gave source)
-        (K.bytes_taken sink) (K.bytes_taken done.1) done.0) }
-    ensures in_part { IfErr result (λ failed. IsServedInPartIn Lines table.now limits
-        (S.gave source) (K.bytes_taken sink) (K.bytes_taken failed.1)) }
+    ensures { IsServing K.bytes_taken K.failures (IsServedIn Lines table.now limits (S.gave source))
+        (IsServedInPartIn Lines table.now limits (S.gave source)) workers sink result }
+{
+    serve_openly(
+        rt,
+        alloc,
+        Framing::Lines,
+        table,
+        limits,
+        workers,
+        source,
+        sink,
+    )
+}
 
-    // No number of workers is refused but an impossible one, and of that nothing comes but the refusal.
-    ensures refused { IfErr result (λ failed. (failed.0 ≡ Workers) ↔ IsImpossible workers) }
-    ensures impossible { IsImpossible workers → IsErr result }
-    ensures untouched { IfErr result (λ failed. failed.0 ≡ Workers → failed.1 ≡ sink) }
-
-    // The sink's failures are counted.
-    ensures failures { IfOk result (λ done. K.failures done.1 ≡ K.failures sink) }
-    ensures cause { IfErr result (λ failed. CountsFault (K.failures sink) failed.0
-        (K.failures failed.1)) }
+/// Serves an input in a framing, with gates that are open.
+fn serve_openly<S, K, R>(
+    rt: &R,
+    alloc: Global,
+    framing: Framing,
+    table: &Table,
+    limits: Limits,
+    workers: u32,
+    source: S,
+    sink: K,
+) -> Result<(Report, K), (ServeFault, K)>
+where
+    S: Source + Drop + Send,
+    K: Sink + Drop,
+    R: Threads + Wait + Sync,
+    ensures { IsServing K.bytes_taken K.failures (IsServedIn framing table.now limits (S.gave source))
+        (IsServedInPartIn framing table.now limits (S.gave source)) workers sink result }
 {
     nothing_is_served_in_part::<S>();
     if !is_possible(workers) {
@@ -214,7 +198,7 @@ where
     serve_in(
         rt,
         alloc,
-        Framing::Lines,
+        framing,
         table,
         limits,
         Crew::of(workers),
@@ -241,16 +225,8 @@ where
     K: Sink + Drop,
     G: Gate + Send + Sync,
     R: Threads + Wait + Sync,
-    ensures ok { IfOk result (λ done. IsServedIn framing table.now limits (S.gave source)
-        (K.bytes_taken sink) (K.bytes_taken done.1) done.0) }
-    ensures in_part { IfErr result (λ failed. IsServedInPartIn framing table.now limits
-        (S.gave source) (K.bytes_taken sink) (K.bytes_taken failed.1)) }
-    ensures refused { IfErr result (λ failed. (failed.0 ≡ Workers) ↔ IsImpossible crew.workers) }
-    ensures impossible { IsImpossible crew.workers → IsErr result }
-    ensures untouched { IfErr result (λ failed. failed.0 ≡ Workers → failed.1 ≡ sink) }
-    ensures failures { IfOk result (λ done. K.failures done.1 ≡ K.failures sink) }
-    ensures cause { IfErr result (λ failed. CountsFault (K.failures sink) failed.0
-        (K.failures failed.1)) }
+    ensures { IsServing K.bytes_taken K.failures (IsServedIn framing table.now limits (S.gave source))
+        (IsServedInPartIn framing table.now limits (S.gave source)) crew.workers sink result }
 {
     nothing_is_served_in_part::<S>();
     if !is_possible(crew.workers) {
@@ -375,7 +351,7 @@ fn tell<S: Source, K: Sink>(
         IfOk result (λ done. K.failures done.1 ≡ K.failures sink) }
     ensures cause { (framing : FramingOf) (table : MethodTable) (limits : LimitsOf) (sink : K) →
         HasServed K.bytes_taken K.failures framing table limits sink served →
-        IfErr result (λ failed. CountsFault (K.failures sink) failed.0
+        IfErr result (λ failed. CountsServeFault (K.failures sink) failed.0
         (K.failures failed.1)) }
 {
     what_arrives_was_given::<S>();
@@ -385,6 +361,8 @@ fn tell<S: Source, K: Sink>(
         sink,
     } = served;
     let mut producer = producer;
+    // (Asked for its clause alone: what came out of the ring is a front of what went in. The kit says that of a pair of
+    // ends in this call and in no other.)
     ring.slots_beside(&mut producer);
     match outcome {
         Ok(report) => Ok((report, sink)),

@@ -3,7 +3,7 @@
 ghost use Rattle.std.specs.Prelude.{◌≡◌, [], All, length, IfOk, IfErr, IfSome};
 ghost use Rattle.job_slots.specs.Seats.{IsWorkerOf};
 ghost use Rattle.rtrb.specs.Ring.{sent, SameProducer, SameConsumer};
-ghost use Rattle.rpc_peer.specs.Clerk.{IsNew};
+ghost use Rattle.rpc_peer.specs.Clerk.{IsNew, clerk_framing, clerk_table, clerk_limits};
 ghost use Rattle.rpc_peer.specs.Arriving.{Reads};
 ghost use Rattle.rpc_peer.specs.Inner.Threads.{HasServed};
 
@@ -106,8 +106,7 @@ where
     requires seats { All (IsWorkerOf slots.now) seats.items }
     requires clerk { IsNew clerk }
     requires ring { sent ring ≡ [] }
-    ensures served { IfOk result (λ done. HasServed K.bytes_taken K.failures clerk.entry.framing
-        clerk.entry.table.now clerk.entry.limits clerk.entry.sink done.0) }
+    ensures served { IfOk result (λ done. HasServed K.bytes_taken K.failures (clerk_framing clerk.entry) (clerk_table clerk.entry) (clerk_limits clerk.entry) clerk.entry.sink done.0) }
     ensures consumer { IfOk result (λ done. SameConsumer clerk.entry.ring done.0.ring) }
     ensures producer { IfOk result (λ done. SameProducer ring done.1) }
     ensures reads { IfOk result (λ done. Reads (S.gave source) (sent done.1)) }
@@ -121,7 +120,7 @@ where
             requires clerk { IsNew clerk }
             requires ring { sent ring ≡ [] }
             ensures served { IfOk result (λ done. HasServed K.bytes_taken K.failures
-                clerk.entry.framing clerk.entry.table.now clerk.entry.limits clerk.entry.sink done.0) }
+                (clerk_framing clerk.entry) (clerk_table clerk.entry) (clerk_limits clerk.entry) clerk.entry.sink done.0) }
             ensures consumer { IfOk result (λ done. SameConsumer clerk.entry.ring done.0.ring) }
             ensures producer { IfOk result (λ done. SameProducer ring done.1) }
             ensures reads { IfOk result (λ done. Reads (S.gave source) (sent done.1)) }

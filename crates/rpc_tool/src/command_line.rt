@@ -6,4 +6,6 @@ mod reading;
 mod subcommand;
 
 pub(crate) use reading::read;
-pub(crate) use subcommand::{CheckOptions, LimitOptions, PlayOptions, ServeOptions, Subcommand};
+pub(crate) use subcommand::{
+    CheckOptions, JudgeOptions, LimitOptions, PlayOptions, ServeOptions, Subcommand,
+};

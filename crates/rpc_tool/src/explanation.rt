@@ -51,6 +51,13 @@ impl<'a> Asked<'a> {
                 lines: false,
                 limits: None,
             },
+            Subcommand::Judge(_) => Asked {
+                explain: false,
+                table: None,
+                workers: None,
+                lines: false,
+                limits: None,
+            },
         }
     }
 
@@ -93,6 +100,8 @@ pub fn explain<E: Write>(
                 None => Ok(()),
             }
         }
+        // (there is no explanation of a recording)
+        Err(RunFailure::NoRecording { .. } | RunFailure::Broken { .. }) => Ok(()),
     }
 }
 

@@ -4,6 +4,7 @@
 mod command_line;
 mod drawing;
 mod explanation;
+mod judging;
 mod limits;
 mod noted;
 mod output;

@@ -1,6 +1,7 @@
 //! The program over any reader and any two writers.
 use crate::command_line::{Subcommand, read};
 use crate::explanation::{Asked, explain};
+use crate::judging::judge;
 use crate::noted::{NotedReader, NotedWriter};
 use crate::playing::play;
 use crate::run_failure::RunFailure;
@@ -16,8 +17,8 @@ use std::sync::Wait;
 use std::thread::Threads;
 
 /// Does what the words ask for, of which the first is the program's name, and gives the exit status:
-/// 0, or 1 where the input did not end cleanly or something failed, or 2 where the words or the table are
-/// refused. The words are judged first, then the table, and then the input is read.
+/// 0, or 1 where the input did not end cleanly, a recording breaks a rule that must be kept or something failed, or 2 where
+/// the words, the table or a recording are refused. The words are judged first, then the table, and then the input is read.
 pub fn run<R, I, W, E>(rt: &R, words: &[String], input: I, output: &mut W, errors: &mut E) -> u8
 where
     R: Files + AllocGlobal + Threads + Wait + Sync,
@@ -40,6 +41,7 @@ where
         }
         Subcommand::Play(options) => play(rt, options, &mut input, &mut output, &mut table),
         Subcommand::Check(options) => check(rt, options, &mut output, &mut table),
+        Subcommand::Judge(options) => judge(alloc, options, &mut input, &mut output),
     };
     let status = tell_end(outcome, errors);
     if asked.explain {

@@ -19,6 +19,16 @@ pub enum RunFailure {
         method: u32,
         step: u32,
     },
+    /// A recording has a line that is none, counted from 1.
+    #[error("recording: fault in line {line}")]
+    NoRecording {
+        line: u64,
+    },
+    /// So many rules were broken in a recording that must be kept.
+    #[error("judged: {must} must")]
+    Broken {
+        must: u64,
+    },
 }
 
 impl RunFailure {
@@ -26,7 +36,10 @@ impl RunFailure {
     pub fn status(self) -> u8 {
         match self {
             RunFailure::Program(failure) => failure.status(),
-            RunFailure::UnreadableTable | RunFailure::RefusedTable { .. } => 2,
+            RunFailure::UnreadableTable
+            | RunFailure::RefusedTable { .. }
+            | RunFailure::NoRecording { .. } => 2,
+            RunFailure::Broken { .. } => 1,
         }
     }
 }

@@ -54,6 +54,10 @@ pub struct SaidSettings {
     pub content: u64,
     pub calls: u64,
     pub tells_broken: bool,
+    /// Whether params that are null are told.
+    pub null_params: bool,
+    /// How many entries a batch may have, where that is limited.
+    pub most_entries: Option<u64>,
 }
 
 /// A call or a notification.

@@ -24,18 +24,22 @@ pub fn one<'a>(words: &[&'a str]) -> Result<&'a str, LineFault> {
     }
 }
 
-/// `FRAMING ORDER CANCELS CONTENT CALLS`, and `broken` or nothing behind them
+/// `FRAMING ORDER CANCELS CONTENT CALLS`, and behind them `broken`, `nulls` and `entries=MOST`, or some of them
 pub fn settings(words: &[&str]) -> Result<SaidSettings, LineFault> {
-    let [framing, order, cancels, content, calls, told @ ..] = words else {
+    let [framing, order, cancels, content, calls, more @ ..] = words else {
         return Err(LineFault::Unreadable);
     };
+    let (tells_broken, more) = take("broken", more);
+    let (null_params, more) = take("nulls", more);
     Ok(SaidSettings {
         framing: framing_of(framing)?,
         order: order_of(order)?,
         cancels: cancels_of(cancels)?,
         content: number(content)?,
         calls: number(calls)?,
-        tells_broken: tells_broken(told)?,
+        tells_broken,
+        null_params,
+        most_entries: most_entries(more)?,
     })
 }
 
@@ -65,11 +69,23 @@ fn cancels_of(word: &str) -> Result<Option<Cancels>, LineFault> {
     }
 }
 
-fn tells_broken(words: &[&str]) -> Result<bool, LineFault> {
-    match words {
-        [] => Ok(false),
-        ["broken"] => Ok(true),
-        _ => Err(LineFault::Unreadable),
+/// Whether the first of the words is this one, and then those behind it.
+fn take<'a, 'b>(name: &str, words: &'a [&'b str]) -> (bool, &'a [&'b str]) {
+    match words.split_first() {
+        Some((first, behind)) if *first == name => (true, behind),
+        _ => (false, words),
+    }
+}
+
+/// `entries=MOST` or nothing
+fn most_entries(words: &[&str]) -> Result<Option<u64>, LineFault> {
+    let [word] = words else {
+        return none(words).map(|_| None);
+    };
+    let most = word.strip_prefix("entries=").ok_or(LineFault::Unreadable)?;
+    match number(most)? {
+        0 => Err(LineFault::Unreadable),
+        most => Ok(Some(most)),
     }
 }
 

@@ -3,8 +3,7 @@
 //! none; where `HEX|-` stands, `-` says that there is nothing.
 //!
 //! ```text
-//! settings FRAMING ORDER cancels|mcp|no-cancels CONTENT CALLS
-//! settings FRAMING ORDER cancels|mcp|no-cancels CONTENT CALLS broken
+//! settings FRAMING ORDER cancels|mcp|no-cancels CONTENT CALLS [broken] [nulls] [entries=MOST]
 //! feed HEX
 //! end closed|failed
 //! next

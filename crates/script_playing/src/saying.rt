@@ -16,7 +16,9 @@ pub fn begin(alloc: Global, said: SaidSettings) -> Result<Connection, Why> {
 
 fn settings_of(said: SaidSettings) -> Option<Settings> {
     let content = u32::try_from(said.content).ok()?;
-    let settings = Settings::new(said.framing, said.order, said.cancels, content, said.calls)?;
+    let settings = Settings::new(said.framing, said.order, said.cancels, content, said.calls)?
+        .with_most_entries(said.most_entries)
+        .with_null_params(said.null_params);
     if said.tells_broken {
         return Some(settings.telling_broken());
     }

@@ -10,16 +10,15 @@ use Rattle.rpc_messages.specs.Unit.{SeenUnit}
 use Rattle.method_steps.specs.Steps.{MethodTable}
 use Rattle.answer_desk.specs.State.{front_texts}
 use Rattle.handler_future.specs.State.{HandlerState}
-use Rattle.session_stages.specs.declared.stage.Stage.{Stage}
+use Rattle.peer_events.specs.declared.stage.Stage.{Stage}
 use Rattle.peer_session.specs.declared.limits.Limits.{Limits}
 use Rattle.peer_output.specs.Course.{Sending}
-use Rattle.peer_output.specs.Items.{Item, sent, answered, answers_in, bytes_of, is_sending, is_call, count_sendings, count_calls}
-use Rattle.session_state.specs.Core.{unwritten, unwritten_from}
-use Rattle.session_state.specs.Stands.{StandsAfter}
-use Rattle.session_state.specs.Turning.{drained, due_bytes}
+use Rattle.peer_output.specs.Items.{Item, sent, answered, answers_in, bytes_of, is_sending, is_call, count_sendings, count_calls, item_text}
+use Rattle.peer_events.specs.Core.{unwritten, unwritten_from}
+use Rattle.peer_events.specs.Stands.{StandsAfter}
+use Rattle.peer_events.specs.Turning.{drained, due_bytes}
 use Rattle.peer_session.specs.Events.{drained_session}
 use Rattle.peer_session.specs.Framings.{bytes_in, due_in}
-use Rattle.peer_output.specs.Items.{item_text}
 use Rattle.stream_framing.specs.Framed.{framed}
 use Rattle.stream_framing.specs.declared.framing.Framing.{Framing}
 use Rattle.peer_session.specs.SessionState.{SessionState, counted}

@@ -1,16 +1,17 @@
 -- Which events leave a stage Failed: only a job that comes back after a poll that failed.
 use Rattle.std.proofs.Common.{◌≡◌, ◌≢◌, ℕ, zero, suc, List, [], ◌∷◌, map, get_or, set, Bool, true, false, cond, ◌||◌, Option, Some, None, refl, sym, ap, subst, ◌∙◌}
 use Rattle.std.specs.Prelude.{◌+◌, nat_lt, length}
-use Rattle.answer_desk.specs.State.{State, number_at, is_marked_number, without_front}
+use Rattle.answer_desk.specs.State.{State, number_at, without_front}
+use Rattle.open_numbers.specs.OpenCalls.{is_marked_number}
 use Rattle.handler_future.specs.declared.outcome.Outcome.{Outcome}
 use Rattle.handler_future.specs.declared.outcome.Outcome.TheVariants.{Answer, Failed as NoMemory}
 use Rattle.handler_future.specs.State.{HandlerState}
-use Rattle.session_stages.specs.declared.stage.Stage.{Stage}
-use Rattle.session_stages.specs.declared.stage.Stage.TheVariants.{Gone, Faulty, Idle, Out, Over, Failed}
-use Rattle.session_state.specs.Core.{Core, stage_at}
-use Rattle.session_state.specs.Hearing.{hear_waits}
-use Rattle.session_state.specs.Finishing.{over_or_gone, cancelled}
-use Rattle.session_state.specs.Turning.{Leaves, drained, ready, ready_from, is_ready_stage, returned, returned_to, written_stage}
+use Rattle.peer_events.specs.declared.stage.Stage.{Stage}
+use Rattle.peer_events.specs.declared.stage.Stage.TheVariants.{Gone, Faulty, Idle, Out, Over, Failed}
+use Rattle.peer_events.specs.Core.{Core, stage_at}
+use Rattle.peer_events.specs.Hearing.{hear_waits}
+use Rattle.peer_events.specs.Finishing.{over_or_gone, cancelled}
+use Rattle.peer_events.specs.Turning.{Leaves, drained, ready, ready_from, is_ready_stage, returned, returned_to, written_stage}
 use Rattle.peer_session.specs.Events.{is_failure}
 
 abbrev pub NoneFailed : List Stage → Type 0

@@ -14,10 +14,10 @@ use Rattle.peer_session.specs.Turned.{Turned}
 use Rattle.peer_output.specs.Events.{with_at}
 use Rattle.peer_output.specs.Items.{Item, sent_by}
 use Rattle.peer_output.specs.Past.{past_units, past_entries}
-use Rattle.session_state.specs.Core.{Core}
-use Rattle.session_state.specs.Fits.{NumberFits}
-use Rattle.session_state.specs.Stands.{StandsAfter}
-use Rattle.session_state.specs.Turning.{Leaves}
+use Rattle.peer_events.specs.Core.{Core}
+use Rattle.peer_events.specs.Fits.{NumberFits}
+use Rattle.peer_events.specs.Stands.{StandsAfter}
+use Rattle.peer_events.specs.Turning.{Leaves}
 use Rattle.stream_session.specs.Inner.Known.{Known}
 use Rattle.stream_session.specs.Standing.{SessionStands}
 use Rattle.stream_session.proofs.Draining.{counted-more}

@@ -6,17 +6,18 @@ use Rattle.rpc_messages.specs.Numbering.{entries_in, numbers_of}
 use Rattle.rpc_messages.specs.Unit.{SeenUnit}
 use Rattle.message_ids.specs.declared.id.Id.{Id}
 use Rattle.rpc_messages.specs.declared.reply.Reply.{Reply}
-use Rattle.method_steps.specs.Steps.{MethodTable, Step}
+use Rattle.method_templates.specs.Steps.{Step}
+use Rattle.method_steps.specs.Steps.{MethodTable}
 use Rattle.answer_desk.specs.State.{with_reached, with_reply}
-use Rattle.session_stages.specs.declared.stage.Stage.{Stage}
-use Rattle.session_stages.specs.declared.stage.Stage.TheVariants.{Gone, Faulty, Idle, Out, Over, Failed}
+use Rattle.peer_events.specs.declared.stage.Stage.{Stage}
+use Rattle.peer_events.specs.declared.stage.Stage.TheVariants.{Gone, Faulty, Idle, Out, Over, Failed}
 use Rattle.peer_output.specs.Work.{Work, nothing, fault, run, call_work}
-use Rattle.session_state.specs.Core.{Core, stage_at, with_desk}
-use Rattle.session_state.specs.Finishing.{Reaches, none_left, lowest, Cancels, fault_at, fault_passed, told_at, told, over_or_gone}
-use Rattle.session_state.specs.Hearing.{hear_waits}
-use Rattle.session_state.specs.Taking as taking
-use Rattle.session_state.specs.Taking.{Takes, PassesEntry, PassesEntries, stage_for, entry_stages, stages_for, opened}
-use Rattle.session_state.specs.Turning.{start, opening_stage}
+use Rattle.peer_events.specs.Core.{Core, stage_at, with_desk}
+use Rattle.peer_events.specs.Finishing.{Reaches, none_left, lowest, Cancels, fault_at, fault_passed, told_at, told, over_or_gone}
+use Rattle.peer_events.specs.Hearing.{hear_waits}
+use Rattle.peer_events.specs.Taking as taking
+use Rattle.peer_events.specs.Taking.{Takes, PassesEntry, PassesEntries, stage_for, entry_stages, stages_for, opened}
+use Rattle.peer_events.specs.Turning.{start, opening_stage}
 use Rattle.stream_session.proofs.Failing.{NoneFailed, none-set, over_not}
 
 none-append : (front back : List Stage) → NoneFailed front → NoneFailed back → NoneFailed (front ++ back)

@@ -13,9 +13,9 @@ use Rattle.peer_output.specs.Cancelled.{Begins}
 use Rattle.peer_output.specs.Items.{Item}
 use Rattle.peer_output.specs.Later.{MayBecome}
 use Rattle.peer_output.specs.Past.{past_units}
-use Rattle.session_state.specs.Core.{Core}
-use Rattle.session_state.specs.Stands.{StandsAfter}
-use Rattle.session_state.specs.Taking.{Takes}
+use Rattle.peer_events.specs.Core.{Core}
+use Rattle.peer_events.specs.Stands.{StandsAfter}
+use Rattle.peer_events.specs.Taking.{Takes}
 use Rattle.peer_session.specs.Events.{TakesUnit, ended, ended_at}
 use Rattle.peer_session.specs.SessionState.{SessionState, with_core, numbers_left, count_numbers}
 use Rattle.peer_session.specs.declared.taken.Taken.{Taken}

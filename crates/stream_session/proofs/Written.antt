@@ -15,10 +15,10 @@ use Rattle.peer_output.specs.Cancelled.{Begins}
 use Rattle.peer_output.specs.Items.{Item, count_calls}
 use Rattle.peer_output.specs.Later.{MayBecome}
 use Rattle.peer_output.specs.Output.{IsPartialOutput}
-use Rattle.session_state.specs.Core.{Core, stage_at}
-use Rattle.session_state.specs.Polls.{PollsWithin}
-use Rattle.session_state.specs.Stands.{StandsAfter}
-use Rattle.session_state.specs.Turning.{drained, ready}
+use Rattle.peer_events.specs.Core.{Core, stage_at}
+use Rattle.peer_events.specs.Polls.{PollsWithin}
+use Rattle.peer_events.specs.Stands.{StandsAfter}
+use Rattle.peer_events.specs.Turning.{drained, ready}
 use Rattle.stream_session.specs.Inner.Known.{Known}
 use Rattle.stream_session.specs.Standing.{SessionStands, HasDrained, IsWhole}
 use Rattle.stream_session.proofs.Draining.{appends_both, all_items, drained-bytes, stands-drained, serves-drained}

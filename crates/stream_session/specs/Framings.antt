@@ -14,7 +14,7 @@ use Rattle.peer_session.specs.declared.report.Report.{Report}
 use Rattle.peer_output.specs.Cancelled.{Begins}
 use Rattle.peer_output.specs.Items.{Item, answers_in, count_sendings, count_calls}
 use Rattle.peer_output.specs.Output.{IsOutput, IsPartialOutput}
-use Rattle.session_state.specs.Polls.{PollsWithin}
+use Rattle.peer_events.specs.Polls.{PollsWithin}
 use Rattle.stream_framing.specs.Framed.{Holds, read_text}
 use Rattle.stream_framing.specs.declared.framing.Framing.{Framing}
 use Rattle.stream_session.specs.Promise.{close_of}

@@ -18,7 +18,7 @@ use Rattle.peer_session.specs.declared.report.Report.{Report}
 use Rattle.peer_output.specs.Cancelled.{Begins}
 use Rattle.peer_output.specs.Items.{Item, answers_in, bytes_of, count_sendings, count_calls}
 use Rattle.peer_output.specs.Output.{IsOutput, IsPartialOutput}
-use Rattle.session_state.specs.Polls.{PollsWithin}
+use Rattle.peer_events.specs.Polls.{PollsWithin}
 
 -- ---- how an input closes
 

@@ -4,7 +4,7 @@ use Rattle.rpc_messages.specs.Numbering.{is_cut, units_numbers}
 use Rattle.rpc_messages.specs.Unit.{SeenUnit}
 use Rattle.method_steps.specs.Steps.{MethodTable}
 use Rattle.handler_future.specs.State.{HandlerState}
-use Rattle.session_stages.specs.declared.stage.Stage.TheVariants.{Failed}
+use Rattle.peer_events.specs.declared.stage.Stage.TheVariants.{Failed}
 use Rattle.peer_session.specs.SessionState.{SessionState, counted}
 use Rattle.peer_session.specs.declared.limits.Limits.{Limits}
 use Rattle.peer_session.specs.declared.report.Close.{Close}
@@ -12,10 +12,10 @@ use Rattle.peer_session.specs.declared.report.Close.TheVariants.{Full}
 use Rattle.peer_session.specs.declared.report.Report.{Report}
 use Rattle.peer_output.specs.Output.{IsOutput}
 use Rattle.peer_output.specs.Items.{Item, answers_in, count_sendings, count_calls}
-use Rattle.session_state.specs.Core.{Core, stage_at}
-use Rattle.session_state.specs.Polls.{PollsFit, PollsWithin}
-use Rattle.session_state.specs.Stands.{StandsAfter}
-use Rattle.session_state.specs.Turning.{drained}
+use Rattle.peer_events.specs.Core.{Core, stage_at}
+use Rattle.peer_events.specs.Polls.{PollsFit, PollsWithin}
+use Rattle.peer_events.specs.Stands.{StandsAfter}
+use Rattle.peer_events.specs.Turning.{drained}
 
 -- The session stands after these units with these jobs out, these items are written and counted, and so are the polls; neither a sink nor
 -- a handler has failed unseen.

@@ -2,7 +2,7 @@
 
 ghost use Rattle.stream_session.specs.Inner.Known.{Known};
 
-use session_state::{
+use peer_events::{
     each_turn_is_one_poll, events_keep_standing, polls_of_a_done_session_are_few,
     what_stands_is_an_output,
 };

@@ -12,7 +12,7 @@ ghost use Rattle.peer_output.specs.Events.{with_at};
 ghost use Rattle.peer_output.specs.Items.{Item, bytes_of};
 ghost use Rattle.peer_output.specs.Later.{MayBecome};
 ghost use Rattle.peer_output.specs.Output.{IsPartialOutput};
-ghost use Rattle.session_state.specs.Turning.{ready};
+ghost use Rattle.peer_events.specs.Turning.{ready};
 ghost use Rattle.peer_session.specs.declared.job.Job.{Job as JobOf};
 ghost use Rattle.peer_session.specs.declared.limits.Limits.{Limits as LimitsOf};
 ghost use Rattle.peer_session.specs.declared.report.Close.{Close as CloseOf};

@@ -6,7 +6,7 @@ ghost use Rattle.lsp_frames.specs.Contents.{Standing};
 ghost use Rattle.lsp_frames.specs.Devices.{Finished, HandsOnAll, Unfinished};
 ghost use Rattle.lsp_frames.specs.declared.frame.Frame.{Frame as FrameOf};
 ghost use Rattle.peer_output.specs.Events.{with_at};
-ghost use Rattle.session_state.specs.Turning.{ready};
+ghost use Rattle.peer_events.specs.Turning.{ready};
 ghost use Rattle.peer_session.specs.declared.job.Job.{Job as JobOf};
 ghost use Rattle.peer_session.specs.declared.report.Close.{Close as CloseOf};
 ghost use Rattle.peer_session.specs.Events.{CountsDrain, DrainsIn, LeavesAt, ended, picked, with_job_back};

@@ -18,6 +18,11 @@
 (cl-defmethod eglot-handle-notification :before (_server method &rest more)
   (push method told)
   (when (eq method 'textDocument/publishDiagnostics) (setq seen (append (plist-get more :diagnostics) nil))))
+;; (Eglot 1.9 has no progress; so this is what an editor that has it does)
+(cl-defmethod eglot-handle-request (_server (_method (eql window/workDoneProgress/create)) &rest _) nil)
+(cl-defmethod eglot-client-capabilities :around (_server)
+  (let ((able (cl-call-next-method)))
+    (plist-put able :window (plist-put (plist-get able :window) :workDoneProgress t))))
 
 (let* ((file (expand-file-name "notes.txt" (getenv "ROOM")))
        (command (append (json-parse-string (getenv "SERVER")) nil)))

@@ -66,21 +66,24 @@ macro_rules! assert_laid_out {
             std::ptr::addr_of!(it.$field) as usize - start,
             size_of_val(&it.$field),
         )),*];
+        assert_eq!(align_of::<$kind>(), fields.iter().map(|it| it.2).max().expect("a field"));
         assert_eq!((fields, size_of::<$kind>()), laid_out_in_c(stringify!($kind)));
-        assert_eq!(align_of::<$kind>(), 8);
     }};
 }
 
 #[test]
 fn structs_lie_as_in_the_header() {
     assert_laid_out!(bm_settings: framing order takes_cancels content calls);
-    assert_laid_out!(bm_options: size framing order cancels broken content calls);
+    assert_laid_out!(bm_options: size framing order cancels broken content calls entries null_params);
     assert_laid_out!(bm_event: kind flags number key code name_len text_len id_len);
     assert_laid_out!(bm_report: calls requests open waiting own_calls answers_written unreadable invalid ignored);
     assert_laid_out!(bm_told: count stopped used needed pending);
     assert_laid_out!(bm_saying: kind said number key code name_len text_len calls);
     assert_laid_out!(bm_said: refused taken pending);
+    assert_laid_out!(bm_judge_options: size rules framing content ids);
+    assert_laid_out!(bm_finding: side rule level whose number offset entry);
     assert_eq!(size_of::<bm_connection>(), size_of::<*mut c_void>());
+    assert_eq!(size_of::<bm_judge>(), size_of::<*mut c_void>());
 }
 
 macro_rules! named {
@@ -101,9 +104,17 @@ fn constants_are_those_of_the_header() {
         BM_REQUEST BM_ERROR BM_UNREADABLE BM_INVALID
         BM_OVER_CLEAN BM_OVER_BAD_HEAD BM_OVER_BAD_LENGTH BM_OVER_TWO_LENGTHS BM_OVER_TOO_LARGE BM_OVER_NO_LENGTH
         BM_OVER_HEAD_TOO_LONG BM_OVER_TRUNCATED BM_OVER_READ BM_OVER_CALLS
-        BM_HAS_TOGETHER BM_HAS_OPEN
+        BM_HAS_TOGETHER BM_HAS_OPEN BM_HAS_JUDGE
         BM_STOP_NONE BM_STOP_ROOM BM_STOP_MOST BM_STOP_NO_MEMORY
         BM_SAY_ANSWER BM_SAY_FAIL BM_SAY_CLOSE BM_SAY_CALL BM_SAY_BATCH BM_SAY_NOTIFY BM_SAY_WITHDRAW BM_SAY_CANCEL
+        BM_RULES_JSONRPC BM_RULES_LSP BM_RULES_MCP BM_RULES_MCP_2025_03_26
+        BM_CLIENT BM_SERVER BM_MUST BM_SHOULD BM_NOTE
+        BM_WHOSE_CONNECTION BM_WHOSE_HOST BM_WHOSE_NOBODY
+        BM_RULE_HEAD BM_RULE_NOT_JSON BM_RULE_CHARSET BM_RULE_CUT_OFF BM_RULE_LINE_END BM_RULE_OBJECT BM_RULE_VERSION
+        BM_RULE_METHOD BM_RULE_PARAMS BM_RULE_ID BM_RULE_OUTCOME BM_RULE_ERROR BM_RULE_EMPTY_ARRAY BM_RULE_BATCH
+        BM_RULE_NOT_OWED BM_RULE_NOT_AS_ARRAY BM_RULE_ID_FRACTION BM_RULE_ID_NULL BM_RULE_ID_FORM BM_RULE_ID_AGAIN
+        BM_RULE_RPC_NAME BM_RULE_CODE BM_RULE_CANCELLED_CODE BM_RULE_CANCEL_PARAMS BM_RULE_CANCEL_UNKNOWN
+        BM_RULE_CANCEL_INITIALIZE BM_RULE_AFTER_CANCEL BM_RULE_UNANSWERED BM_RULE_NOT_JUDGED
     );
     assert_eq!(ours, constants());
 }
@@ -111,5 +122,5 @@ fn constants_are_those_of_the_header() {
 #[test]
 fn the_library_has_the_interface_of_the_header() {
     assert_eq!(unsafe { bm_interface() }, BM_INTERFACE);
-    assert!(unsafe { bm_has(BM_HAS_TOGETHER) && bm_has(BM_HAS_OPEN) });
+    assert!(unsafe { bm_has(BM_HAS_TOGETHER) && bm_has(BM_HAS_OPEN) && bm_has(BM_HAS_JUDGE) });
 }

@@ -27,9 +27,7 @@ impl<'a> Words<'a> {
     }
 
     fn number(&mut self) -> u64 {
-        let word = self.next();
-        let is_decimal = word.bytes().all(|it| it.is_ascii_digit()) && (word == "0" || !word.starts_with('0'));
-        word.parse().ok().filter(|_| is_decimal).unwrap_or_else(give_up)
+        number(self.next())
     }
 
     fn code(&mut self) -> i64 {
@@ -80,6 +78,27 @@ fn hex(bytes: impl AsRef<[u8]>) -> String {
     match bytes.as_ref() {
         b"" => ".".into(),
         some => some.iter().map(|it| format!("{it:02x}")).collect(),
+    }
+}
+
+/// Whether the first of the words is this one, and those behind it then.
+fn takes<'a, 'b>(name: &str, words: &'a [&'b str]) -> (bool, &'a [&'b str]) {
+    match words.split_first() {
+        Some((first, behind)) if *first == name => (true, behind),
+        _ => (false, words),
+    }
+}
+
+fn number(word: &str) -> u64 {
+    let is_decimal = word.bytes().all(|it| it.is_ascii_digit()) && (word == "0" || !word.starts_with('0'));
+    word.parse().ok().filter(|_| is_decimal).unwrap_or_else(give_up)
+}
+
+/// How many entries a batch may have, by the word `entries=MOST`.
+fn most_entries(word: &str) -> u32 {
+    match word.strip_prefix("entries=").map(number) {
+        None | Some(0) => give_up(),
+        Some(most) => most.try_into().unwrap_or(u32::MAX),
     }
 }
 
@@ -154,14 +173,17 @@ impl Player {
         let cancels = words.one_of(&[("no-cancels", Cancels::None), ("cancels", Cancels::Lsp), ("mcp", Cancels::Mcp)]);
         let content = words.number().try_into().unwrap_or(u32::MAX);
         let calls = words.number();
-        let broken = match words.rest()[..] {
-            [] => false,
-            ["broken"] => true,
+        let more = words.rest();
+        let (broken, more) = takes("broken", &more);
+        let (null_params, more) = takes("nulls", more);
+        let entries = match *more {
+            [] => u32::MAX,
+            [word] => most_entries(word),
             _ => give_up(),
         };
         self.has_begun = true;
         let settings = Settings::new().framing(framing).order(order).cancels(cancels).broken(broken);
-        let settings = settings.content(content).calls(calls);
+        let settings = settings.content(content).calls(calls).entries(entries).null_params(null_params);
         match Connection::new(settings) {
             Ok(made) => {
                 self.connection = Some(made);

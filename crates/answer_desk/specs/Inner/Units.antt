@@ -3,11 +3,10 @@ use Rattle.std.specs.Prelude.{◌==◌, ℕ, ◌+◌, ◌++◌, ◌&&◌, List, 
 use Rattle.std.specs.List.{list_all}
 use Rattle.answer_desk.specs.declared.waiting_unit.Due.{Due}
 use Rattle.answer_desk.specs.declared.waiting_unit.Due.TheVariants.{ParseError, InvalidRequest, Nothing, Answer}
-use Rattle.answer_desk.specs.declared.kept.Kept.{Kept}
+use Rattle.open_numbers.specs.declared.kept.Kept.{Kept}
 use Rattle.answer_desk.specs.declared.waiting_unit.WaitingUnit.{WaitingUnit}
-use Rattle.answer_desk.specs.Seen.{kept_at}
+use Rattle.open_numbers.specs.Kept.{kept_at, without_answer}
 use Rattle.answer_desk.specs.Waiting.{Waiting, is_finished}
-use Rattle.answer_desk.specs.Inner.Kept.{without_answer}
 
 -- the numbers of the requests
 abbrev pub request_of : Due → List ℕ

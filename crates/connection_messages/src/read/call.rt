@@ -5,12 +5,13 @@ ghost use Rattle.json.specs.Find.{get, as_str};
 ghost use Rattle.json.specs.Tree.{HasNumbers};
 ghost use Rattle.json.specs.Value.{value_view};
 ghost use Rattle.json_texts.specs.Texts.{json_text};
-ghost use Rattle.connection_messages.specs.Reading.{is_version_2, number_id, id_of, call_id, call_params, call_in, cancel_member, cancelled_id, target_in, is_cancel, cancel_or_call, call_entry};
+ghost use Rattle.connection_messages.specs.Reading.{is_version_2, number_id, id_of, call_id, null_params, call_params, call_in, cancel_member, cancelled_id, target_in, is_cancel, cancel_or_call, call_entry};
 
 use super::number::{negative, unsigned};
 use crate::call::Call;
 use crate::cancels::Cancels;
 use crate::entry::Entry;
+use crate::rules::Rules;
 use json::Value;
 use json_texts::text_of;
 use json_values::{Negative, Text};
@@ -28,19 +29,15 @@ pub(crate) fn is_version_2(value: &Value<'_>) -> bool
 }
 
 /// A value with a member `method`: a call, a cancel, or invalid.
-pub(crate) fn read_call(
-    alloc: Global,
-    cancels: Option<Cancels>,
-    value: &Value<'_>,
-) -> Result<Entry, AllocError>
+pub(crate) fn read_call(alloc: Global, rules: Rules, value: &Value<'_>) -> Result<Entry, AllocError>
     requires { HasNumbers (value_view value.now) }
-    ensures { IfOk result (λ e. e
-        ≡ call_entry cancels (call_in (value_view value.now)) (value_view value.now)) }
+    ensures { IfOk result (λ e. e ≡ call_entry rules.cancels
+        (call_in rules.null_params (value_view value.now)) (value_view value.now)) }
 {
-    let Some(call) = read_members(alloc, value)? else {
+    let Some(call) = read_members(alloc, rules.null_params, value)? else {
         return Ok(Entry::Invalid);
     };
-    let Some(by) = cancels else {
+    let Some(by) = rules.cancels else {
         return Ok(Entry::Call(call));
     };
     let target = read_target(alloc, by, value)?;
@@ -63,9 +60,13 @@ fn is_cancel(by: Cancels, call: &Call) -> bool
 }
 
 /// The members of a call, where each is what it has to be.
-fn read_members(alloc: Global, value: &Value<'_>) -> Result<Option<Call>, AllocError>
+fn read_members(
+    alloc: Global,
+    null_params: bool,
+    value: &Value<'_>,
+) -> Result<Option<Call>, AllocError>
     requires { HasNumbers (value_view value.now) }
-    ensures { IfOk result (λ call. call ≡ call_in (value_view value.now)) }
+    ensures { IfOk result (λ call. call ≡ call_in null_params (value_view value.now)) }
 {
     if !is_version_2(value) {
         return Ok(None);
@@ -73,7 +74,7 @@ fn read_members(alloc: Global, value: &Value<'_>) -> Result<Option<Call>, AllocE
     let Some(method) = method_of(value) else {
         return Ok(None);
     };
-    let Some(params) = read_params(alloc, value)? else {
+    let Some(params) = read_params(alloc, null_params, value)? else {
         return Ok(None);
     };
     let Some(id) = read_call_id(alloc, value.get("id"))? else {
@@ -94,17 +95,33 @@ fn method_of<'v>(value: &'v Value<'_>) -> Option<&'v str>
     value.get("method")?.as_str()
 }
 
-fn read_params(alloc: Global, value: &Value<'_>) -> Result<Option<Option<Text>>, AllocError>
+fn read_params(
+    alloc: Global,
+    null_params: bool,
+    value: &Value<'_>,
+) -> Result<Option<Option<Text>>, AllocError>
     requires { HasNumbers (value_view value.now) }
-    ensures { IfOk result
-        (λ params. params ≡ call_params (get (codes "params") (value_view value.now))) }
+    ensures { IfOk result (λ params. params
+        ≡ call_params null_params (get (codes "params") (value_view value.now))) }
 {
     match value.get("params") {
-        None | Some(Value::Null) => Ok(Some(None)),
+        None => Ok(Some(None)),
+        Some(Value::Null) => Ok(Some(read_null_params(alloc, null_params)?)),
         Some(params) => match params {
             Value::Array(_) | Value::Object(_) => Ok(Some(Some(text_of(alloc, params)?))),
             _ => Ok(None),
         }
+    }
+}
+
+/// What is told of params that are null.
+pub(crate) fn read_null_params(alloc: Global, told: bool) -> Result<Option<Text>, AllocError>
+    ensures { IfOk result (λ params. params ≡ null_params told) }
+{
+    if told {
+        Ok(Some(Text::copy_of(alloc, "null")?))
+    } else {
+        Ok(None)
     }
 }
 

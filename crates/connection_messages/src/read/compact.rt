@@ -1,13 +1,15 @@
 //! Contents that are compact objects, read from the texts of their members. What isn't seen to be a call or a result is left
 //! to a reader of tokens.
 
-ghost use Rattle.std.specs.Prelude.{◌≡◌, Option, IfOk, IfSome, IsTrue, false};
+ghost use Rattle.std.specs.Prelude.{◌≡◌, IfOk, IfSome, IsTrue, false};
 ghost use Rattle.json.specs.Print.{quoted, escape};
 ghost use Rattle.connection_messages.specs.Envelope.{HasBatch, cancels_by, GivesId, GivesParams, GivesVersion, GivesCall, GivesEntry, GivesReply, GivesCancel, GivesTarget};
 ghost use Rattle.connection_messages.specs.Params.{is_structured};
 ghost use Rattle.connection_messages.specs.Reading.{unit_of};
-ghost use Rattle.connection_messages.specs.declared.cancels.Cancels.{Cancels};
+ghost use Rattle.connection_messages.specs.declared.rules.Rules.{Rules};
 
+use super::batch::{batch_within, has_too_many};
+use super::call::read_null_params;
 use super::envelope::{Envelope, envelope_at, envelope_of};
 use super::number::unsigned;
 use super::unit::MOST_DEPTH_IN;
@@ -15,75 +17,67 @@ use crate::call::Call;
 use crate::cancels::Cancels;
 use crate::entry::Entry;
 use crate::reply::Reply;
+use crate::rules::Rules;
 use crate::unit::Unit;
 use json_texts::{compacted, plain_end};
-use json_values::{Items, Text};
+use json_values::Text;
 use message_ids::Id;
 use std::alloc::{AllocError, Global};
 
 /// The unit of a content that is seen to be one compact call or result, or a batch of such.
 pub(crate) fn read_compact(
     alloc: Global,
-    cancels: Option<Cancels>,
+    rules: Rules,
     text: &str,
 ) -> Result<Option<Unit>, AllocError>
-    ensures { IfOk result (λ u. IfSome u (λ unit. unit ≡ unit_of cancels false text.now)) }
+    ensures { IfOk result (λ u. IfSome u (λ unit. unit ≡ unit_of rules false text.now)) }
 {
     match text.as_bytes().first() {
-        Some(b'[') => read_batch(alloc, cancels, text),
-        _ => read_single(alloc, cancels, text),
+        Some(b'[') => read_batch(alloc, rules, text),
+        _ => read_single(alloc, rules, text),
     }
 }
 
 /// The same of a content whose text isn't compact, once it is made so.
 pub(crate) fn read_compacted(
     alloc: Global,
-    cancels: Option<Cancels>,
+    rules: Rules,
     text: &str,
 ) -> Result<Option<Unit>, AllocError>
-    ensures { IfOk result (λ u. IfSome u (λ unit. unit ≡ unit_of cancels false text.now)) }
+    ensures { IfOk result (λ u. IfSome u (λ unit. unit ≡ unit_of rules false text.now)) }
 {
     match compacted(alloc, text)? {
-        Some(compact) => read_compact(alloc, cancels, compact.as_str()),
+        Some(compact) => read_compact(alloc, rules, compact.as_str()),
         None => Ok(None),
     }
 }
 
-fn read_single(
-    alloc: Global,
-    cancels: Option<Cancels>,
-    text: &str,
-) -> Result<Option<Unit>, AllocError>
-    ensures { IfOk result (λ u. IfSome u (λ unit. unit ≡ unit_of cancels false text.now)) }
+fn read_single(alloc: Global, rules: Rules, text: &str) -> Result<Option<Unit>, AllocError>
+    ensures { IfOk result (λ u. IfSome u (λ unit. unit ≡ unit_of rules false text.now)) }
 {
     let Some(envelope) = envelope_of(text) else {
         return Ok(None);
     };
-    match read_envelope(alloc, cancels, &envelope)? {
+    match read_envelope(alloc, rules, &envelope)? {
         Some(entry) => Ok(Some(Unit::Single(entry))),
         None => Ok(None),
     }
 }
 
-fn read_batch(
-    alloc: Global,
-    cancels: Option<Cancels>,
-    text: &str,
-) -> Result<Option<Unit>, AllocError>
-    ensures { IfOk result (λ u. IfSome u (λ unit. unit ≡ unit_of cancels false text.now)) }
+fn read_batch(alloc: Global, rules: Rules, text: &str) -> Result<Option<Unit>, AllocError>
+    ensures { IfOk result (λ u. IfSome u (λ unit. unit ≡ unit_of rules false text.now)) }
 {
-    match read_entries(alloc, cancels, text)? {
-        Some(entries) => Ok(Some(Unit::Batch(Items::from(entries)))),
+    if has_too_many(rules, text) {
+        return Ok(Some(Unit::Single(Entry::Invalid)));
+    }
+    match read_entries(alloc, rules, text)? {
+        Some(entries) => Ok(Some(batch_within(rules, entries))),
         None => Ok(None),
     }
 }
 
-fn read_entries(
-    alloc: Global,
-    cancels: Option<Cancels>,
-    text: &str,
-) -> Result<Option<Vec<Entry>>, AllocError>
-    ensures { IfOk result (λ e. IfSome e (λ entries. HasBatch cancels text.now entries.items)) }
+fn read_entries(alloc: Global, rules: Rules, text: &str) -> Result<Option<Vec<Entry>>, AllocError>
+    ensures { IfOk result (λ e. IfSome e (λ entries. HasBatch rules text.now entries.items)) }
 {
     let bytes = text.as_bytes();
     if bytes.is_empty() || bytes[0] != b'[' {
@@ -96,7 +90,7 @@ fn read_entries(
             drop(entries);
             return Ok(None);
         };
-        let Some(entry) = read_envelope(alloc, cancels, &envelope)? else {
+        let Some(entry) = read_envelope(alloc, rules, &envelope)? else {
             drop(entries);
             return Ok(None);
         };
@@ -121,10 +115,10 @@ fn read_entries(
 
 fn read_envelope(
     alloc: Global,
-    cancels: Option<Cancels>,
+    rules: Rules,
     envelope: &Envelope<'_>,
 ) -> Result<Option<Entry>, AllocError>
-    ensures { IfOk result (λ e. IfSome e (λ entry. GivesEntry cancels envelope.now entry)) }
+    ensures { IfOk result (λ e. IfSome e (λ entry. GivesEntry rules envelope.now entry)) }
 {
     if !has_version_2(envelope) {
         return Ok(None);
@@ -135,10 +129,10 @@ fn read_envelope(
     let Some(method) = plain(part) else {
         return Ok(None);
     };
-    if let Some(by) = cancels_by(cancels, method) {
+    if let Some(by) = cancels_by(rules.cancels, method) {
         return read_cancel(alloc, by, envelope);
     }
-    match read_call(alloc, envelope, method)? {
+    match read_call(alloc, rules.null_params, envelope, method)? {
         Some(call) => Ok(Some(Entry::Call(call))),
         None => Ok(None),
     }
@@ -203,13 +197,14 @@ fn has_version_2(envelope: &Envelope<'_>) -> bool
 
 fn read_call(
     alloc: Global,
+    null_params: bool,
     envelope: &Envelope<'_>,
     method: &str,
 ) -> Result<Option<Call>, AllocError>
-    ensures call { IfOk result (λ c. IfSome c (λ call. GivesCall envelope.now method.now call)) }
+    ensures call { IfOk result (λ c. IfSome c (λ call. GivesCall null_params envelope.now method.now call)) }
     ensures method { IfOk result (λ c. IfSome c (λ call. call.method ≡ method.now)) }
 {
-    let Some(params) = read_params(alloc, envelope.params)? else {
+    let Some(params) = read_params(alloc, null_params, envelope.params)? else {
         return Ok(None);
     };
     let Some(id) = read_id(alloc, envelope.id)? else {
@@ -223,8 +218,12 @@ fn read_call(
     }))
 }
 
-fn read_params(alloc: Global, part: Option<&str>) -> Result<Option<Option<Text>>, AllocError>
-    ensures { IfOk result (λ p. IfSome p (λ params. GivesParams part.entry params)) }
+fn read_params(
+    alloc: Global,
+    null_params: bool,
+    part: Option<&str>,
+) -> Result<Option<Option<Text>>, AllocError>
+    ensures { IfOk result (λ p. IfSome p (λ params. GivesParams null_params part.entry params)) }
 {
     let Some(part) = part else {
         return Ok(Some(None));
@@ -233,7 +232,7 @@ fn read_params(alloc: Global, part: Option<&str>) -> Result<Option<Option<Text>>
         return Ok(Some(Some(Text::copy_of(alloc, part)?)));
     }
     if part == "null" {
-        return Ok(Some(None));
+        return Ok(Some(read_null_params(alloc, null_params)?));
     }
     Ok(None)
 }
@@ -264,7 +263,7 @@ fn read_id(alloc: Global, part: Option<&str>) -> Result<Option<Option<Id>>, Allo
 
 /// A result of a call of ours.
 fn read_result(alloc: Global, envelope: &Envelope<'_>) -> Result<Option<Entry>, AllocError>
-    ensures { IfOk result (λ e. IfSome e (λ entry. (cancels : Option Cancels) → GivesReply cancels envelope.now entry)) }
+    ensures { IfOk result (λ e. IfSome e (λ entry. (rules : Rules) → GivesReply rules envelope.now entry)) }
 {
     let (Some(id), Some(result), None) = (envelope.id, envelope.result, envelope.error) else {
         return Ok(None);

@@ -7,22 +7,22 @@ ghost use Rattle.connection_messages.specs.Reading.{entry_of, entries_of};
 
 use super::call::read_call;
 use super::reply::read_reply;
-use crate::cancels::Cancels;
 use crate::entry::Entry;
+use crate::rules::Rules;
 use json::Value;
 use std::alloc::{AllocError, Global};
 
 /// What one value is.
 pub(crate) fn read_entry(
     alloc: Global,
-    cancels: Option<Cancels>,
+    rules: Rules,
     value: &Value<'_>,
 ) -> Result<Entry, AllocError>
     requires { HasNumbers (value_view value.now) }
-    ensures { IfOk result (λ e. e ≡ entry_of cancels (value_view value.now)) }
+    ensures { IfOk result (λ e. e ≡ entry_of rules (value_view value.now)) }
 {
     if value.get("method").is_some() {
-        return read_call(alloc, cancels, value);
+        return read_call(alloc, rules, value);
     }
     if value.get("result").is_some() || value.get("error").is_some() {
         return read_reply(alloc, value);
@@ -33,15 +33,15 @@ pub(crate) fn read_entry(
 /// What the elements of an array are, in their order.
 pub(crate) fn read_entries(
     alloc: Global,
-    cancels: Option<Cancels>,
+    rules: Rules,
     values: &[Value<'_>],
 ) -> Result<Vec<Entry>, AllocError>
     requires { ItemsHaveNumbers (items_view values.now) }
-    ensures { IfOk result (λ entries. entries.items ≡ entries_of cancels (items_view values.now)) }
+    ensures { IfOk result (λ entries. entries.items ≡ entries_of rules (items_view values.now)) }
 {
     let mut entries = Vec::with_capacity(alloc, values.len())?;
     for value in values {
-        entries.push(read_entry(alloc, cancels, value)?)?;
+        entries.push(read_entry(alloc, rules, value)?)?;
     }
     Ok(entries)
 }

@@ -4,17 +4,17 @@ ghost use Rattle.std.specs.Prelude.{◌≡◌, IfOk};
 ghost use Rattle.std.specs.Prelude.{false};
 ghost use Rattle.json.specs.Tree.{HasNumbers, ItemsHaveNumbers};
 ghost use Rattle.json.specs.Value.{value_view, items_view};
-ghost use Rattle.connection_messages.specs.Reading.{entries_of, batch_of, value_unit, unit_of};
+ghost use Rattle.connection_messages.specs.Reading.{entries_of, batch_within, value_unit, unit_of};
 ghost use Rattle.connection_messages.specs.declared.read.unit.TheConstants.{MOST_DEPTH_IN};
 
+use super::batch::batch_within;
 use super::compact::{read_compact, read_compacted};
 use super::entry::{read_entries, read_entry};
-use crate::cancels::Cancels;
 use crate::entry::Entry;
+use crate::rules::Rules;
 use crate::unit::Unit;
 use json::{Scratch, Value};
 use json_texts::{read_str, utf8_text};
-use json_values::Items;
 use lsp_frames::Frame;
 use std::alloc::{AllocError, Global};
 use std::marker::Model;
@@ -36,29 +36,27 @@ const KEPT_ROOM: usize = 65_536;
 #[derive(Drop)]
 pub struct UnitReader {
     alloc: Global,
-    /// The cancels that are told apart from calls.
-    cancels: Option<Cancels>,
+    rules: Rules,
     /// The room of the reader of tokens, where one is kept.
     scratch: Option<Box<Scratch>>,
 }
 
 impl Model for UnitReader {
-    ghost use Rattle.std.specs.Prelude.{Option};
-    ghost use Rattle.connection_messages.specs.declared.cancels.Cancels.{Cancels};
+    ghost use Rattle.connection_messages.specs.declared.rules.Rules.{Rules};
 
-    ghost Value = { Option Cancels };
+    ghost Value = { Rules };
 
-    ghost view = { λ r. r.cancels };
+    ghost view = { λ r. r.rules };
 }
 
 impl UnitReader {
-    /// A reader that has no room yet. It tells these cancels apart from calls. Takes no memory.
-    pub fn new(alloc: Global, cancels: Option<Cancels>) -> UnitReader
-        ensures { result ≡ cancels }
+    /// A reader by these rules, which has no room yet. Takes no memory.
+    pub fn new(alloc: Global, rules: Rules) -> UnitReader
+        ensures { result ≡ rules }
     {
         UnitReader {
             alloc,
-            cancels,
+            rules,
             scratch: None,
         }
     }
@@ -68,7 +66,7 @@ impl UnitReader {
     pub fn read(&mut self, frame: &Frame) -> Result<Unit, AllocError>
         ensures unit { IfOk result
             (λ u. u ≡ unit_of self.old frame.now.foreign frame.now.content) }
-        ensures cancels { self.new ≡ self.old }
+        ensures rules { self.new ≡ self.old }
     {
         if frame.foreign {
             return Ok(Unit::Unreadable);
@@ -78,15 +76,15 @@ impl UnitReader {
 
     fn read_content(&mut self, content: &[u8]) -> Result<Unit, AllocError>
         ensures unit { IfOk result (λ u. u ≡ unit_of self.old false content.now) }
-        ensures cancels { self.new ≡ self.old }
+        ensures rules { self.new ≡ self.old }
     {
         let Some(text) = utf8_text(content) else {
             return Ok(Unit::Unreadable);
         };
-        if let Some(unit) = read_compact(self.alloc, self.cancels, text)? {
+        if let Some(unit) = read_compact(self.alloc, self.rules, text)? {
             return Ok(unit);
         }
-        match read_compacted(self.alloc, self.cancels, text)? {
+        match read_compacted(self.alloc, self.rules, text)? {
             Some(unit) => Ok(unit),
             None => self.read_tokens(text),
         }
@@ -94,10 +92,10 @@ impl UnitReader {
 
     fn read_tokens(&mut self, text: &str) -> Result<Unit, AllocError>
         ensures unit { IfOk result (λ u. u ≡ unit_of self.old false text.now) }
-        ensures cancels { self.new ≡ self.old }
+        ensures rules { self.new ≡ self.old }
     {
         let mut scratch = self.take_scratch()?;
-        let unit = read_unit(self.alloc, self.cancels, text, &mut scratch);
+        let unit = read_unit(self.alloc, self.rules, text, &mut scratch);
         if text.len() <= KEPT_ROOM {
             self.scratch = Some(scratch);
         } else {
@@ -118,45 +116,36 @@ impl UnitReader {
 
 fn read_unit(
     alloc: Global,
-    cancels: Option<Cancels>,
+    rules: Rules,
     text: &str,
     scratch: &mut Scratch,
 ) -> Result<Unit, AllocError>
-    ensures { IfOk result (λ u. u ≡ unit_of cancels false text.now) }
+    ensures { IfOk result (λ u. u ≡ unit_of rules false text.now) }
 {
     match read_str(alloc, text, MOST_DEPTH_IN, scratch)? {
-        Some(value) => unit_of_value(alloc, cancels, &value),
+        Some(value) => unit_of_value(alloc, rules, &value),
         None => Ok(Unit::Unreadable),
     }
 }
 
-fn unit_of_value(
-    alloc: Global,
-    cancels: Option<Cancels>,
-    value: &Value<'_>,
-) -> Result<Unit, AllocError>
+fn unit_of_value(alloc: Global, rules: Rules, value: &Value<'_>) -> Result<Unit, AllocError>
     requires { HasNumbers (value_view value.now) }
-    ensures { IfOk result (λ u. u ≡ value_unit cancels (value_view value.now)) }
+    ensures { IfOk result (λ u. u ≡ value_unit rules (value_view value.now)) }
 {
     match value {
-        Value::Array(items) => read_batch(alloc, cancels, items.as_slice()),
-        value => Ok(Unit::Single(read_entry(alloc, cancels, value)?)),
+        Value::Array(items) => read_batch(alloc, rules, items.as_slice()),
+        value => Ok(Unit::Single(read_entry(alloc, rules, value)?)),
     }
 }
 
-fn read_batch(
-    alloc: Global,
-    cancels: Option<Cancels>,
-    values: &[Value<'_>],
-) -> Result<Unit, AllocError>
+fn read_batch(alloc: Global, rules: Rules, values: &[Value<'_>]) -> Result<Unit, AllocError>
     requires { ItemsHaveNumbers (items_view values.now) }
-    ensures { IfOk result (λ u. u ≡ batch_of (entries_of cancels (items_view values.now))) }
+    ensures { IfOk result (λ u. u ≡ batch_within rules.most_entries (entries_of rules (items_view values.now))) }
 {
-    let entries = read_entries(alloc, cancels, values)?;
-    if entries.is_empty() {
+    if rules.are_too_many(values.len()) {
         return Ok(Unit::Single(Entry::Invalid));
     }
-    Ok(Unit::Batch(Items::from(entries)))
+    Ok(batch_within(rules, read_entries(alloc, rules, values)?))
 }
 
 /// Apart, since it holds the scratch's 16 KiB on the stack.

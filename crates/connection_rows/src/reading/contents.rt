@@ -3,7 +3,7 @@
 use super::shown_by;
 use crate::parts::{Part, joined};
 use crate::rows::each_act;
-use connection_messages::{Cancels, UnitReader};
+use connection_messages::{Cancels, Rules, UnitReader};
 use std::alloc::{AllocError, Global};
 use std::test::Fail;
 
@@ -173,7 +173,7 @@ fn is_read(alloc: Global, reader: &mut UnitReader, row: &Row) -> Result<bool, Al
 
 #[test]
 fn contents_are_read_one_after_another(rt: HostRuntime) -> Result<(), Fail> {
-    let mut reader = UnitReader::new(rt.alloc(), Some(Cancels::Lsp));
+    let mut reader = UnitReader::new(rt.alloc(), Rules::new(Some(Cancels::Lsp)));
     let read = each_act(&rt, rt.alloc(), &mut reader, ROWS, is_read);
     drop(reader);
     read

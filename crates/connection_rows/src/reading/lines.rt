@@ -2,7 +2,7 @@
 
 use super::shown_by;
 use crate::rows::each_line;
-use connection_messages::{Cancels, UnitReader};
+use connection_messages::{Cancels, Rules, UnitReader};
 use std::alloc::{AllocError, Global};
 use std::process::Abort;
 use std::test::Fail;
@@ -12,6 +12,8 @@ use std::test::Fail;
 struct Group {
     name: &'static str,
     cancels: Option<Cancels>,
+    most_entries: Option<u64>,
+    null_params: bool,
     content: &'static str,
     unit: &'static str,
     lines: &'static str,
@@ -21,6 +23,8 @@ const GROUPS: &[Group] = &[
     Group {
         name: "a call without id is a notification",
         cancels: Some(Cancels::Lsp),
+        most_entries: None,
+        null_params: false,
         content: r#"{"jsonrpc":"2.0","method":"f",@}"#,
         unit: r#"Single(Call(Call { id: @, method: "f", params: None }))"#,
         lines: r#""more":[1.5] => None
@@ -39,6 +43,8 @@ const GROUPS: &[Group] = &[
     Group {
         name: "params are told as compact JSON, numbers digit for digit",
         cancels: Some(Cancels::Lsp),
+        most_entries: None,
+        null_params: false,
         content: r#"{"jsonrpc":"2.0","method":"f","params":@}"#,
         unit: r#"Single(Call(Call { id: None, method: "f", params: @ }))"#,
         lines: r#"null => None
@@ -54,6 +60,8 @@ const GROUPS: &[Group] = &[
     Group {
         name: "names are the host's",
         cancels: Some(Cancels::Lsp),
+        most_entries: None,
+        null_params: false,
         content: r#"{"jsonrpc":"2.0","method":@,"params":[0.5]}"#,
         unit: r#"Single(Call(Call { id: None, method: @, params: Some("[0.5]") }))"#,
         lines: r#""$/progress" => "$/progress"
@@ -64,6 +72,8 @@ const GROUPS: &[Group] = &[
     Group {
         name: "a method with other parts amiss is invalid",
         cancels: Some(Cancels::Lsp),
+        most_entries: None,
+        null_params: false,
         content: "@",
         unit: "Single(Invalid)",
         lines: r#"{"method":"f","id":1}
@@ -92,6 +102,8 @@ const GROUPS: &[Group] = &[
     Group {
         name: "a reply has a result or an error",
         cancels: Some(Cancels::Lsp),
+        most_entries: None,
+        null_params: false,
         content: r#"{"jsonrpc":"2.0","id":1,@}"#,
         unit: "Single(Reply { key: 1, reply: @ })",
         lines: r#""result":1.50 => Result("1.50")
@@ -109,6 +121,8 @@ const GROUPS: &[Group] = &[
     Group {
         name: "a faulty reply is told as the error `Invalid reply`",
         cancels: Some(Cancels::Lsp),
+        most_entries: None,
+        null_params: false,
         content: r#"{"jsonrpc":"2.0","id":1,@}"#,
         unit: r#"Single(Reply { key: 1, reply: Error(ReplyError { code: -32603, message: "Invalid reply", data: None }) })"#,
         lines: r#""error":null
@@ -131,6 +145,8 @@ const GROUPS: &[Group] = &[
     Group {
         name: "a key is a whole number from 1 on",
         cancels: Some(Cancels::Lsp),
+        most_entries: None,
+        null_params: false,
         content: r#"{"jsonrpc":"2.0","result":true,"id":@}"#,
         unit: "Single(@)",
         lines: r#"1 => Reply { key: 1, reply: Result("true") }
@@ -149,6 +165,8 @@ null => Stray
     Group {
         name: "a reply without a key is stray, whatever else it has",
         cancels: Some(Cancels::Lsp),
+        most_entries: None,
+        null_params: false,
         content: "@",
         unit: "Single(Stray)",
         lines: r#"{"jsonrpc":"2.0","result":1}
@@ -159,6 +177,8 @@ null => Stray
     Group {
         name: "a value that is no message is invalid",
         cancels: Some(Cancels::Lsp),
+        most_entries: None,
+        null_params: false,
         content: "@",
         unit: "Single(Invalid)",
         lines: r#"null
@@ -172,6 +192,8 @@ true
     Group {
         name: "what is no JSON is unreadable",
         cancels: Some(Cancels::Lsp),
+        most_entries: None,
+        null_params: false,
         content: "@",
         unit: "Unreadable",
         lines: r#"{
@@ -185,6 +207,8 @@ nul
     Group {
         name: "a batch has its entries in order, and an empty array is one invalid entry",
         cancels: Some(Cancels::Lsp),
+        most_entries: None,
+        null_params: false,
         content: "@",
         unit: "@",
         lines: r#"[] => Single(Invalid)
@@ -196,6 +220,8 @@ nul
     Group {
         name: "a cancel names a string or a whole number",
         cancels: Some(Cancels::Lsp),
+        most_entries: None,
+        null_params: false,
         content: r#"{"jsonrpc":"2.0","method":"$/cancelRequest",@}"#,
         unit: "Single(Cancel(@))",
         lines: r#""params":{"id":7} => Unsigned(7)
@@ -207,6 +233,8 @@ nul
     Group {
         name: "any other cancel is a call",
         cancels: Some(Cancels::Lsp),
+        most_entries: None,
+        null_params: false,
         content: r#"{"jsonrpc":"2.0","method":"$/cancelRequest",@}"#,
         unit: "Single(Call(Call { id: @ }))",
         lines: r#""params":{"id":7,"id":null} => None, method: "$/cancelRequest", params: Some("{\"id\":7,\"id\":null}")
@@ -224,6 +252,8 @@ nul
     Group {
         name: "where cancels aren't told apart, they are calls",
         cancels: None,
+        most_entries: None,
+        null_params: false,
         content: r#"{"jsonrpc":"2.0","method":"$/cancelRequest","params":@}"#,
         unit: r#"Single(Call(Call { id: None, method: "$/cancelRequest", params: Some(@) }))"#,
         lines: r#"{"id":7} => "{\"id\":7}"
@@ -232,6 +262,8 @@ nul
     Group {
         name: "a cancel as MCP has it names a string or a whole number by its requestId",
         cancels: Some(Cancels::Mcp),
+        most_entries: None,
+        null_params: false,
         content: r#"{"jsonrpc":"2.0","method":"notifications/cancelled",@}"#,
         unit: "Single(Cancel(@))",
         lines: r#""params":{"requestId":7} => Unsigned(7)
@@ -246,6 +278,8 @@ nul
     Group {
         name: "any other cancel as MCP has it is a call",
         cancels: Some(Cancels::Mcp),
+        most_entries: None,
+        null_params: false,
         content: r#"{"jsonrpc":"2.0","method":"notifications/cancelled",@}"#,
         unit: "Single(Call(Call { id: @ }))",
         lines: r#""params":{"id":7} => None, method: "notifications/cancelled", params: Some("{\"id\":7}")
@@ -262,6 +296,8 @@ nul
     Group {
         name: "a cancel as MCP has it is invalid where a call is",
         cancels: Some(Cancels::Mcp),
+        most_entries: None,
+        null_params: false,
         content: "@",
         unit: "Single(Invalid)",
         lines: r#"{"jsonrpc":"2.0","method":"notifications/cancelled","params":7}
@@ -270,6 +306,8 @@ nul
     Group {
         name: "a cancel as LSP has it is a call where cancels are MCP's",
         cancels: Some(Cancels::Mcp),
+        most_entries: None,
+        null_params: false,
         content: r#"{"jsonrpc":"2.0","method":"$/cancelRequest","params":@}"#,
         unit: r#"Single(Call(Call { id: None, method: "$/cancelRequest", params: Some(@) }))"#,
         lines: r#"{"id":7} => "{\"id\":7}"
@@ -279,6 +317,8 @@ nul
     Group {
         name: "a cancel as MCP has it is a call where cancels are LSP's",
         cancels: Some(Cancels::Lsp),
+        most_entries: None,
+        null_params: false,
         content: r#"{"jsonrpc":"2.0","method":"notifications/cancelled","params":@}"#,
         unit: r#"Single(Call(Call { id: None, method: "notifications/cancelled", params: Some(@) }))"#,
         lines: r#"{"id":7} => "{\"id\":7}"
@@ -288,6 +328,8 @@ nul
     Group {
         name: "a cancel as LSP has it names nothing by requestId",
         cancels: Some(Cancels::Lsp),
+        most_entries: None,
+        null_params: false,
         content: r#"{"jsonrpc":"2.0","method":"$/cancelRequest","params":@}"#,
         unit: r#"Single(@)"#,
         lines: r#"{"requestId":7} => Call(Call { id: None, method: "$/cancelRequest", params: Some("{\"requestId\":7}") })
@@ -296,9 +338,61 @@ nul
     Group {
         name: "a batch may have cancels as MCP has them",
         cancels: Some(Cancels::Mcp),
+        most_entries: None,
+        null_params: false,
         content: "@",
         unit: "Batch(Items { items: [@] })",
         lines: r#"[{"jsonrpc":"2.0","method":"notifications/cancelled","params":{"requestId":"a"}},{"jsonrpc":"2.0","method":"notifications/cancelled","params":{"id":"a"}}] => Cancel(Text("a")), Call(Call { id: None, method: "notifications/cancelled", params: Some("{\"id\":\"a\"}") })"#,
+    },
+    Group {
+        name: "params that are null are told where that is asked for",
+        cancels: Some(Cancels::Lsp),
+        most_entries: None,
+        null_params: true,
+        content: r#"{"jsonrpc":"2.0",@}"#,
+        unit: "Single(Call(Call { @ }))",
+        lines: r#""method":"f","params":null,"id":1 => id: Some(Unsigned(1)), method: "f", params: Some("null")
+"method":"f","params": null => id: None, method: "f", params: Some("null")
+"method":"\u0066","params":null => id: None, method: "f", params: Some("null")
+"method":"f","params":[null],"params":null => id: None, method: "f", params: Some("null")
+"method":"f","params":null,"params":[null] => id: None, method: "f", params: Some("[null]")
+"method":"f" => id: None, method: "f", params: None
+"method":"$/cancelRequest","params":null => id: None, method: "$/cancelRequest", params: Some("null")"#,
+    },
+    Group {
+        name: "a batch has at most so many entries",
+        cancels: None,
+        most_entries: Some(2),
+        null_params: false,
+        content: "@",
+        unit: "@",
+        lines: r#"[1] => Batch(Items { items: [Invalid] })
+[1,2] => Batch(Items { items: [Invalid, Invalid] })
+[{},[1,2,3]] => Batch(Items { items: [Invalid, Invalid] })
+[1,2,3] => Single(Invalid)
+[ 1, 2, 3 ] => Single(Invalid)
+["\u0000",2,3] => Single(Invalid)
+["\u0000",2] => Batch(Items { items: [Invalid, Invalid] })
+[{"id":1,"jsonrpc":"2.0","result":1},{"id":2,"jsonrpc":"2.0","result":1}] => Batch(Items { items: [Reply { key: 1, reply: Result("1") }, Reply { key: 2, reply: Result("1") }] })
+[{"id":1,"jsonrpc":"2.0","result":1},{"id":2,"jsonrpc":"2.0","result":1},{"id":3,"jsonrpc":"2.0","result":1}] => Single(Invalid)
+[{"jsonrpc":"2.0","method":"f"}, {"jsonrpc":"2.0","method":"f"}, {"jsonrpc":"2.0","method":"f"}] => Single(Invalid)
+[1,2,3 => Unreadable
+[1,2,3,] => Unreadable
+[1,2,3]] => Unreadable
+[] => Single(Invalid)
+{"a":[1,2,3]} => Single(Invalid)"#,
+    },
+    Group {
+        name: "where no batch may be, each array is a single invalid entry",
+        cancels: None,
+        most_entries: Some(0),
+        null_params: false,
+        content: "@",
+        unit: "Single(@)",
+        lines: r#"[1] => Invalid
+[ {"jsonrpc":"2.0","method":"f"} ] => Invalid
+[] => Invalid
+{"jsonrpc":"2.0","method":"f"} => Call(Call { id: None, method: "f", params: None })"#,
     },
 ];
 
@@ -307,7 +401,12 @@ fn is_read(alloc: Global, group: &Group, line: &str) -> Result<bool, AllocError>
     let (part, want) = line.split_once(" => ").unwrap_or((line, ""));
     let want = group.unit.replace(alloc, "@", want)?;
     let content = group.content.replace(alloc, "@", part)?;
-    let mut reader = UnitReader::new(alloc, group.cancels);
+    let rules = Rules {
+        cancels: group.cancels,
+        most_entries: group.most_entries,
+        null_params: group.null_params,
+    };
+    let mut reader = UnitReader::new(alloc, rules);
     let shown = shown_by(alloc, &mut reader, content.into_bytes(), false);
     drop(reader);
     Ok(shown?.as_bytes() == want.as_bytes())

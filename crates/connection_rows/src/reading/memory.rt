@@ -3,7 +3,7 @@
 use super::shown_by;
 use crate::parts::{Part, joined};
 use crate::rows::each_act;
-use connection_messages::{Cancels, UnitReader};
+use connection_messages::{Cancels, Rules, UnitReader};
 use std::alloc::{AllocError, Global};
 use std::test::Fail;
 
@@ -83,7 +83,7 @@ const ROWS: &[(&str, Row)] = &[
 /// A content whose reading was refused memory is read by the same reader again.
 #[test]
 fn a_unit_is_read_again_after_memory(rt: HostRuntime) -> Result<(), Fail> {
-    let mut reader = UnitReader::new(rt.alloc(), Some(Cancels::Lsp));
+    let mut reader = UnitReader::new(rt.alloc(), Rules::new(Some(Cancels::Lsp)));
     let read = each_act(&rt, rt.alloc(), &mut reader, ROWS, is_read_at_last);
     drop(reader);
     read

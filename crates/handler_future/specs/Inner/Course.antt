@@ -4,9 +4,9 @@ use Rattle.std.specs.List.{range_with_len}
 use Rattle.std.specs.declared.alloc.Global.{Global}
 use Rattle.serde_json.specs.Data.{Data, Members, no_members, put}
 use Rattle.rpc_messages.specs.declared.reply.Reply.{Reply}
-use Rattle.method_steps.specs.declared.frame.Row.{Row}
-use Rattle.method_steps.specs.Frame.{with_lent}
-use Rattle.method_steps.specs.Steps.{Step}
+use Rattle.method_templates.specs.declared.locals.Row.{Row}
+use Rattle.method_templates.specs.Locals.{with_lent}
+use Rattle.method_templates.specs.Steps.{Step}
 use Rattle.handler_future.specs.declared.act.Act.{Act}
 use Rattle.handler_future.specs.declared.act.Act.TheVariants as act
 use Rattle.handler_future.specs.declared.course.CourseOf.{CourseOf}

@@ -2,8 +2,8 @@
 use Rattle.std.specs.Prelude.{◌≡◌, Result, Ok, Err, Vec, List}
 use Rattle.std.specs.declared.alloc.Global.{Global}
 use Rattle.message_ids.specs.declared.standard.Standard.{Standard}
-use Rattle.method_steps.specs.declared.filling.FillFault.{FillFault}
-use Rattle.method_steps.specs.declared.filling.FillFault.TheVariants as fault
+use Rattle.method_templates.specs.declared.filling.FillFault.{FillFault}
+use Rattle.method_templates.specs.declared.filling.FillFault.TheVariants as fault
 use Rattle.handler_future.specs.Act.{error_at}
 use Rattle.handler_future.specs.declared.fault.StepFault.{StepFault}
 use Rattle.handler_future.specs.declared.fault.StepFault.TheVariants.{Ended, Memory}

@@ -5,7 +5,8 @@ use Rattle.std.specs.declared.alloc.Global.{Global}
 use Rattle.std.specs.declared.sync.Arc.{Arc}
 use Rattle.serde_json.specs.Data.{Data, null}
 use Rattle.rpc_messages.specs.declared.call.Call.{Call}
-use Rattle.method_steps.specs.Steps.{AreWithinLimits, shared_steps}
+use Rattle.method_templates.specs.Steps.{AreWithinLimits}
+use Rattle.method_steps.specs.Steps.{shared_steps}
 use Rattle.handler_future.specs.declared.handler.Handler.TheInside.{Inside}
 use Rattle.handler_future.specs.declared.run.Run.{Run}
 use Rattle.handler_future.specs.Inner.Course.{Seen, HasRoom, seen}

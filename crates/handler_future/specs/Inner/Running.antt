@@ -2,7 +2,7 @@
 use Rattle.std.specs.Prelude.{◌≡◌, ◌+◌, ◌≤◌, ◌<◌, List, [], ◌++◌, length, drop, Result, Ok, Err}
 use Rattle.std.specs.declared.alloc.AllocError.{AllocError}
 use Rattle.rpc_messages.specs.declared.key.TheConstants.{MOST_TURNS}
-use Rattle.method_steps.specs.Steps.{Step, calls_of}
+use Rattle.method_templates.specs.Steps.{Step, calls_of}
 use Rattle.handler_future.specs.declared.course.Progress.{Progress}
 use Rattle.handler_future.specs.declared.course.Progress.TheVariants.{Going, Waiting, Ended}
 use Rattle.handler_future.specs.declared.message.Message.{Message}

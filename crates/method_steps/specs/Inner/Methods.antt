@@ -3,9 +3,10 @@ use Rattle.std.specs.Prelude.{◌≡◌, ℕ, ◌≤◌, List, [], length, map, 
 use Rattle.std.specs.declared.alloc.Global.{Global}
 use Rattle.std.specs.declared.sync.Arc.{Arc}
 use Rattle.std.specs.BTreeMap.{BTreeMap, get_by_text}
-use Rattle.method_steps.specs.declared.limits.TheConstants.{MOST_METHODS}
+use Rattle.method_templates.specs.declared.limits.TheConstants.{MOST_METHODS}
 use Rattle.method_steps.specs.declared.table.Method.{Method}
-use Rattle.method_steps.specs.Steps.{Step, NamedSteps, MethodTable, AreWithinLimits, calls_of, place_of, shared_steps, unless_empty}
+use Rattle.method_templates.specs.Steps.{Step, AreWithinLimits, calls_of}
+use Rattle.method_steps.specs.Steps.{NamedSteps, MethodTable, place_of, shared_steps, unless_empty}
 
 -- what a method is seen as
 abbrev pub named_steps : Method → NamedSteps

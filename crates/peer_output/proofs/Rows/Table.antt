@@ -2,10 +2,11 @@
 use Rattle.std.specs.Prelude.{ℕ, List, [], ◌∷◌, codes, Some, None, pos, true}
 use Rattle.serde_json.specs.Data.{Data, boolean, string, array, item, no_items}
 use Rattle.rpc_messages.specs.declared.outgoing.Outgoing.{Outgoing}
-use Rattle.method_steps.specs.Shape.{Shape, plain, place, list, no_shapes, shape}
-use Rattle.method_steps.specs.declared.step.OnError.TheVariants.{Fail, Keep}
-use Rattle.method_steps.specs.declared.step.Step.TheVariants as step
-use Rattle.method_steps.specs.Steps.{Step, MethodTable}
+use Rattle.method_templates.specs.Shape.{Shape, plain, place, list, no_shapes, shape}
+use Rattle.method_templates.specs.declared.step.OnError.TheVariants.{Fail, Keep}
+use Rattle.method_templates.specs.declared.step.Step.TheVariants as step
+use Rattle.method_templates.specs.Steps.{Step}
+use Rattle.method_steps.specs.Steps.{MethodTable}
 use Rattle.handler_future.specs.declared.message.Message.TheVariants as messages
 use Rattle.handler_future.specs.Evaluation.{Program}
 use Rattle.peer_output.specs.Course.{message, withdrawal}

@@ -1,14 +1,8 @@
 -- What is put of the sendings of numbers, and what is counted of it.
-use Rattle.std.specs.Prelude.{◌≡◌, ℕ, ◌+◌, List, [], ◌∷◌, ◌++◌, map}
-use Rattle.session_state.specs.Core.{Core, stage_at, unwritten}
-use Rattle.peer_output.specs.Items.{Item, sent, count_sendings, count_calls}
+use Rattle.std.specs.Prelude.{◌≡◌, ◌+◌, List}
+use Rattle.peer_output.specs.Items.{Item, count_sendings, count_calls}
 use Rattle.peer_session.specs.declared.writing.Written.{Written}
 use Rattle.peer_session.specs.SessionState.{counted}
-
--- what these numbers have sent and isn't written
-abbrev pub unwritten_of : Core → List ℕ → List Item
-unwritten_of core [] = []
-unwritten_of core (n ∷ ns) = map (sent n) (unwritten (stage_at core n)) ++ unwritten_of core ns
 
 -- the counts are those of these items
 pub record Counts (written : Written) (items : List Item) : Type 0 where

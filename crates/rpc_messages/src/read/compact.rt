@@ -8,14 +8,14 @@ ghost use Rattle.serde_json.specs.Read.{max_depth, read as read_data};
 ghost use Rattle.rpc_messages.specs.Entry.{entry_seen, entry_of};
 ghost use Rattle.rpc_messages.specs.Envelope.{envelope_of};
 ghost use Rattle.rpc_messages.specs.Held.{envelope_view};
-ghost use Rattle.rpc_messages.specs.Inner.Compact.{IsRead, ItemsAreRead, MembersAreRead};
+ghost use Rattle.compact_values.specs.Compact.{IsRead, ItemsAreRead, MembersAreRead};
 ghost use Rattle.rpc_messages.specs.Unit.{unit_seen, unit_of_reading, value_unit, batch_of, entries_of};
 
-use super::compact_value::{Unread, byte_at, is_over, pass, read_name, read_string, read_value};
 use super::envelope::{Envelope, empty, keep};
-use super::{MOST_LEVELS, take_message};
+use super::{MOST_DEPTH_IN, take_message};
 use crate::entry::Entry;
 use crate::unit::Unit;
+use compact_values::{Unread, byte_at, is_over, pass, read_name, read_string, read_value};
 use json_reading::Piece;
 use json_texts::compacted;
 use json_values::Items;
@@ -58,7 +58,7 @@ fn read_unit(alloc: Global, text: &str, at: &mut usize) -> Result<Unit, Unread>
     if byte_at(text, *at) == b'[' {
         return Ok(Unit::Batch(Items::from(read_entries(alloc, text, at)?)));
     }
-    Ok(Unit::Single(read_entry(alloc, text, at, MOST_LEVELS)?))
+    Ok(Unit::Single(read_entry(alloc, text, at, MOST_DEPTH_IN)?))
 }
 
 /// Passes a batch of some entries.
@@ -71,7 +71,7 @@ fn read_entries(alloc: Global, text: &str, at: &mut usize) -> Result<Vec<Entry>,
     pass(text, at, b'[')?;
     let mut entries = Vec::new(alloc);
     while *at < text.len() {
-        let entry = read_entry(alloc, text, at, MOST_LEVELS - 1)?;
+        let entry = read_entry(alloc, text, at, MOST_DEPTH_IN - 1)?;
         entries.push(entry)?;
         if is_over(text, at, b']')? {
             return Ok(entries);

@@ -1,13 +1,16 @@
 //! The commands of `rpc_tool`, with the options of each.
 use super::notes::NOTES;
-use program_edge::{CommandOption, FlagOption, NumberOption, Program, ProgramCommand, TextOption};
+use program_edge::{
+    ChoiceOption, CommandOption, FlagGroup, FlagOption, NumberOption, Program, ProgramCommand,
+    TextOption,
+};
 
 /// The program, with all of its commands.
 pub static PROGRAM: Program = Program {
     name: "rpc_tool",
     version: "0.3.0",
     about: "A JSON-RPC 2.0 peer over standard input and output, framed as in the Language Server Protocol",
-    commands: &[SERVE, PLAY, CHECK],
+    commands: &[SERVE, PLAY, CHECK, JUDGE],
     needs_command: true,
     options: &[],
     notes: NOTES,
@@ -47,6 +50,15 @@ const CHECK: ProgramCommand = ProgramCommand {
     options: &[
         CommandOption::Text(JUDGED_TABLE),
         CommandOption::Flag(EXPLAIN_TABLE),
+    ],
+};
+
+const JUDGE: ProgramCommand = ProgramCommand {
+    name: "judge",
+    about: "Judge a recording of a conversation on standard input, and say which side broke which rule",
+    options: &[
+        CommandOption::Choice(RULES),
+        CommandOption::OneFlag(RECORDED_FRAMING),
     ],
 };
 
@@ -121,6 +133,36 @@ pub const CALLS: NumberOption = NumberOption {
 pub const EXPLAIN: FlagOption = FlagOption {
     name: "explain",
     help: "Add lines to the one on standard error that says why a run ended: what failed, where and why",
+};
+
+/// Whose rules `judge` holds a recording against.
+pub const RULES: ChoiceOption = ChoiceOption {
+    name: "rules",
+    value_name: "NAME",
+    help: "Whose rules count; without it those that the recording names",
+    words: &["jsonrpc", "lsp", "mcp", "mcp:2025-03-26"],
+    usual: "",
+};
+
+/// How the contents of a recording are framed, where it isn't as the recording says.
+const RECORDED_FRAMING: FlagGroup = FlagGroup {
+    name: "framing",
+    flags: &[RECORDED_FRAMES, RECORDED_LINES, RECORDED_CONTENTS],
+};
+
+pub const RECORDED_FRAMES: FlagOption = FlagOption {
+    name: "frames",
+    help: "Each message that was recorded has a head, whatever the recording says",
+};
+
+pub const RECORDED_LINES: FlagOption = FlagOption {
+    name: "lines",
+    help: "Each message that was recorded is a line",
+};
+
+pub const RECORDED_CONTENTS: FlagOption = FlagOption {
+    name: "contents",
+    help: "Each line of the recording has a message",
 };
 
 /// What `check` explains.

@@ -19,13 +19,16 @@ Status and standard error:
   1  input ended: Full               A content brought more calls than --calls lets in
   1  failed: Memory                  There was no memory, or a thread of serve could not be made
   1  failed: Write                   Standard output failed
-  1  failed: Read                    The input of play failed or took more than 1000000 reads; nothing is played
+  1  failed: Read                    The input of play or judge failed or took more than 1000000 reads
   1  failed: Long                    With play --lines, an answer has more than 16777216 bytes
   2  table: cannot be read           The file of the table can't be opened or read, or takes more than 1000000 reads
   2  table: K, method M, step S      The table has the fault K there, counted from 1; 0 is outside a method or a step
+  1  judged: N must                  The recording of judge breaks N rules that must be kept
+  2  recording: fault in line N      The line N of judge's recording is none of a recording, counted from 1
   2  error: ..                       The command line is refused
 
   What came before an end of the input is answered. 'failed' is told before 'input ended', and Write before Long.
+  judge writes what it finds to standard output, as soon as it is found; what stands before a fault too.
 
 Standard streams:
   Standard input and output must be blocking. A read or write that would block counts as one that fails.

@@ -1,9 +1,11 @@
 //! The words of a command line, read.
 use super::commands::{
-    CALLS, CONTENT, EXPLAIN, EXPLAIN_TABLE, JUDGED_TABLE, LAST, LAZY, LINES, PIECE, PROGRAM, TABLE,
-    WORKERS,
+    CALLS, CONTENT, EXPLAIN, EXPLAIN_TABLE, JUDGED_TABLE, LAST, LAZY, LINES, PIECE, PROGRAM,
+    RECORDED_CONTENTS, RECORDED_FRAMES, RECORDED_LINES, RULES, TABLE, WORKERS,
 };
-use super::subcommand::{CheckOptions, LimitOptions, PlayOptions, ServeOptions, Subcommand};
+use super::subcommand::{
+    CheckOptions, JudgeOptions, LimitOptions, PlayOptions, ServeOptions, Subcommand,
+};
 use program_edge::{Refusal, Words};
 use std::alloc::Global;
 
@@ -16,6 +18,7 @@ pub fn read<'a>(alloc: Global, words: &'a [String]) -> Result<Subcommand<'a>, Re
     Ok(match words.command() {
         Some("serve") => Subcommand::Serve(serve_options(&words)),
         Some("play") => Subcommand::Play(play_options(&words)),
+        Some("judge") => Subcommand::Judge(judge_options(&words)),
         // Words without a command are refused, and `check` without its table.
         _ => Subcommand::Check(CheckOptions {
             table: words.text(&JUDGED_TABLE).unwrap_or(""),
@@ -43,6 +46,26 @@ fn play_options<'a>(words: &Words<'a>) -> PlayOptions<'a> {
         lines: words.flag(&LINES),
         limits: limit_options(words),
         explain: words.flag(&EXPLAIN),
+    }
+}
+
+fn judge_options<'a>(words: &Words<'a>) -> JudgeOptions<'a> {
+    JudgeOptions {
+        rules: words.choice(&RULES),
+        framing: recorded_framing(words),
+    }
+}
+
+/// The name of the framing that they ask for, or an empty one. They have one at most.
+fn recorded_framing(words: &Words<'_>) -> &'static str {
+    if words.flag(&RECORDED_FRAMES) {
+        RECORDED_FRAMES.name
+    } else if words.flag(&RECORDED_LINES) {
+        RECORDED_LINES.name
+    } else if words.flag(&RECORDED_CONTENTS) {
+        RECORDED_CONTENTS.name
+    } else {
+        ""
     }
 }
 

@@ -9,6 +9,8 @@ pub enum Subcommand<'a> {
     Play(PlayOptions<'a>),
     /// Judges the table of methods in this file.
     Check(CheckOptions<'a>),
+    /// Judges the recording on standard input.
+    Judge(JudgeOptions<'a>),
 }
 
 /// How much of its input the program takes.
@@ -50,6 +52,15 @@ pub struct PlayOptions<'a> {
     pub limits: LimitOptions,
     /// Whether standard error says more than one line.
     pub explain: bool,
+}
+
+/// What `judge` holds a recording against.
+#[derive(Clone, Copy)]
+pub struct JudgeOptions<'a> {
+    /// The name of the rules; an empty one for those of the recording.
+    pub rules: &'a str,
+    /// The name of the framing; an empty one for that of the recording.
+    pub framing: &'a str,
 }
 
 /// What `check` judges.

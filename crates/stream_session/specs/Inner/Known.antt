@@ -7,16 +7,16 @@ use Rattle.answer_desk.specs.State.{front_texts}
 use Rattle.handler_future.specs.State.{HandlerState, IsPoll}
 use Rattle.handler_future.specs.declared.outcome.Outcome.{Outcome}
 use Rattle.handler_future.specs.declared.outcome.Outcome.TheVariants.{Failed as NoMemory}
-use Rattle.session_stages.specs.declared.stage.Stage.TheVariants.{Gone, Failed}
+use Rattle.peer_events.specs.declared.stage.Stage.TheVariants.{Gone, Failed}
 use Rattle.peer_output.specs.Events.{with_at}
 use Rattle.peer_output.specs.Items.{Item, answered, bytes_of, count_calls}
 use Rattle.peer_output.specs.Later.{MayBecome}
 use Rattle.peer_output.specs.Output.{IsOutput, IsPartialOutput}
-use Rattle.session_state.specs.Core.{Core, stage_at, unwritten_from}
-use Rattle.session_state.specs.Polls.{PollsFit, PollsWithin}
-use Rattle.session_state.specs.Stands.{StandsAfter}
-use Rattle.session_state.specs.Taking.{Takes}
-use Rattle.session_state.specs.Turning.{start, Leaves, ready, returned, closed, due_bytes, drained}
+use Rattle.peer_events.specs.Core.{Core, stage_at, unwritten_from}
+use Rattle.peer_events.specs.Polls.{PollsFit, PollsWithin}
+use Rattle.peer_events.specs.Stands.{StandsAfter}
+use Rattle.peer_events.specs.Taking.{Takes}
+use Rattle.peer_events.specs.Turning.{start, Leaves, ready, returned, closed, due_bytes, drained}
 
 pub record Known : Type 0 where
   pub start_stands : (table : MethodTable) → StandsAfter table false (start table) (λ n. None) [] []

@@ -1,8 +1,8 @@
 use Rattle.std.proofs.Common.{◌≡◌, ◌+◌, ◌++◌, length, drop}
 use Rattle.std.specs.List.{flat_map}
 use Rattle.connection_history.specs.Stream.{calls_in}
-use Rattle.open_calls.specs.Owed.{seen_slots}
-use Rattle.connection_states.specs.Steps.{new_slots}
+use Rattle.owed_answers.specs.Owed.{seen_slots}
+use Rattle.connection_steps.specs.Steps.{new_slots}
 use Rattle.connection_desk.specs.Inner.{IsLonger, added_calls}
 use Rattle.connection_desk.proofs.intake.admit_entries.Given as goal
 

@@ -1,8 +1,8 @@
 use Rattle.std.proofs.Common.{◌≡◌, ◌+◌, ◌++◌, [], length, ap, sym, subst, ◌∙◌, arith}
 use Rattle.std.proofs.lemmas.Bool.{eqb-true}
-use Rattle.open_calls.specs.Owed.{OwedState}
-use Rattle.connection_states.specs.States.{owed_slots}
-use Rattle.connection_states.specs.Steps.{staying}
+use Rattle.owed_answers.specs.Owed.{OwedState}
+use Rattle.connection_steps.specs.States.{owed_slots}
+use Rattle.connection_steps.specs.Steps.{staying}
 use Rattle.connection_desk.specs.Desks.{answer_count, answer_texts, with_answers, with_texts}
 use Rattle.connection_desk.specs.Inner.{are_several, owed_in, slots_in}
 use Rattle.connection_desk.proofs.Counting.{no_answers}

@@ -1,5 +1,5 @@
 use Rattle.std.proofs.Common.{ap, ◌∙◌}
-use Rattle.connection_states.specs.Steps.{leaving}
+use Rattle.connection_steps.specs.Steps.{leaving}
 use Rattle.connection_desk.specs.Desks.{answer_count, with_answers}
 use Rattle.connection_desk.proofs.Counting.{answers_capped}
 use Rattle.connection_desk.proofs.leaving.let_out.Goals as goal

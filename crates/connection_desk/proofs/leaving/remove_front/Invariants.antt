@@ -1,6 +1,6 @@
 use Rattle.std.proofs.Common.{◌≡◌, ◌+◌, ◌<◌, ◌^◌, length}
 use Rattle.connection_history.specs.Counts.{capped}
-use Rattle.connection_states.specs.Steps.{complete_front, incomplete_rest}
+use Rattle.connection_steps.specs.Steps.{complete_front, incomplete_rest}
 use Rattle.connection_desk.specs.Desks.{answer_count}
 use Rattle.connection_desk.proofs.leaving.remove_front.Given as goal
 

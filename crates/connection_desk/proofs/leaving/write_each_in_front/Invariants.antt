@@ -1,5 +1,5 @@
 use Rattle.std.proofs.Common.{◌≡◌, length}
-use Rattle.connection_states.specs.Steps.{complete_front}
+use Rattle.connection_steps.specs.Steps.{complete_front}
 use Rattle.outbox.specs.Output.{OnlyPutSince}
 use Rattle.connection_desk.specs.Desks.{answer_texts, with_texts}
 use Rattle.connection_desk.proofs.Rests.{rest_of}

@@ -1,7 +1,7 @@
 use Rattle.std.proofs.Common.{◌≡◌, ◌≤◌, ◌+◌, ◌++◌, length}
 use Rattle.std.specs.Vec.Iter.{into_iter_items}
 use Rattle.connection_history.specs.Stream.{calls_in}
-use Rattle.connection_states.specs.Steps.{own_after_all}
+use Rattle.connection_steps.specs.Steps.{own_after_all}
 use Rattle.connection_desk.specs.Inner.{untold_of, room_of, IsOpenEnded, told_along, calls_along, counted_along}
 use Rattle.connection_desk.proofs.settling.settle_entries.Given as goal
 

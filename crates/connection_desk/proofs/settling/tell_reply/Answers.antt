@@ -1,5 +1,5 @@
 use Rattle.std.proofs.Common.{not, ap, sym, ◌∙◌}
-use Rattle.open_calls.proofs.Own.{state_of}
+use Rattle.connection_desk.proofs.States.{own_state as state_of}
 use Rattle.connection_desk.proofs.Reached.{without_absent, none_of}
 use Rattle.connection_desk.proofs.settling.tell_reply.Goals as goal
 

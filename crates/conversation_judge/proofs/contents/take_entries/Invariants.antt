@@ -1,5 +1,5 @@
 use Rattle.std.proofs.Common.{◌≡◌, ◌++◌, ◌+◌, ◌<◌, ◌^◌, length}
-use Rattle.conversation_judge.specs.Said.{said}
+use Rattle.conversation_entries.specs.Said.{said}
 use Rattle.conversation_rules.specs.Contents.{entries_findings, behind_entries}
 use Rattle.conversation_judge.proofs.contents.take_entries.Given as goal
 

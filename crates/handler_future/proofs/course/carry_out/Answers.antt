@@ -1,5 +1,5 @@
 use Rattle.std.proofs.Common.{arith}
-use Rattle.method_steps.specs.Frame.{with_lent}
+use Rattle.method_templates.specs.Locals.{with_lent}
 use Rattle.handler_future.proofs.Asks.{calls_made, few_calls}
 use Rattle.handler_future.proofs.course.carry_out.Goals as goal
 

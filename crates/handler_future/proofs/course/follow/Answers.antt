@@ -1,7 +1,7 @@
 use Rattle.std.proofs.Common.{◌≡◌, List, OnOk, OnErr, IfOk, subst, sym}
 use Rattle.serde_json.specs.Data.{Data}
-use Rattle.method_steps.specs.Frame.{with_lent}
-use Rattle.method_steps.specs.declared.frame.Row.{Row}
+use Rattle.method_templates.specs.Locals.{with_lent}
+use Rattle.method_templates.specs.declared.locals.Row.{Row}
 use Rattle.handler_future.specs.declared.act.Act.{Act}
 use Rattle.handler_future.specs.Act.{act_of}
 use Rattle.handler_future.specs.Inner.Course.{Course, Seen, seen, after_act}

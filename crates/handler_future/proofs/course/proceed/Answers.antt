@@ -1,5 +1,5 @@
 use Rattle.std.proofs.Common.{◌≡◌, ◌<◌, get_or, sym, subst, ◌∙◌, arith}
-use Rattle.method_steps.specs.Steps.{Step}
+use Rattle.method_templates.specs.Steps.{Step}
 use Rattle.handler_future.specs.declared.course.Progress.{Progress}
 use Rattle.handler_future.specs.declared.course.Progress.TheVariants.{Going}
 use Rattle.handler_future.specs.Inner.Course.{Seen, seen, after_replies}

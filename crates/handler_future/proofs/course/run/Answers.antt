@@ -1,5 +1,5 @@
 use Rattle.std.proofs.Common.{◌≡◌, ◌<◌, [], length, get_or, sym, subst, ◌∙◌, arith, Ok}
-use Rattle.method_steps.specs.Steps.{Step, KeepsLimits}
+use Rattle.method_templates.specs.Steps.{Step, KeepsLimits}
 use Rattle.handler_future.specs.declared.course.Progress.{Progress}
 use Rattle.handler_future.specs.declared.course.Progress.TheVariants.{Going}
 use Rattle.handler_future.specs.Act.{act_of}

@@ -1,5 +1,5 @@
 use Rattle.std.proofs.Common.{◌≡◌}
-use Rattle.method_steps.specs.Steps.{calls_of}
+use Rattle.method_templates.specs.Steps.{calls_of}
 use Rattle.handler_future.specs.Evaluation.{Replies}
 use Rattle.handler_future.specs.Inner.Rehearsing.{Follows}
 use Rattle.handler_future.proofs.Rehearsing.{unheard_upto}

@@ -1,5 +1,5 @@
 use Rattle.std.proofs.Common.{◌≡◌, ◌+◌, drop}
-use Rattle.method_steps.specs.Steps.{calls_of}
+use Rattle.method_templates.specs.Steps.{calls_of}
 use Rattle.method_steps.proofs.table.calls_of.Given as goal
 
 abbrev pub invariant-loop-step : goal.invariant-loop-step

@@ -3,7 +3,7 @@ use Rattle.open_calls.specs.declared.their_call.TheirCall.{TheirCall}
 use Rattle.number_windows.specs.Numbered.{changed_at}
 use Rattle.number_windows.specs.Windows.{window_entries}
 use Rattle.open_calls.specs.Theirs.{cancelled}
-use Rattle.open_calls.proofs.StandIns.{put_back, none_there}
+use Rattle.number_windows.proofs.StandIns.{put_back, none_there}
 use Rattle.open_calls.proofs.their_calls.cancel.Goals as goal
 
 abbrev stand_in : TheirCall

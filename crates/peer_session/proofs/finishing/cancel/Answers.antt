@@ -1,7 +1,7 @@
 use Rattle.std.proofs.Common.{◌≡◌, ap, ◌∙◌}
 use Rattle.answer_desk.specs.State.{is_open}
-use Rattle.session_stages.specs.Stages.{is_gone}
-use Rattle.session_state.specs.Core.{stage_at}
+use Rattle.peer_events.specs.Stages.{is_gone}
+use Rattle.peer_events.specs.Core.{stage_at}
 use Rattle.peer_session.proofs.Finished.{hears-number, hears-open}
 use Rattle.peer_session.proofs.finishing.cancel.Goals as goal
 

@@ -1,6 +1,6 @@
 use Rattle.std.proofs.Common.{◌≡◌, ap, sym, subst, ◌∙◌}
-use Rattle.session_state.specs.Finishing.{Reaches, told, lowest, none_left}
-use Rattle.peer_session.specs.Inner.Runs.{told_here}
+use Rattle.peer_events.specs.Finishing.{Reaches, told, lowest, none_left}
+use Rattle.peer_session.specs.Inner.Turns.{told_here}
 use Rattle.peer_session.proofs.Finished.{fewer-in_reach}
 use Rattle.peer_session.proofs.finishing.cancel_requests.Goals as goal
 

@@ -1,5 +1,5 @@
-use Rattle.session_state.specs.Core.{Core}
-use Rattle.session_state.specs.Finishing.{Reaches}
+use Rattle.peer_events.specs.Core.{Core}
+use Rattle.peer_events.specs.Finishing.{Reaches}
 use Rattle.peer_session.specs.Inner.Marks.{count_in_reach}
 use Rattle.peer_session.proofs.finishing.cancel_requests.Given as goal
 

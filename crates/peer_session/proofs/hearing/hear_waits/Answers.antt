@@ -1,9 +1,9 @@
 use Rattle.std.proofs.Common.{◌≡◌, Some, ap, sym, ◌∙◌}
 use Rattle.answer_desk.specs.State.{without_reply, reply_of}
 use Rattle.handler_future.specs.State.{with_heard}
-use Rattle.session_state.specs.Core.{stage_at, with_desk}
-use Rattle.session_stages.specs.Stages.{stage_at as stage_in_list}
-use Rattle.peer_session.specs.Inner.Runs.{is_idle}
+use Rattle.peer_events.specs.Core.{stage_at, with_desk}
+use Rattle.peer_events.specs.Stages.{stage_at as stage_in_list}
+use Rattle.session_runs.specs.Runs.{is_idle}
 use Rattle.peer_session.proofs.Hearings.{on-ok, any-in, heard-step, fewer-waits}
 use Rattle.peer_session.proofs.hearing.hear_waits.Goals as goal
 

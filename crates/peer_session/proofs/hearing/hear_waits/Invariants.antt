@@ -1,7 +1,7 @@
 use Rattle.std.proofs.Common.{◌≡◌, ◌-◌, false, length, drop}
-use Rattle.session_state.specs.Core.{stage_at, with_desk}
-use Rattle.session_state.specs.Hearing.{hear_turns, hear_waits}
-use Rattle.peer_session.specs.Inner.Runs.{is_idle}
+use Rattle.peer_events.specs.Core.{stage_at, with_desk}
+use Rattle.peer_events.specs.Hearing.{hear_turns, hear_waits}
+use Rattle.session_runs.specs.Runs.{is_idle}
 use Rattle.peer_session.proofs.hearing.hear_waits.Given as goal
 
 abbrev pub invariant-loop-turn : goal.invariant-loop-turn

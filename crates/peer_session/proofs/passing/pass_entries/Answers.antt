@@ -4,8 +4,8 @@ use Rattle.std.proofs.lemmas.List.{map_push}
 use Rattle.std.specs.Vec.Iter.{into_iter_items}
 use Rattle.rpc_messages.specs.Entry.{entry_seen}
 use Rattle.rpc_messages.specs.Numbering.{numbers_in, numbers_of}
-use Rattle.session_state.specs.Taking.PassesEntries.{none_left}
-use Rattle.peer_session.proofs.Arriving.{numbers_in-push}
+use Rattle.peer_events.specs.Taking.PassesEntries.{none_left}
+use Rattle.session_runs.proofs.Arriving.{numbers_in-push}
 use Rattle.peer_session.proofs.Entering.{numbers_in-among, passes-push}
 use Rattle.peer_session.proofs.passing.pass_entries.Goals as goal
 

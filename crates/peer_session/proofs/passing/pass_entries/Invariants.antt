@@ -2,7 +2,7 @@ use Rattle.std.proofs.Common.{◌≡◌, ◌+◌, ◌++◌, map}
 use Rattle.std.specs.Vec.Iter.{into_iter_items}
 use Rattle.rpc_messages.specs.Entry.{entry_seen}
 use Rattle.rpc_messages.specs.Numbering.{numbers_in}
-use Rattle.session_state.specs.Taking.{PassesEntries}
+use Rattle.peer_events.specs.Taking.{PassesEntries}
 use Rattle.peer_session.proofs.passing.pass_entries.Given as goal
 
 -- The entries so far are passed, the next call has the number behind theirs, and the others are to come.

@@ -2,8 +2,8 @@
 use Rattle.std.proofs.Common.{sym, subst}
 use Rattle.rpc_messages.specs.Numbering.{entries_in}
 use Rattle.rpc_messages.specs.Unit.{unit_seen}
-use Rattle.session_state.specs.Taking.{PassesEntries}
-use Rattle.session_state.specs.Taking.PassesEntries.{none_left, next}
+use Rattle.peer_events.specs.Taking.{PassesEntries}
+use Rattle.peer_events.specs.Taking.PassesEntries.{none_left, next}
 use Rattle.peer_session.proofs.passing.pass_unit.Goals as goal
 
 pub returns-in-Unreadable : goal.returns-in-Unreadable

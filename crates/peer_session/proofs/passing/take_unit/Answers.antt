@@ -2,7 +2,7 @@
 use Rattle.std.proofs.Common.{length, sym, subst, arith}
 use Rattle.rpc_messages.specs.Numbering.{entries_in}
 use Rattle.rpc_messages.specs.Unit.{unit_seen}
-use Rattle.session_state.specs.Taking.{PassesEntries, Takes}
+use Rattle.peer_events.specs.Taking.{PassesEntries, Takes}
 use Rattle.peer_session.proofs.passing.take_unit.Goals as goal
 
 pub pass_unit-requires : goal.pass_unit-requires

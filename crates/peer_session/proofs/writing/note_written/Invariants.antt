@@ -1,6 +1,6 @@
 use Rattle.std.proofs.Common.{◌≡◌, map, length}
-use Rattle.session_state.specs.Turning.{written_stage}
-use Rattle.peer_session.specs.Inner.Runs.{unwritten_numbers}
+use Rattle.peer_events.specs.Turning.{written_stage}
+use Rattle.session_runs.specs.Runs.{unwritten_numbers}
 use Rattle.peer_session.proofs.writing.note_written.Given as goal
 
 abbrev pub invariant-loop-number : goal.invariant-loop-number

@@ -1,9 +1,9 @@
 use Rattle.std.proofs.Common.{◌≡◌, ◌-◌, ◌++◌, map, length, drop, IfOk, OnOk, ap, subst, ◌∙◌, rules}
-use Rattle.session_stages.specs.declared.stage.Stage.TheVariants.{Idle, Over}
+use Rattle.peer_events.specs.declared.stage.Stage.TheVariants.{Idle, Over}
 use Rattle.peer_output.specs.Course.{message, withdrawal}
 use Rattle.peer_output.specs.Items.{sent}
 use Rattle.peer_session.specs.Framings.{bytes_in}
-use Rattle.session_state.specs.Core.{stage_at}
+use Rattle.peer_events.specs.Core.{stage_at}
 use Rattle.peer_session.specs.declared.writing.Written.{Written}
 use Rattle.peer_session.specs.Inner.Writing.{Counts}
 use Rattle.peer_session.proofs.Puts.{idle-items, over-items, put-on, counts-on}

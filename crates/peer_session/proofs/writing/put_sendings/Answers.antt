@@ -3,10 +3,11 @@ use Rattle.std.proofs.lemmas.List.{take_all}
 use Rattle.std.proofs.lemmas.Option.{slice_get-get_or}
 use Rattle.peer_output.specs.Items.{sent}
 use Rattle.peer_session.specs.Framings.{bytes_in}
-use Rattle.session_state.specs.Core.{stage_at, unwritten}
-use Rattle.peer_session.specs.Inner.Runs.{unwritten_numbers}
-use Rattle.peer_session.specs.Inner.Writing.{Counts, unwritten_of}
-use Rattle.peer_session.proofs.Puts.{of-more, all-of, put-on, counts-on}
+use Rattle.peer_events.specs.Core.{stage_at, unwritten}
+use Rattle.session_runs.specs.Runs.{unwritten_numbers, unwritten_of}
+use Rattle.peer_session.specs.Inner.Writing.{Counts}
+use Rattle.session_runs.proofs.Unwritten.{of-more, all-of}
+use Rattle.peer_session.proofs.Puts.{put-on, counts-on}
 use Rattle.peer_session.proofs.writing.put_sendings.Goals as goal
 use Rattle.peer_session.proofs.writing.put_sendings.Goals.{in-Some+in_ok-put_number, in_default}
 
@@ -19,7 +20,7 @@ loop-place-preserved c =
     elim c.match-unwritten_at.branch [
       | in-Some+in_ok-put_number w ↦
           let n = w.in-Some.number in
-          let more = of-more core ns place n (sym w.in-Some.ensures) in
+          let more = of-more core ns place n (sym w.in-Some.ensures.number) in
           rw (w.bytes-is, w.written-is, more) (record {
             bytes = put-on c.args.framing c.args.bytes.now.items c.loop-place.bytes.items w.put_number.new.bytes.items had (map (sent n) (unwritten (stage_at core n)))
                 c.loop-place.invariant.bytes w.in_ok-put_number.ensures.bytes;
@@ -28,7 +29,7 @@ loop-place-preserved c =
           })
       | in_default w ↦
           let there = slice_get-get_or ns place 0 (omega (arith, c.loop-place-test.true, c.unwritten_len-place-end.ensures)) in
-          absurd (cc (there, c.unwritten_at.ensures, w.in_default.is))
+          absurd (cc (there, c.unwritten_at.ensures.number, w.in_default.is))
     ]
 
 pub returns-clause-bytes : goal.returns-clause-bytes

@@ -1,8 +1,7 @@
 use Rattle.std.proofs.Common.{◌≡◌, ◌++◌, take}
-use Rattle.peer_output.specs.Items.{}
 use Rattle.peer_session.specs.Framings.{bytes_in}
-use Rattle.peer_session.specs.Inner.Runs.{unwritten_numbers}
-use Rattle.peer_session.specs.Inner.Writing.{Counts, unwritten_of}
+use Rattle.session_runs.specs.Runs.{unwritten_numbers, unwritten_of}
+use Rattle.peer_session.specs.Inner.Writing.{Counts}
 use Rattle.peer_session.proofs.writing.put_sendings.Given as goal
 
 abbrev pub invariant-loop-place : goal.invariant-loop-place

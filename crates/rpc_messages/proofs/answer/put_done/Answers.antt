@@ -1,16 +1,25 @@
-use Rattle.std.proofs.Common.{codes, ap, ◌∙◌, ◌++◌}
+-- A value's text is read back.
+use Rattle.std.proofs.Common.{◌≡◌, ◌<◌, ◌++◌, ◌^◌, Some, ap, sym, ◌∙◌, arith}
+use Rattle.std.specs.Prelude.{option_and_then}
+use Rattle.serde_json.specs.Data.{number, unsigned}
+use Rattle.serde_json.specs.Find.{as_number, as_u64}
 use Rattle.serde_json.specs.Written.{compact_text}
-use Rattle.rpc_messages.specs.Texts.{id_data}
-use Rattle.rpc_messages.proofs.Fronts.{put_three, starts_with_append, starts_with_trans, on_err}
+use Rattle.message_texts.specs.Texts.{result_text}
+use Rattle.rpc_messages.proofs.AnswerTexts.{always, OnOk-map, unsigned_is, unsigned_is_read_back, unsigned_text}
 use Rattle.rpc_messages.proofs.answer.put_done.Goals as goal
 
-pub returns-in_err-put_value-clause-front : goal.returns-in_err-put_value-clause-front
-returns-in_err-put_value-clause-front c =
-    let old = c.args.bytes.now.items in
-    let last = c.extend_from_slice-2.new.self.items in
-    let id = compact_text (id_data c.args.id.now) in
-    let first = c.in_ok-extend_from_slice.ensures.items ∙ ap (λ s. s ++ codes "{\"id\":") c.in_ok-reserve.ensures.items in
-    let put = put_three old (codes "{\"id\":") id (codes ",\"jsonrpc\":\"2.0\",\"result\":") c.extend_from_slice.new.self.items c.put_id.new.bytes.items last
-    first c.in_ok-put_id.ensures.text c.in_ok-extend_from_slice-2.ensures.items in
-    on_err c.from_residual-in_err-put_value.result
-    (starts_with_trans c.put_value.new.bytes.items last old c.in_err-put_value.ensures.front (starts_with_append last old (codes "{\"id\":" ++ (id ++ codes ",\"jsonrpc\":\"2.0\",\"result\":")) put))
+pub returns-in-Some-clause-text : goal.returns-in-Some-clause-text
+returns-in-Some-clause-text c =
+    let d = c.args.value.now in
+    let n = c.in-Some.number in
+    let found : Some n ≡ option_and_then as_u64 (as_number d) = sym c.in-Some.is ∙ c.as_u64.ensures ∙ ap (λ v. option_and_then as_u64 (as_number v)) c.as_value.ensures.value in
+    let is : d ≡ number (unsigned n) = unsigned_is d n found in
+    OnOk-map c.put_number.result (λ put. put ∙ ap (λ t. c.args.bytes.now.items ++ result_text c.args.id.now t) (unsigned_text n ∙ ap compact_text (sym is))) c.put_number.ensures.text
+
+pub returns-in-Some-clause-reads_back : goal.returns-in-Some-clause-reads_back
+returns-in-Some-clause-reads_back c =
+    let d = c.args.value.now in
+    let n = c.in-Some.number in
+    let found : Some n ≡ option_and_then as_u64 (as_number d) = sym c.in-Some.is ∙ c.as_u64.ensures ∙ ap (λ v. option_and_then as_u64 (as_number v)) c.as_value.ensures.value in
+    let fits : n < 2 ^ 64 = omega arith in
+    always c.put_number.result (unsigned_is_read_back d n (unsigned_is d n found) fits)

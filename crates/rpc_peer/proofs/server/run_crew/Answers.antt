@@ -1,6 +1,7 @@
 -- The clerk's run is the crew's.
 use Rattle.std.proofs.Common.{◌≡◌, ◌∙◌}
 use Rattle.std.proofs.lemmas.Result.{IfOk-weaker, IfErr-weaker}
+use Rattle.rpc_peer.specs.Clerk.{clerk_framing, clerk_table, clerk_limits}
 use Rattle.rpc_peer.specs.Inner.Threads.{HasServed}
 use Rattle.rpc_peer.proofs.Served.{served-for, pair-kept}
 use Rattle.rpc_peer.proofs.server.run_crew.Goals as goal
@@ -10,9 +11,9 @@ returns-clause-served g c =
     let taken = g.K.Sink.bytes_taken in
     let failures = g.K.Sink.failures in
     let clerk = c.in-Ok-new.clerk in
-    IfOk-weaker c.run_threads.result (λ done. HasServed taken failures clerk.framing clerk.table.now clerk.limits clerk.sink done.0)
+    IfOk-weaker c.run_threads.result (λ done. HasServed taken failures (clerk_framing clerk) (clerk_table clerk) (clerk_limits clerk) clerk.sink done.0)
     (λ done. HasServed taken failures c.args.framing c.args.table.now c.args.limits c.args.sink done.0)
-    (λ done. served-for taken failures clerk.framing c.args.framing clerk.table.now c.args.table.now clerk.limits c.args.limits clerk.sink c.args.sink done.0
+    (λ done. served-for taken failures (clerk_framing clerk) c.args.framing (clerk_table clerk) c.args.table.now (clerk_limits clerk) c.args.limits clerk.sink c.args.sink done.0
     c.in-Ok-new.ensures.framing c.in-Ok-new.ensures.table c.in-Ok-new.ensures.limits c.in-Ok-new.ensures.sink)
     c.run_threads.ensures.served
 

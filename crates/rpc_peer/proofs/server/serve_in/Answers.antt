@@ -1,10 +1,18 @@
 -- What the crew has served is told.
+use Rattle.stream_session.specs.Framings.{IsServedIn, IsServedInPartIn}
+use Rattle.rpc_peer.proofs.Served.{serving-of, told-possible}
 use Rattle.rpc_peer.proofs.server.serve_in.Goals as goal
 
-pub returns-in-Ok-clause-ok : goal.returns-in-Ok-clause-ok
-returns-in-Ok-clause-ok g c =
-    c.tell.ensures.ok c.args.framing c.args.table.now c.args.limits c.args.source c.args.sink c.in-Ok.ensures.reads c.in-Ok.ensures.served
-
-pub returns-in-Ok-clause-in_part : goal.returns-in-Ok-clause-in_part
-returns-in-Ok-clause-in_part g c =
-    c.tell.ensures.in_part c.args.framing c.args.table.now c.args.limits c.args.source c.args.sink c.in-Ok.ensures.reads c.in-Ok.ensures.served
+pub returns-in-Ok : goal.returns-in-Ok
+returns-in-Ok g c =
+    let table = c.args.table.now in
+    let gave = g.S.Source.gave c.args.source in
+    let served = c.in-Ok.ensures.served in
+    serving-of g.K.Sink.bytes_taken g.K.Sink.failures (IsServedIn c.args.framing table c.args.limits gave) (IsServedInPartIn c.args.framing table c.args.limits gave)
+    c.args.crew.workers c.args.sink c.tell.result
+    (told-possible c.args.crew.workers c.is_possible.result c.is_possible.ensures c.if-not-is_possible.false)
+    (c.tell.ensures.ok c.args.framing table c.args.limits c.args.source c.args.sink c.in-Ok.ensures.reads served)
+    (c.tell.ensures.in_part c.args.framing table c.args.limits c.args.source c.args.sink c.in-Ok.ensures.reads served)
+    c.tell.ensures.possible
+    (c.tell.ensures.failures c.args.framing table c.args.limits c.args.sink served)
+    (c.tell.ensures.cause c.args.framing table c.args.limits c.args.sink served)

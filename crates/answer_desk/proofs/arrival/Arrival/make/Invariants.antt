@@ -1,7 +1,7 @@
 use Rattle.std.proofs.Common.{◌≡◌, ◌+◌, ◌++◌, length, map}
 use Rattle.std.specs.VecDeque.{deque_len}
 use Rattle.answer_desk.specs.Inner.Arrivals.{calls_of, dues_of}
-use Rattle.answer_desk.specs.Inner.Kept.{kept_in}
+use Rattle.open_numbers.specs.Kept.{kept_in}
 use Rattle.answer_desk.proofs.arrival.Arrival.make.Given as goal
 
 abbrev pub invariant-loop-place : goal.invariant-loop-place

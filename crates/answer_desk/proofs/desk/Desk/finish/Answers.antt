@@ -1,11 +1,11 @@
 use Rattle.std.proofs.Common.{map, ap, ◌∙◌}
 use Rattle.std.proofs.lemmas.List.{length-set}
 use Rattle.answer_desk.specs.Desk.{view}
-use Rattle.answer_desk.specs.Seen.{kept_at, waiting_of}
-use Rattle.answer_desk.specs.Inner.Kept.{with_answer}
+use Rattle.open_numbers.specs.Kept.{kept_at, with_answer}
+use Rattle.answer_desk.specs.Seen.{waiting_of}
 use Rattle.answer_desk.proofs.Views.{seen}
 use Rattle.answer_desk.proofs.Answered.{units-answered, seen-answered, front_still_finished}
-use Rattle.answer_desk.proofs.OutOfReach.{opening-set, IsOutOfReach-answered}
+use Rattle.open_numbers.proofs.OutOfReach.{opening-set, IsOutOfReach-answered}
 use Rattle.answer_desk.proofs.desk.Desk.finish.Goals as goal
 
 pub invariant_of-self : goal.invariant_of-self

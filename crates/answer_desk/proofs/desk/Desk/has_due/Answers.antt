@@ -1,7 +1,8 @@
 use Rattle.std.proofs.Common.{◌≡◌, ◌<◌, length, map, ap, List, false, arith, refl}
 use Rattle.std.specs.List.{filter_map}
 use Rattle.answer_desk.specs.Desk.{view}
-use Rattle.answer_desk.specs.Seen.{open_number, waiting_of}
+use Rattle.open_numbers.specs.Kept.{open_number}
+use Rattle.answer_desk.specs.Seen.{waiting_of}
 use Rattle.answer_desk.specs.State.{State}
 use Rattle.answer_desk.specs.Waiting.{Waiting, is_whole, unit_text}
 use Rattle.answer_desk.proofs.Finished.{none_due, some_wait, nothing_waits, none_seen}

@@ -1,9 +1,9 @@
 use Rattle.std.proofs.Common.{ap, ◌∙◌, sym, is_some}
 use Rattle.std.specs.Option.{option_and_then}
-use Rattle.answer_desk.specs.declared.open_call.OpenCall.{OpenCall}
+use Rattle.open_numbers.specs.declared.open_call.OpenCall.{OpenCall}
 use Rattle.answer_desk.specs.Desk.{view}
-use Rattle.answer_desk.specs.Replies.{slot_at, given_by}
-use Rattle.answer_desk.proofs.Views.{number-open}
+use Rattle.open_numbers.specs.Replies.{slot_at, given_by}
+use Rattle.open_numbers.proofs.Shown.{number-open}
 use Rattle.answer_desk.proofs.desk.Desk.has_reply.Goals as goal
 
 pub returns-in-Some : goal.returns-in-Some

@@ -1,8 +1,8 @@
 use Rattle.std.proofs.Common.{ap, ◌∙◌, sym}
 use Rattle.answer_desk.specs.Desk.{view}
-use Rattle.answer_desk.specs.Seen.{kept_at, open_number}
-use Rattle.answer_desk.specs.State.{is_marked_number}
-use Rattle.answer_desk.proofs.Views.{number-open}
+use Rattle.open_numbers.specs.Kept.{kept_at, open_number}
+use Rattle.open_numbers.specs.OpenCalls.{is_marked_number}
+use Rattle.open_numbers.proofs.Shown.{number-open}
 use Rattle.answer_desk.proofs.desk.Desk.is_marked.Goals as goal
 
 pub returns-in-Some-clause-marked : goal.returns-in-Some-clause-marked

@@ -1,6 +1,6 @@
 use Rattle.std.proofs.Common.{ap, ◌∙◌, sym, is_some}
 use Rattle.answer_desk.specs.Desk.{view}
-use Rattle.answer_desk.proofs.Views.{number-open, found-some}
+use Rattle.open_numbers.proofs.Shown.{number-open, found-some}
 use Rattle.answer_desk.proofs.desk.Desk.is_open.Goals as goal
 
 pub returns : goal.returns

@@ -1,8 +1,9 @@
 use Rattle.std.proofs.Common.{ap, sym, ◌∙◌}
 use Rattle.answer_desk.specs.Desk.{view}
-use Rattle.answer_desk.specs.Seen.{kept_at, open_number}
-use Rattle.answer_desk.proofs.Views.{seen, number-open, IsQuiet-marked, ascending-quiet, finished-quiet, seen-marked}
-use Rattle.answer_desk.proofs.OutOfReach.{opening-left}
+use Rattle.open_numbers.specs.Kept.{kept_at, open_number}
+use Rattle.answer_desk.proofs.Views.{seen, IsQuiet-marked, ascending-quiet, finished-quiet, seen-marked}
+use Rattle.open_numbers.proofs.Shown.{number-open}
+use Rattle.open_numbers.proofs.OutOfReach.{opening-left}
 use Rattle.answer_desk.proofs.desk.Desk.mark.Goals as goal
 
 pub invariant_of-self : goal.invariant_of-self

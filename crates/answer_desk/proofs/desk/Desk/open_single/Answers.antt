@@ -3,11 +3,12 @@ use Rattle.std.proofs.lemmas.List.{length-map, append-nil}
 use Rattle.rpc_messages.specs.declared.kind.Kind.TheVariants.{Single}
 use Rattle.answer_desk.specs.Desk.{view}
 use Rattle.answer_desk.specs.declared.waiting_unit.WaitingUnit.{WaitingUnit}
-use Rattle.answer_desk.specs.Seen.{open_number}
+use Rattle.open_numbers.specs.Kept.{open_number}
 use Rattle.answer_desk.specs.Inner.Arrivals.{calls_of, calls_of_place, dues_of, due_of_place}
 use Rattle.answer_desk.proofs.Views.{seen}
-use Rattle.answer_desk.proofs.Opening.{length-new, ascends-opened, front-opened, seen-opened, on_err_of}
-use Rattle.answer_desk.proofs.OutOfReach.{opening-append}
+use Rattle.answer_desk.proofs.Opening.{length-new, ascends-opened, front-opened, seen-opened}
+use Rattle.open_numbers.proofs.Tests.{on_err_of}
+use Rattle.open_numbers.proofs.OutOfReach.{opening-append}
 use Rattle.answer_desk.proofs.desk.Desk.open_single.Goals as goal
 
 pub returns-in_err-reserve-clause-err : goal.returns-in_err-reserve-clause-err

@@ -2,13 +2,13 @@ use Rattle.std.proofs.Common.{◌≡◌, ◌++◌, ◌∷◌, [], length, map, r
 use Rattle.std.proofs.lemmas.List.{length-map}
 use Rattle.answer_desk.specs.Desk.{view}
 use Rattle.answer_desk.specs.declared.waiting_unit.WaitingUnit.{WaitingUnit}
-use Rattle.answer_desk.specs.Seen.{open_number}
+use Rattle.open_numbers.specs.Kept.{open_number, kept_in}
 use Rattle.answer_desk.specs.Places.{new_numbers}
-use Rattle.answer_desk.specs.Inner.Kept.{kept_in}
 use Rattle.answer_desk.specs.Inner.Arrivals.{calls_of, dues_of}
 use Rattle.answer_desk.proofs.Views.{seen}
-use Rattle.answer_desk.proofs.Opening.{length-new, kept-new, ascends-opened, front-opened, seen-opened, on_err_of}
-use Rattle.answer_desk.proofs.OutOfReach.{opening-append}
+use Rattle.answer_desk.proofs.Opening.{length-new, ascends-opened, front-opened, seen-opened}
+use Rattle.open_numbers.proofs.Tests.{on_err_of}
+use Rattle.open_numbers.proofs.OutOfReach.{opening-append}
 use Rattle.answer_desk.proofs.desk.Desk.open_unit.Goals as goal
 
 pub make-requires : goal.make-requires
@@ -25,16 +25,13 @@ returns-in_err-reserve-clause-err c =
     (seen c.make.new.numbers self.is_closed c.reserve.new.self.items ≡ seen self.numbers self.is_closed self.units.items)
     (ap (λ ns. seen ns self.is_closed c.reserve.new.self.items) c.make.ensures.same ∙ ap (seen self.numbers self.is_closed) c.reserve.ensures.items)
 
-pub append-requires-clause-room : goal.append-requires-clause-room
+pub append-requires : goal.append-requires
 unfolding view
-append-requires-clause-room c =
+append-requires c =
     let self = c.args.self.now in
     let long : length c.in_ok-calls.field-0.calls.items ≡ length (new_numbers c.args.shape.places) =
     sym (length-map c.in_ok-calls.field-0.calls.items kept_in) ∙ ap length (c.in_ok-calls.ensures.calls ∙ ap calls_of c.into_vec.ensures) ∙ length-new c.args.shape.places in
-    rw (c.make.ensures.same, long) (rw (length-map self.numbers open_number) at c.requires)
-
-pub append-requires-clause-kept : goal.append-requires-clause-kept
-append-requires-clause-kept c = rw (c.in_ok-calls.ensures.calls) (kept-new c.into_vec.result.items)
+    record { room = rw (c.make.ensures.same, long) (rw (length-map self.numbers open_number) at c.requires) }
 
 pub returns-in_err-append-clause-err : goal.returns-in_err-append-clause-err
 unfolding view

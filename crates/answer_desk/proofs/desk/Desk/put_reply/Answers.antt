@@ -1,11 +1,10 @@
 use Rattle.std.proofs.Common.{refl, ap, ◌∙◌}
-use Rattle.answer_desk.specs.declared.open_call.OpenCall.{OpenCall}
+use Rattle.open_numbers.specs.declared.open_call.OpenCall.{OpenCall}
 use Rattle.answer_desk.specs.Desk.{view}
-use Rattle.answer_desk.specs.Seen.{kept_at}
-use Rattle.answer_desk.specs.Replies.{put_into}
-use Rattle.answer_desk.specs.Inner.Kept.{slots_with, with_put}
+use Rattle.open_numbers.specs.Kept.{kept_at, slots_with, with_put}
+use Rattle.open_numbers.specs.Replies.{put_into}
 use Rattle.answer_desk.proofs.Views.{seen, slot-seen, IsQuiet-changed, ascending-quiet, finished-quiet, seen-put}
-use Rattle.answer_desk.proofs.OutOfReach.{opening-set, IsOutOfReach-changed}
+use Rattle.open_numbers.proofs.OutOfReach.{opening-set, IsOutOfReach-changed}
 use Rattle.answer_desk.proofs.desk.Desk.put_reply.Goals as goal
 
 pub returns-then-self-clause-put : goal.returns-then-self-clause-put

@@ -1,6 +1,6 @@
 use Rattle.answer_desk.specs.Desk.{view}
 use Rattle.answer_desk.proofs.Views.{ascending-quiet, finished-quiet, lowest-seen, IsQuiet-reached, seen-reached}
-use Rattle.answer_desk.proofs.OutOfReach.{opening-reached, opening-above}
+use Rattle.open_numbers.proofs.OutOfReach.{opening-reached, opening-above}
 use Rattle.answer_desk.proofs.desk.Desk.reach.Goals as goal
 
 pub invariant_of-self : goal.invariant_of-self

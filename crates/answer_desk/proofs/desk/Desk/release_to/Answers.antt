@@ -3,7 +3,7 @@ use Rattle.std.specs.List.{filter_map, flat_map}
 use Rattle.lsp_frames.specs.Frames.{written}
 use Rattle.answer_desk.specs.Desk.{view}
 use Rattle.answer_desk.specs.Waiting.{unit_text}
-use Rattle.answer_desk.proofs.Opening.{on_err_of}
+use Rattle.open_numbers.proofs.Tests.{on_err_of}
 use Rattle.answer_desk.proofs.Views.{seen}
 use Rattle.answer_desk.proofs.desk.Desk.release_to.Goals as goal
 

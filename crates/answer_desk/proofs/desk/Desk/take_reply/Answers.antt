@@ -1,11 +1,10 @@
 use Rattle.std.proofs.Common.{refl, ap, ◌∙◌}
-use Rattle.answer_desk.specs.declared.open_call.OpenCall.{OpenCall}
+use Rattle.open_numbers.specs.declared.open_call.OpenCall.{OpenCall}
 use Rattle.answer_desk.specs.Desk.{view}
-use Rattle.answer_desk.specs.Seen.{kept_at}
-use Rattle.answer_desk.specs.Replies.{given_by}
-use Rattle.answer_desk.specs.Inner.Kept.{slots_without, with_taken}
+use Rattle.open_numbers.specs.Kept.{kept_at, slots_without, with_taken}
+use Rattle.open_numbers.specs.Replies.{given_by}
 use Rattle.answer_desk.proofs.Views.{seen, slot-seen, IsQuiet-changed, ascending-quiet, finished-quiet, seen-taken}
-use Rattle.answer_desk.proofs.OutOfReach.{opening-set, IsOutOfReach-changed}
+use Rattle.open_numbers.proofs.OutOfReach.{opening-set, IsOutOfReach-changed}
 use Rattle.answer_desk.proofs.desk.Desk.take_reply.Goals as goal
 
 pub invariant_of-self : goal.invariant_of-self

@@ -9,6 +9,6 @@ pub take_in-requires-clause-next : goal.take_in-requires-clause-next
 take_in-requires-clause-next c =
     let before : Connection = record { settings = c.self.inside.settings; stream = c.self.inside.stream; desk = c.self.inside.desk } in
     let frame = c.in-Some.frame.now in
-    next_from before frame c.in_ok-unit.unit c.in_ok-broken.broken (sym c.in-Some.ensures)
-    (c.in_ok-unit.ensures.unit ∙ ap (λ cancels. unit_of cancels frame.foreign frame.content) c.self.invariant)
+    next_from c.placed_contents_are_the_contents.ensures before frame c.in_ok-unit.unit c.in_ok-broken.broken (sym c.in-Some.ensures)
+    (c.in_ok-unit.ensures.unit ∙ ap (λ rules. unit_of rules frame.foreign frame.content) c.self.invariant)
     (λ placed next. c.in_ok-broken.ensures placed next ∙ ap (λ tells. broken_in (origin_of tells placed) c.in_ok-unit.unit) c.tells_broken.ensures)

@@ -1,10 +1,10 @@
 use Rattle.std.proofs.Common.{◌≡◌, ◌<◌, ◌^◌, ◌++◌, [], Some, sym, ap, subst, ◌∙◌, arith}
 use Rattle.connection_messages.specs.Texts.{answer_text}
-use Rattle.connection_states.specs.Steps.{leaving}
+use Rattle.connection_steps.specs.Steps.{leaving}
 use Rattle.open_calls.specs.Numbered.{at}
-use Rattle.open_calls.specs.Owed.{is_answer}
+use Rattle.owed_answers.specs.Owed.{is_answer}
 use Rattle.open_calls.specs.Own.{without_caller}
-use Rattle.open_calls.proofs.Own.{state_of}
+use Rattle.connection_desk.proofs.States.{own_state as state_of}
 use Rattle.connection_desk.specs.Desks.{Desk, after_given}
 use Rattle.connection_desk.proofs.Answered.{closed, not_refused, request_answered, notice_answered, some_answer}
 use Rattle.connection_desk.proofs.Seen.{desk_of}
@@ -14,7 +14,7 @@ use Rattle.connection_desk.proofs.desk.Desk.answer.Goals.{in-Some-id+in_ok-text+
 pub give-requires-clause-some : goal.give-requires-clause-some
 give-requires-clause-some c =
     let text : c.write_answer.new.bytes.items ≡ answer_text c.in-Some-id.id c.args.answer.now =
-    c.in_ok-write_answer.ensures ∙ ap (λ t. t ++ answer_text c.in-Some-id.id c.args.answer.now) c.in_ok-text.ensures.text in
+    c.in_ok-write_answer.ensures.text ∙ ap (λ t. t ++ answer_text c.in-Some-id.id c.args.answer.now) c.in_ok-text.ensures.text in
     ap is_answer text ∙ some_answer c.in-Some-id.id c.args.answer.now
 
 pub returns-clause-ok : goal.returns-clause-ok
@@ -39,7 +39,7 @@ returns-clause-ok c =
         is_closed ∙ ap (closed n) (w.self-is ∙ w.in_ok-give.ensures.ok)
             ∙ ap (λ d. closed n (after_given call.place call.slot w.write_answer.new.bytes.items d)) c.self.view_is
             ∙ request_answered n begun call w.in-Some-id.id w.write_answer.new.bytes.items (Some c.args.answer.now) there w.in-Some-id.is
-            (w.in_ok-write_answer.ensures ∙ ap (λ t. t ++ answer_text w.in-Some-id.id c.args.answer.now) w.in_ok-text.ensures.text),
+            (w.in_ok-write_answer.ensures.text ∙ ap (λ t. t ++ answer_text w.in-Some-id.id c.args.answer.now) w.in_ok-text.ensures.text),
       )
       | in_default-id w ↦ (
         not_refused n begun.state call there,

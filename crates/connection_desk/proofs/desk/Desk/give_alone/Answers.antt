@@ -1,8 +1,8 @@
 use Rattle.std.proofs.Common.{◌∷◌, [], sym, ap, subst, ◌∙◌}
 use Rattle.open_calls.specs.Numbered.{changed_at}
-use Rattle.open_calls.specs.Owed.{OwedState, given}
-use Rattle.open_calls.proofs.OwedLemmas.{state_of}
-use Rattle.connection_states.specs.Steps.{leaving, staying}
+use Rattle.owed_answers.specs.Owed.{OwedState, given}
+use Rattle.connection_desk.proofs.States.{owed_state as state_of}
+use Rattle.connection_steps.specs.Steps.{leaving, staying}
 use Rattle.connection_desk.specs.Alone.{GoesAlone}
 use Rattle.connection_desk.specs.Desks.{Desk, after_given, answer_texts, with_answers, with_texts}
 use Rattle.connection_desk.specs.Inner.{IsDesk}
@@ -16,7 +16,7 @@ invariant_of-self-2 c =
     let place = c.args.place in
     let text = c.args.text.items in
     let goes = subst (λ (x : Desk). GoesAlone x.order place 0 x.state.owed.owed) (sym c.self.view_is) c.requires.alone in
-    let one = given_alone d.order place text d.owed.owed goes c.requires.some c.remove.ensures.ascending c.self.invariant.settled in
+    let one = given_alone c.an_entry_changes_or_goes.ensures.changed c.numbers_above_one.ensures.without d.order place text d.owed.owed goes c.requires.some c.remove.ensures.ascending c.self.invariant.settled in
     subst (λ (s : OwedState). IsDesk d.order s.owed d.is_over d.events d.room) (sym c.remove.ensures.state)
     (desk_alone d.order place text d.owed.owed d.is_over d.events d.room one c.self.invariant)
 
@@ -26,7 +26,7 @@ returns-clause-ok c =
     let place = c.args.place in
     let text = c.args.text.items in
     let goes = subst (λ (x : Desk). GoesAlone x.order place 0 x.state.owed.owed) (sym c.self.view_is) c.requires.alone in
-    let one = given_alone d.order place text d.owed.owed goes c.requires.some c.remove.ensures.ascending c.self.invariant.settled in
+    let one = given_alone c.an_entry_changes_or_goes.ensures.changed c.numbers_above_one.ensures.without d.order place text d.owed.owed goes c.requires.some c.remove.ensures.ascending c.self.invariant.settled in
     let now = changed_at place (given 0 text) d.owed.owed in
     let owed = state_of d.owed.places (staying d.order now) in
     let out = with_texts (answer_texts (leaving d.order now)) d.outbox in

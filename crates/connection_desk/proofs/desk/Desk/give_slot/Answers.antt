@@ -1,8 +1,8 @@
 use Rattle.std.proofs.Common.{◌≡◌, Some, sym, ap, subst, ◌∙◌}
-use Rattle.connection_states.specs.Steps.{staying}
+use Rattle.connection_steps.specs.Steps.{staying}
 use Rattle.open_calls.specs.Numbered.{changed_at}
-use Rattle.open_calls.specs.Owed.{OwedState, seen_slot, replaced}
-use Rattle.open_calls.proofs.OwedLemmas.{state_of}
+use Rattle.owed_answers.specs.Owed.{OwedState, seen_slot, replaced}
+use Rattle.connection_desk.proofs.States.{owed_state as state_of}
 use Rattle.connection_desk.specs.Inner.{OnlyAt, IsDesk}
 use Rattle.connection_desk.proofs.GivenSlots.{only_changed, desk_stays, changed_back}
 use Rattle.connection_desk.proofs.Seen.{desk_of}

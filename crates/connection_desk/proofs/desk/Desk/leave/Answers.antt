@@ -1,8 +1,8 @@
 use Rattle.std.proofs.Common.{◌≡◌, ◌<◌, ◌^◌, [], Some, sym, ap, subst, ◌∙◌, arith}
-use Rattle.connection_states.specs.Steps.{leaving}
+use Rattle.connection_steps.specs.Steps.{leaving}
 use Rattle.open_calls.specs.Numbered.{at}
 use Rattle.open_calls.specs.Own.{without_caller}
-use Rattle.open_calls.proofs.Own.{state_of}
+use Rattle.connection_desk.proofs.States.{own_state as state_of}
 use Rattle.connection_desk.specs.Desks.{Desk}
 use Rattle.connection_desk.proofs.Answered.{closed, not_refused, request_left, notice_left}
 use Rattle.connection_desk.proofs.Seen.{desk_of}

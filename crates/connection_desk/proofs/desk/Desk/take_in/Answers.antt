@@ -1,4 +1,4 @@
-use Rattle.std.proofs.Common.{◌≡◌, ◌+◌, ◌++◌, [], suc, length, map, List, Bool, Option, option_to_list, append_assoc, ap, sym, subst, ◌∙◌, le_trans, arith}
+use Rattle.std.proofs.Common.{◌≡◌, ◌+◌, ◌++◌, [], suc, length, map, List, Bool, Option, option_to_list, append_assoc, ap, sym, subst, ◌∙◌, arith}
 use Rattle.connection_messages.specs.declared.cancels.Cancels.{Cancels}
 use Rattle.connection_history.specs.declared.event.Event.{Event}
 use Rattle.connection_history.specs.declared.event.Event.TheVariants as event
@@ -6,18 +6,20 @@ use Rattle.connection_history.specs.declared.order.Order.{Order}
 use Rattle.connection_history.specs.Stream.{entries_in, calls_in}
 use Rattle.open_calls.specs.Numbered.{Below}
 use Rattle.open_calls.specs.Own.{OwnState}
-use Rattle.open_calls.specs.Owed.{OwedState}
+use Rattle.owed_answers.specs.Owed.{OwedState}
 use Rattle.open_calls.specs.Theirs.{TheirState}
-use Rattle.open_calls.proofs.Theirs.{state_of}
+use Rattle.open_calls.specs.declared.their_call.TheirCall.{TheirCall}
+use Rattle.connection_desk.proofs.States.{their_state as state_of}
 use Rattle.outbox.specs.Output.{Output}
-use Rattle.connection_states.specs.States.{State, is_batch, owed_slots}
-use Rattle.connection_states.specs.Steps.{leaving, staying, theirs_after_all, told_of_all, new_unit_slots, own_after_all}
+use Rattle.connection_steps.specs.States.{State, is_batch, owed_slots}
+use Rattle.connection_steps.specs.Steps.{leaving, staying, theirs_after_all, told_of_all, new_unit_slots, own_after_all}
 use Rattle.connection_desk.specs.Desks.{Desk, after_unit, with_texts, answer_count, answer_texts, with_answers, with_counts}
-use Rattle.connection_states.specs.Tallies.{tally_in}
+use Rattle.connection_steps.specs.Tallies.{tally_in}
 use Rattle.connection_desk.specs.declared.tally.Tally.{Tally}
-use Rattle.connection_desk.specs.Inner.{added_calls, are_several, calls_along, told_along, untold_of, counted_in, owed_in, slots_in}
+use Rattle.connection_desk.specs.Inner.{added_calls, calls_along, told_along, untold_of, counted_in, owed_in, slots_in}
 use Rattle.connection_desk.proofs.Admitted.{below_of, theirs_along, told_same, unit_counted}
 use Rattle.connection_desk.proofs.Counting.{IsFew}
+use Rattle.connection_desk.proofs.Entries.{ArrivalLaws}
 use Rattle.connection_desk.proofs.Owing.{none-leaving}
 use Rattle.connection_desk.proofs.Owing.{state_of as owed_state}
 use mir.Val.{bool_byte}
@@ -73,6 +75,12 @@ returns-clause-ok c =
     let es = entries_in unit in
     let front = map event.Broken (option_to_list c.args.broken) in
     let n = d.theirs.came in
+    let laws : ArrivalLaws TheirCall = record {
+      up_to_above = c.numbers_above_one.ensures.up_to;
+      more = c.numbers_below_one.ensures.more;
+      push = c.numbers_below_one.ensures.push;
+      up_to_below = c.numbers_below_one.ensures.up_to;
+    } in
     let under : Below (suc n) d.theirs.calls = below_of n d.theirs.calls c.came-came.ensures.numbers in
     let admitted : c.admit.new.theirs ≡ state_of (n + length (calls_in es)) (d.theirs.calls ++ added_calls d.owed.places 0 n es) =
     c.in_ok-slots.ensures.ok.theirs
@@ -81,11 +89,11 @@ returns-clause-ok c =
     c.settle.ensures.theirs
     ∙ ap (λ (s : TheirState). state_of s.came (calls_along c.came-came.result es s.calls)) admitted
     ∙ ap (λ m. state_of (n + length (calls_in es)) (calls_along m es (d.theirs.calls ++ added_calls d.owed.places 0 n es))) c.came-came.ensures.came
-    ∙ theirs_along d.owed.places 0 n d.theirs.calls es under in
+    ∙ theirs_along laws d.owed.places 0 n d.theirs.calls es under in
     let told : told_along c.came-came.result d.own c.admit.new.theirs.calls es ≡ told_of_all d.own d.theirs es =
     ap (λ (s : TheirState). told_along c.came-came.result d.own s.calls es) admitted
     ∙ ap (λ m. told_along m d.own (d.theirs.calls ++ added_calls d.owed.places 0 n es) es) c.came-came.ensures.came
-    ∙ told_same d.owed.places n d.own d.theirs.calls es under in
+    ∙ told_same laws d.owed.places n d.own d.theirs.calls es under in
     let slots = c.in_ok-slots.slots in
     let owing : d.owed.owed ++ owed_in d.owed.places slots ≡ d.owed.owed ++ owed_slots d.owed.places (is_batch unit) (new_unit_slots unit) =
     ap (λ b. d.owed.owed ++ owed_slots d.owed.places b (slots_in slots)) c.in_ok-slots.ensures.ok.batch
@@ -98,7 +106,7 @@ returns-clause-ok c =
     ∙ ap (λ m. counted_in unit m d.own (d.theirs.calls ++ added_calls d.owed.places 0 n es) c.owe.new.tally) c.came-came.ensures.came
     ∙ ap (counted_in unit n d.own (d.theirs.calls ++ added_calls d.owed.places 0 n es))
     (c.in_default.ensures.tally ∙ ap (λ owed. with_answers (answer_count (leaving d.order owed)) d.tally) owing)
-    ∙ unit_counted d.owed.places n d.own d.theirs.calls unit answers d.tally under few (omega arith) in
+    ∙ unit_counted laws d.owed.places n d.own d.theirs.calls unit answers d.tally under few (omega arith) in
     c.keep_room.ensures
     ∙ same-desk d.cancels d.order d.is_over c.settle.new.own (own_after_all es d.own) c.settle.new.theirs (theirs_after_all d.owed.places 0 es d.theirs)
     c.owe.new.owed (owed_state (d.owed.places + 1) (staying d.order (d.owed.owed ++ owed_slots d.owed.places (is_batch unit) (new_unit_slots unit))))

@@ -7,7 +7,7 @@ use Rattle.connection_messages.proofs.Enveloped.{member_found, member_absent, ca
 use Rattle.connection_messages.proofs.read.compact.read_cancel.Goals as goal
 
 pub returns-in-Some : goal.returns-in-Some
-returns-in-Some c j numbers names version named =
+returns-in-Some c rules j theirs numbers names version named =
     let e = c.args.envelope.now in
     let parts = c.in-None-Some in
     let target = c.in-Some.target in
@@ -17,4 +17,4 @@ returns-in-Some c j numbers names version named =
     let absent = member_absent e.id (get (codes "id") j) parts.is-0 names.id in
     let params = member_found e.params parts.params (get (codes "params") j) parts.is-1 names.params in
     let aimed = gives params.0 (HasNumbers-get (codes "params") j params.0 numbers (sym params.1)) params.2 in
-    cancel_is by j params.0 text target version named.0 named.1 absent params.1 aimed.0 aimed.1
+    cancel_is rules by j params.0 text target theirs version named.0 named.1 absent params.1 (aimed.0 rules.null_params) aimed.1

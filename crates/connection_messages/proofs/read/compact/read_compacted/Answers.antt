@@ -13,6 +13,6 @@ returns-in-Some c =
     let same : tokens compact ≡ tokens text = subst (λ (r : Option (List ℕ)). IfSome r (λ l. tokens l ≡ tokens text)) c.in-Some.is c.in_ok-compact.ensures in
     let lent : c.as_str.result.now ≡ compact = c.as_str.ensures in
     let utf8 : IsUtf8 compact = subst (λ l. IsUtf8 l) lent c.as_str.utf8 in
-    let unit : unit_of c.args.cancels false c.as_str.result.now ≡ unit_of c.args.cancels false text =
-    ap (unit_of c.args.cancels false) lent ∙ ap (unit_of_reading c.args.cancels) (sym (value_of-same MOST_DEPTH_IN text compact c.utf8.text utf8 same)) in
+    let unit : unit_of c.args.rules false c.as_str.result.now ≡ unit_of c.args.rules false text =
+    ap (unit_of c.args.rules false) lent ∙ ap (unit_of_reading c.args.rules) (sym (value_of-same MOST_DEPTH_IN text compact c.utf8.text utf8 same)) in
     subst (λ v. IfOk c.read_compact.result (λ u. IfSome u (λ read. read ≡ v))) unit c.read_compact.ensures

@@ -8,5 +8,5 @@ read_entry-requires c = item_has_numbers c.args.values.now c.loop-value.value-in
 pub loop-value-preserved : goal.loop-value-preserved
 loop-value-preserved c =
     c.in_ok-push.ensures.items
-    ∙ entries_of-more c.args.cancels c.args.values.now c.loop-value.value-index c.value-item.result c.loop-value.entries.items c.in_ok-read_entry.field-0
+    ∙ entries_of-more c.args.rules c.args.values.now c.loop-value.value-index c.value-item.result c.loop-value.entries.items c.in_ok-read_entry.field-0
     c.loop-value-test.true c.value-item.is c.loop-value.invariant c.in_ok-read_entry.ensures

@@ -16,14 +16,14 @@ invariant_of-self c =
     let cutter = c.self.inside.cutter in
     let row = c.self.inside.row in
     let places = c.self.inside.places in
-    let pieces = c.self.inside.past.pieces in
-    let taken = c.self.inside.past.taken in
+    let pieces = c.self.inside.log.texts in
+    let taken = c.self.inside.log.taken in
     let is_open : c.self.inside.ended ≡ None = ap (λ (s : Stream). s.ended) c.self.view_is ∙ c.requires in
     let At : Option HowEnded → Type 0 = λ ended. IsHeld cutter row places pieces ended taken in
     let held : IsHeld cutter row places pieces None taken = subst At is_open c.self.invariant in
     let stands = held.stream.stands refl in
     let place : c.place_left-place.result ≡ capped (place_left (framing_of cutter) (limit_of cutter) pieces) = c.place_left-place.ensures pieces held.stream.tells in
-    let How : HowEnded → Inside → Type 0 = λ how a. IsHeld a.cutter a.row a.places a.past.pieces (Some how) a.past.taken in
+    let How : HowEnded → Inside → Type 0 = λ how a. IsHeld a.cutter a.row a.places a.log.texts (Some how) a.log.taken in
     elim c.match-how.branch [
       | in-Closed+in-Some w ↦
           (let next = w.take_last.new.self in

@@ -1,7 +1,8 @@
-use Rattle.std.proofs.Common.{◌≡◌, ◌++◌, ◌∷◌, [], ℕ, Option, Some, None, true, List, refl, ap, sym, ◌∙◌, subst}
+use Rattle.std.proofs.Common.{◌≡◌, ◌++◌, ◌∷◌, [], Option, Some, None, true, List, refl, ap, sym, ◌∙◌, subst}
 use Rattle.std.specs.Option.{is_some}
 use Rattle.lsp_frames.specs.declared.frame.Frame.{Frame}
 use Rattle.lsp_frames.specs.declared.frame.FrameFault.{FrameFault}
+use Rattle.ghost_log.specs.declared.ghost_log.GhostLog.{GhostLog}
 use Rattle.content_streams.specs.Streams.{Stream}
 use Rattle.content_streams.specs.Inner.Cutters.{IsHeld}
 use Rattle.content_streams.specs.declared.content_stream.ContentStream.TheInside.{Inside}
@@ -22,14 +23,14 @@ invariant_of-self-2 c =
     let cutter = c.self.inside.cutter in
     let row = c.self.inside.row in
     let places = c.self.inside.places in
-    let pieces = c.self.inside.past.pieces in
-    let taken = c.self.inside.past.taken in
+    let pieces = c.self.inside.log.texts in
+    let taken = c.self.inside.log.taken in
     let is_open : c.self.inside.ended ≡ None = ap (λ (s : Stream). s.ended) c.self.view_is ∙ c.requires in
     let At : Option HowEnded → Type 0 = λ ended. IsHeld cutter row places pieces ended taken in
     let held : IsHeld cutter row places pieces None taken = subst At is_open c.self.invariant in
     let is = held.stream in
     let stands = is.stands refl in
-    let After : Inside → Type 0 = λ a. IsHeld a.cutter a.row a.places (a.past.pieces ++ piece ∷ []) a.ended a.past.taken in
+    let After : Inside → Type 0 = λ a. IsHeld a.cutter a.row a.places (a.log.texts ++ piece ∷ []) a.ended a.log.taken in
     let done : After c.if-is_none.self-inside = elim c.if-is_none.branch [
       | then-is_none+in_ok-make_room+in_ok-contents w ↦
           (let given = w.in_ok-contents.contents.items in
@@ -51,11 +52,10 @@ invariant_of-self-2 c =
             placed = placed_ignored cutter places pieces piece taken fault.0 held.placed told;
           })))
     ] in
-    let P : List (List ℕ) → Type 0 = λ ps. IsHeld c.if-is_none.self-inside.cutter c.if-is_none.self-inside.row c.if-is_none.self-inside.places ps c.if-is_none.self-inside.ended c.with_piece-self-inside.result.taken in
-    let Q : ℕ → Type 0 = λ n. IsHeld c.if-is_none.self-inside.cutter c.if-is_none.self-inside.row c.if-is_none.self-inside.places (c.if-is_none.self-inside.past.pieces ++ piece ∷ []) c.if-is_none.self-inside.ended n in
-    subst P (sym c.with_piece-self-inside.ensures.0) (subst Q (sym c.with_piece-self-inside.ensures.1) done)
+    let P : GhostLog → Type 0 = λ log. IsHeld c.if-is_none.self-inside.cutter c.if-is_none.self-inside.row c.if-is_none.self-inside.places log.texts c.if-is_none.self-inside.ended log.taken in
+    subst P (sym c.with_text-self-inside.ensures) done
 
 pub feed-requires-clause-known : goal.feed-requires-clause-known
 feed-requires-clause-known c =
     let is_open : c.self.inside.ended ≡ None = ap (λ (s : Stream). s.ended) c.self.view_is ∙ c.requires in
-    (c.self.inside.past.pieces, c.self.invariant.stream.stands is_open)
+    (c.self.inside.log.texts, c.self.invariant.stream.stands is_open)

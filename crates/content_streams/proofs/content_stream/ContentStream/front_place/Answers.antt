@@ -8,5 +8,5 @@ use Rattle.content_streams.proofs.content_stream.ContentStream.front_place.Goals
 pub returns : goal.returns
 returns c =
     let inside = c.self.inside in
-    c.front.ensures ∙ next_place_is inside.cutter inside.places inside.past.pieces inside.ended inside.past.taken c.self.invariant.placed
+    c.front.ensures ∙ next_place_is inside.cutter inside.places inside.log.texts inside.ended inside.log.taken c.self.invariant.placed
     ∙ ap (λ (s : Stream). option_map (λ (placed : ℕ × Frame). capped placed.0) (next_placed s)) c.self.view_is

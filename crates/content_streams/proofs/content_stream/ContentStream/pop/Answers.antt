@@ -1,6 +1,7 @@
-use Rattle.std.proofs.Common.{ℕ, List, sym, subst}
+use Rattle.std.proofs.Common.{sym, subst}
 use Rattle.std.specs.List.{slice_get}
 use Rattle.std.specs.Option.{IsSome}
+use Rattle.ghost_log.specs.declared.ghost_log.GhostLog.{GhostLog}
 use Rattle.content_streams.specs.Streams.{Stream, next_content}
 use Rattle.content_streams.specs.Inner.Cutters.{IsHeld, read_by}
 use Rattle.content_streams.proofs.Keeping.{popped}
@@ -9,9 +10,8 @@ use Rattle.content_streams.proofs.content_stream.ContentStream.pop.Goals as goal
 
 pub invariant_of-self : goal.invariant_of-self
 invariant_of-self c =
-    let there : IsSome (slice_get (read_by c.self.inside.cutter c.self.inside.past.pieces c.self.inside.ended) c.self.inside.past.taken) = subst (λ (s : Stream). IsSome (next_content s)) (sym c.self.view_is) c.requires in
-    let stream = popped c.self.inside.cutter c.self.inside.row c.pop.new.self c.self.inside.past.pieces c.self.inside.ended c.self.inside.past.taken c.self.invariant.stream there c.pop.ensures.items c.pop.ensures.last in
-    let placed = placed_popped c.self.inside.cutter c.self.inside.places c.pop-2.new.self c.self.inside.past.pieces c.self.inside.ended c.self.inside.past.taken c.self.invariant.placed there c.pop-2.ensures.items c.pop-2.ensures.last in
-    let P : List (List ℕ) → Type 0 = λ pieces. IsHeld c.self.inside.cutter c.pop.new.self c.pop-2.new.self pieces c.self.inside.ended c.with_one_taken-self-inside.result.taken in
-    let Q : ℕ → Type 0 = λ taken. IsHeld c.self.inside.cutter c.pop.new.self c.pop-2.new.self c.self.inside.past.pieces c.self.inside.ended taken in
-    subst P (sym c.with_one_taken-self-inside.ensures.0) (subst Q (sym c.with_one_taken-self-inside.ensures.1) (record { stream = stream; placed = placed }))
+    let there : IsSome (slice_get (read_by c.self.inside.cutter c.self.inside.log.texts c.self.inside.ended) c.self.inside.log.taken) = subst (λ (s : Stream). IsSome (next_content s)) (sym c.self.view_is) c.requires in
+    let stream = popped c.self.inside.cutter c.self.inside.row c.pop.new.self c.self.inside.log.texts c.self.inside.ended c.self.inside.log.taken c.self.invariant.stream there c.pop.ensures.items c.pop.ensures.last in
+    let placed = placed_popped c.self.inside.cutter c.self.inside.places c.pop-2.new.self c.self.inside.log.texts c.self.inside.ended c.self.inside.log.taken c.self.invariant.placed there c.pop-2.ensures.items c.pop-2.ensures.last in
+    let P : GhostLog → Type 0 = λ log. IsHeld c.self.inside.cutter c.pop.new.self c.pop-2.new.self log.texts c.self.inside.ended log.taken in
+    subst P (sym c.with_taken-self-inside.ensures) (record { stream = stream; placed = placed })

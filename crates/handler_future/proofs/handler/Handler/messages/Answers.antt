@@ -1,5 +1,5 @@
 use Rattle.std.proofs.Common.{List, All, sym, subst, ap, ◌∙◌}
-use Rattle.method_steps.specs.Steps.{calls_of}
+use Rattle.method_templates.specs.Steps.{calls_of}
 use Rattle.handler_future.specs.declared.message.Message.{Message}
 use Rattle.handler_future.specs.Front.{HasTurnsUpTo}
 use Rattle.handler_future.specs.Inner.Handler.{program_of, seen_course}

@@ -1,5 +1,5 @@
 use Rattle.std.proofs.Common.{◌≡◌, ◌≤◌, ℕ, List, All, ◌∙◌, sym, subst, ap}
-use Rattle.method_steps.specs.Steps.{calls_of}
+use Rattle.method_templates.specs.Steps.{calls_of}
 use Rattle.handler_future.specs.Front.{unheard, last_turns}
 use Rattle.handler_future.specs.Inner.Handler.{program_of, seen_course}
 use Rattle.handler_future.specs.State.{HandlerState}

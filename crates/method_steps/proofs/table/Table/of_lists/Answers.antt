@@ -3,9 +3,10 @@ use Rattle.std.proofs.lemmas.List.{length-map}
 use Rattle.toml.specs.Data.{no_items}
 use Rattle.toml.specs.View.{items_view}
 use Rattle.method_steps.specs.Inner.Methods.{named_steps}
-use Rattle.method_steps.specs.Limits.{items_len}
-use Rattle.method_steps.specs.Made.{steps_from, methods_from}
-use Rattle.method_steps.proofs.ItemsLaws.{items_len-view}
+use Rattle.table_reading.specs.Limits.{items_len}
+use Rattle.table_reading.specs.Made.{steps_from}
+use Rattle.method_steps.specs.Made.{methods_from}
+use Rattle.table_reading.proofs.ItemsLaws.{items_len-view}
 use Rattle.method_steps.proofs.Opening.{opening_of_steps}
 use Rattle.method_steps.proofs.Within.{list_within, methods_within, length-methods_from}
 use Rattle.method_steps.proofs.table.Table.of_lists.Goals as goal

@@ -2,7 +2,7 @@ use Rattle.std.proofs.Common.{◌≡◌, Some, None, option_map, ap, ◌∙◌, 
 use Rattle.std.specs.List.{slice_get}
 use Rattle.std.proofs.lemmas.Option.{slice_get-map}
 use Rattle.method_steps.specs.Inner.Methods.{named_steps}
-use Rattle.method_steps.specs.Steps.{AreWithinLimits}
+use Rattle.method_templates.specs.Steps.{AreWithinLimits}
 use Rattle.method_steps.proofs.MethodsOf.{All-slice_get, slice_get-within, slice_get-past}
 use Rattle.method_steps.proofs.table.Table.steps.Goals as goal
 

@@ -3,7 +3,7 @@ use Rattle.open_calls.specs.declared.own_call.OwnCall.{OwnCall}
 use Rattle.number_windows.specs.Windows.{window_entries}
 use Rattle.number_windows.specs.Numbered.{without}
 use Rattle.open_calls.specs.Own.{OwnState}
-use Rattle.open_calls.proofs.StandIns.{first_goes, none_first}
+use Rattle.number_windows.proofs.StandIns.{first_goes, none_first}
 use Rattle.open_calls.proofs.own_calls.OwnCalls.pop_first.Goals as goal
 
 pub returns-clause-first : goal.returns-clause-first

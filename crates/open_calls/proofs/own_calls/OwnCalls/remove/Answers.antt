@@ -5,7 +5,7 @@ use Rattle.open_calls.specs.Own.{is_wanted_by}
 use Rattle.open_calls.specs.Inner.{is_of, IsKeyIndex}
 use Rattle.number_windows.proofs.Numbered.{below_filter, above_filter}
 use Rattle.number_windows.proofs.Rows.{at_gone, without_missing}
-use Rattle.open_calls.proofs.OwedLemmas.{through}
+use Rattle.open_calls.proofs.States.{through}
 use Rattle.open_calls.proofs.Own.{state_of, same_waiting, index_gone, false_and}
 use Rattle.open_calls.proofs.own_calls.OwnCalls.remove.Goals as goal
 

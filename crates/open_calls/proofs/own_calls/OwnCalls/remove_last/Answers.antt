@@ -3,7 +3,7 @@ use Rattle.number_windows.specs.Windows.{window_entries}
 use Rattle.number_windows.specs.Numbered.{without, Below}
 use Rattle.open_calls.specs.Own.{OwnState}
 use Rattle.number_windows.proofs.Numbered.{below_without}
-use Rattle.open_calls.proofs.OwedLemmas.{through}
+use Rattle.open_calls.proofs.States.{through}
 use Rattle.open_calls.proofs.Own.{state_of, same_waiting}
 use Rattle.open_calls.proofs.own_calls.OwnCalls.remove_last.Goals as goal
 

@@ -5,9 +5,9 @@ use Rattle.open_calls.specs.Own.{OwnState, is_wanted_by, withdrawn}
 use Rattle.open_calls.specs.Inner.{is_of}
 use Rattle.number_windows.proofs.Numbered.{unchanged, below_changed, above_changed}
 use Rattle.number_windows.proofs.Rows.{at_replaced}
-use Rattle.open_calls.proofs.OwedLemmas.{through}
+use Rattle.open_calls.proofs.States.{through}
 use Rattle.open_calls.proofs.Own.{state_of, same_waiting, index_gone, index_same, false_and, and_false}
-use Rattle.open_calls.proofs.StandIns.{put}
+use Rattle.number_windows.proofs.StandIns.{put}
 use Rattle.open_calls.proofs.own_calls.OwnCalls.withdraw.Goals as goal
 
 pub returns-in_default : goal.returns-in_default

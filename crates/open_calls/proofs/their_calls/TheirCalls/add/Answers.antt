@@ -3,7 +3,7 @@ use Rattle.number_windows.specs.Windows.{window_entries}
 use Rattle.number_windows.specs.Numbered.{Below}
 use Rattle.open_calls.specs.Theirs.{new_call}
 use Rattle.number_windows.proofs.Numbered.{below_push, at_below}
-use Rattle.open_calls.proofs.OwedLemmas.{through}
+use Rattle.open_calls.proofs.States.{through}
 use Rattle.number_windows.proofs.Rows.{at_come}
 use Rattle.open_calls.proofs.Theirs.{state_of, same_calls, number_come}
 use Rattle.open_calls.proofs.their_calls.TheirCalls.add.Goals as goal

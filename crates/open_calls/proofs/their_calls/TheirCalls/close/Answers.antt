@@ -3,7 +3,7 @@ use Rattle.number_windows.specs.Windows.{window_entries}
 use Rattle.number_windows.specs.Numbered.{at, without, Below}
 use Rattle.open_calls.specs.Inner.{IsNumberIndex}
 use Rattle.number_windows.proofs.Numbered.{below_filter}
-use Rattle.open_calls.proofs.OwedLemmas.{through}
+use Rattle.open_calls.proofs.States.{through}
 use Rattle.number_windows.proofs.Rows.{at_gone, without_missing}
 use Rattle.open_calls.proofs.Theirs.{state_of, same_calls, number_gone}
 use Rattle.open_calls.proofs.their_calls.TheirCalls.close.Goals as goal

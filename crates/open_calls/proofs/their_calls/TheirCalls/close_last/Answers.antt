@@ -3,7 +3,7 @@ use Rattle.number_windows.specs.Windows.{window_entries}
 use Rattle.number_windows.specs.Numbered.{without, Below}
 use Rattle.open_calls.specs.Theirs.{TheirState}
 use Rattle.number_windows.proofs.Numbered.{below_without}
-use Rattle.open_calls.proofs.OwedLemmas.{through}
+use Rattle.open_calls.proofs.States.{through}
 use Rattle.open_calls.proofs.Theirs.{state_of, same_calls}
 use Rattle.open_calls.proofs.their_calls.TheirCalls.close_last.Goals as goal
 

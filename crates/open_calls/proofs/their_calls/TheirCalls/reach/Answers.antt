@@ -3,7 +3,7 @@ use Rattle.number_windows.specs.Windows.{window_entries}
 use Rattle.number_windows.specs.Numbered.{at, changed_at, Below}
 use Rattle.open_calls.specs.Theirs.{cancelled, cancelled_at, reached, is_reached}
 use Rattle.number_windows.proofs.Numbered.{below_changed}
-use Rattle.open_calls.proofs.OwedLemmas.{through}
+use Rattle.open_calls.proofs.States.{through}
 use Rattle.open_calls.proofs.Own.{some_of}
 use Rattle.number_windows.proofs.Rows.{at_replaced}
 use Rattle.open_calls.proofs.Theirs.{state_of, same_calls, number_reached, reached_none, reached_some}

@@ -1,5 +1,5 @@
 use Rattle.std.proofs.Common.{◌≡◌}
-use Rattle.session_state.specs.Turns.{all_turns_left}
+use Rattle.peer_events.specs.Turns.{all_turns_left}
 use Rattle.stream_session.specs.Stream.{Fed, stream_of}
 use Rattle.peer_player.specs.Playing.{Plays, HasWritten, KeepsInput}
 use Rattle.peer_player.proofs.playing.Playing.settle.Given as goal

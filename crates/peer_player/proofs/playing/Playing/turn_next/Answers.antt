@@ -1,6 +1,6 @@
 -- A turn is one more event of the session; nothing is written.
 use Rattle.std.proofs.Common.{ℕ, ◌<◌, Some, None, sym, ap, ◌∙◌, subst}
-use Rattle.session_state.specs.Turns.{all_turns_left}
+use Rattle.peer_events.specs.Turns.{all_turns_left}
 use Rattle.peer_session.specs.Events.{LeavesAt, with_job_back}
 use Rattle.peer_session.specs.SessionState.{SessionState}
 use Rattle.stream_session.specs.Stream.{StreamState, stream_of}

@@ -1,6 +1,6 @@
 use Rattle.std.proofs.Common.{ap, sym, ◌∙◌}
 use Rattle.rpc_messages.specs.Unit.{unit_of_reading}
-use Rattle.rpc_messages.proofs.Compact.{text_read}
+use Rattle.compact_values.proofs.Compact.{text_read}
 use Rattle.rpc_messages.proofs.read.compact.read_compact.Goals as goal
 
 pub returns : goal.returns

@@ -3,9 +3,10 @@ use Rattle.std.proofs.lemmas.List.{map-append}
 use Rattle.serde_json.specs.Data.{array, object, no_items}
 use Rattle.serde_json.specs.Read.{max_depth}
 use Rattle.rpc_messages.specs.Entry.{entry_seen, entry_of}
-use Rattle.rpc_messages.specs.Inner.Compact.{IsRead}
-use Rattle.rpc_messages.proofs.Compact.{ItemsBehind, no_items_behind, item_behind, items_over, array_read}
-use Rattle.rpc_messages.proofs.Elements.{elements_before, entries_of-all}
+use Rattle.compact_values.specs.Compact.{IsRead}
+use Rattle.compact_values.proofs.Compact.{ItemsBehind, no_items_behind, item_behind, items_over, array_read}
+use Rattle.compact_values.proofs.Elements.{elements_before}
+use Rattle.rpc_messages.proofs.Elements.{entries_of-all}
 use Rattle.rpc_messages.proofs.read.compact.read_entries.Goals as goal
 
 pub loop-at-init : goal.loop-at-init

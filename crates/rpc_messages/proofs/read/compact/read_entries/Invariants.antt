@@ -1,7 +1,7 @@
 use Rattle.std.proofs.Common.{◌≡◌, ◌-◌, ◌+◌, ◌≤◌, List, length, map}
 use Rattle.serde_json.specs.Data.{Data}
 use Rattle.rpc_messages.specs.Entry.{entry_seen, entry_of}
-use Rattle.rpc_messages.proofs.Compact.{ItemsBehind}
+use Rattle.compact_values.proofs.Compact.{ItemsBehind}
 use Rattle.rpc_messages.proofs.read.compact.read_entries.Given as goal
 
 abbrev pub invariant-loop-at : goal.invariant-loop-at

@@ -1,7 +1,7 @@
 use Rattle.std.proofs.Common.{◌-◌, ◌<◌, subst}
 use Rattle.std.proofs.lemmas.Result.{IfOk-weaker}
-use Rattle.rpc_messages.specs.Inner.Compact.{MembersAreRead}
-use Rattle.rpc_messages.proofs.Compact.{object_read}
+use Rattle.compact_values.specs.Compact.{MembersAreRead}
+use Rattle.compact_values.proofs.Compact.{object_read}
 use Rattle.rpc_messages.proofs.read.compact.read_entry.Goals as goal
 
 pub returns-clause-entry : goal.returns-clause-entry

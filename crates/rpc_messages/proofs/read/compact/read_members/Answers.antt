@@ -2,8 +2,8 @@ use Rattle.std.proofs.Common.{◌≡◌, get_or, cond, subst, sym, ap, ◌∙◌
 use Rattle.json_reading.specs.Piece.{piece_view}
 use Rattle.serde_json.specs.Data.{no_members, put}
 use Rattle.rpc_messages.specs.Held.{with_member}
-use Rattle.rpc_messages.specs.Inner.Compact.{MembersAreRead}
-use Rattle.rpc_messages.proofs.Compact.{MembersBehind, no_members_behind, member_behind, members_over}
+use Rattle.compact_values.specs.Compact.{MembersAreRead}
+use Rattle.compact_values.proofs.Compact.{MembersBehind, no_members_behind, member_behind, members_over}
 use Rattle.rpc_messages.proofs.Envelopes.{envelope_of-put}
 use Rattle.rpc_messages.proofs.read.compact.read_members.Goals as goal
 

@@ -2,7 +2,7 @@ use Rattle.std.proofs.Common.{◌≡◌, ◌-◌, ◌≤◌, length}
 use Rattle.serde_json.specs.Data.{Members}
 use Rattle.rpc_messages.specs.Envelope.{envelope_of}
 use Rattle.rpc_messages.specs.Held.{envelope_view}
-use Rattle.rpc_messages.proofs.Compact.{MembersBehind}
+use Rattle.compact_values.proofs.Compact.{MembersBehind}
 use Rattle.rpc_messages.proofs.read.compact.read_members.Given as goal
 
 abbrev pub invariant-loop-at : goal.invariant-loop-at

@@ -1,4 +1,4 @@
-use Rattle.rpc_messages.proofs.Compact.{string_read}
+use Rattle.compact_values.proofs.Compact.{string_read}
 use Rattle.rpc_messages.proofs.read.compact.read_piece.Goals as goal
 
 pub returns-then-byte_at-eq34-clause-piece : goal.returns-then-byte_at-eq34-clause-piece

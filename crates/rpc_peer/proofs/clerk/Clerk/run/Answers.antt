@@ -1,5 +1,6 @@
 -- A new clerk has served nothing; what it then serves is a run.
 use Rattle.std.proofs.Common.{refl}
+use Rattle.rpc_peer.specs.Clerk.{clerk_framing, clerk_table, clerk_limits}
 use Rattle.rpc_peer.proofs.Happenings.{starts-new}
 use Rattle.rpc_peer.proofs.Outcomes.{ring-of, run-of, part-of, cause-of}
 use Rattle.rpc_peer.proofs.Rings.{same-ring}
@@ -11,7 +12,7 @@ returns-clause-ring g c =
     let taken = g.K.Sink.bytes_taken in
     let failures = g.K.Sink.failures in
     ring-of taken failures
-    (record { framing = clerk.framing; table = clerk.table.now; limits = clerk.limits; ring = clerk.ring; taken = taken clerk.sink; failures = failures clerk.sink })
+    (record { framing = clerk_framing clerk; table = clerk_table clerk; limits = clerk_limits clerk; ring = clerk.ring; taken = taken clerk.sink; failures = failures clerk.sink })
     c.serve-outcome.new.self c.serve-outcome.result
     (c.serve-outcome.ensures.ok _ (record { after = starts-new clerk c.requires (taken clerk.sink); ring = same-ring clerk.ring; unfailing = refl }))
     (c.serve-outcome.ensures.err _ (record { after = starts-new clerk c.requires (taken clerk.sink); ring = same-ring clerk.ring; unfailing = refl }))
@@ -22,7 +23,7 @@ returns-clause-ok g c =
     let taken = g.K.Sink.bytes_taken in
     let failures = g.K.Sink.failures in
     run-of taken failures
-    (record { framing = clerk.framing; table = clerk.table.now; limits = clerk.limits; ring = clerk.ring; taken = taken clerk.sink; failures = failures clerk.sink })
+    (record { framing = clerk_framing clerk; table = clerk_table clerk; limits = clerk_limits clerk; ring = clerk.ring; taken = taken clerk.sink; failures = failures clerk.sink })
     c.serve-outcome.new.self c.serve-outcome.result
     (c.serve-outcome.ensures.ok _ (record { after = starts-new clerk c.requires (taken clerk.sink); ring = same-ring clerk.ring; unfailing = refl }))
 
@@ -32,7 +33,7 @@ returns-clause-err g c =
     let taken = g.K.Sink.bytes_taken in
     let failures = g.K.Sink.failures in
     part-of taken failures
-    (record { framing = clerk.framing; table = clerk.table.now; limits = clerk.limits; ring = clerk.ring; taken = taken clerk.sink; failures = failures clerk.sink })
+    (record { framing = clerk_framing clerk; table = clerk_table clerk; limits = clerk_limits clerk; ring = clerk.ring; taken = taken clerk.sink; failures = failures clerk.sink })
     c.serve-outcome.new.self c.serve-outcome.result
     (c.serve-outcome.ensures.err _ (record { after = starts-new clerk c.requires (taken clerk.sink); ring = same-ring clerk.ring; unfailing = refl }))
 
@@ -42,7 +43,7 @@ returns-clause-cause g c =
     let taken = g.K.Sink.bytes_taken in
     let failures = g.K.Sink.failures in
     cause-of taken failures
-    (record { framing = clerk.framing; table = clerk.table.now; limits = clerk.limits; ring = clerk.ring; taken = taken clerk.sink; failures = failures clerk.sink })
+    (record { framing = clerk_framing clerk; table = clerk_table clerk; limits = clerk_limits clerk; ring = clerk.ring; taken = taken clerk.sink; failures = failures clerk.sink })
     c.serve-outcome.new.self c.serve-outcome.result
     (c.serve-outcome.ensures.ok _ (record { after = starts-new clerk c.requires (taken clerk.sink); ring = same-ring clerk.ring; unfailing = refl }))
     (c.serve-outcome.ensures.err _ (record { after = starts-new clerk c.requires (taken clerk.sink); ring = same-ring clerk.ring; unfailing = refl }))

@@ -1,0 +1,59 @@
+"""Signals that come to the driver are for the server."""
+from __future__ import annotations
+
+import contextlib
+import os
+import signal
+import subprocess
+import threading
+from typing import Optional
+
+_PASSED = (signal.SIGINT, signal.SIGTERM, signal.SIGHUP, signal.SIGQUIT, signal.SIGUSR1, signal.SIGUSR2)
+# What a terminal sends comes from the kernel, and to all of its processes: the server has it already.
+_FROM_KERNEL = 0x80
+
+
+class Signals:
+    """Passes signals on, from a thread of its own, so that nothing that the driver does holds them up."""
+
+    def __init__(self) -> None:
+        """From here on signals wait until there is a server."""
+        self.wake, self._wakes = os.pipe2(os.O_CLOEXEC | os.O_NONBLOCK)  # (read to be woken)
+        self._waited = {*_PASSED, signal.SIGCHLD}
+        self._before = signal.pthread_sigmask(signal.SIG_BLOCK, self._waited)
+        self._server: Optional["subprocess.Popen[bytes]"] = None
+        #: The signal that came when the server had ended already.
+        self.last: Optional[int] = None
+
+    def as_before(self) -> None:
+        """Makes signals what they were."""
+        signal.pthread_sigmask(signal.SIG_SETMASK, self._before)
+
+    def pass_on_to(self, server: "subprocess.Popen[bytes]") -> None:
+        self._server = server
+        threading.Thread(target=self._run, name="signals", daemon=True).start()
+
+    def _run(self) -> None:
+        assert self._server is not None
+        while True:
+            it = signal.sigwaitinfo(self._waited)
+            if it.si_signo != signal.SIGCHLD:
+                if self._server.returncode is not None:
+                    self.last = it.si_signo
+                elif it.si_code != _FROM_KERNEL:
+                    with contextlib.suppress(OSError):
+                        self._server.send_signal(it.si_signo)
+            with contextlib.suppress(OSError):
+                os.write(self._wakes, b".")
+
+
+def end_by(number: int) -> None:
+    """Ends this process by a signal, as the server's ended, and without a dump of its memory."""
+    import resource
+
+    with contextlib.suppress(OSError, ValueError):
+        resource.setrlimit(resource.RLIMIT_CORE, (0, 0))
+    with contextlib.suppress(OSError, ValueError):
+        signal.signal(number, signal.SIG_DFL)
+    signal.pthread_sigmask(signal.SIG_UNBLOCK, {number})
+    os.kill(os.getpid(), number)

@@ -1,0 +1,134 @@
+"""What the package passes to the library's judge is what C sees, and what that gives is what the package tells: by calls
+in C that write down what they are given. And the package's tables beside those of the header."""
+import ctypes
+import os
+import shutil
+import subprocess
+import tempfile
+import unittest
+
+from helping import HERE, TOP, Case
+
+from bullmyrtle import BadSettings, LibraryError, NoMemory, _library
+from bullmyrtle.judge import PROVED, Finding, Judge, Talk, _rules
+
+SAID = """\
+new 1 1 1 99 0
+saw 1 0 2 255
+saw 1 1 0 -1
+saw 1 1 3 99
+ended 1 0 0
+ended 1 1 1
+next 1 64
+next 1 64
+next 1 64
+free 1
+"""
+
+
+class Interface(Case):
+    def setUp(self):
+        if shutil.which("cc") is None:
+            self.skipTest("cc isn't there: nothing shows how C sees what the package passes")
+        with open(os.path.join(TOP, "include", "bullmyrtle.h"), encoding="utf-8") as header:
+            if "bm_judge_new" not in header.read():
+                self.skipTest("the header has no bm_judge_new")
+        room = tempfile.TemporaryDirectory()
+        self.addCleanup(room.cleanup)
+        self.said = os.path.join(room.name, "said")
+        file = os.path.join(room.name, _library.FILE)
+        words = [
+            "cc",
+            "-std=c99",
+            "-Wall",
+            "-Wextra",
+            "-pedantic",
+            "-Werror",
+            "-shared",
+            "-fPIC",
+            "-DOPEN",
+            "-DJUDGE",
+        ]
+        sources = [os.path.join(HERE, it) for it in ("interface.c", "interface_judge.c")]
+        subprocess.run([*words, f"-I{os.path.join(TOP, 'include')}", "-o", file, *sources], check=True)
+        os.environ["SAID"] = self.said
+        self.addCleanup(os.environ.pop, "SAID")
+        before = _library.library()
+        self.addCleanup(_library.use, before)
+        self.library = ctypes.PyDLL(file)
+        _library.declare(self.library)
+        _library.use(self.library)
+
+    def read(self):
+        with open(self.said, encoding="ascii") as file:
+            return file.read()
+
+    def test_it(self):
+        judge = Judge("lsp", "lines", 99)
+        judge.saw("client", b"x\xff")
+        judge.saw("server", b"")
+        with self.assertRaises(NoMemory):
+            judge.saw("server", b"abc")
+        judge.ended("client", "closed")
+        judge.ended("server", "failed")
+        found = judge.findings()
+        self.assertEqual(judge.findings(), [])
+        judge.close()
+        judge.close()
+        self.assertEqual(self.read(), SAID)
+        self.assertEqual(found[0], Finding("server", "unanswered", "note", "client", 1 << 40, 1 << 63, 7))
+        self.assertEqual(
+            found[69], Finding("server", "not-judged", "note", "server", (1 << 40) + 69, 1 << 63, 7)
+        )
+        self.assertEqual(len(found), 70)
+
+    def test_no_memory(self):
+        with self.assertRaises(NoMemory):
+            Judge("mcp", "contents")
+        self.assertEqual(self.read(), "new 1 2 2 0 0\n")
+
+    def test_sizes(self):
+        self.assertEqual([ctypes.sizeof(it) for it in (_library.JudgeOptions, _library.Found)], [20, 40])
+
+    def test_tables(self):
+        self.library.say_tables()
+        lines = self.read().splitlines()
+        self.assertEqual(lines[-3:], [*_rules.LEVELS])
+        names = [it.partition(": ") for it in lines[:-3]]
+        self.assertEqual([it[0] for it in names], [it.name for it in PROVED])
+        for (name, _, section), rule in zip(names[:-1], PROVED):
+            self.assertEqual(section, rule.section, name)
+
+
+class BadUse(Case):
+    def test_settings(self):
+        for ways in (
+            ("dap", "lines"),
+            ("lsp", "words"),
+            ("lsp", "lines", 0),
+            ("lsp", "lines", 1 << 40),
+            (1, 2),
+        ):
+            with self.assertRaises(BadSettings):
+                Judge(*ways)
+
+    def test_library_without_a_judge(self):
+        class Older:
+            def __init__(self, library):
+                self._library = library
+
+            def bm_has(self, addition):
+                return addition != _library.JUDGE and self._library.bm_has(addition)
+
+            def __getattr__(self, name):
+                return getattr(self._library, name)
+
+        before = _library.library()
+        self.addCleanup(_library.use, before)
+        _library.use(Older(before))
+        with self.assertRaisesRegex(LibraryError, "judging needs a library that has bm_judge_new"):
+            Talk()
+
+
+if __name__ == "__main__":
+    unittest.main()

@@ -1,0 +1,123 @@
+"""usage: python3 checks/c_judge_costs.py [--library FOLDER] [--count N]      judges N requests and answers, 10,000 where none are named
+
+What judging takes, by `support/judge_costs.c` over the C library: instructions of requests and their answers before the
+judge, beside those of a connection that is fed the same requests and answers them. And what it takes grows with what is
+judged and no faster, where all is answered at once, and where all is open before the first answer comes, with ids that
+are numbers and that are strings: twice as many take at most 2.2 times the instructions, and the memory of 200,000 is at
+most 2.2 times that of 100,000. Contents that can't be read, on as many open requests, are known to take more; this is
+seen. Instructions are callgrind's."""
+import argparse
+import os
+import subprocess
+import sys
+import tempfile
+from functools import partial
+from typing import Iterable, Optional
+
+from support import ran, refusals
+from support.c_programs import C99, SUPPORT, build, default_library, is_whole
+from support.callgrind import instructions
+
+COUNT, MOST_GROWTH = 10_000, 2.2
+# A request and its answer before the judge take so many times what a connection takes for them: a twentieth more than
+# was measured (docs/performance.md).
+MOST_TIMES = 3.35
+FEW_HELD, MANY_HELD = 100_000, 200_000
+KINDS = tuple(f"{way}{ids}" for ids in ("", "-strings") for way in ("passed", "open", "reversed"))
+# What takes time with the square of its size, and of which this size is enough.
+SQUARE, SIZE = "unreadable", 1_000
+WORDS = [*C99, "-O2"]
+
+
+def words_of(words: Iterable[str]) -> argparse.Namespace:
+    parser = argparse.ArgumentParser(usage=__doc__.partition("\n\n")[0].removeprefix("usage: "))
+    parser.add_argument("--library", default=default_library())
+    parser.add_argument("--count", type=int, default=COUNT)
+    return parser.parse_args([*words])
+
+
+def check_instructions(count: ran.Count, program: str, most: int) -> None:
+    """Counts at three sizes, as many side by side as there are processors."""
+    sizes = {it: (0, most // 2, most) for it in ("none", "connection", *KINDS)}
+    sizes[SQUARE] = (0, SIZE // 2, SIZE)
+    counted = iter(
+        ran.side_by_side(partial(instructions, [program, kind, str(it)]) for kind, them in sizes.items() for it in them)
+    )
+    found = {kind: [next(counted) for _ in them] for kind, them in sizes.items()}
+    failed = [kind for kind, them in found.items() if None in them]
+    count.check("all are counted", not failed, failed)
+    if not failed:
+        taken = {kind: [it or 0 for it in them] for kind, them in found.items()}
+        check_times(count, taken, most)
+        for kind in KINDS:
+            check_growth(count, kind, taken[kind], most)
+        growth = growth_of(taken[SQUARE])
+        count.check(f"{SQUARE} grows faster, which is seen", growth > 3, f"{growth:.2f}")
+
+
+def each(taken: list[int], most: int) -> float:
+    return (taken[2] - taken[1]) / (most - most // 2)
+
+
+def check_times(count: ran.Count, taken: dict[str, list[int]], most: int) -> None:
+    """How many times what a connection takes; the making of the texts is left out of both."""
+    none, connection, judge = (each(taken[it], most) for it in ("none", "connection", "passed"))
+    times = (judge - none) / (connection - none)
+    print(
+        f"a request and its answer, {most:,} of them: {connection - none:,.0f} instructions by a connection, "
+        f"{judge - none:,.0f} by the judge: {times:.2f} times",
+        flush=True,
+    )
+    count.check(
+        f"the judge takes at most {MOST_TIMES} times what a connection does", times <= MOST_TIMES, f"{times:.2f}"
+    )
+
+
+def growth_of(taken: list[int]) -> float:
+    begun, half, whole = taken
+    return (whole - begun) / (half - begun)
+
+
+def check_growth(count: ran.Count, kind: str, taken: list[int], most: int) -> None:
+    growth = growth_of(taken)
+    print(
+        f"{kind}: {taken[1]:,} instructions at {most // 2:,} and {taken[2]:,} at {most:,}, growth {growth:.2f}",
+        flush=True,
+    )
+    count.check(f"{kind} grows with its size", growth <= MOST_GROWTH, f"{growth:.2f}")
+
+
+def held(program: str, kind: str, number: int) -> Optional[int]:
+    """The most bytes that are held."""
+    status, most, *_ = refusals.counted([program, kind, str(number)])
+    return None if status else most
+
+
+def check_memory(count: ran.Count, program: str) -> None:
+    for kind in KINDS:
+        few, many = (held(program, kind, it) for it in (FEW_HELD, MANY_HELD))
+        well = few is not None and many is not None and many <= MOST_GROWTH * few
+        count.check(f"{kind}: memory grows with its size", well, f"{few}, {many}")
+        if few is not None and many is not None:
+            print(f"{kind}: {few:,} bytes held of {FEW_HELD:,}, {many:,} of {MANY_HELD:,}", flush=True)
+
+
+def main(words: list[str]) -> None:
+    options, count = words_of(words), ran.Count()
+    library = os.path.abspath(options.library)
+    if ran.lacks("cc", "it compiles the program"):
+        count.end()
+    if not is_whole(library) or "bm_judge_new" not in ran.text_of(f"{library}/bullmyrtle.h"):
+        print(f"SKIPPED: what judging takes, since the library in {library} has no judge", flush=True)
+        count.end()
+    with tempfile.TemporaryDirectory(prefix="judge-costs-") as room:
+        program = build(count, library, room, f"{SUPPORT}/judge_costs.c", "static", (), WORDS)
+        ended = subprocess.run([program, "twice", "10"], capture_output=True, check=False)
+        count.same("a program that is given findings fails", ended.returncode, 1)
+        if not ran.lacks("valgrind", "it counts the instructions"):
+            check_instructions(count, program, options.count)
+        check_memory(count, program)
+    count.end()
+
+
+main(sys.argv[1:])

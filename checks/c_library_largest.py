@@ -1,0 +1,145 @@
+"""usage: python3 checks/c_library_largest.py [--library FOLDER]
+
+The longest content that a connection of the C library may have, 2,147,483,647 bytes: in frames and in lines it is taken
+and answered, with blanks among its tokens. One of a byte more is a fault, at the place where its frame or line begins.
+It was seen to hold 2.2 GB; room that grows may take thrice a content, so it is skipped where fewer than 12 are free."""
+import argparse
+import ctypes
+import os
+import sys
+from typing import Iterator
+
+from support import ran
+from support.c_programs import default_library, lacks_open
+
+# As docs/embedding.md has them.
+FRAMES, LINES = 0, 1
+OK, NONE, CALL, INPUT_OVER = 0, 0, 1, 5
+REQUEST, TOO_LARGE = 1, 4
+LONGEST = 2_147_483_647
+PIECE, FREE = 1 << 24, 12 << 30
+# A request whose blanks come in its middle, and its answer.
+HEAD, END = b'{"jsonrpc":"2.0","id":1,', b'"method":"m"}'
+ANSWER = b'{"id":1,"jsonrpc":"2.0","result":true}'
+
+
+class Options(ctypes.Structure):
+    _fields_ = [
+        (name, ctypes.c_uint64 if name == "calls" else ctypes.c_uint32)
+        for name in "size framing order cancels broken content calls entries null_params".split()
+    ]
+
+
+class Event(ctypes.Structure):
+    _fields_ = [
+        ("kind", ctypes.c_uint32),
+        ("flags", ctypes.c_uint32),
+        ("number", ctypes.c_uint64),
+        ("key", ctypes.c_uint64),
+        ("code", ctypes.c_int64),
+        ("name_len", ctypes.c_size_t),
+        ("text_len", ctypes.c_size_t),
+        ("id_len", ctypes.c_size_t),
+    ]
+
+
+class Connection:
+    """A connection with the greatest limit. The C library's struct of it is a pointer."""
+
+    def __init__(self, library: ctypes.CDLL, framing: int) -> None:
+        self.library, self.at = library, ctypes.c_void_p()
+        options = Options(size=ctypes.sizeof(Options), framing=framing, content=LONGEST)
+        assert library.bm_open(ctypes.byref(options), ctypes.byref(self.at)) == OK
+
+    def feed(self, bytes_read: bytes) -> int:
+        return int(self.library.bm_feed(ctypes.byref(self.at), bytes_read, ctypes.c_size_t(len(bytes_read))))
+
+    def next(self) -> tuple[int, int, int, bytes]:
+        event, room = Event(), ctypes.create_string_buffer(64)
+        code = self.library.bm_next(ctypes.byref(self.at), ctypes.byref(event), room, ctypes.c_size_t(len(room)))
+        assert code == OK, code
+        texts = room.raw[: event.name_len + event.text_len + event.id_len + 2] if event.kind == CALL else b""
+        return event.kind, event.flags, event.number, texts
+
+    def answer(self, number: int, result: bytes) -> int:
+        length = ctypes.c_size_t(len(result))
+        return int(self.library.bm_answer(ctypes.byref(self.at), ctypes.c_uint64(number), result, length))
+
+    def take(self) -> bytes:
+        room = ctypes.create_string_buffer(256)
+        taken = self.library.bm_take(ctypes.byref(self.at), room, ctypes.c_size_t(len(room)))
+        return room.raw[:taken]
+
+    def fault(self) -> int | None:
+        place = ctypes.c_uint64()
+        return place.value if self.library.bm_fault_at(ctypes.byref(self.at), ctypes.byref(place)) else None
+
+    def free(self) -> None:
+        self.library.bm_free(self.at)
+
+
+def loaded(folder: str) -> ctypes.CDLL:
+    library = ctypes.CDLL(f"{folder}/libbullmyrtle.so.1")
+    library.bm_take.restype, library.bm_fault_at.restype, library.bm_free.restype = ctypes.c_size_t, ctypes.c_bool, None
+    return library
+
+
+def pieces_of(length: int) -> Iterator[bytes]:
+    """A request of so many bytes, in pieces."""
+    blanks = length - len(HEAD) - len(END)
+    yield HEAD
+    yield from (b" " * PIECE for _ in range(blanks // PIECE))
+    yield b" " * (blanks % PIECE) + END
+
+
+def framed(framing: int, length: int) -> Iterator[bytes]:
+    if framing == FRAMES:
+        yield b"Content-Length: %d\r\n\r\n" % length
+    yield from pieces_of(length)
+    if framing == LINES:
+        yield b"\n"
+
+
+def check_longest(count: ran.Count, library: ctypes.CDLL, framing: int, name: str) -> None:
+    connection = Connection(library, framing)
+    length = 0
+    for piece in framed(framing, LONGEST):
+        count.check(f"{name}: a piece is taken", connection.feed(piece) == OK)
+        length += len(piece)
+    count.same(f"{name}: the longest content is a request", connection.next(), (CALL, REQUEST, 1, b"m\0\0001"))
+    count.same(f"{name}: it is answered", connection.answer(1, b"true"), OK)
+    answer = b"Content-Length: %d\r\n\r\n%s" % (len(ANSWER), ANSWER) if framing == FRAMES else ANSWER + b"\n"
+    count.same(f"{name}: the answer", connection.take(), answer)
+    count.same(f"{name}: nothing else is told", connection.next()[0], NONE)
+    count.same(f"{name}: nothing is at fault", connection.fault(), None)
+    for piece in framed(framing, LONGEST + 1):
+        count.check(f"{name}: a piece of the next one is taken", connection.feed(piece) == OK)
+        if connection.fault() is not None:
+            break
+    count.same(f"{name}: the next one is at fault where it begins", connection.fault(), length)
+    count.same(f"{name}: it is too large", connection.next()[:2], (INPUT_OVER, TOO_LARGE))
+    connection.free()
+
+
+def free_bytes() -> int:
+    line = next(it for it in ran.text_of("/proc/meminfo").splitlines() if it.startswith("MemAvailable:"))
+    return int(line.split()[1]) * 1024
+
+
+def main(words: list[str]) -> None:
+    parser = argparse.ArgumentParser(usage=__doc__.partition("\n\n")[0].removeprefix("usage: "))
+    parser.add_argument("--library", default=default_library())
+    folder, count = os.path.abspath(parser.parse_args(words).library), ran.Count()
+    if not os.path.isfile(f"{folder}/libbullmyrtle.so.1") or lacks_open(folder):
+        print(f"SKIPPED: there is no library in {folder} that has bm_open: bin/build-library builds it", flush=True)
+        count.end()
+    if free_bytes() < FREE:
+        print(f"SKIPPED: the longest content, since fewer than {FREE >> 30} GB of memory are free", flush=True)
+        count.end()
+    library = loaded(folder)
+    check_longest(count, library, FRAMES, "frames")
+    check_longest(count, library, LINES, "lines")
+    count.end()
+
+
+main(sys.argv[1:])

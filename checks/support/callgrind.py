@@ -1,0 +1,17 @@
+"""How many instructions a program takes, by callgrind, so that no load of the machine moves it."""
+import os
+import re
+import subprocess
+import tempfile
+from typing import Optional, Sequence
+
+
+def instructions(words: Sequence[str], given: bytes = b"") -> Optional[int]:
+    """None where the run fails."""
+    with tempfile.TemporaryDirectory() as room:
+        tool = ["valgrind", "--tool=callgrind", f"--callgrind-out-file={os.path.join(room, 'out')}", *words]
+        ended = subprocess.run(
+            tool, input=given, stdout=subprocess.DEVNULL, stderr=subprocess.PIPE, timeout=900, check=False
+        )
+    found = re.search(rb"Collected : (\d+)", ended.stderr)
+    return int(found[1]) if found and ended.returncode == 0 else None

@@ -1,0 +1,9 @@
+-- What lies behind a handle, as the logic has it.
+use denote.RattleType.{RattleType}
+use Rattle.judge_calls.specs.contracts.hosted.HostedJudge.{the_row}
+
+abbrev pub held_row : RattleType
+held_row = the_row
+
+abbrev pub Held : Type 0
+Held = held_row.Denot

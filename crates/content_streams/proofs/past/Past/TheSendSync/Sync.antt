@@ -1,7 +1,0 @@
--- Nothing is reached through a reference to it.
-use denote.Param.Send.{IsSync, part_keyless}
-use Rattle.content_streams.specs.contracts.past.Past.{the_row}
-use Rattle.content_streams.proofs.past.Past.TheSendSync.Send.{send}
-
-pub sync : IsSync the_row
-sync = record { shared = λ d b o κ q. part_keyless the_row send q d b o }

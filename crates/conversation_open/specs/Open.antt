@@ -1,0 +1,75 @@
+-- Contents on which something is owed, by numbers that ascend, and their index.
+use Rattle.std.specs.Prelude.{ℕ, suc, ◌≡◌, ◌<◌, ◌≤◌, ◌==◌, ◌++◌, nat_lt, nat_le, length, remove, List, [], ◌∷◌, map, filter, Bool, true, false, Option, Some, None, if◌then◌else◌}
+use Rattle.std.specs.Option.{option_map_or}
+use Rattle.conversation_open.specs.Marked.{has_number}
+use Rattle.conversation_open.specs.declared.numbers_by_mark.NumbersByMark.{NumbersByMark}
+use Rattle.conversation_open.specs.declared.open_contents.OpenContents.{OpenContents}
+use Rattle.conversation_owed.specs.Marks.{due_has}
+use Rattle.conversation_rules.specs.Dues.{is_open, unanswered_of}
+use Rattle.conversation_rules.specs.Owed.{Owed, Due}
+use Rattle.conversation_rules.specs.declared.found.Unanswered.{Unanswered}
+use Rattle.number_windows.specs.Numbered.{at, without, changed_at, Above, Below, Ascending}
+use Rattle.number_windows.specs.Windows.{window_entries, IsWindow}
+
+abbrev pub open_entries : OpenContents → List (ℕ × Due)
+open_entries contents = window_entries contents.dues
+
+-- the contents, the oldest first
+abbrev pub contents_of : List (ℕ × Due) → List Due
+contents_of entries = map (λ entry. entry.1) entries
+
+-- each content stands in the index by its marks
+abbrev pub IsIndexed : NumbersByMark → List (ℕ × Due) → Type 0
+IsIndexed index entries = (number : ℕ) (due : Due) → at number entries ≡ Some due → (mark : ℕ) → due_has mark due ≡ true → has_number index mark number ≡ true
+
+-- numbers begin with 1 and ascend, and none is above the last that was given
+pub record IsOpen (contents : OpenContents) : Type 0 where
+  pub window : IsWindow contents.dues
+  pub above : Above 0 (open_entries contents)
+  pub below : Below (suc contents.last) (open_entries contents)
+  pub indexed : IsIndexed contents.marks (open_entries contents)
+
+-- no content with this mark stands behind a number, up to another one
+abbrev pub IsNoneBetween : ℕ → ℕ → ℕ → List (ℕ × Due) → Type 0
+IsNoneBetween mark after number entries = (n : ℕ) (due : Due) → after < n → n < number → at n entries ≡ Some due → due_has mark due ≡ false
+
+abbrev pub IsNoneBehind : ℕ → ℕ → List (ℕ × Due) → Type 0
+IsNoneBehind mark after entries = (n : ℕ) (due : Due) → after < n → at n entries ≡ Some due → due_has mark due ≡ false
+
+-- the number of the content that came last
+abbrev pub last_number : List (ℕ × Due) → Option ℕ
+last_number [] = None
+last_number (entry ∷ []) = Some entry.0
+last_number (entry ∷ next ∷ entries) = last_number (next ∷ entries)
+
+abbrev pub is_open_at : ℕ → List (ℕ × Due) → Bool
+is_open_at number entries = option_map_or is_open (at number entries) true
+
+-- one more entry is owed on a content
+abbrev pub and_owed : Owed → Due → Due
+and_owed owed due = record due { entries = due.entries ++ owed ∷ [] }
+
+-- one less
+abbrev pub and_removed : ℕ → Due → Due
+and_removed place due = record due { entries = remove due.entries place }
+
+abbrev pub is_empty : Due → Bool
+is_empty due = length due.entries == 0
+
+-- a content goes once the last of its entries does
+abbrev pub settled_at : ℕ → ℕ → List (ℕ × Due) → List (ℕ × Due)
+settled_at number place entries =
+    if option_map_or is_empty (at number (changed_at number (and_removed place) entries)) false then without number entries
+    else changed_at number (and_removed place) entries
+
+-- those up to a number are changed
+abbrev pub changed_up_to : ℕ → (Due → Due) → List (ℕ × Due) → List (ℕ × Due)
+changed_up_to number change entries = map (λ entry. (entry.0, (if nat_le entry.0 number then change entry.1 else entry.1))) entries
+
+-- those behind a number
+abbrev pub behind : ℕ → List (ℕ × Due) → List (ℕ × Due)
+behind number entries = filter (λ entry. nat_lt number entry.0) entries
+
+-- what must be answered of a content, and isn't
+abbrev pub unanswered_at : ℕ → List (ℕ × Due) → List Unanswered
+unanswered_at number entries = option_map_or (λ due. unanswered_of due due.entries) (at number entries) []

@@ -1,0 +1,90 @@
+//! What is owed on a content that stands in a window. Its own is put back in the place of a stand-in, which takes no memory.
+
+ghost use Rattle.std.specs.Prelude.{◌≡◌, OnOk, OnErr, slice_get, option_and_then};
+ghost use Rattle.conversation_open.specs.Open.{and_owed, and_removed};
+ghost use Rattle.conversation_rules.specs.Dues.{cancelled_in, maybe_answered};
+ghost use Rattle.number_windows.specs.Numbered.{at, changed_at};
+ghost use Rattle.number_windows.specs.Windows.{window_entries, IsWindow};
+
+use conversation_owed::{Due, Owed};
+use conversation_reading::WrittenId;
+use number_windows::NumberWindow;
+use std::alloc::{AllocError, Global};
+
+/// One more entry of a content.
+pub(crate) fn push_at(
+    alloc: Global,
+    dues: &mut NumberWindow<Due>,
+    number: u64,
+    owed: Owed,
+) -> Result<(), AllocError>
+    requires { IsWindow dues.old }
+    ensures ok { OnOk result (window_entries dues.new ≡ changed_at number (and_owed owed) (window_entries dues.old)) }
+    ensures err { OnErr result (window_entries dues.new ≡ window_entries dues.old) }
+    ensures window { IsWindow dues.new }
+{
+    match dues.replace(number, stand_in(alloc)) {
+        Ok(mut due) => {
+            let pushed = due.push(owed);
+            drop(dues.replace(number, due));
+            pushed
+        }
+        Err(_) => Ok(()),
+    }
+}
+
+/// Takes an entry off a content, and answers it.
+pub(crate) fn take_at(
+    alloc: Global,
+    dues: &mut NumberWindow<Due>,
+    number: u64,
+    place: usize,
+) -> Option<Owed>
+    requires { IsWindow dues.old }
+    ensures entry { result ≡ option_and_then (λ due. slice_get due.entries place) (at number (window_entries dues.old)) }
+    ensures entries { window_entries dues.new ≡ changed_at number (and_removed place) (window_entries dues.old) }
+    ensures window { IsWindow dues.new }
+{
+    match dues.replace(number, stand_in(alloc)) {
+        Ok(mut due) => {
+            let owed = due.take(place);
+            drop(dues.replace(number, due));
+            owed
+        }
+        Err(_) => None,
+    }
+}
+
+/// A cancel of the requests of a content with this id was seen.
+pub(crate) fn cancel_at(
+    alloc: Global,
+    dues: &mut NumberWindow<Due>,
+    number: u64,
+    id: &WrittenId,
+    settles: bool,
+)
+    requires { IsWindow dues.old }
+    ensures entries { window_entries dues.new ≡ changed_at number (cancelled_in settles id.now) (window_entries dues.old) }
+    ensures window { IsWindow dues.new }
+{
+    if let Ok(mut due) = dues.replace(number, stand_in(alloc)) {
+        due.cancel(id, settles);
+        drop(dues.replace(number, due));
+    }
+}
+
+/// A content that couldn't be read may have answered what is owed on this one.
+pub(crate) fn mark_at(alloc: Global, dues: &mut NumberWindow<Due>, number: u64)
+    requires { IsWindow dues.old }
+    ensures entries { window_entries dues.new ≡ changed_at number maybe_answered (window_entries dues.old) }
+    ensures window { IsWindow dues.new }
+{
+    if let Ok(mut due) = dues.replace(number, stand_in(alloc)) {
+        due.mark_maybe_answered();
+        drop(dues.replace(number, due));
+    }
+}
+
+fn stand_in(alloc: Global) -> Due {
+    Due::new(alloc, 0, 0, false, false)
+}

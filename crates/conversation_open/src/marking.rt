@@ -1,0 +1,91 @@
+//! What is kept of a content in the index.
+
+ghost use Rattle.std.specs.Prelude.{◌≡◌, ℕ, OnOk, OnErr, true};
+ghost use Rattle.conversation_open.specs.Marked.{has_number, Keeps, IsSameBut, StandsUnder};
+ghost use Rattle.conversation_owed.specs.Marks.{content_has, entry_has, due_has};
+
+use crate::numbers_by_mark::NumbersByMark;
+use conversation_ids::null_mark;
+use conversation_owed::{Due, Owed, batch_mark, huge_mark, unreadable_mark};
+use std::alloc::AllocError;
+
+/// Notes a number under a mark, where it has that.
+fn note_if(
+    holds: bool,
+    marks: &mut NumbersByMark,
+    mark: u128,
+    number: u64,
+) -> Result<(), AllocError>
+    ensures noted { OnOk result (holds ≡ true → has_number marks.new mark number ≡ true) }
+    ensures kept { Keeps marks.new marks.old }
+{
+    if holds {
+        marks.add(mark, number)?;
+    }
+    Ok(())
+}
+
+/// Notes a content, whatever its entries are.
+pub(crate) fn note_content(
+    marks: &mut NumbersByMark,
+    due: &Due,
+    number: u64,
+) -> Result<(), AllocError>
+    ensures noted { OnOk result (StandsUnder (λ mark. content_has mark due.now) number marks.new) }
+    ensures kept { Keeps marks.new marks.old }
+{
+    note_if(due.is_unreadable(), marks, unreadable_mark(), number)?;
+    note_if(due.has_huge(), marks, huge_mark(), number)?;
+    note_if(due.is_batch(), marks, batch_mark(), number)
+}
+
+/// Notes an entry of a content.
+pub(crate) fn note_entry(
+    marks: &mut NumbersByMark,
+    owed: &Owed,
+    number: u64,
+) -> Result<(), AllocError>
+    ensures noted { OnOk result (StandsUnder (λ mark. entry_has mark owed.now) number marks.new) }
+    ensures kept { Keeps marks.new marks.old }
+{
+    note_if(owed.is_marked_null(), marks, null_mark(), number)?;
+    match owed.own_mark() {
+        Some(mark) => note_if(true, marks, mark, number),
+        None => Ok(()),
+    }
+}
+
+/// Forgets an entry that was taken off a content, as far as what is left of that isn't found by the same marks.
+pub(crate) fn forget_entry(marks: &mut NumbersByMark, owed: &Owed, due: &Due, number: u64)
+    ensures others { IsSameBut number marks.new marks.old }
+    ensures left { (mark : ℕ) → due_has mark due.now ≡ true → has_number marks.new mark number ≡ has_number marks.old mark number }
+{
+    forget_unless_left(marks, null_mark(), due, number);
+    if let Some(mark) = owed.own_mark() {
+        forget_unless_left(marks, mark, due, number);
+    }
+}
+
+fn forget_unless_left(marks: &mut NumbersByMark, mark: u128, due: &Due, number: u64)
+    ensures others { IsSameBut number marks.new marks.old }
+    ensures left { (m : ℕ) → due_has m due.now ≡ true → has_number marks.new m number ≡ has_number marks.old m number }
+{
+    if !due.has_mark(mark) {
+        marks.remove(mark, number);
+    }
+}
+
+/// Forgets a content.
+pub(crate) fn forget_content(marks: &mut NumbersByMark, due: &Due, number: u64)
+    ensures { IsSameBut number marks.new marks.old }
+{
+    marks.remove(unreadable_mark(), number);
+    marks.remove(huge_mark(), number);
+    marks.remove(batch_mark(), number);
+    marks.remove(null_mark(), number);
+    for owed in due.entries() {
+        if let Some(mark) = owed.own_mark() {
+            marks.remove(mark, number);
+        }
+    }
+}

@@ -1,0 +1,317 @@
+ghost use Rattle.std.specs.Prelude.{◌≡◌, ◌<◌, ◌++◌, ◌∷◌, [], map, length, true, false, is_some, OnOk, OnErr, MatchOption, option_and_then, option_copied};
+ghost use Rattle.std.specs.Option.{option_map_or};
+ghost use Rattle.conversation_open.specs.Open.{open_entries, contents_of, IsOpen, IsNoneBetween, IsNoneBehind, last_number, is_open_at, is_empty, settled_at, and_removed, unanswered_at};
+ghost use Rattle.conversation_rules.specs.Dues.{owed_more, closed, maybe_answered, cancelled_in, fit_in, unanswered};
+ghost use Rattle.conversation_rules.specs.Owed.{new_due, unreadable_due};
+ghost use Rattle.number_windows.specs.Numbered.{at, without, changed_at};
+
+use crate::in_window::{cancel_at, mark_at, push_at, take_at};
+use crate::marking::{forget_content, forget_entry, note_content, note_entry};
+use crate::numbers_by_mark::NumbersByMark;
+use conversation_ids::mark_of;
+use conversation_owed::{Due, Owed};
+use conversation_reading::WrittenId;
+use conversation_rules::{Fit, Unanswered};
+use number_windows::NumberWindow;
+use std::alloc::{AllocError, Global};
+
+/// The contents on which something is owed, by numbers that ascend as they come. `IsOpen` holds at each call: an index has
+/// each of them under its marks.
+#[derive(Drop)]
+pub struct OpenContents {
+    alloc: Global,
+    dues: NumberWindow<Due>,
+    marks: NumbersByMark,
+    /// No number is greater.
+    last: u64,
+}
+
+impl OpenContents {
+    /// Takes no memory.
+    pub fn new(alloc: Global) -> OpenContents
+        ensures entries { open_entries result ≡ [] }
+        ensures stands { IsOpen result }
+    {
+        OpenContents {
+            alloc,
+            dues: NumberWindow::new(alloc),
+            marks: NumbersByMark::new(alloc),
+            last: 0,
+        }
+    }
+
+    /// How many there are.
+    pub fn len(&self) -> u64
+        requires { IsOpen self.now }
+        ensures { result ≡ length (open_entries self.now) }
+    {
+        self.dues.len()
+    }
+
+    /// The content with this number.
+    pub fn get(&self, number: u64) -> Option<&Due>
+        requires { IsOpen self.now }
+        ensures { option_copied result ≡ at number (open_entries self.now) }
+    {
+        self.dues.get(number)
+    }
+
+    /// The least number behind `after` under a mark. Each content with this mark stands there; others may as well.
+    pub fn next_with(&self, mark: u128, after: u64) -> Option<u64>
+        requires { IsOpen self.now }
+        ensures { MatchOption result
+            (IsNoneBehind mark after (open_entries self.now))
+            (λ number. (after < number) × IsNoneBetween mark after number (open_entries self.now)) }
+    {
+        self.marks.next(mark, after)
+    }
+
+    /// Begins a content. Nothing is owed on it yet.
+    pub fn open(
+        &mut self,
+        number: u64,
+        offset: u64,
+        is_batch: bool,
+        has_huge: bool,
+    ) -> Result<(), AllocError>
+        requires { IsOpen self.old }
+        ensures ok { OnOk result (contents_of (open_entries self.new) ≡
+            contents_of (open_entries self.old) ++ new_due number offset is_batch has_huge ∷ []) }
+        ensures err { OnErr result (open_entries self.new ≡ open_entries self.old) }
+        ensures stands { IsOpen self.new }
+    {
+        let due = Due::new(self.alloc, number, offset, is_batch, has_huge);
+        self.add(due)
+    }
+
+    /// A content that can't be read.
+    pub fn open_unreadable(&mut self, number: u64, offset: u64) -> Result<(), AllocError>
+        requires { IsOpen self.old }
+        ensures ok { OnOk result (contents_of (open_entries self.new) ≡
+            contents_of (open_entries self.old) ++ unreadable_due number offset ∷ []) }
+        ensures err { OnErr result (open_entries self.new ≡ open_entries self.old) }
+        ensures stands { IsOpen self.new }
+    {
+        let due = Due::unreadable(self.alloc, number, offset);
+        self.add(due)
+    }
+
+    /// Adds a content without entries.
+    fn add(&mut self, due: Due) -> Result<(), AllocError>
+        requires stands { IsOpen self.old }
+        requires none { due.entries ≡ [] }
+        ensures ok { OnOk result (contents_of (open_entries self.new) ≡ contents_of (open_entries self.old) ++ due ∷ []) }
+        ensures err { OnErr result (open_entries self.new ≡ open_entries self.old) }
+        ensures stands { IsOpen self.new }
+    {
+        let number = match self.last.checked_add(1) {
+            Some(number) => number,
+            None => return Err(AllocError),
+        };
+        self.dues.make_room()?;
+        note_content(&mut self.marks, &due, number)?;
+        self.dues.push(number, due);
+        self.last = number;
+        Ok(())
+    }
+
+    /// One more entry of the last content.
+    pub fn owe(&mut self, owed: Owed) -> Result<(), AllocError>
+        requires { IsOpen self.old }
+        ensures ok { OnOk result (contents_of (open_entries self.new) ≡ owed_more owed (contents_of (open_entries self.old))) }
+        ensures err { OnErr result (open_entries self.new ≡ open_entries self.old) }
+        ensures stands { IsOpen self.new }
+    {
+        let number = match self.last_number() {
+            Some(number) => number,
+            None => return Ok(()),
+        };
+        note_entry(&mut self.marks, &owed, number)?;
+        push_at(self.alloc, &mut self.dues, number, owed)
+    }
+
+    /// The last content has no more entries: it is forgotten where nothing on it may be answered.
+    pub fn close(&mut self)
+        requires { IsOpen self.old }
+        ensures entries { contents_of (open_entries self.new) ≡ closed (contents_of (open_entries self.old)) }
+        ensures stands { IsOpen self.new }
+    {
+        if let Some(number) = self.last_number() {
+            if !self.is_open_at(number) {
+                self.remove(number);
+            }
+        }
+    }
+
+    /// A content of the other side couldn't be read: it may have answered all that is owed.
+    pub fn mark_maybe_answered(&mut self)
+        requires { IsOpen self.old }
+        ensures entries { contents_of (open_entries self.new) ≡ map maybe_answered (contents_of (open_entries self.old)) }
+        ensures stands { IsOpen self.new }
+    {
+        let mut after = 0;
+        while let Some(number) = self.dues.next(after) {
+            self.mark_in(number);
+            after = number;
+        }
+    }
+
+    /// A cancel of the requests with this id was seen.
+    pub fn cancel(&mut self, id: &WrittenId, settles: bool)
+        requires { IsOpen self.old }
+        ensures entries { contents_of (open_entries self.new) ≡ map (cancelled_in settles id.now) (contents_of (open_entries self.old)) }
+        ensures stands { IsOpen self.new }
+    {
+        let mark = mark_of(id);
+        let mut after = 0;
+        while let Some(number) = self.next_with(mark, after) {
+            self.cancel_in(number, id, settles);
+            after = number;
+        }
+    }
+
+    fn mark_in(&mut self, number: u64)
+        requires { IsOpen self.old }
+        ensures entries { open_entries self.new ≡ changed_at number maybe_answered (open_entries self.old) }
+        ensures stands { IsOpen self.new }
+    {
+        mark_at(self.alloc, &mut self.dues, number);
+    }
+
+    fn cancel_in(&mut self, number: u64, id: &WrittenId, settles: bool)
+        requires { IsOpen self.old }
+        ensures entries { open_entries self.new ≡ changed_at number (cancelled_in settles id.now) (open_entries self.old) }
+        ensures stands { IsOpen self.new }
+    {
+        cancel_at(self.alloc, &mut self.dues, number, id, settles);
+    }
+
+    /// Takes an entry off a content, which is forgotten where that was its last, and tells of it.
+    pub fn settle_entry(&mut self, number: u64, place: usize) -> Option<Fit>
+        requires { IsOpen self.old }
+        ensures fit { result ≡ option_and_then (fit_in place) (at number (open_entries self.old)) }
+        ensures entries { open_entries self.new ≡ settled_at number place (open_entries self.old) }
+        ensures stands { IsOpen self.new }
+    {
+        let fit = self.fit_at(number, place);
+        self.take_in(number, place);
+        if self.is_empty_at(number) {
+            self.remove(number);
+        }
+        fit
+    }
+
+    /// Takes a content off.
+    pub fn remove(&mut self, number: u64)
+        requires { IsOpen self.old }
+        ensures entries { open_entries self.new ≡ without number (open_entries self.old) }
+        ensures stands { IsOpen self.new }
+    {
+        if let Some(due) = self.dues.remove(number) {
+            forget_content(&mut self.marks, &due, number);
+        }
+    }
+
+    /// Puts the requests that must be answered, and aren't, behind the others.
+    pub fn put_unanswered(&self, told: &mut Vec<Unanswered>) -> Result<(), AllocError>
+        requires { IsOpen self.now }
+        ensures { OnOk result (told.new.items ≡ told.old.items ++ unanswered (contents_of (open_entries self.now))) }
+    {
+        let mut after = 0;
+        while let Some(number) = self.dues.next(after) {
+            self.put_unanswered_at(number, told)?;
+            after = number;
+        }
+        Ok(())
+    }
+
+    fn put_unanswered_at(&self, number: u64, told: &mut Vec<Unanswered>) -> Result<(), AllocError>
+        requires { IsOpen self.now }
+        ensures { OnOk result (told.new.items ≡ told.old.items ++ unanswered_at number (open_entries self.now)) }
+    {
+        match self.dues.get(number) {
+            Some(due) => due.put_unanswered(told),
+            None => Ok(()),
+        }
+    }
+
+    /// The number of the content that came last. It is looked for only where that one has gone already.
+    fn last_number(&self) -> Option<u64>
+        requires { IsOpen self.now }
+        ensures { result ≡ last_number (open_entries self.now) }
+    {
+        if self.has(self.last) {
+            return Some(self.last);
+        }
+        let mut number = match self.dues.first() {
+            Some(first) => first,
+            None => return None,
+        };
+        while let Some(next) = self.dues.next(number) {
+            number = next;
+        }
+        Some(number)
+    }
+
+    fn has(&self, number: u64) -> bool
+        requires { IsOpen self.now }
+        ensures { result ≡ is_some (at number (open_entries self.now)) }
+    {
+        match self.dues.get(number) {
+            Some(_) => true,
+            None => false,
+        }
+    }
+
+    fn is_open_at(&self, number: u64) -> bool
+        requires { IsOpen self.now }
+        ensures { result ≡ is_open_at number (open_entries self.now) }
+    {
+        match self.dues.get(number) {
+            Some(due) => due.is_open(),
+            None => true,
+        }
+    }
+
+    fn is_empty_at(&self, number: u64) -> bool
+        requires { IsOpen self.now }
+        ensures { result ≡ option_map_or is_empty (at number (open_entries self.now)) false }
+    {
+        match self.dues.get(number) {
+            Some(due) => !due.has_entries(),
+            None => false,
+        }
+    }
+
+    fn fit_at(&self, number: u64, place: usize) -> Option<Fit>
+        requires { IsOpen self.now }
+        ensures { result ≡ option_and_then (fit_in place) (at number (open_entries self.now)) }
+    {
+        match self.dues.get(number) {
+            Some(due) => due.fit(place),
+            None => None,
+        }
+    }
+
+    /// Takes an entry off a content, which stays.
+    fn take_in(&mut self, number: u64, place: usize)
+        requires { IsOpen self.old }
+        ensures entries { open_entries self.new ≡ changed_at number (and_removed place) (open_entries self.old) }
+        ensures stands { IsOpen self.new }
+    {
+        if let Some(owed) = take_at(self.alloc, &mut self.dues, number, place) {
+            self.forget(number, &owed);
+        }
+    }
+
+    /// Forgets an entry that was taken off a content.
+    fn forget(&mut self, number: u64, owed: &Owed)
+        requires { IsOpen self.old }
+        ensures entries { open_entries self.new ≡ open_entries self.old }
+        ensures stands { IsOpen self.new }
+    {
+        if let Some(due) = self.dues.get(number) {
+            forget_entry(&mut self.marks, owed, due, number);
+        }
+    }
+}

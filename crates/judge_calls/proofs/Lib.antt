@@ -1,0 +1,2 @@
+pub mod SeenOrNot
+pub mod ToldSoFar

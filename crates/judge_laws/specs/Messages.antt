@@ -1,0 +1,81 @@
+-- Contents that are messages of one kind by all rules (JSON-RPC 2.0, sections 4 to 6).
+use Rattle.std.specs.Prelude.{◌≡◌, ℕ, ◌+◌, false, List, [], ◌∷◌, length, None, Some, ⊤, decimal}
+use Rattle.conversation_reading.specs.Strictly.{has_fault}
+use Rattle.conversation_reading.specs.declared.entry.Entry.{Entry}
+use Rattle.conversation_reading.specs.declared.entry.Kind.{Kind}
+use Rattle.conversation_reading.specs.declared.entry.WrittenId.TheVariants.{Number}
+use Rattle.conversation_reading.specs.declared.reading.Reading.{Reading}
+use Rattle.conversation_reading.specs.declared.reading.Reading.TheVariants.{Foreign, NotText, NotJson, TooDeep, HalfPair, Single, Array}
+
+-- an entry of this kind that breaks no rule by itself
+pub record IsEntry (kind : Kind) (entry : Entry) : Type 0 where
+  pub kind_is : entry.kind ≡ kind
+  pub faultless : has_fault entry.faults ≡ false
+
+abbrev pub AreEntries : Kind → List Entry → Type 0
+AreEntries kind [] = ⊤
+AreEntries kind (entry ∷ entries) = IsEntry kind entry × AreEntries kind entries
+
+-- a content that is one entry, and can be read
+abbrev pub IsMessage : Kind → Reading → Type 0
+IsMessage kind Foreign = ⊥
+IsMessage kind NotText = ⊥
+IsMessage kind NotJson = ⊥
+IsMessage kind TooDeep = ⊥
+IsMessage kind HalfPair = ⊥
+IsMessage kind (Single entry) = IsEntry kind entry
+IsMessage kind (Array entries) = ⊥
+
+-- a content that is an array of entries, and not an empty one
+abbrev pub AreSome : Kind → List Entry → Type 0
+AreSome kind [] = ⊥
+AreSome kind (entry ∷ entries) = AreEntries kind (entry ∷ entries)
+
+abbrev pub AreMessages : Kind → Reading → Type 0
+AreMessages kind Foreign = ⊥
+AreMessages kind NotText = ⊥
+AreMessages kind NotJson = ⊥
+AreMessages kind TooDeep = ⊥
+AreMessages kind HalfPair = ⊥
+AreMessages kind (Single entry) = ⊥
+AreMessages kind (Array entries) = AreSome kind entries
+
+-- ---- ids of calls
+
+-- its id is this number, in decimal digits
+abbrev pub HasKey : ℕ → Entry → Type 0
+HasKey key entry = entry.id ≡ Some (Number (decimal key))
+
+-- they count up from a number
+abbrev pub HaveKeys : ℕ → List Entry → Type 0
+HaveKeys key [] = ⊤
+HaveKeys key (entry ∷ entries) = HasKey key entry × HaveKeys (key + 1) entries
+
+-- of a content that is one entry, and of an array of so many
+abbrev pub IsKeyed : ℕ → Reading → Type 0
+IsKeyed key Foreign = ⊥
+IsKeyed key NotText = ⊥
+IsKeyed key NotJson = ⊥
+IsKeyed key TooDeep = ⊥
+IsKeyed key HalfPair = ⊥
+IsKeyed key (Single entry) = HasKey key entry
+IsKeyed key (Array entries) = ⊥
+
+abbrev pub AreKeyed : ℕ → ℕ → Reading → Type 0
+AreKeyed key count Foreign = ⊥
+AreKeyed key count NotText = ⊥
+AreKeyed key count NotJson = ⊥
+AreKeyed key count TooDeep = ⊥
+AreKeyed key count HalfPair = ⊥
+AreKeyed key count (Single entry) = ⊥
+AreKeyed key count (Array entries) = (length entries ≡ count) × HaveKeys key entries
+
+-- it is one entry, which has no id
+abbrev pub HasNoId : Reading → Type 0
+HasNoId Foreign = ⊥
+HasNoId NotText = ⊥
+HasNoId NotJson = ⊥
+HasNoId TooDeep = ⊥
+HasNoId HalfPair = ⊥
+HasNoId (Single entry) = entry.id ≡ None
+HasNoId (Array entries) = ⊥

@@ -1,0 +1,4 @@
+mod Behind
+mod Fixed
+mod Joined
+pub mod OnResults

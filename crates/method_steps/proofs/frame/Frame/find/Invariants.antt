@@ -1,9 +1,0 @@
-use Rattle.std.proofs.Common.{◌≡◌, drop}
-use Rattle.method_steps.specs.Inner.Rows.{place_in, place_from}
-use Rattle.method_steps.proofs.frame.Frame.find.Given as goal
-
-abbrev pub invariant-loop-row : goal.invariant-loop-row
-invariant-loop-row l = record {
-  counted : l.place ≡ l.row-index;
-  left : place_from l.place l.name (drop l.row-index l.row-items) ≡ place_in l.name l.self;
-}

@@ -1,6 +1,0 @@
-use Rattle.std.proofs.Common.{rules}
-use Rattle.method_steps.proofs.ItemsLaws.{items_len-view}
-use Rattle.method_steps.proofs.read.lookup.count_of.Goals as goal
-
-pub returns-clause-number : goal.returns-clause-number
-returns-clause-number c = rw (items_len-view c.args.items.now) (search rules)

@@ -1,0 +1,259 @@
+-- Each finding of a content is of its side, and of one of the rules that may be told.
+use Rattle.std.proofs.Common.{◌≡◌, ℕ, suc, ◌||◌, ◌&&◌, not, Bool, true, false, if◌then◌else◌, List, [], ◌∷◌, ◌++◌, Option, Some, None, refl}
+use Rattle.std.specs.Prelude.{⊤, is_some}
+use Rattle.std.specs.Option.{option_map_or}
+use Rattle.conversation_reading.specs.declared.entry.Entry.{Entry}
+use Rattle.conversation_reading.specs.declared.entry.Faults.{Faults}
+use Rattle.conversation_reading.specs.declared.entry.WrittenId.{WrittenId}
+use Rattle.conversation_reading.specs.declared.reading.Reading.{Reading}
+use Rattle.conversation_reading.specs.declared.reading.Reading.TheVariants.{Foreign, NotText, NotJson, TooDeep, HalfPair, Single, Array}
+use Rattle.conversation_rules.specs.Answers.{Each as Taken, cancelled_code_level, fit_findings, stray_of, not_owed_level, not_owed, each_not_owed, are_told, not_owed_findings, behind_not_owed, single_fit_findings, single_findings_of, rest_of, target_of, single_findings, or_note, taken_findings, array_findings, are_well, among_findings, target_in_array, apart_findings, with_found, with_reply, each_of, strays_findings, new_each, none_fits, each_findings, answers_findings_of, batch_rest, answers_findings}
+use Rattle.conversation_rules.specs.Contents.{Outcome, not_json_rule, sight_of, opened, single_answer_findings, single_outcome, empty_outcome, are_answers, batch_findings, entries_findings, replies_in, reply_ids, have_huge, array_outcome, line_end_findings, behind_line_end, reading_outcome}
+use Rattle.conversation_rules.specs.Dues as dues
+use Rattle.conversation_rules.specs.Dues.{settled, found_batch, unreadable_target}
+use Rattle.conversation_rules.specs.Entries.{is_cancel, is_request, is_undefined, is_well, code_of, is_kept_name, is_notification, fault_findings, code_findings, name_findings, target_findings, cancel_findings, id_findings, fills_id, full_findings, part_findings, plain_findings, entry_findings, behind_entry, unknown_level}
+use Rattle.conversation_rules.specs.Owed.{Due}
+use Rattle.conversation_rules.specs.Protocols.{batch_level, is_mcp}
+use Rattle.conversation_rules.specs.Speakers.{Speaker, Pair, found, found_if}
+use Rattle.conversation_rules.specs.Used.{is_used}
+use Rattle.conversation_rules.specs.declared.finding.Finding.{Finding}
+use Rattle.conversation_rules.specs.declared.finding.Message.{Message}
+use Rattle.conversation_rules.specs.declared.finding.Rule.{Rule}
+use Rattle.conversation_rules.specs.declared.finding.Rule.TheVariants as rules
+use Rattle.conversation_rules.specs.declared.found.Fit.{Fit}
+use Rattle.conversation_rules.specs.declared.found.Found.{Found}
+use Rattle.conversation_rules.specs.declared.found.Found.TheVariants.{Whole, Entry as EntryFit}
+use Rattle.conversation_rules.specs.declared.level.Level.{Level}
+use Rattle.conversation_rules.specs.declared.level.Level.TheVariants.{Must, Should, Note}
+use Rattle.conversation_rules.specs.declared.protocol.Protocol.{Protocol}
+use Rattle.conversation_rules.specs.declared.reply.Reply.{Reply}
+use Rattle.conversation_rules.specs.declared.reply.Sight.{Sight}
+use Rattle.conversation_rules.specs.declared.reply.Stray.{Stray}
+
+-- all findings are such
+abbrev pub Each : (Finding → Type 0) → List Finding → Type 0
+Each P [] = ⊤
+Each P (f ∷ fs) = P f × Each P fs
+
+pub each-append : (P : Finding → Type 0) (xs ys : List Finding) → Each P xs → Each P ys → Each P (xs ++ ys)
+each-append P [] ys first second = second
+each-append P (x ∷ xs) ys first second = (first.0, each-append P xs ys first.1 second)
+
+pub each_if : (P : Finding → Type 0) (b : Bool) (f : Finding) → (b ≡ true → P f) → Each P (found_if b f)
+each_if P true f is = (is refl, tt)
+each_if P false f is = tt
+
+each_unless : (P : Finding → Type 0) (b : Bool) (xs ys : List Finding) → Each P xs → Each P ys → Each P (if b then xs else ys)
+each_unless P true xs ys first second = first
+each_unless P false xs ys first second = second
+
+-- a rule may be told of this message
+abbrev pub May : (Finding → Type 0) → Message → Rule → Type 0
+May P message rule = (at : ℕ) (level : Level) → P (found message at rule level)
+
+-- what a host is to keep may be told
+pub record Hosts (P : Finding → Type 0) (message : Message) : Type 0 where
+  pub code : May P message rules.Code
+  pub name : May P message rules.RpcName
+  pub cancel_params : May P message rules.CancelParams
+  pub cancel_unknown : May P message rules.CancelUnknown
+  pub cancel_initialize : May P message rules.CancelInitialize
+  pub not_judged : May P message rules.NotJudged
+  pub line_end : May P message rules.LineEnd
+  pub batch : May P message rules.Batch
+
+-- the faults that an entry has may be told
+pub record Faulty (P : Finding → Type 0) (message : Message) (f : Faults) : Type 0 where
+  pub object : f.object ≡ true → May P message rules.Object
+  pub version : f.version ≡ true → May P message rules.Version
+  pub method : f.method ≡ true → May P message rules.Method
+  pub params : f.params ≡ true → May P message rules.Params
+  pub id : f.id ≡ true → May P message rules.Id
+  pub outcome : f.outcome ≡ true → May P message rules.Outcome
+  pub error : f.error ≡ true → May P message rules.Error
+
+-- what answers break by what is owed
+pub record Answering (P : Finding → Type 0) (message : Message) : Type 0 where
+  pub not_owed : May P message rules.NotOwed
+  pub not_as_array : May P message rules.NotAsArray
+  pub cancelled_code : May P message rules.CancelledCode
+  pub after_cancel : May P message rules.AfterCancel
+
+-- entries one after another
+abbrev pub EntriesMay : (Finding → Type 0) → Message → Protocol → ℕ → List Entry → Speaker → Type 0
+EntriesMay P message protocol at [] own = ⊤
+EntriesMay P message protocol at (entry ∷ entries) own = Faulty P message entry.faults × Each P (id_findings protocol message at true own entry) × EntriesMay P message protocol (suc at) entries (behind_entry protocol at entry own)
+
+-- ---- an entry by itself
+
+module _ (P : Finding → Type 0) (message : Message) (host : Hosts P message) where
+  faults_each : (at : ℕ) (f : Faults) → Faulty P message f → Each P (fault_findings message at f)
+  faults_each at f faulty =
+      let o = λ (r : Rule). found message at r Must in
+      each-append P _ (found_if f.error (o rules.Error))
+      (each-append P _ (found_if f.outcome (o rules.Outcome))
+      (each-append P _ (found_if f.id (o rules.Id))
+      (each-append P _ (found_if f.params (o rules.Params))
+      (each-append P _ (found_if f.method (o rules.Method))
+      (each-append P (found_if f.object (o rules.Object)) (found_if f.version (o rules.Version))
+      (each_if P f.object (o rules.Object) (λ is. faulty.object is at Must))
+      (each_if P f.version (o rules.Version) (λ is. faulty.version is at Must)))
+      (each_if P f.method (o rules.Method) (λ is. faulty.method is at Must)))
+      (each_if P f.params (o rules.Params) (λ is. faulty.params is at Must)))
+      (each_if P f.id (o rules.Id) (λ is. faulty.id is at Must)))
+      (each_if P f.outcome (o rules.Outcome) (λ is. faulty.outcome is at Must)))
+      (each_if P f.error (o rules.Error) (λ is. faulty.error is at Must))
+
+  target_each : (protocol : Protocol) (at : ℕ) (own : Speaker) (target : Option WrittenId) → Each P (target_findings protocol message at own target)
+  target_each protocol at own None = (host.cancel_params at Must, tt)
+  target_each protocol at own (Some id) =
+      each-append P (found_if (not (is_used id own.used) && not own.used.is_full) (found message at rules.CancelUnknown (unknown_level protocol own))) _
+      (each_if P (not (is_used id own.used) && not own.used.is_full) (found message at rules.CancelUnknown (unknown_level protocol own)) (λ is. host.cancel_unknown at (unknown_level protocol own)))
+      (each_if P (is_mcp protocol && is_used id own.initialize) (found message at rules.CancelInitialize Must) (λ is. host.cancel_initialize at Must))
+
+  pub entry_each : (protocol : Protocol) (in_batch : Bool) (at : ℕ) (entry : Entry) (own : Speaker) → Faulty P message entry.faults → Each P (id_findings protocol message at in_batch own entry)
+      → Each P (entry_findings protocol message in_batch at entry own)
+  entry_each protocol in_batch at entry own faulty ids =
+      each-append P (plain_findings protocol message in_batch at entry own) (full_findings message at own entry)
+      (each-append P _ (id_findings protocol message at in_batch own entry)
+      (each-append P (part_findings protocol message at entry) (cancel_findings protocol message at own entry)
+      (each-append P _ (name_findings message at entry)
+      (each-append P (fault_findings message at entry.faults) (code_findings protocol message at entry) (faults_each at entry.faults faulty)
+      (each_if P (is_well entry.kind && option_map_or (is_undefined protocol) (code_of entry) false) (found message at rules.Code Must) (λ is. host.code at Must)))
+      (each_if P ((is_request entry.kind || is_notification entry.kind) && option_map_or is_kept_name entry.method false) (found message at rules.RpcName Note) (λ is. host.name at Note)))
+      (each_unless P (is_cancel protocol entry) (target_findings protocol message at own entry.target) [] (target_each protocol at own entry.target) tt)) ids)
+      (each_if P (fills_id entry own) (found message at rules.NotJudged Note) (λ is. host.not_judged at Note))
+
+  pub entries_each : (protocol : Protocol) (at : ℕ) (entries : List Entry) (own : Speaker) → EntriesMay P message protocol at entries own → Each P (entries_findings protocol message at entries own)
+  entries_each protocol at [] own may = tt
+  entries_each protocol at (entry ∷ entries) own may =
+      each-append P (entry_findings protocol message true at entry own) _ (entry_each protocol true at entry own may.0 may.1) (entries_each protocol (suc at) entries (behind_entry protocol at entry own) may.2)
+
+-- ---- answers
+
+module _ (P : Finding → Type 0) (message : Message) (answering : Answering P message) where
+  fit_each : (protocol : Protocol) (sight : Sight) (reply : Reply) (fit : Fit) → Each P (fit_findings protocol sight message reply fit)
+  fit_each protocol sight reply fit =
+      each_unless P (fit.is_request && reply.is_well) _ [] (each-append P (found_if reply.is_uncalled (found message reply.at rules.CancelledCode (cancelled_code_level sight))) _
+      (each_if P reply.is_uncalled (found message reply.at rules.CancelledCode (cancelled_code_level sight)) (λ is. answering.cancelled_code reply.at (cancelled_code_level sight)))
+      (each_if P (is_mcp protocol && fit.is_cancelled) (found message reply.at rules.AfterCancel Note) (λ is. answering.after_cancel reply.at Note))) tt
+
+  one_each : (level : Level) (stray : Stray) → Each P (not_owed message level stray)
+  one_each level stray = each_if P stray.is_well (found message stray.at rules.NotOwed level) (λ is. answering.not_owed stray.at level)
+
+  all_each : (level : Level) (strays : List Stray) → Each P (each_not_owed message level strays)
+  all_each level [] = tt
+  all_each level (stray ∷ strays) = each-append P (not_owed message level stray) _ (one_each level stray) (all_each level strays)
+
+  not_owed_each : (sight : Sight) (strays : List Stray) (owed : List Due) → Each P (not_owed_findings sight message strays owed)
+  not_owed_each sight strays owed =
+      let level = not_owed_level sight (is_some (unreadable_target owed)) in
+      each_unless P (are_told strays) (each_not_owed message level strays) [] (all_each level strays) tt
+
+  single_fit_each : (protocol : Protocol) (sight : Sight) (reply : Reply) (fit : Fit) → Each P (single_fit_findings protocol sight message reply fit)
+  single_fit_each protocol sight reply fit =
+      each-append P (found_if (fit.in_batch && reply.is_well) (found message reply.at rules.NotAsArray (or_note sight.is_broken Should))) _
+      (each_if P (fit.in_batch && reply.is_well) (found message reply.at rules.NotAsArray (or_note sight.is_broken Should)) (λ is. answering.not_as_array reply.at (or_note sight.is_broken Should)))
+      (fit_each protocol sight reply fit)
+
+  single_found_each : (protocol : Protocol) (sight : Sight) (reply : Reply) (rest : List Due) (o : Option Found) → Each P (single_findings_of protocol sight message reply rest o)
+  single_found_each protocol sight reply rest None = not_owed_each sight (stray_of reply ∷ []) rest
+  single_found_each protocol sight reply rest (Some Whole) = tt
+  single_found_each protocol sight reply rest (Some (EntryFit fit)) = single_fit_each protocol sight reply fit
+
+  pub single_each : (protocol : Protocol) (sight : Sight) (reply : Reply) (id : Option WrittenId) (owed : List Due) → Each P (single_findings protocol sight message reply id owed)
+  single_each protocol sight reply id owed = single_found_each protocol sight reply (rest_of protocol reply id owed) (dues.found (target_of protocol reply id owed) owed)
+
+  taken_each : (protocol : Protocol) (sight : Sight) (reply : Reply) (fit : Option Fit) → Each P (taken_findings protocol sight message reply fit)
+  taken_each protocol sight reply None = tt
+  taken_each protocol sight reply (Some fit) = fit_each protocol sight reply fit
+
+  array_each : (protocol : Protocol) (sight : Sight) (replies : List Reply) (fits : List (Option Fit)) → Each P (array_findings protocol sight message replies fits)
+  array_each protocol sight [] fits = tt
+  array_each protocol sight (reply ∷ replies) [] = tt
+  array_each protocol sight (reply ∷ replies) (fit ∷ fits) = each-append P (taken_findings protocol sight message reply fit) _ (taken_each protocol sight reply fit) (array_each protocol sight replies fits)
+
+  among_each : (sight : Sight) (are_alone : Bool) (replies : List Reply) → Each P (among_findings sight message are_alone replies)
+  among_each sight are_alone replies =
+      each_if P (not are_alone && are_well replies) (found message 0 rules.NotAsArray (or_note sight.is_broken Should)) (λ is. answering.not_as_array 0 (or_note sight.is_broken Should))
+
+  apart_each : (protocol : Protocol) (sight : Sight) (reply : Reply) (is_told : Bool) (fit : Fit) → Each P (apart_findings protocol sight message reply is_told fit)
+  apart_each protocol sight reply is_told fit =
+      each-append P (found_if (reply.is_well && not is_told) (found message 0 rules.NotAsArray (or_note sight.is_broken Should))) _
+      (each_if P (reply.is_well && not is_told) (found message 0 rules.NotAsArray (or_note sight.is_broken Should)) (λ is. answering.not_as_array 0 (or_note sight.is_broken Should)))
+      (fit_each protocol sight reply fit)
+
+  with_found_each : (protocol : Protocol) (sight : Sight) (reply : Reply) (each : Taken) (rest : List Due) (o : Option Found) → Each P each.findings → Each P (with_found protocol sight message reply each rest o).findings
+  with_found_each protocol sight reply each rest None so_far = so_far
+  with_found_each protocol sight reply each rest (Some Whole) so_far = so_far
+  with_found_each protocol sight reply each rest (Some (EntryFit fit)) so_far = each-append P each.findings _ so_far (apart_each protocol sight reply each.is_told fit)
+
+  each_of_each : (protocol : Protocol) (sight : Sight) (replies : List Reply) (ids : List (Option WrittenId)) (each : Taken) → Each P each.findings → Each P (each_of protocol sight message replies ids each).findings
+  each_of_each protocol sight [] ids each so_far = so_far
+  each_of_each protocol sight (reply ∷ replies) [] each so_far = so_far
+  each_of_each protocol sight (reply ∷ replies) (id ∷ ids) each so_far =
+      each_of_each protocol sight replies ids (with_reply protocol sight message reply id each)
+      (with_found_each protocol sight reply each (settled (target_in_array reply id each.owed) each.owed) (dues.found (target_in_array reply id each.owed) each.owed) so_far)
+
+  strays_each : (sight : Sight) (strays : List Stray) (owed : List Due) → Each P (strays_findings sight message strays owed)
+  strays_each sight [] owed = tt
+  strays_each sight (stray ∷ strays) owed = each-append P (not_owed_findings sight message (stray ∷ []) owed) _ (not_owed_each sight (stray ∷ []) owed) (strays_each sight strays (behind_not_owed (stray ∷ []) owed))
+
+  taken_all_each : (sight : Sight) (replies : List Reply) (each : Taken) → Each P each.findings → Each P (each_findings sight message replies each)
+  taken_all_each sight replies each so_far =
+      each-append P each.findings _ so_far (each_unless P (none_fits replies each) (not_owed_findings sight message each.strays each.owed) (strays_findings sight message each.strays each.owed)
+      (not_owed_each sight each.strays each.owed) (strays_each sight each.strays each.owed))
+
+  answers_of_each : (protocol : Protocol) (sight : Sight) (are_alone : Bool) (replies : List Reply) (ids : List (Option WrittenId)) (rest : List Due) (o : Option (List (Option Fit)))
+      → Each P (answers_findings_of protocol sight message are_alone replies ids rest o)
+  answers_of_each protocol sight are_alone replies ids rest (Some fits) = each-append P (among_findings sight message are_alone replies) _ (among_each sight are_alone replies) (array_each protocol sight replies fits)
+  answers_of_each protocol sight are_alone replies ids rest None = taken_all_each sight replies (each_of protocol sight message replies ids (new_each rest)) (each_of_each protocol sight replies ids (new_each rest) tt)
+
+  pub answers_each : (protocol : Protocol) (sight : Sight) (are_alone : Bool) (replies : List Reply) (ids : List (Option WrittenId)) (owed : List Due) → Each P (answers_findings protocol sight message are_alone replies ids owed)
+  answers_each protocol sight are_alone replies ids owed = answers_of_each protocol sight are_alone replies ids (batch_rest ids owed) (found_batch ids owed)
+
+-- ---- a content
+
+-- what a content is read as breaks what may be told
+abbrev pub ReadingMay : (Finding → Type 0) → Message → Protocol → Bool → Pair → Reading → Type 0
+ReadingMay P message protocol is_unfinished pair Foreign = May P message rules.Charset
+ReadingMay P message protocol is_unfinished pair NotText = May P message (not_json_rule is_unfinished)
+ReadingMay P message protocol is_unfinished pair NotJson = May P message (not_json_rule is_unfinished)
+ReadingMay P message protocol is_unfinished pair TooDeep = ⊤
+ReadingMay P message protocol is_unfinished pair HalfPair = ⊤
+ReadingMay P message protocol is_unfinished pair (Single entry) =
+    Faulty P message entry.faults × Each P (id_findings protocol message 0 false (opened message false entry.has_huge pair.own) entry)
+    × Each P (single_answer_findings protocol (sight_of pair) message entry pair.other)
+ReadingMay P message protocol is_unfinished pair (Array []) = May P message rules.EmptyArray
+ReadingMay P message protocol is_unfinished pair (Array (entry ∷ entries)) =
+    EntriesMay P message protocol 1 (entry ∷ entries) (opened message true (have_huge (entry ∷ entries)) pair.own)
+    × Each P (answers_findings protocol (sight_of pair) message (are_answers (entry ∷ entries)) (replies_in protocol pair.other.owed 1 (entry ∷ entries)) (reply_ids (entry ∷ entries)) pair.other.owed)
+
+module _ (P : Finding → Type 0) (message : Message) (host : Hosts P message) where
+  batch_each : (protocol : Protocol) (entries : List Entry) → Each P (batch_findings protocol message entries)
+  batch_each protocol entries = each_unless P (are_answers entries) [] (option_map_or (λ level. found message 0 rules.Batch level ∷ []) (batch_level protocol) []) tt (by_level (batch_level protocol))
+    where
+      by_level : (o : Option Level) → Each P (option_map_or (λ level. found message 0 rules.Batch level ∷ []) o [])
+      by_level None = tt
+      by_level (Some level) = (host.batch 0 level, tt)
+
+  ended_each : (is_unfinished : Bool) (outcome : Outcome) → Each P outcome.findings → Each P (behind_line_end is_unfinished message outcome).findings
+  ended_each is_unfinished outcome each =
+      each-append P (line_end_findings is_unfinished message) _ (each_if P is_unfinished (found message 0 rules.LineEnd Note) (λ is. host.line_end 0 Note)) each
+
+  pub reading_each : (protocol : Protocol) (is_unfinished : Bool) (pair : Pair) (reading : Reading) → ReadingMay P message protocol is_unfinished pair reading → Each P (reading_outcome protocol is_unfinished message pair reading).findings
+  reading_each protocol is_unfinished pair Foreign may = (may 0 Must, tt)
+  reading_each protocol is_unfinished pair NotText may = (may 0 Must, tt)
+  reading_each protocol is_unfinished pair NotJson may = (may 0 Must, tt)
+  reading_each protocol is_unfinished pair TooDeep may = (host.not_judged 0 Note, tt)
+  reading_each protocol is_unfinished pair HalfPair may = (host.not_judged 0 Note, tt)
+  reading_each protocol is_unfinished pair (Single entry) may =
+      ended_each is_unfinished (single_outcome protocol message entry pair)
+      (each-append P (entry_findings protocol message false 0 entry (opened message false entry.has_huge pair.own)) _
+      (entry_each P message host protocol false 0 entry (opened message false entry.has_huge pair.own) may.0 may.1) may.2)
+  reading_each protocol is_unfinished pair (Array []) may = ended_each is_unfinished (empty_outcome message pair) (may 0 Must, tt)
+  reading_each protocol is_unfinished pair (Array (entry ∷ entries)) may =
+      ended_each is_unfinished (array_outcome protocol message (entry ∷ entries) pair)
+      (each-append P _ (answers_findings protocol (sight_of pair) message (are_answers (entry ∷ entries)) (replies_in protocol pair.other.owed 1 (entry ∷ entries)) (reply_ids (entry ∷ entries)) pair.other.owed)
+      (each-append P (batch_findings protocol message (entry ∷ entries)) _ (batch_each protocol (entry ∷ entries))
+      (entries_each P message host protocol 1 (entry ∷ entries) (opened message true (have_huge (entry ∷ entries)) pair.own) may.0)) may.1)

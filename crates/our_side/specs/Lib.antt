@@ -1,0 +1,7 @@
+pub mod Answered
+pub mod Asked
+pub mod Breaking
+pub mod Expected
+pub mod OurSide
+pub mod Rows
+pub mod Saying

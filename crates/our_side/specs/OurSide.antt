@@ -1,0 +1,57 @@
+-- A side of a conversation that is a connection of this library, whatever its host does.
+use Rattle.std.specs.Prelude.{◌≡◌, ◌≤◌, ℕ, List, ◌++◌, map, take, length}
+use Rattle.connection_history.specs.History.{Happening, History, units_of}
+use Rattle.connection_history.specs.Items.{items_of, text_of}
+use Rattle.connection_history.specs.declared.event.Event.{Event}
+use Rattle.connection.specs.BackToBack.{AllCanBeSaid, AllFit, AreFirst, IsEndedWhole}
+use Rattle.connection.specs.Connections.{Connection, StandsAfter, output, read}
+use Rattle.connection.specs.Settings.{rules_of}
+use Rattle.content_streams.specs.Streams.{Stream, contents}
+use Rattle.content_streams.specs.declared.framing.Framing.{Framing}
+use Rattle.conversation_rules.specs.Judging.{Seen, state_of, stream_of}
+use Rattle.conversation_rules.specs.declared.finding.Limits.{Limits}
+use Rattle.conversation_rules.specs.declared.protocol.Protocol.{Protocol}
+use Rattle.conversation_rules.specs.declared.side.Side.{Side}
+use Rattle.conversation_rules.specs.declared.side.Side.TheVariants.{Client, Server}
+
+abbrev pub other : Side → Side
+other Client = Server
+other Server = Client
+
+-- what was seen of a side's stream
+abbrev pub seen_of : Protocol → Framing → Limits → List Seen → Side → Stream
+seen_of protocol framing limits seen side = stream_of side (state_of protocol framing limits seen)
+
+-- What was seen of the side is what a connection wrote: the first n bytes, or in Contents the first n texts.
+pub record IsWritten (protocol : Protocol) (framing : Framing) (limits : Limits) (seen : List Seen) (side : Side) (connection : Connection) (history : History) (told : List Event) (n : ℕ) : Type 0 where
+  -- the connection has come this far, by any calls of its host and any bytes that came
+  pub stands : StandsAfter connection history told
+  -- what the host says is such as its types hold
+  pub can_be_said : AllCanBeSaid connection.settings.cancels history
+  -- the judge cuts the stream as the connection writes it
+  pub framing_is : connection.settings.framing ≡ framing
+  -- each text is within the judge's limit: beyond it nothing of the side is judged
+  pub fits : AllFit limits.content (output connection).written
+  -- no more was seen than was taken
+  pub taken : n ≤ (output connection).taken
+  pub first : AreFirst framing n (output connection).written (seen_of protocol framing limits seen side).pieces
+  -- Its stream wasn't closed inside a text: to close it there is its host's, by the rule `cut-off`.
+  pub closed : IsEndedWhole framing n (output connection).written (seen_of protocol framing limits seen side).ended
+
+-- At a moment of the conversation, with a part of the history that had happened by then.
+pub record IsInTime (protocol : Protocol) (framing : Framing) (limits : Limits) (side : Side) (connection : Connection) (history : History) (before : List Seen) : Type 0 where
+  pub past : History
+  pub more : List Happening
+  pub whole : history ≡ more ++ past
+  -- what was seen of the side by then had been written
+  pub count : ℕ
+  pub written : AreFirst framing count (map text_of (items_of connection.settings.order past)) (seen_of protocol framing limits before side).pieces
+  -- What had come to it by then had been seen of the other side: the units are those of the first contents that were seen.
+  pub came : units_of past ≡ map (read (rules_of connection.settings)) (take (length (units_of past)) (contents (seen_of protocol framing limits before (other side))))
+
+-- The side is a connection: beside this, each byte and each end was seen before it was fed or told.
+pub record IsOurSide (protocol : Protocol) (framing : Framing) (limits : Limits) (seen : List Seen) (side : Side) (connection : Connection) (history : History) (told : List Event) (n : ℕ) : Type 0 where
+  pub written : IsWritten protocol framing limits seen side connection history told n
+  -- what the connection reads the judge reads too; how deep a content may nest is the same for both
+  pub limit : connection.settings.content ≤ limits.content
+  pub in_time : (before after : List Seen) → seen ≡ before ++ after → IsInTime protocol framing limits side connection history before

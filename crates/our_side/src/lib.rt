@@ -1,0 +1,18 @@
+//! Laws of a side of a conversation that is a connection of this library: which rules it never breaks, whatever its host
+//! does, and where the judge accuses it. Nothing stands on it.
+#![tactic(auto)]
+
+mod accused;
+mod asked;
+mod expected;
+mod messages;
+mod once;
+
+pub use accused::{
+    a_batch_of_too_many_is_answered_once, a_null_call_that_is_answered_as_unreadable,
+    cancelled_requests_are_left_in_batches,
+};
+pub use asked::who_answers_what_was_asked_is_not_accused;
+pub use expected::expected_answers_are_not_accused;
+pub use messages::our_side_writes_messages;
+pub use once::no_id_is_answered_more_often_than_asked;

@@ -1,0 +1,2 @@
+pub mod OwedLemmas
+pub mod OwedTexts

@@ -1,0 +1,196 @@
+ghost use Rattle.std.specs.Prelude.{◌≡◌, ◌+◌, ◌-◌, ◌<◌, ◌^◌, ◌++◌, ◌∷◌, [], true, false, length, OnOk, OnErr, option_copied};
+ghost use Rattle.number_windows.specs.Windows.{window_entries, IsWindow};
+ghost use Rattle.owed_answers.specs.Owed.{seen_slot, slot_at, replaced};
+ghost use Rattle.number_windows.specs.Numbered.{at, without, changed_at, first_number, next_number, Ascending};
+
+use crate::owed::Owed;
+use crate::slot::Slot;
+use number_windows::NumberWindow;
+use std::alloc::{AllocError, Global};
+use std::marker::Model;
+
+/// The units whose answer isn't out, by their places 0, 1, .. in the order in which they came.
+#[derive(Drop)]
+pub struct OwedAnswers {
+    /// How many places there were. `IsOwed` holds: no unit that is owed an answer has this place or a greater one.
+    places: u64,
+    /// Those that are owed an answer, by their places.
+    owed: NumberWindow<Owed>,
+}
+
+impl Model for OwedAnswers {
+    ghost use Rattle.owed_answers.specs.Owed.{OwedState};
+
+    ghost Value = { OwedState };
+
+    ghost use Rattle.owed_answers.specs.Inner.{IsOwed};
+    ghost use Rattle.number_windows.specs.Windows.{window_entries};
+
+    ghost view = { λ a. record { places = a.places; owed = window_entries a.owed } };
+
+    ghost invariant = { λ a. IsOwed a.places a.owed };
+}
+
+impl OwedAnswers {
+    ghost use Rattle.owed_answers.specs.Owed.{seen_slots, opened, has_answer_in, text_or_none};
+
+    pub fn new(alloc: Global) -> OwedAnswers
+        ensures { result ≡ record { places = 0; owed = [] } }
+    {
+        OwedAnswers {
+            places: 0,
+            owed: NumberWindow::new(alloc),
+        }
+    }
+
+    /// How many units are owed an answer.
+    pub fn len(&self) -> u64
+        ensures { result ≡ length self.now.owed }
+    {
+        self.owed.len()
+    }
+
+    /// How many places there were. No unit that is owed an answer has this place or a greater one.
+    pub fn places(&self) -> u64
+        ensures places { result ≡ self.now.places }
+        ensures owed { without self.now.places self.now.owed ≡ self.now.owed }
+    {
+        self.places
+    }
+
+    /// The unit at the next place is a batch, and is owed these answers.
+    pub fn open_batch(&mut self, slots: Vec<Slot>) -> Result<(), AllocError>
+        requires { self.old.places < 2 ^ 64 - 1 }
+        ensures ok { OnOk result (self.new ≡
+            opened (record { is_batch = true; slots = seen_slots slots.items }) self.old) }
+        ensures err { OnErr result (self.new ≡ self.old) }
+    {
+        self.open(Owed::batch(slots))
+    }
+
+    fn open(&mut self, unit: Owed) -> Result<(), AllocError>
+        requires { self.old.places < 2 ^ 64 - 1 }
+        ensures ok { OnOk result (self.new ≡ opened unit self.old) }
+        ensures err { OnErr result (self.new ≡ self.old) }
+    {
+        self.owed.make_room()?;
+        self.owed.push(self.places, unit);
+        self.places += 1;
+        Ok(())
+    }
+
+    /// The unit at the next place is no batch, and is owed this answer.
+    pub fn open_single(&mut self, slot: Slot) -> Result<(), AllocError>
+        requires { self.old.places < 2 ^ 64 - 1 }
+        ensures ok { OnOk result (self.new ≡
+            opened (record { is_batch = false; slots = seen_slots (slot ∷ []) }) self.old) }
+        ensures err { OnErr result (self.new ≡ self.old) }
+    {
+        self.open(Owed::single(slot))
+    }
+
+    /// The unit at the next place is owed nothing.
+    pub fn skip(&mut self)
+        requires { self.old.places < 2 ^ 64 - 1 }
+        ensures { self.new ≡ record self.old { places = self.old.places + 1 } }
+    {
+        self.places += 1;
+    }
+
+    /// The last place is as if its unit had never come.
+    pub fn undo_unit(&mut self)
+        requires { 0 < self.old.places }
+        ensures { self.new ≡ record {
+          places = self.old.places - 1;
+          owed = without (self.old.places - 1) self.old.owed;
+        } }
+    {
+        let place = self.places - 1;
+        drop(self.owed.remove(place));
+        self.places = place;
+    }
+
+    /// Puts a text, or none, into this slot of the unit at this place, and answers what stood there. Where there is no such
+    /// slot nothing changes. Takes no memory. Places ascend, so no other unit has this one.
+    pub fn replace(&mut self, place: u64, slot: u64, text: Slot) -> Slot
+        ensures was { seen_slot result ≡ slot_at slot (at place self.old.owed) }
+        ensures state { self.new ≡ record self.old {
+          owed = changed_at place (replaced slot (seen_slot text)) self.old.owed;
+        } }
+        ensures ascending { Ascending self.old.owed }
+    {
+        replace_in(&mut self.owed, place, slot, text)
+    }
+
+    /// The unit at this place, where it is owed an answer. Places ascend.
+    pub fn get(&self, place: u64) -> Option<&Owed>
+        ensures unit { option_copied result ≡ at place self.now.owed }
+        ensures ascending { Ascending self.now.owed }
+    {
+        self.owed.get(place)
+    }
+
+    /// Whether the unit at this place has something to write: an answer that isn't empty.
+    pub fn has_answer(&self, place: u64) -> bool
+        ensures { result ≡ has_answer_in (at place self.now.owed) }
+    {
+        match self.owed.get(place) {
+            Some(unit) => unit.has_answer(),
+            None => false,
+        }
+    }
+
+    /// Puts the answer of the unit at this place behind these bytes, where there is something to write.
+    pub fn put_text(&self, place: u64, bytes: &mut Vec<u8>) -> Result<(), AllocError>
+        ensures ok { OnOk result (bytes.new.items ≡
+            bytes.old.items ++ text_or_none (at place self.now.owed)) }
+        ensures err { OnErr result (bytes.new.items ≡ bytes.old.items) }
+    {
+        match self.owed.get(place) {
+            Some(unit) => unit.put_text(bytes),
+            None => Ok(()),
+        }
+    }
+
+    /// The unit at this place is owed nothing any more. Places ascend, so no other unit has this one.
+    pub fn remove(&mut self, place: u64)
+        ensures state { self.new ≡ record self.old { owed = without place self.old.owed } }
+        ensures ascending { Ascending self.old.owed }
+    {
+        drop(self.owed.remove(place));
+    }
+
+    /// The least place whose unit is owed an answer. Places ascend.
+    pub fn first(&self) -> Option<u64>
+        ensures place { result ≡ first_number self.now.owed }
+        ensures ascending { Ascending self.now.owed }
+    {
+        self.owed.first()
+    }
+
+    /// The least place above `after` whose unit is owed an answer.
+    pub fn next(&self, after: u64) -> Option<u64>
+        ensures { result ≡ next_number after self.now.owed }
+    {
+        self.owed.next(after)
+    }
+}
+
+/// Puts a text, or none, into this slot of the unit at this place, and answers what stood there. A stand-in holds the
+/// unit's place meanwhile.
+fn replace_in(owed: &mut NumberWindow<Owed>, place: u64, slot: u64, text: Slot) -> Slot
+    requires { IsWindow owed.old }
+    ensures was { seen_slot result ≡ slot_at slot (at place (window_entries owed.old)) }
+    ensures entries { window_entries owed.new ≡
+        changed_at place (replaced slot (seen_slot text)) (window_entries owed.old) }
+    ensures window { IsWindow owed.new }
+{
+    let stand_in = Owed::single(Slot::Lacking);
+    let mut unit = match owed.replace(place, stand_in) {
+        Ok(unit) => unit,
+        Err(_) => return Slot::Lacking,
+    };
+    let was = unit.replace(slot, text);
+    drop(owed.replace(place, unit));
+    was
+}

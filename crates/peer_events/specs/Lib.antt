@@ -1,0 +1,12 @@
+pub mod Core
+pub mod Finishing
+pub mod Fits
+pub mod Hearing
+pub mod Inner
+pub mod Passing
+pub mod Polls
+pub mod Stages
+pub mod Stands
+pub mod Taking
+pub mod Turning
+pub mod Turns

@@ -1,0 +1,9 @@
+pub mod Arriving
+pub mod Boards
+pub mod Changes
+pub mod Listed
+pub mod Marked
+pub mod Opening
+pub mod Rooms
+pub mod Starting
+pub mod Unwritten

@@ -1,5 +1,0 @@
-use Rattle.session_state.proofs.Started.{start-at_rest}
-use Rattle.session_state.proofs.taking.start_is_at_rest.Goals as goal
-
-pub returns : goal.returns
-returns c = start-at_rest c.known.ensures

@@ -1,5 +1,0 @@
-use Rattle.session_state.proofs.Leaving.{leaves-rest}
-use Rattle.session_state.proofs.turning.ready_handlers_go_out.Goals as goal
-
-pub returns : goal.returns
-returns c = leaves-rest c.known.ensures

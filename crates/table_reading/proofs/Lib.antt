@@ -1,0 +1,4 @@
+pub mod Calls
+pub mod ItemsLaws
+pub mod MadeSteps
+pub mod MadeTemplates

@@ -1,0 +1,9 @@
+pub mod Fault
+pub mod Fields
+pub mod Inner
+pub mod Judged
+pub mod Limits
+pub mod Made
+pub mod References
+pub mod Templates
+pub mod Version

@@ -1,0 +1,21 @@
+//! What stands in the place of a recording's first line.
+use content_streams::Framing;
+use conversation_rules::Protocol;
+use recorded_talks::{framing_named, protocol_named};
+
+/// Whose rules and which framing count in place of those of a recording's first line.
+#[derive(Clone, Copy)]
+pub struct TalkOptions {
+    pub protocol: Option<Protocol>,
+    pub framing: Option<Framing>,
+}
+
+impl TalkOptions {
+    /// The rules and the framing of these names. What has another name is that of the recording.
+    pub fn named(rules: &str, framing: &str) -> TalkOptions {
+        TalkOptions {
+            protocol: protocol_named(rules),
+            framing: framing_named(framing),
+        }
+    }
+}
