@@ -68,11 +68,12 @@ def pieces_of(chance: random.Random, seen: Seen) -> Iterator[Seen]:
 
 
 def made_with_answers(seed: str) -> Iterator[sessions.Session]:
-    """Sessions whose connection answers each request: those with MCP's cancels may leave some, which has rules of its own
-    (docs/judge.md, "What is tested")."""
+    """Sessions whose connection answers each request: those with MCP's cancels may leave some, and those that take batches
+    of few entries answer a longer one once, which has rules of its own (docs/judge.md, "What is proved")."""
     for attempt in count():
         session = sessions.made(f"{seed} {attempt}" if attempt else seed)
-        if session.actions[0].given[2] != "mcp":
+        _, _, cancels, *more = session.actions[0].given
+        if cancels != "mcp" and not any(str(it).startswith("entries=") for it in more):
             yield session
 
 
