@@ -13,7 +13,7 @@ use Rattle.json.proofs.Printed.Decimals.{IsNumber-decimal, IsNumber-signed_decim
 use Rattle.json.proofs.Printed.Utf8.{IsUtf8-are_ascii}
 use Rattle.json_texts.specs.Texts.{json_text}
 use Rattle.connection_messages.specs.ReadBack.{IsData, IsI64, IsFailure, IsAnswer, IsId}
-use Rattle.connection_messages.specs.Texts.{error_answer_text, answer_text, fixed_error}
+use Rattle.connection_messages.specs.Texts.{error_answer_text, answer_text, fixed_error, result_text}
 use Rattle.connection_messages.specs.declared.answer.Answer.{Answer as Said}
 use Rattle.connection_messages.specs.declared.answer.Answer.TheVariants.{Result, Error, Standard as Fixed}
 use Rattle.connection_messages.specs.declared.answer.AnswerError.{AnswerError}
@@ -30,7 +30,7 @@ use Rattle.message_ids.specs.declared.id.Id.{Id}
 use Rattle.message_ids.specs.declared.id.Id.TheVariants.{Null, Text, Signed, Unsigned}
 use Rattle.message_ids.specs.declared.standard.Standard.{Standard}
 use Rattle.message_ids.specs.declared.standard.Standard.TheVariants.{ParseError, InvalidRequest, MethodNotFound, InvalidParams, InternalError, Cancelled, NoReply, InvalidReply}
-use Rattle.judge_laws.specs.Messages.{IsEntry, IsMessage}
+use Rattle.judge_laws.specs.Messages.{IsEntry, IsMessage, written_as, HasId}
 use Rattle.judge_laws.proofs.SaidStrictly.{object_reading, result_is, result_message}
 
 -- ---- the decimals of a code are a whole number
@@ -145,15 +145,28 @@ failure_by (Text s) e is = record { kind_is = ap (λ b. kind_with (has_fault (fa
 failure_by (Signed z) e is = record { kind_is = ap (λ b. kind_with (has_fault (faults_with (not b)))) is; faultless = ap (λ b. has_fault (faults_with (not b))) is }
 failure_by (Unsigned n) e is = record { kind_is = ap (λ b. kind_with (has_fault (faults_with (not b)))) is; faultless = ap (λ b. has_fault (faults_with (not b))) is }
 
+failure_named : (id : Id) (e : Json) → (entry_of (answer_value id e)).id ≡ Some (written_as id)
+failure_named Null e = refl
+failure_named (Text s) e = refl
+failure_named (Signed z) e = refl
+failure_named (Unsigned n) e = refl
+
+result_named : (id : Id) (j : Json) → (entry_of (result_value id j)).id ≡ Some (written_as id)
+result_named Null j = refl
+result_named (Text s) j = refl
+result_named (Signed z) j = refl
+result_named (Unsigned n) j = refl
+
 -- the value of an answer's text
-pub record AnswerValue (text : List ℕ) : Type 0 where
+pub record AnswerValue (id : Id) (text : List ℕ) : Type 0 where
   pub value : Json
   pub is : json_text value ≡ text
   pub whole : IsWhole 122 value
   pub entry : IsEntry Answer (entry_of value)
   pub alone : IsMessage Answer (reading_of false text)
+  pub named : HasId (written_as id) (reading_of false text)
 
-failure_value : (id : Id) (e : AnswerError) → IsId id → IsFailure e → AnswerValue (error_answer_text id e)
+failure_value : (id : Id) (e : AnswerError) → IsId id → IsFailure e → AnswerValue id (error_answer_text id e)
 failure_value id e is failure =
     let h = data_is_whole e.message e.«data» failure.message failure.extra in
     let j = error_value e.code e.message h.value in
@@ -166,6 +179,7 @@ failure_value id e is failure =
       whole = answer_is_whole id j is whole;
       entry = entry;
       alone = subst (IsMessage Answer) (sym (object_reading 122 _ (error_answer_text id e) text (answer_is_whole id j is whole) (omega arith))) entry;
+      named = subst (HasId (written_as id)) (sym (object_reading 122 _ (error_answer_text id e) text (answer_is_whole id j is whole) (omega arith))) (failure_named id j);
     }
 
 fixed_is : (s : Standard) → IsFailure (fixed_error s)
@@ -178,7 +192,7 @@ fixed_is Cancelled = record { code = omega arith; message = IsUtf8-are_ascii (me
 fixed_is NoReply = record { code = omega arith; message = IsUtf8-are_ascii (message_of NoReply) refl; extra = tt }
 fixed_is InvalidReply = record { code = omega arith; message = IsUtf8-are_ascii (message_of InvalidReply) refl; extra = tt }
 
-pub answer_value_of : (id : Id) (a : Said) → IsId id → IsAnswer a → AnswerValue (answer_text id a)
+pub answer_value_of : (id : Id) (a : Said) → IsId id → IsAnswer a → AnswerValue id (answer_text id a)
 answer_value_of id (Result text) is answer =
     let it = json_of text answer in
     record {
@@ -187,9 +201,13 @@ answer_value_of id (Result text) is answer =
       whole = whole_deeper 121 122 (result_value id it.value) (omega arith) (result_whole id it.value is it.whole);
       entry = result_is id it.value;
       alone = result_message id text is answer;
+      named = subst (HasId (written_as id)) (sym (object_reading 121 _ (result_text id text) (result_value_text id it.value text it.is) (result_whole id it.value is it.whole) (omega arith))) (result_named id it.value);
     }
 answer_value_of id (Error e) is answer = failure_value id e is answer
 answer_value_of id (Fixed s) is answer = failure_value id (fixed_error s) is (fixed_is s)
 
 pub answer_message : (id : Id) (a : Said) → IsId id → IsAnswer a → IsMessage Answer (reading_of false (answer_text id a))
 answer_message id a is answer = (answer_value_of id a is answer).alone
+
+pub answer_named : (id : Id) (a : Said) → IsId id → IsAnswer a → HasId (written_as id) (reading_of false (answer_text id a))
+answer_named id a is answer = (answer_value_of id a is answer).named

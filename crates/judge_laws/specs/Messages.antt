@@ -1,11 +1,15 @@
 -- Contents that are messages of one kind by all rules (JSON-RPC 2.0, sections 4 to 6).
+use Rattle.std.specs.Fmt.{signed_decimal}
 use Rattle.std.specs.Prelude.{◌≡◌, ℕ, ◌+◌, false, List, [], ◌∷◌, length, None, Some, ⊤, decimal}
 use Rattle.conversation_reading.specs.Strictly.{has_fault}
 use Rattle.conversation_reading.specs.declared.entry.Entry.{Entry}
 use Rattle.conversation_reading.specs.declared.entry.Kind.{Kind}
-use Rattle.conversation_reading.specs.declared.entry.WrittenId.TheVariants.{Number}
+use Rattle.conversation_reading.specs.declared.entry.WrittenId.{WrittenId}
+use Rattle.conversation_reading.specs.declared.entry.WrittenId.TheVariants.{Null, Text, Number}
 use Rattle.conversation_reading.specs.declared.reading.Reading.{Reading}
 use Rattle.conversation_reading.specs.declared.reading.Reading.TheVariants.{Foreign, NotText, NotJson, TooDeep, HalfPair, Single, Array}
+use Rattle.message_ids.specs.declared.id.Id.{Id}
+use Rattle.message_ids.specs.declared.id.Id.TheVariants as ids
 
 -- an entry of this kind that breaks no rule by itself
 pub record IsEntry (kind : Kind) (entry : Entry) : Type 0 where
@@ -79,3 +83,22 @@ HasNoId TooDeep = ⊥
 HasNoId HalfPair = ⊥
 HasNoId (Single entry) = entry.id ≡ None
 HasNoId (Array entries) = ⊥
+
+-- ---- ids of answers
+
+-- a connection's id, as it writes it: a number in decimal digits
+abbrev pub written_as : Id → WrittenId
+written_as ids.Null = Null
+written_as (ids.Text text) = Text text
+written_as (ids.Signed z) = Number (signed_decimal z)
+written_as (ids.Unsigned n) = Number (decimal n)
+
+-- it is one entry, which has this id
+abbrev pub HasId : WrittenId → Reading → Type 0
+HasId id Foreign = ⊥
+HasId id NotText = ⊥
+HasId id NotJson = ⊥
+HasId id TooDeep = ⊥
+HasId id HalfPair = ⊥
+HasId id (Single entry) = entry.id ≡ Some id
+HasId id (Array entries) = ⊥

@@ -10,7 +10,7 @@ ghost use Rattle.connection_messages.specs.declared.outgoing.Outgoing.{Outgoing}
 ghost use Rattle.conversation_reading.specs.Strictly.{reading_of};
 ghost use Rattle.conversation_reading.specs.declared.entry.Kind.TheVariants as kinds;
 ghost use Rattle.message_ids.specs.declared.id.Id.{Id};
-ghost use Rattle.judge_laws.specs.Messages.{IsMessage, AreMessages, IsKeyed, AreKeyed, HasNoId};
+ghost use Rattle.judge_laws.specs.Messages.{IsMessage, AreMessages, IsKeyed, AreKeyed, HasNoId, written_as, HasId};
 
 /// A call is read strictly as a request, and a batch of calls as requests.
 pub fn calls_read_as_messages()
@@ -52,4 +52,10 @@ pub fn answers_read_as_messages()
         IsMessage kinds.Answer (reading_of false (answer_text id a)) }
     ensures batch { (a : Id × Answer) (more : List (Id × Answer)) → AreAnswers (a ∷ more) →
         AreMessages kinds.Answer (reading_of false (batch_text (answer_texts (a ∷ more)))) }
+{}
+
+/// The id of an answer is read strictly as the one that it was said with.
+pub fn answers_have_their_ids()
+    ensures { (id : Id) (a : Answer) → IsId id → IsAnswer a →
+        HasId (written_as id) (reading_of false (answer_text id a)) }
 {}
