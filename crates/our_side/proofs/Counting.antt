@@ -28,11 +28,11 @@ with-append : (id : Id) (xs ys : List (Id × Answer)) → answers_with id (xs ++
 with-append id [] ys = (let same : answers_with id ys ≡ 0 + answers_with id ys = omega arith in same)
 with-append id (x ∷ xs) ys = let rest = with-append id xs ys in omega (arith, rest)
 
-asked-append : (id : Id) (xs ys : List Came) → asked_with id (xs ++ ys) ≡ asked_with id xs + asked_with id ys
+pub asked-append : (id : Id) (xs ys : List Came) → asked_with id (xs ++ ys) ≡ asked_with id xs + asked_with id ys
 asked-append id [] ys = (let same : asked_with id ys ≡ 0 + asked_with id ys = omega arith in same)
 asked-append id (x ∷ xs) ys = let rest = asked-append id xs ys in omega (arith, rest)
 
-said-append : (id : Id) (xs ys : List Message) → answered_with id (xs ++ ys) ≡ answered_with id xs + answered_with id ys
+pub said-append : (id : Id) (xs ys : List Message) → answered_with id (xs ++ ys) ≡ answered_with id xs + answered_with id ys
 said-append id [] ys = (let same : answered_with id ys ≡ 0 + answered_with id ys = omega arith in same)
 said-append id (call key o ∷ xs) ys = said-append id xs ys
 said-append id (calls key os ∷ xs) ys = said-append id xs ys
@@ -40,6 +40,10 @@ said-append id (notice o ∷ xs) ys = said-append id xs ys
 said-append id (withdrawal by key ∷ xs) ys = said-append id xs ys
 said-append id (answer other a ∷ xs) ys = let rest = said-append id xs ys in omega (arith, rest)
 said-append id (answers all ∷ xs) ys = let rest = said-append id xs ys in omega (arith, rest)
+
+pub calls-append : (es more : List Entry) → calls_in (es ++ more) ≡ calls_in es ++ calls_in more
+calls-append [] more = refl
+calls-append (e ∷ es) more = ap (λ cs. call_in e ++ cs) (calls-append es more) ∙ sym (append_assoc (call_in e) (calls_in es) (calls_in more))
 
 module _ (id : Id) (named : has_id id (Some Null) ≡ false) where
   given_few : (o : Option Id) (given : Option (Option Answer)) → answers_with id (given_to o given) ≤ as_number (has_id id o)
@@ -242,10 +246,6 @@ module _ (id : Id) (named : has_id id (Some Null) ≡ false) where
   one_at_most : (o : Option (List ℕ)) → length (option_to_list o) ≤ 1
   one_at_most None = omega arith
   one_at_most (Some t) = omega arith
-
-  calls-append : (es more : List Entry) → calls_in (es ++ more) ≡ calls_in es ++ calls_in more
-  calls-append [] more = refl
-  calls-append (e ∷ es) more = ap (λ cs. call_in e ++ cs) (calls-append es more) ∙ sym (append_assoc (call_in e) (calls_in es) (calls_in more))
 
   sum_is : (us : List Unit) → sum_of (map weight us) ≡ asked_with id (calls_in (entries_along us))
   sum_is [] = refl

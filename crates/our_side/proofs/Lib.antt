@@ -1,11 +1,13 @@
 mod Again
 mod Answering
+mod Asking
 mod Below
 mod Both
 mod Counting
 mod Ends
 mod Fair
 mod Found
+mod InTime
 mod Keys
 mod Matched
 mod Open
@@ -14,6 +16,7 @@ mod Plainly
 mod ReadIds
 mod ReadUtf8
 mod ReadValues
+mod Replying
 mod Said
 mod SaidSound
 mod Streaming

@@ -34,11 +34,14 @@ and_first false c is = cc
 times_one : (a b : ℕ) → a * 10 ^ 0 ≡ b * 10 ^ 0 → a ≡ b
 times_one a b is = omega (arith, is)
 
-numbers_equal : (a b : ℕ) → a < 2 ^ 64 → b < 2 ^ 64 → same_amount (amount_of (decimal a)) (amount_of (decimal b)) ≡ true → decimal a ≡ decimal b
-numbers_equal a b small few is =
+pub numbers_are : (a b : ℕ) → a < 2 ^ 64 → b < 2 ^ 64 → same_amount (amount_of (decimal a)) (amount_of (decimal b)) ≡ true → a ≡ b
+numbers_are a b small few is =
     let both = sym (λ i. same_amount (amount a small i) (amount b few i)) ∙ is in
     let same = eqb-true (a * 10 ^ 0) (b * 10 ^ 0) (and_first (a * 10 ^ 0 == b * 10 ^ 0) _ both) in
-    ap decimal (times_one a b same)
+    times_one a b same
+
+numbers_equal : (a b : ℕ) → a < 2 ^ 64 → b < 2 ^ 64 → same_amount (amount_of (decimal a)) (amount_of (decimal b)) ≡ true → decimal a ≡ decimal b
+numbers_equal a b small few is = ap decimal (numbers_are a b small few is)
 
 number_itself : (a : ℕ) → a < 2 ^ 64 → same_amount (amount_of (decimal a)) (amount_of (decimal a)) ≡ true
 number_itself a small = (λ i. same_amount (amount a small i) (amount a small i)) ∙ ap (λ b. b && true) (itself (a * 10 ^ 0))

@@ -148,7 +148,7 @@ module _ (grow : Grow) (protocol : Protocol) (side : Side) (framing : Framing) (
   abbrev yours : Stream
   yours = stream_of (other side) (state_of protocol framing limits seen)
 
-  later_of : (a : Side) (front back : List Seen) → seen ≡ front ++ back → Later (stream_of a (state_from protocol start front)) (stream_of a (state_of protocol framing limits seen))
+  pub later_of : (a : Side) (front back : List Seen) → seen ≡ front ++ back → Later (stream_of a (state_from protocol start front)) (stream_of a (state_of protocol framing limits seen))
   later_of a front back split =
       subst (λ state. Later (stream_of a (state_from protocol start front)) (stream_of a state)) (sym (ap (state_from protocol start) split ∙ state_from-append protocol start front back))
       (all_later protocol a back (state_from protocol start front))

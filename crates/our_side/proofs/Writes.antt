@@ -37,7 +37,6 @@ pub record Laws : Type 0 where
       → contents_of c.settings.framing limit pieces ended ≡ map plain (take (whole_count c.settings.framing n c.desk.out.written) c.desk.out.written)
   pub placed : (framing : Framing) (limit : ℕ) (pieces : List (List ℕ)) (ended : Option HowEnded) → map (λ placed. placed.1) (placed_contents_of framing limit pieces ended) ≡ contents_of framing limit pieces ended
   pub grow : Grow
-  pub frames : FrameLaws
 
 -- ---- the judge's stream of a side
 
@@ -70,10 +69,10 @@ module _ (laws : Laws) (protocol : Protocol) (framing : Framing) (limits : Limit
   limit_is : final.limit ≡ limits.content
   limit_is = later.limit ∙ start_limit side framing limits
 
-  sound : AreSound connection.settings.cancels (messages_of connection.settings.order history)
+  pub sound : AreSound connection.settings.cancels (messages_of connection.settings.order history)
   sound = messages_sound connection.settings.cancels connection.settings.order history is.stands.lawful is.can_be_said (came_have_ids connection history told is.stands)
 
-  contents_are : contents final ≡ map plain (take (whole_count framing n texts) texts)
+  pub contents_are : contents final ≡ map plain (take (whole_count framing n texts) texts)
   contents_are =
       (λ i. contents_of (framing_is i) (limit_is i) final.pieces final.ended)
       ∙ ap (λ f. contents_of f limits.content final.pieces final.ended) (sym is.framing_is)
@@ -94,18 +93,18 @@ module _ (laws : Laws) (protocol : Protocol) (framing : Framing) (limits : Limit
       (subst (FramesUp 1) (sym (laws.placed final.framing final.limit final.pieces final.ended ∙ contents_are ∙ ap (λ ts. map plain (take (whole_count framing n texts) ts)) (laws.texts connection history told is.stands)))
       (frames_up connection.settings.cancels (messages_of connection.settings.order history) 1 (whole_count framing n texts) sound (keys_up connection.settings.order history)))
 
-  pub hosts : (s : Stream) → Later s final → (fault : FrameFault) → close_of s ≡ Some (ends.Fault fault) → IsHosts fault
-  hosts s l fault e = ends_hosts laws.frames framing limits.content n texts is.fits s final l framing_is limit_is is.first fault e
+  pub hosts : FrameLaws → (s : Stream) → Later s final → (fault : FrameFault) → close_of s ≡ Some (ends.Fault fault) → IsHosts fault
+  hosts frames s l fault e = ends_hosts frames framing limits.content n texts is.fits s final l framing_is limit_is is.first fault e
 
-  pub ends_fairly : (those : Rule → Bool) → IsFair those → (s : Stream) → Later s final → EndsFairly those s
-  ends_fairly those fair s l fault e = by (hosts s l fault e)
+  pub ends_fairly : FrameLaws → (those : Rule → Bool) → IsFair those → (s : Stream) → Later s final → EndsFairly those s
+  ends_fairly frames those fair s l fault e = by (hosts frames s l fault e)
     where
       by : IsHosts fault → those (fault_rule fault) ≡ false
       by (inl large) = ap (λ f. those (fault_rule f)) large ∙ fair.not_judged
       by (inr cut) = ap (λ f. those (fault_rule f)) cut ∙ fair.cut_off
 
-  pub writes : (those : Rule → Bool) → IsFair those → those rules.IdAgain ≡ false → those rules.NotOwed ≡ false → those rules.NotAsArray ≡ false → BreaksNone side those (findings_of protocol framing limits seen)
-  writes those fair again not_owed not_as_array = fair_side laws.grow protocol side those framing limits seen fair again not_owed not_as_array (ends_fairly those fair) well
+  pub writes : FrameLaws → (those : Rule → Bool) → IsFair those → those rules.IdAgain ≡ false → those rules.NotOwed ≡ false → those rules.NotAsArray ≡ false → BreaksNone side those (findings_of protocol framing limits seen)
+  writes frames those fair again not_owed not_as_array = fair_side laws.grow protocol side those framing limits seen fair again not_owed not_as_array (ends_fairly frames those fair) well
 
-  pub never_again : (those : Rule → Bool) → IsFair those → those rules.NotOwed ≡ false → those rules.NotAsArray ≡ false → BreaksNone side those (findings_of protocol framing limits seen)
-  never_again those fair not_owed not_as_array = again_side laws.grow protocol side those framing limits seen fair not_owed not_as_array (ends_fairly those fair) well up
+  pub never_again : FrameLaws → (those : Rule → Bool) → IsFair those → those rules.NotOwed ≡ false → those rules.NotAsArray ≡ false → BreaksNone side those (findings_of protocol framing limits seen)
+  never_again frames those fair not_owed not_as_array = again_side laws.grow protocol side those framing limits seen fair not_owed not_as_array (ends_fairly frames those fair) well up

@@ -1,7 +1,6 @@
 -- A side of a conversation that is a connection of this library, whatever its host does.
 use Rattle.std.specs.Prelude.{◌≡◌, ◌≤◌, ℕ, List, ◌++◌, map, take, length}
 use Rattle.connection_history.specs.History.{Happening, History, units_of}
-use Rattle.connection_history.specs.Items.{items_of, text_of}
 use Rattle.connection_history.specs.declared.event.Event.{Event}
 use Rattle.connection.specs.BackToBack.{AllCanBeSaid, AllFit, AreFirst, IsEndedWhole}
 use Rattle.connection.specs.Connections.{Connection, StandsAfter, output, read}
@@ -38,20 +37,22 @@ pub record IsWritten (protocol : Protocol) (framing : Framing) (limits : Limits)
   -- Its stream wasn't closed inside a text: to close it there is its host's, by the rule `cut-off`.
   pub closed : IsEndedWhole framing n (output connection).written (seen_of protocol framing limits seen side).ended
 
--- At a moment of the conversation, with a part of the history that had happened by then.
+-- At a moment of the conversation, when so much had been seen: the connection as it stood then, after a part of the history.
 pub record IsInTime (protocol : Protocol) (framing : Framing) (limits : Limits) (side : Side) (connection : Connection) (history : History) (before : List Seen) : Type 0 where
   pub past : History
   pub more : List Happening
   pub whole : history ≡ more ++ past
+  pub earlier : Connection
+  pub settings : earlier.settings ≡ connection.settings
+  pub told : List Event
   -- what was seen of the side by then had been written
   pub count : ℕ
-  pub written : AreFirst framing count (map text_of (items_of connection.settings.order past)) (seen_of protocol framing limits before side).pieces
+  pub written : IsWritten protocol framing limits before side earlier past told count
   -- What had come to it by then had been seen of the other side: the units are those of the first contents that were seen.
+  -- So the judge reads all that the connection reads.
   pub came : units_of past ≡ map (read (rules_of connection.settings)) (take (length (units_of past)) (contents (seen_of protocol framing limits before (other side))))
 
 -- The side is a connection: beside this, each byte and each end was seen before it was fed or told.
 pub record IsOurSide (protocol : Protocol) (framing : Framing) (limits : Limits) (seen : List Seen) (side : Side) (connection : Connection) (history : History) (told : List Event) (n : ℕ) : Type 0 where
   pub written : IsWritten protocol framing limits seen side connection history told n
-  -- what the connection reads the judge reads too; how deep a content may nest is the same for both
-  pub limit : connection.settings.content ≤ limits.content
   pub in_time : (before after : List Seen) → seen ≡ before ++ after → IsInTime protocol framing limits side connection history before

@@ -5,6 +5,7 @@
 mod accused;
 mod asked;
 mod expected;
+mod joined;
 mod messages;
 mod once;
 
@@ -14,5 +15,6 @@ pub use accused::{
 };
 pub use asked::who_answers_what_was_asked_is_not_accused;
 pub use expected::expected_answers_are_not_accused;
+pub use joined::a_connection_is_not_accused_of_its_answers;
 pub use messages::our_side_writes_messages;
 pub use once::no_id_is_answered_more_often_than_asked;
