@@ -1,6 +1,5 @@
 //! A host over two streams, on one thread, whose methods are its own code.
 mod asked;
-mod calls;
 mod hosting;
 mod session;
 mod sum;

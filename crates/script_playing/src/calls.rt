@@ -1,4 +1,5 @@
-//! The calls of a connection, each by itself: what is done with their results needs nothing of what they promise.
+//! The calls of a connection, each by itself, for the player and for hosts in programs: what is done with their results
+//! needs nothing of what they promise.
 use connection::{Answer, Connection, Event, HowEnded, Outgoing, Refused, Report, Settings};
 use std::alloc::{AllocError, Global};
 

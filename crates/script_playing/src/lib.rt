@@ -27,7 +27,7 @@
 //! An action that is refused memory gives `refused memory`. After settings that are refused each action gives `refused settings`.
 #![tactic(auto)]
 
-mod calls;
+pub mod calls;
 mod events;
 mod given;
 mod player;

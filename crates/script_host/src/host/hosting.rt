@@ -1,8 +1,7 @@
 //! The host's loop.
-use crate::host::calls;
 use crate::host::session::Session;
 use crate::run_failure::RunFailure;
-use connection::{Close, Framing, HowEnded, USUAL_CONTENT};
+use connection::{Cancels, Close, Framing, HowEnded, Order, Settings, USUAL_CONTENT};
 use program_edge::Failure;
 use std::alloc::Global;
 use std::io::{Read, Write};
@@ -21,10 +20,21 @@ pub fn run_host<I: Read, W: Write>(
     input: &mut I,
     output: &mut W,
 ) -> Result<Close, RunFailure> {
-    let Some(settings) = calls::settings(framing, USUAL_CONTENT) else {
+    let Some(settings) = settings_of(framing, USUAL_CONTENT) else {
         return Err(RunFailure::Program(Failure::Read));
     };
     run_session(&mut Session::new(alloc, settings), input, output)
+}
+
+/// With the greatest limits, with LSP's cancels, and with answers that go out as soon as they are given.
+fn settings_of(framing: Framing, content: u32) -> Option<Settings> {
+    Settings::new(
+        framing,
+        Order::AsAnswered,
+        Some(Cancels::Lsp),
+        content,
+        u64::MAX,
+    )
 }
 
 fn run_session<I: Read, W: Write>(

@@ -1,6 +1,5 @@
 //! A connection, and what its host does at each event.
 use crate::host::asked::Asked;
-use crate::host::calls;
 use crate::host::sum::sum_of;
 use crate::run_failure::RunFailure;
 use connection::{
@@ -12,6 +11,7 @@ use json_texts::{JsonText, TextReader};
 use json_values::Text;
 use message_ids::Standard;
 use program_edge::Failure;
+use script_playing::calls;
 use std::alloc::{AllocError, Global};
 use std::io::Write;
 
