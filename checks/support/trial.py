@@ -1,6 +1,7 @@
 """One run over crates: the proof of each with its right bodies, and the rounds of its wrong bodies over it, several
 checks side by side."""
 import os
+from collections import Counter
 from concurrent.futures import FIRST_COMPLETED, Future, ThreadPoolExecutor, wait
 from dataclasses import dataclass, field
 from functools import partial
@@ -158,7 +159,9 @@ class Trial:
                 self.unproved.remove(name)
                 future = pool.submit(self.trees.prove, name, jobs)
                 self.running[future] = jobs, partial(self.after_proof, name)
-        self.waiting.sort(key=lambda it: len(it.bodies), reverse=True)
+        # (one crate is ended after another, so that a run that is interrupted has recorded as many as can be)
+        left = Counter(it.crate.name for it in self.waiting)
+        self.waiting.sort(key=lambda it: (left[it.crate.name], it.crate.name, -len(it.bodies)))
         # (as long as proofs are to come that others wait for, they find a processor free)
         kept_free = 1 if self.unproved and self.jobs > 1 else 0
         while self.waiting and self.idle() > kept_free:
