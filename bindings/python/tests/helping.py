@@ -1,9 +1,11 @@
 """What the tests have in common. BULLMYRTLE_TEST_OVER says what they run over: "library" or "standin"."""
 import asyncio
 import contextlib
+import ctypes
 import json
 import logging
 import os
+import subprocess
 import sys
 import unittest
 
@@ -41,6 +43,18 @@ needs_open = unittest.skipUnless(
 by_the_clock = unittest.skipIf(
     os.environ.get("BULLMYRTLE_TEST_CLOCK") == "no", "it holds a bound on time, and runs apart"
 )
+
+
+def use_library_of(case, folder, *words):
+    """Builds a library in C from these words of the compiler, and uses it for this test: gives it."""
+    file = os.path.join(folder, _library.FILE)
+    how = ["cc", "-std=c99", "-Wall", "-Wextra", "-pedantic", "-Werror", "-shared", "-fPIC"]
+    subprocess.run([*how, f"-I{os.path.join(TOP, 'include')}", "-o", file, *words], check=True)
+    case.addCleanup(_library.use, _library.library())
+    library = ctypes.PyDLL(file)
+    _library.declare(library)
+    _library.use(library)
+    return library
 
 
 class Older:

@@ -1,14 +1,12 @@
 """What the package passes to the library is what C sees: by calls in C that write down what they are given."""
-import ctypes
 import os
 import shutil
-import subprocess
 import tempfile
 import unittest
 
-from helping import HERE, TOP, Case
+from helping import HERE, TOP, Case, use_library_of
 
-from bullmyrtle import Connection, Counts, Empty, NoMemory, NotOpen, NotWaiting, _library, events
+from bullmyrtle import Connection, Counts, Empty, NoMemory, NotOpen, NotWaiting, events
 
 SAID = """
 new 1 1 1 123 9223372036854775808
@@ -40,27 +38,9 @@ class Interface(Case):
     def setUp(self):
         if shutil.which("cc") is None:
             self.skipTest("cc isn't there: nothing shows how C sees what the package passes")
-        include = os.path.join(TOP, "include")
         room = tempfile.TemporaryDirectory()
         self.addCleanup(room.cleanup)
-        file = os.path.join(room.name, _library.FILE)
-        words = [
-            "cc",
-            "-std=c99",
-            "-Wall",
-            "-Wextra",
-            "-pedantic",
-            "-Werror",
-            "-shared",
-            "-fPIC",
-            f"-I{include}",
-        ]
-        subprocess.run([*words, *self.more, "-o", file, os.path.join(HERE, "interface.c")], check=True)
-        before = _library.library()
-        self.addCleanup(_library.use, before)
-        library = ctypes.PyDLL(file)
-        _library.declare(library)
-        _library.use(library)
+        use_library_of(self, room.name, *self.more, os.path.join(HERE, "interface.c"))
 
     def test_it(self):
         self.check(SAID.lstrip(), b"new 0 0 0 0 0\n")

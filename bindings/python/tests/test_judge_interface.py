@@ -3,11 +3,10 @@ in C that write down what they are given. And the package's tables beside those 
 import ctypes
 import os
 import shutil
-import subprocess
 import tempfile
 import unittest
 
-from helping import HERE, TOP, Case
+from helping import HERE, TOP, Case, use_library_of
 
 from bullmyrtle import BadSettings, LibraryError, NoMemory, _library
 from bullmyrtle.judge import PROVED, Finding, Judge, Talk, _rules
@@ -36,28 +35,10 @@ class Interface(Case):
         room = tempfile.TemporaryDirectory()
         self.addCleanup(room.cleanup)
         self.said = os.path.join(room.name, "said")
-        file = os.path.join(room.name, _library.FILE)
-        words = [
-            "cc",
-            "-std=c99",
-            "-Wall",
-            "-Wextra",
-            "-pedantic",
-            "-Werror",
-            "-shared",
-            "-fPIC",
-            "-DOPEN",
-            "-DJUDGE",
-        ]
-        sources = [os.path.join(HERE, it) for it in ("interface.c", "interface_judge.c")]
-        subprocess.run([*words, f"-I{os.path.join(TOP, 'include')}", "-o", file, *sources], check=True)
         os.environ["SAID"] = self.said
         self.addCleanup(os.environ.pop, "SAID")
-        before = _library.library()
-        self.addCleanup(_library.use, before)
-        self.library = ctypes.PyDLL(file)
-        _library.declare(self.library)
-        _library.use(self.library)
+        sources = [os.path.join(HERE, it) for it in ("interface.c", "interface_judge.c")]
+        self.library = use_library_of(self, room.name, "-DOPEN", "-DJUDGE", *sources)
 
     def read(self):
         with open(self.said, encoding="ascii") as file:
