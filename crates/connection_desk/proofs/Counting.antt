@@ -25,7 +25,7 @@ tally requests answers unreadable invalid ignored =
 
 -- ---- one count
 
-more_capped : (n k : ℕ) → capped (n + capped k) ≡ capped (n + k)
+pub more_capped : (n k : ℕ) → capped (n + capped k) ≡ capped (n + k)
 more_capped n k = omega arith
 
 -- nothing more

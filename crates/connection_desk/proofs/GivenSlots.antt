@@ -1,7 +1,7 @@
 -- A slot of an owed answer is given its text, or has it taken back.
-use Rattle.std.proofs.Common.{◌≡◌, ℕ, ◌<◌, ◌≤◌, ◌==◌, not, Bool, true, false, cond, List, [], ◌∷◌, Option, Some, None, refl, sym, ap, subst, ◌∙◌, arith, length, set}
+use Rattle.std.proofs.Common.{◌≡◌, ℕ, ◌<◌, ◌≤◌, ◌==◌, not, Bool, true, false, cond, List, [], ◌∷◌, Option, Some, None, refl, sym, ap, subst, ◌∙◌, arith, set}
 use Rattle.std.proofs.lemmas.Bool.{eqb-true, ne_eqb}
-use Rattle.std.proofs.lemmas.List.{length-set, set-set, set-get_or}
+use Rattle.std.proofs.lemmas.List.{set-set, set-get_or}
 use Rattle.std.proofs.lemmas.Option.{unwrap_or-slice_get}
 use Rattle.std.specs.Global.{Vec}
 use Rattle.std.specs.Vec.{vec_capacity}
@@ -68,12 +68,12 @@ only_changed AsAnswered place f (e ∷ es) none =
 apart : (n m : ℕ) → n < m → (n == m) ≡ false
 apart n m lt = ne_eqb n m (λ same. omega arith)
 
-changed_above : (n : ℕ) (f : OwedUnit → OwedUnit) (es : Units) → Above n es → changed_at n f es ≡ es
+pub changed_above : (n : ℕ) (f : OwedUnit → OwedUnit) (es : Units) → Above n es → changed_at n f es ≡ es
 changed_above n f [] above = refl
 changed_above n f (e ∷ es) above =
     ap (λ b. let d : ℕ × OwedUnit = (e.0, cond b (f e.1) e.1) in d ∷ changed_at n f es) (apart n e.0 above.0) ∙ ap (λ t. e ∷ t) (changed_above n f es above.1)
 
-unit_back : (slot : ℕ) (text was : Option (List ℕ)) (unit : OwedUnit) → was ≡ slot_in slot unit.slots → replaced slot was (replaced slot text unit) ≡ unit
+pub unit_back : (slot : ℕ) (text was : Option (List ℕ)) (unit : OwedUnit) → was ≡ slot_in slot unit.slots → replaced slot was (replaced slot text unit) ≡ unit
 unit_back slot text was unit is =
     ap (unit_of unit.is_batch)
     (set-set unit.slots slot text was

@@ -1,9 +1,9 @@
 pub mod Admitted
-pub mod Alone
 pub mod Answered
 pub mod Counting
 pub mod Entries
 pub mod GivenSlots
+pub mod GivenTexts
 pub mod OwedLists
 pub mod Owing
 pub mod Reached

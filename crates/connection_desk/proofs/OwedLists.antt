@@ -1,19 +1,19 @@
 -- Lists of owed units, and which of them are complete.
-use Rattle.std.proofs.Common.{◌≡◌, ℕ, ◌+◌, ◌<◌, ◌==◌, not, Result, Ok, Err, OnOk, Bool, true, false, cond, List, [], ◌∷◌, ◌++◌, Option, Some, None, refl, sym, ap, subst, ◌∙◌, arith, length, map, take, drop, eq-eqb, append_assoc, length-append, ◌≤◌}
+use Rattle.std.proofs.Common.{◌≡◌, ℕ, ◌+◌, ◌<◌, ◌==◌, not, Result, Ok, Err, OnOk, OnErr, Bool, true, false, cond, List, [], ◌∷◌, ◌++◌, Option, Some, None, refl, sym, ap, subst, ◌∙◌, arith, length, map, take, drop, append_assoc, length-append, ◌≤◌}
 use Rattle.std.proofs.lemmas.Bool.{eqb-true}
 use Rattle.std.proofs.lemmas.List.{append-nil, length-map, map-append, take_at, take-append-drop}
 use Rattle.connection_history.specs.declared.order.Order.TheVariants.{AsAnswered}
 use Rattle.connection_history.specs.Counts.{capped}
 use Rattle.connection_history.specs.Items.{answer, text_of}
 use Rattle.connection_steps.specs.Steps.{answers_of, is_complete, complete_front, incomplete_rest, leaving, staying}
-use Rattle.open_calls.specs.Numbered.{at, without, first_number, next_number, Above, Ascending}
+use Rattle.open_calls.specs.Numbered.{at, without, next_number, Above, Ascending}
 use Rattle.owed_answers.specs.Owed.{OwedUnit, OwedState, joined, texts_of, unit_texts}
-use Rattle.connection_desk.proofs.Entries.{AtAbove, WithoutAbove, FewerWithout}
+use Rattle.connection_desk.proofs.Entries.{AtAbove, WithoutAbove}
 use Rattle.connection_desk.proofs.States.{owed_state as state_of}
-use Rattle.connection_desk.proofs.Rests.{at_here, rest_from, rest_of, rest_step_from}
+use Rattle.connection_desk.proofs.Rests.{rest_step_from}
 use Rattle.outbox.specs.Output.{Output, OnlyPutSince}
 use Rattle.connection_desk.specs.Desks.{answer_count, answer_texts, with_texts}
-use Rattle.connection_desk.specs.Inner.{OnlyAt, complete_in, complete_at, complete_text_in, complete_text_at}
+use Rattle.connection_desk.specs.Inner.{OnlyAt, complete_in, complete_at, complete_text_in, complete_text_at, rest_from, rest_of}
 
 abbrev pub Units : Type 0
 Units = List (ℕ × OwedUnit)
@@ -54,6 +54,18 @@ more_since ts before middle now since is =
           ∙ ap (take (length before.written)) (append_assoc before.written more ts)
           ∙ take_at before.written (more ++ ts) (length before.written) refl;
       taken = ap (λ (o : Output). o.taken) is ∙ since.taken;
+    }
+
+pub since_texts : (ts : List (List ℕ)) (before middle now : Output) → middle ≡ with_texts ts before → OnlyPutSince middle now → OnlyPutSince before now
+since_texts ts before middle now is since =
+    let more = drop (length middle.written) now.written in
+    let whole : now.written ≡ before.written ++ (ts ++ more) =
+    sym (take-append-drop (length middle.written) now.written) ∙ ap (λ us. us ++ more) since.written
+    ∙ ap (λ (o : Output). o.written ++ more) is ∙ append_assoc before.written ts more in
+    record {
+      framing = since.framing ∙ ap (λ (o : Output). o.framing) is;
+      written = ap (take (length before.written)) whole ∙ take_at before.written (ts ++ more) (length before.written) refl;
+      taken = since.taken ∙ ap (λ (o : Output). o.taken) is;
     }
 
 -- ---- the answer of a unit
@@ -163,74 +175,30 @@ pub front_stops : (n : ℕ) (owed : Units) → complete_at n owed ≡ false → 
 front_stops n [] is = refl
 front_stops n (e ∷ es) is = stop_step (n == e.0) e (at n es) es (rest_from n es) (front_stops n es) is
 
--- ---- as came: the first goes, where it is complete
+-- ---- the state
 
 pub same_state : (now : OwedState) (places : ℕ) (owed : Units) → now.places ≡ places → now.owed ≡ owed → now ≡ state_of places owed
 same_state now places owed p q = ap (λ n. state_of n now.owed) p ∙ ap (λ es. state_of places es) q
 
-head_goes : (stay : WithoutAbove OwedUnit) (e : ℕ × OwedUnit) (es : Units) → Above e.0 es → complete_at e.0 (e ∷ es) ≡ true → incomplete_rest (without e.0 (e ∷ es)) ≡ incomplete_rest (e ∷ es)
-head_goes stay e es above is =
-    let gone : without e.0 (e ∷ es) ≡ es = ap (λ b. cond (not b) (e ∷ without e.0 es) (without e.0 es)) (eq-eqb e.0 e.0 refl) ∙ stay e.0 es above in
-    let done : is_complete e.1 ≡ true = sym (ap complete_in (at_here e es)) ∙ is in
-    ap incomplete_rest gone ∙ sym (ap (λ b. cond b (incomplete_rest es) (e ∷ es)) done)
-
-pub first_goes : (stay : WithoutAbove OwedUnit) (place : ℕ) (owed : Units) → Ascending owed → first_number owed ≡ Some place → complete_at place owed ≡ true
-    → incomplete_rest (without place owed) ≡ incomplete_rest owed
-first_goes stay place [] order first is = absurd (cc)
-first_goes stay place (e ∷ es) order first is =
-    let here : place ≡ e.0 = cc in
-    ap (λ n. incomplete_rest (without n (e ∷ es))) here ∙ head_goes stay e es order.0 (ap (λ n. complete_at n (e ∷ es)) (sym here) ∙ is)
-
-pub first_shorter : (fewer : FewerWithout OwedUnit) (place : ℕ) (owed : Units) → complete_at place owed ≡ true → length (without place owed) < length owed
-first_shorter fewer place owed is = let found = some_complete (at place owed) is in fewer place found.0 owed found.1
-
-pub first_stays : (place : ℕ) (owed : Units) → first_number owed ≡ Some place → complete_at place owed ≡ false → incomplete_rest owed ≡ owed
-first_stays place [] first is = refl
-first_stays place (e ∷ es) first is =
-    let here : place ≡ e.0 = cc in
-    let open_yet : is_complete e.1 ≡ false = sym (ap complete_in (at_here e es)) ∙ ap (λ n. complete_at n (e ∷ es)) (sym here) ∙ is in
-    ap (λ b. cond b (incomplete_rest es) (e ∷ es)) open_yet
-
-pub none_stays : (owed : Units) → first_number owed ≡ None → incomplete_rest owed ≡ owed
-none_stays [] none = refl
-none_stays (e ∷ es) none = absurd (cc)
-
-pub gone_here : (place : ℕ) (owed : Units) → complete_at place owed ≡ true → cond (complete_at place owed) (without place owed) owed ≡ without place owed
-gone_here place owed is = ap (λ b. cond b (without place owed) owed) is
-
--- none is in front
-pub no_front : (place : ℕ) (owed : Units) → first_number owed ≡ Some place → complete_at place owed ≡ false → complete_front owed ≡ []
-no_front place [] first is = refl
-no_front place (e ∷ es) first is =
-    let here : place ≡ e.0 = cc in
-    let open_yet : is_complete e.1 ≡ false = sym (ap complete_in (at_here e es)) ∙ ap (λ n. complete_at n (e ∷ es)) (sym here) ∙ is in
-    ap (λ b. cond b (e ∷ complete_front es) []) open_yet
-
-pub no_front_none : (owed : Units) → first_number owed ≡ None → complete_front owed ≡ []
-no_front_none [] none = refl
-no_front_none (e ∷ es) none = absurd (cc)
-
 -- ---- how many go out
 
--- as came: the answer of the first, and then those behind it
-pub front_count : (stay : WithoutAbove OwedUnit) (place : ℕ) (owed : Units) → Ascending owed → first_number owed ≡ Some place → complete_at place owed ≡ true
-    → answer_count (complete_front owed) ≡ length (complete_text_at place owed) + answer_count (complete_front (without place owed))
-front_count stay place [] order first is = absurd (cc)
-front_count stay place (e ∷ es) order first is =
-    let here : place ≡ e.0 = cc in
-    let gone : without e.0 (e ∷ es) ≡ es = ap (λ b. cond (not b) (e ∷ without e.0 es) (without e.0 es)) (eq-eqb e.0 e.0 refl) ∙ stay e.0 es order.0 in
-    let done : is_complete e.1 ≡ true = sym (ap complete_in (at_here e es)) ∙ ap (λ n. complete_at n (e ∷ es)) (sym here) ∙ is in
-    let texts : complete_text_at place (e ∷ es) ≡ unit_texts e.1 =
-    ap (λ n. complete_text_at n (e ∷ es)) here ∙ ap complete_text_in (at_here e es) ∙ ap (λ b. cond b (unit_texts e.1) []) done in
-    let front : complete_front (e ∷ es) ≡ e ∷ complete_front es = ap (λ b. cond b (e ∷ complete_front es) []) done in
-    let rest : complete_front (without place (e ∷ es)) ≡ complete_front es = ap (λ n. complete_front (without n (e ∷ es))) here ∙ ap complete_front gone in
-    ap answer_count front
-    ∙ count_texts (e ∷ complete_front es)
-    ∙ ap length (texts_more e (complete_front es))
-    ∙ length-append (unit_texts e.1) (answer_texts (complete_front es))
-    ∙ ap (λ n. length (unit_texts e.1) + n) (sym (count_texts (complete_front es)))
-    ∙ ap (λ ts. length ts + answer_count (complete_front es)) (sym texts)
-    ∙ ap (λ fs. length (complete_text_at place (e ∷ es)) + answer_count fs) (sym rest)
+-- as came: the answer of the first of the rest, and then those behind it
+pub front_count : (above : AtAbove OwedUnit) (n : ℕ) (owed : Units) → Ascending owed → complete_at n owed ≡ true
+    → answer_count (complete_front (rest_from n owed)) ≡ length (complete_text_at n owed) + answer_count (complete_front (rest_of (next_number n owed) owed))
+front_count above n owed order is =
+    let rest = complete_front (rest_of (next_number n owed) owed) in
+    count_texts (complete_front (rest_from n owed))
+    ∙ ap length (front_more above n owed order is)
+    ∙ length-append (complete_text_at n owed) (answer_texts rest)
+    ∙ ap (λ k. length (complete_text_at n owed) + k) (sym (count_texts rest))
+
+-- what stays then
+pub front_rest : (above : AtAbove OwedUnit) (n : ℕ) (owed : Units) → Ascending owed → complete_at n owed ≡ true
+    → incomplete_rest (rest_of (next_number n owed) owed) ≡ incomplete_rest (rest_from n owed)
+front_rest above n owed order is =
+    let found = some_complete (at n owed) is in
+    let rest = rest_of (next_number n owed) owed in
+    sym (ap incomplete_rest (rest_step_from above n found.0 owed order found.1) ∙ ap (λ b. cond b (incomplete_rest rest) ((n, found.0) ∷ rest)) found.2)
 
 -- no unit has more than one
 joined_few : (batch : Bool) (texts : List (List ℕ)) → length (joined batch texts) ≤ 1
@@ -241,7 +209,7 @@ few_either : (b : Bool) (unit : OwedUnit) → length (cond b (unit_texts unit) [
 few_either true unit = joined_few unit.is_batch (texts_of unit)
 few_either false unit = omega arith
 
-texts_few : (o : Option OwedUnit) → length (complete_text_in o) ≤ 1
+pub texts_few : (o : Option OwedUnit) → length (complete_text_in o) ≤ 1
 texts_few None = omega arith
 texts_few (Some unit) = few_either (is_complete unit) unit
 
@@ -252,6 +220,14 @@ only_count stay place owed order only =
     omega (arith, same, few)
 
 -- ---- results
+
+pub on_err : {T E : Type 0} {P : Type 0} (r : Result T E) → P → OnErr r P
+on_err (Ok x) h = tt
+on_err (Err e) h = h
+
+pub on_ok : {T E : Type 0} {P : Type 0} (r : Result T E) → P → OnOk r P
+on_ok (Ok x) h = h
+on_ok (Err e) h = tt
 
 pub ok_to : {T E X : Type 0} (r : Result T E) (a b d : X) → b ≡ d → OnOk r (a ≡ b) → OnOk r (a ≡ d)
 ok_to (Ok x) a b d is h = h ∙ is

@@ -1,23 +1,14 @@
 -- What a cancel reaches, request after request.
-use Rattle.std.proofs.Common.{◌≡◌, ℕ, ◌<◌, ◌==◌, ◌&&◌, not, Bool, true, false, cond, nat_le, List, [], ◌∷◌, ◌++◌, map, Option, Some, None, refl, sym, ap, subst, ◌∙◌, arith, eq-eqb}
+use Rattle.std.proofs.Common.{◌≡◌, ℕ, ◌<◌, ◌&&◌, Bool, true, false, cond, nat_le, List, [], ◌∷◌, ◌++◌, map, Option, Some, None, refl, sym, ap, subst, ◌∙◌, arith, eq-eqb}
 use Rattle.std.proofs.lemmas.Bool.{ne_eqb}
 use Rattle.std.specs.List.{find, filter}
 use Rattle.std.specs.Option.{option_map, option_to_list, unwrap_or, is_some}
 use Rattle.message_ids.specs.declared.id.Id.{Id}
 use Rattle.message_ids.specs.Ids.{has_id}
 use Rattle.open_calls.specs.declared.their_call.TheirCall.{TheirCall}
-use Rattle.open_calls.specs.Numbered.{at, without, up_to, changed_at, Above, Ascending}
+use Rattle.open_calls.specs.Numbered.{up_to, changed_at, Above, Ascending}
 use Rattle.open_calls.specs.Theirs.{is_reached, cancelled, cancelled_at, reached}
 use Rattle.connection_desk.specs.Inner.{reached_to, cancelled_to}
-
-absent_step : {X : Type 0} (b : Bool) (x : X) (o : Option X) (e : ℕ × X) (es fs : List (ℕ × X)) → cond b (Some x) o ≡ None → (o ≡ None → fs ≡ es) → cond (not b) (e ∷ fs) fs ≡ e ∷ es
-absent_step true x o e es fs is there = absurd (cc)
-absent_step false x o e es fs is there = ap (λ t. e ∷ t) (there is)
-
--- where nothing stands under the number, nothing goes
-pub without_absent : {X : Type 0} (n : ℕ) (es : List (ℕ × X)) → at n es ≡ None → without n es ≡ es
-without_absent n [] is = refl
-without_absent n (e ∷ es) is = absent_step (n == e.0) e.1 (at n es) e es (without n es) is (λ there. without_absent n es there)
 
 -- whether a cancel of this id, up to this number, reaches a call
 abbrev is_hit : ℕ → Id → ℕ × TheirCall → Bool

@@ -1,10 +1,11 @@
 -- What is left of a list whose numbers ascend, from a number on.
-use Rattle.std.proofs.Common.{◌≡◌, ℕ, ◌<◌, ◌≤◌, ◌==◌, Bool, true, false, cond, if◌then◌else◌, List, [], ◌∷◌, Option, Some, None, refl, sym, ap, subst, ◌∙◌, arith, nat_lt, eq-eqb}
+use Rattle.std.proofs.Common.{◌≡◌, ℕ, ◌<◌, ◌≤◌, ◌==◌, not, length, Bool, true, false, cond, List, [], ◌∷◌, Option, Some, None, refl, sym, ap, subst, ◌∙◌, arith, nat_lt, eq-eqb}
 use Rattle.std.proofs.lemmas.Bool.{eqb-true, lt-ltb, ne_eqb, false_from_ne_true, ltb-true}
-use Rattle.std.specs.Option.{option_map, IfSome}
+use Rattle.std.specs.Option.{option_eq, option_map, IfSome}
 use Rattle.std.specs.List.{find}
-use Rattle.open_calls.specs.Numbered.{at, first_number, next_number, Above, Ascending}
-use Rattle.connection_desk.proofs.Entries.{AtAbove}
+use Rattle.open_calls.specs.Numbered.{at, without, first_number, next_number, Above, Ascending}
+use Rattle.connection_desk.specs.Inner.{rest_from, rest_of}
+use Rattle.connection_desk.proofs.Entries.{AtAbove, FewerWithout, WithoutAbove}
 
 pub at_here : {X : Type 0} (e : ℕ × X) (es : List (ℕ × X)) → at e.0 (e ∷ es) ≡ Some e.1
 at_here e es = ap (λ b. cond b (Some e.1) (at e.0 es)) (eq-eqb e.0 e.0 refl)
@@ -14,15 +15,6 @@ apart_after n m lt = ne_eqb n m (λ same. omega arith)
 
 not_above : (n m : ℕ) → m ≤ n → nat_lt n m ≡ false
 not_above n m le = false_from_ne_true (nat_lt n m) (λ over. let lt : n < m = ltb-true n m over in omega arith)
-
--- the entries from this number on
-abbrev pub rest_from : {X : Type 0} → ℕ → List (ℕ × X) → List (ℕ × X)
-rest_from number [] = []
-rest_from number (e ∷ es) = if number == e.0 then e ∷ es else rest_from number es
-
-abbrev pub rest_of : {X : Type 0} → Option ℕ → List (ℕ × X) → List (ℕ × X)
-rest_of None all = []
-rest_of (Some number) all = rest_from number all
 
 pub rest_first : {X : Type 0} (all : List (ℕ × X)) → rest_of (first_number all) all ≡ all
 rest_first [] = refl
@@ -94,3 +86,46 @@ there_step is_above false e (Some f) es above there = there_later is_above e es 
 pub next_there : {X : Type 0} (is_above : AtAbove X) (n : ℕ) (es : List (ℕ × X)) → Ascending es → IfSome (next_number n es) (IsThere es)
 next_there is_above n [] order = tt
 next_there is_above n (e ∷ es) order = there_step is_above (nat_lt n e.0) e (find (λ x. nat_lt n x.0) es) es order.0 (next_there is_above n es order.1)
+
+-- ---- the first goes
+
+head_gone : {X : Type 0} (stay : WithoutAbove X) (e : ℕ × X) (es : List (ℕ × X)) → Above e.0 es → without e.0 (e ∷ es) ≡ es
+head_gone stay e es above = ap (λ b. cond (not b) (e ∷ without e.0 es) (without e.0 es)) (eq-eqb e.0 e.0 refl) ∙ stay e.0 es above
+
+other_rest : {X : Type 0} (stays : Option ℕ) (e : ℕ × X) (es : List (ℕ × X)) → (stays ≡ Some e.0 → ⊥) → rest_of stays es ≡ rest_of stays (e ∷ es)
+other_rest None e es other = refl
+other_rest (Some n) e es other = sym (ap (λ b. cond b (e ∷ es) (rest_from n es)) (ne_eqb n e.0 (λ same. other (ap Some same))))
+
+-- it isn't the one at which what is left begins
+pub rest_gone : {X : Type 0} (stay : WithoutAbove X) (place : ℕ) (stays : Option ℕ) (all : List (ℕ × X)) → Ascending all → first_number all ≡ Some place → (stays ≡ Some place → ⊥)
+    → rest_of stays (without place all) ≡ rest_of stays all
+rest_gone stay place stays [] order first other = cc
+rest_gone stay place stays (e ∷ es) order first other =
+    let here : place ≡ e.0 = cc in
+    ap (λ n. rest_of stays (without n (e ∷ es))) here
+    ∙ ap (rest_of stays) (head_gone stay e es order.0)
+    ∙ other_rest stays e es (λ is. other (is ∙ ap Some (sym here)))
+
+pub first_fewer : {X : Type 0} (fewer : FewerWithout X) (place : ℕ) (all : List (ℕ × X)) → first_number all ≡ Some place → length (without place all) < length all
+first_fewer fewer place [] first = cc
+first_fewer fewer place (e ∷ es) first =
+    let here : place ≡ e.0 = cc in
+    fewer place e.1 (e ∷ es) (ap (λ n. at n (e ∷ es)) here ∙ at_here e es)
+
+-- what is left begins with the first
+pub rest_at_first : {X : Type 0} (stays : Option ℕ) (place : ℕ) (all : List (ℕ × X)) → first_number all ≡ Some place → stays ≡ Some place → rest_of stays all ≡ all
+rest_at_first stays place all first is = ap (λ o. rest_of o all) (is ∙ sym first) ∙ rest_first all
+
+pub rest_none : {X : Type 0} (stays : Option ℕ) (all : List (ℕ × X)) → first_number all ≡ None → rest_of stays all ≡ all
+rest_none None [] none = refl
+rest_none (Some n) [] none = refl
+rest_none stays (e ∷ es) none = cc
+
+pub same_place : (stays : Option ℕ) (place : ℕ) → option_eq (λ a b. a == b) stays (Some place) ≡ true → stays ≡ Some place
+same_place None place is = cc
+same_place (Some n) place is = ap Some (eqb-true n place is)
+
+pub other_place : (stays : Option ℕ) (place : ℕ) → option_eq (λ a b. a == b) stays (Some place) ≡ false → stays ≡ Some place → ⊥
+other_place stays place is same =
+    let yes : true ≡ false = sym (ap (λ o. option_eq (λ a b. a == b) o (Some place)) same ∙ eq-eqb place place refl) ∙ is in
+    absurd (cc)

@@ -1,5 +1,5 @@
 -- The withdrawals of a call's own calls, one by one.
-use Rattle.std.proofs.Common.{◌≡◌, ℕ, ◌<◌, ◌&&◌, Bool, true, false, cond, List, [], ◌∷◌, ◌++◌, Option, Some, refl, sym, ap, subst, ◌∙◌, arith, nat_lt, length, map, filter}
+use Rattle.std.proofs.Common.{◌≡◌, ℕ, ◌<◌, ◌&&◌, Bool, true, false, cond, List, [], ◌∷◌, Option, Some, refl, sym, ap, subst, ◌∙◌, arith, nat_lt, length, map, filter}
 use Rattle.std.specs.Option.{option_map, IfSome}
 use Rattle.std.specs.List.{find}
 use Rattle.connection_messages.specs.Texts.{withdrawal_text}
@@ -9,9 +9,10 @@ use Rattle.open_calls.specs.Numbered.{next_number, Above, Ascending}
 use Rattle.open_calls.specs.Own.{is_wanted_by, next_wanted}
 use Rattle.connection_desk.proofs.Entries.{PassAbove, FoundAmong, WithdrawalLaws}
 use Rattle.outbox.specs.Output.{Output}
-use Rattle.connection_desk.specs.Desks.{Desk, HasWithdrawn, after_saying}
-use Rattle.connection_desk.proofs.OwedLists.{no_texts, more_texts}
-use Rattle.connection_desk.proofs.Rests.{IsThere, rest_of, rest_next, rest_step_from, next_there}
+use Rattle.connection_desk.specs.Desks.{with_texts}
+use Rattle.connection_desk.specs.Inner.{rest_of}
+use Rattle.connection_desk.proofs.OwedLists.{more_texts}
+use Rattle.connection_desk.proofs.Rests.{IsThere, rest_next, rest_step_from, next_there}
 
 abbrev pub Calls : Type 0
 Calls = List (ℕ × OwnCall)
@@ -70,36 +71,16 @@ rest_more laws n key waiting next order there is = (
       ∙ ap (λ o. (key, there.0) ∷ rest_of o (wanted n waiting)) (sym (is ∙ next_among laws.found n key waiting)),
 )
 
--- ---- what was said
-
-abbrev pub desk_with : Desk → Output → Desk
-desk_with d out = record { cancels = d.cancels; order = d.order; state = d.state; untold = d.untold; out = out; tally = d.tally }
-
-pub say_nothing : (d : Desk) → after_saying [] d ≡ d
-say_nothing d = ap (λ o. desk_with d o) (no_texts d.out)
-
-pub say_more : (ts us : List (List ℕ)) (d : Desk) → after_saying us (after_saying ts d) ≡ after_saying (ts ++ us) d
-say_more ts us d = ap (λ o. desk_with d o) (more_texts ts us d.out)
-
-pub nothing_withdrawn : (d : Desk) → HasWithdrawn d d
-nothing_withdrawn d = record { texts = []; is = sym (say_nothing d) }
-
-pub more_withdrawn : (ts : List (List ℕ)) (before middle now : Desk) → HasWithdrawn before middle → now ≡ after_saying ts middle → HasWithdrawn before now
-more_withdrawn ts before middle now since is = record {
-  texts = since.texts ++ ts;
-  is = is ∙ ap (after_saying ts) since.is ∙ say_more since.texts ts before;
-}
-
 -- ---- the withdrawals that are left
 
-pub said_one : (laws : WithdrawalLaws OwnCall) (by : Cancels) (n key : ℕ) (waiting : Calls) (next : Option ℕ) (middle now : Desk) → Ascending waiting → IsThere (wanted n waiting) key → next ≡ next_wanted n key waiting
-    → now ≡ after_saying (withdrawal_text by key ∷ []) middle
-    → after_saying (withdrawals by (rest_of next (wanted n waiting))) now ≡ after_saying (withdrawals by (rest_of (Some key) (wanted n waiting))) middle
+pub said_one : (laws : WithdrawalLaws OwnCall) (by : Cancels) (n key : ℕ) (waiting : Calls) (next : Option ℕ) (middle now : Output) → Ascending waiting → IsThere (wanted n waiting) key → next ≡ next_wanted n key waiting
+    → now ≡ with_texts (withdrawal_text by key ∷ []) middle
+    → with_texts (withdrawals by (rest_of next (wanted n waiting))) now ≡ with_texts (withdrawals by (rest_of (Some key) (wanted n waiting))) middle
 said_one laws by n key waiting next middle now order there is said =
     let more = rest_more laws n key waiting next order there is in
     let rest = withdrawals by (rest_of next (wanted n waiting)) in
-    ap (after_saying rest) said ∙ say_more (withdrawal_text by key ∷ []) rest middle
-    ∙ ap (λ es. after_saying (withdrawals by es) middle) (sym more.1)
+    ap (with_texts rest) said ∙ more_texts (withdrawal_text by key ∷ []) rest middle
+    ∙ ap (λ es. with_texts (withdrawals by es) middle) (sym more.1)
 
 pub fewer_left : (laws : WithdrawalLaws OwnCall) (n key : ℕ) (waiting : Calls) (next : Option ℕ) → Ascending waiting → IsThere (wanted n waiting) key → next ≡ next_wanted n key waiting
     → length (rest_of next (wanted n waiting)) < length (rest_of (Some key) (wanted n waiting))

@@ -21,13 +21,13 @@ use Rattle.connection_history.specs.Stream.{entries_in}
 use Rattle.connection_history.specs.Counts.{capped}
 use Rattle.connection_history.specs.Items.{text_of}
 use Rattle.open_calls.specs.declared.own_call.OwnCall.{OwnCall}
-use Rattle.open_calls.specs.Numbered.{at, changed_at}
+use Rattle.open_calls.specs.Numbered.{at}
 use Rattle.open_calls.specs.Own.{is_wanted_by}
-use Rattle.owed_answers.specs.Owed.{OwedUnit, given}
+use Rattle.owed_answers.specs.Owed.{OwedUnit}
 use Rattle.open_calls.specs.declared.their_call.TheirCall.{TheirCall}
 use Rattle.outbox.specs.Output.{Output, IsAllTaken}
 use Rattle.connection_steps.specs.States.{State}
-use Rattle.connection_steps.specs.Steps.{after_came, after_called, after_withdrew, after_answered, after_ended, answers_of, leaving, staying, owed_with, owed_given, told_of_all, told_at_end}
+use Rattle.connection_steps.specs.Steps.{after_came, after_called, after_withdrew, after_answered, after_ended, answers_of, leaving, owed_with, owed_given, told_of_all, told_at_end}
 use Rattle.connection_steps.specs.Tallies as exact
 use Rattle.connection_steps.specs.Tallies.{tally_in, answers_let_out}
 use Rattle.connection_desk.specs.declared.tally.Tally.{Tally}
@@ -166,22 +166,6 @@ after_answer n a d = record {
   out = with_texts (answer_texts (leaving d.order (owed_given (at n d.state.theirs.calls) a d.state.owed.owed))) d.out;
   tally = with_answers (answers_let_out d.order n a d.state) d.tally;
 }
-
--- a slot of an answer is given its text
-abbrev pub after_given : ℕ → ℕ → List ℕ → Desk → Desk
-after_given place slot text d = record {
-  cancels = d.cancels;
-  order = d.order;
-  state = record d.state { owed = record d.state.owed { owed = staying d.order (changed_at place (given slot text) d.state.owed.owed) } };
-  untold = d.untold;
-  out = with_texts (answer_texts (leaving d.order (changed_at place (given slot text) d.state.owed.owed))) d.out;
-  tally = with_answers (answer_count (leaving d.order (changed_at place (given slot text) d.state.owed.owed))) d.tally;
-}
-
--- Some texts were said since, and nothing else happened.
-pub record HasWithdrawn (before now : Desk) : Type 0 where
-  pub texts : List (List ℕ)
-  pub is : now ≡ after_saying texts before
 
 -- the keys of the calls of n that aren't withdrawn
 abbrev pub wanted_keys : ℕ → State → List ℕ

@@ -1,10 +1,12 @@
 -- What a desk keeps.
-use Rattle.std.specs.Prelude.{◌≡◌, ℕ, ◌≤◌, ◌+◌, ◌-◌, ◌&&◌, nat_le, List, [], ◌∷◌, ◌++◌, Bool, true, false, filter, map, length, Option, Some, None, is_some, if◌then◌else◌}
+use Rattle.std.specs.Prelude.{◌≡◌, ℕ, ◌≤◌, ◌+◌, ◌-◌, ◌&&◌, ◌==◌, nat_le, List, [], ◌∷◌, ◌++◌, Bool, true, false, filter, map, length, Option, Some, None, is_some, if◌then◌else◌}
 use Rattle.std.specs.List.{list_any}
 use Rattle.std.specs.Global.{Vec}
 use Rattle.std.specs.Vec.{vec_capacity}
 use Rattle.std.specs.VecDeque.{deque_capacity, deque_len}
 use Rattle.message_ids.specs.declared.id.Id.{Id}
+use Rattle.connection_messages.specs.Texts.{withdrawal_text}
+use Rattle.connection_messages.specs.declared.cancels.Cancels.{Cancels}
 use Rattle.connection_messages.specs.declared.entry.Entry.{Entry}
 use Rattle.connection_messages.specs.declared.entry.Entry.TheVariants.{Call, Cancel, Reply, Stray, Invalid}
 use Rattle.connection_messages.specs.declared.unit.Unit as units
@@ -16,7 +18,8 @@ use Rattle.connection_history.specs.declared.event.Event.{Event}
 use Rattle.connection_history.specs.declared.event.Event.TheVariants as event
 use Rattle.connection_history.specs.declared.order.Order.{Order}
 use Rattle.open_calls.specs.declared.their_call.TheirCall.{TheirCall}
-use Rattle.open_calls.specs.Own.{OwnState}
+use Rattle.open_calls.specs.declared.own_call.OwnCall.{OwnCall}
+use Rattle.open_calls.specs.Own.{OwnState, is_wanted_by}
 use Rattle.open_calls.specs.Theirs.{TheirState, new_call, is_reached, cancelled}
 use Rattle.open_calls.specs.Numbered.{at, up_to, without}
 use Rattle.owed_answers.specs.Owed.{OwedUnit, seen_slot, seen_slots, unit_texts}
@@ -64,6 +67,20 @@ complete_text_in (Some unit) = if is_complete unit then unit_texts unit else []
 
 abbrev pub complete_text_at : ℕ → List (ℕ × OwedUnit) → List (List ℕ)
 complete_text_at place owed = complete_text_in (at place owed)
+
+-- the units from this place on, where there is one
+abbrev pub rest_from : {X : Type 0} → ℕ → List (ℕ × X) → List (ℕ × X)
+rest_from number [] = []
+rest_from number (e ∷ es) = if number == e.0 then e ∷ es else rest_from number es
+
+abbrev pub rest_of : {X : Type 0} → Option ℕ → List (ℕ × X) → List (ℕ × X)
+rest_of None all = []
+rest_of (Some number) all = rest_from number all
+
+-- a unit that is no batch, and has one answer
+pub record IsAlone (unit : OwedUnit) : Type 0 where
+  pub no_batch : unit.is_batch ≡ false
+  pub one : length unit.slots ≡ 1
 
 -- As answered, no unit but the one at this place has all of its answers.
 abbrev pub OnlyAt : Order → ℕ → List (ℕ × OwedUnit) → Type 0
@@ -210,3 +227,10 @@ abbrev pub counted_in : units.Unit → ℕ → OwnState → List (ℕ × TheirCa
 counted_in Unreadable n own calls t = record t { unreadable = capped (t.unreadable + 1) }
 counted_in (Single e) n own calls t = counted_along n own calls (e ∷ []) t
 counted_in (Batch es) n own calls t = counted_along n own calls es t
+
+-- ---- a call is cancelled by the host
+
+-- the notifications that withdraw the calls of n, of those that wait
+abbrev pub withdrawals_of : Option Cancels → ℕ → List (ℕ × OwnCall) → List (List ℕ)
+withdrawals_of None n waiting = []
+withdrawals_of (Some by) n waiting = map (withdrawal_text by) (map (λ e. e.0) (filter (λ e. is_wanted_by n e.1) waiting))

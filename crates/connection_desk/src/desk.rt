@@ -1,4 +1,5 @@
-ghost use Rattle.std.specs.Prelude.{◌≡◌, ◌++◌, ◌∷◌, [], ℕ, Bool, true, false, length, not, None, Some, is_some, option_to_list, option_map, OnOk, OnErr};
+ghost use Rattle.std.specs.Vec.{vec_capacity};
+ghost use Rattle.std.specs.Prelude.{◌≡◌, ◌≤◌, ◌++◌, ◌∷◌, [], false, length, None, Some, is_some, option_to_list, option_map, OnOk, OnErr};
 
 use crate::events::Events;
 use crate::tally::Tally;
@@ -65,7 +66,7 @@ impl Desk {
     ghost use Rattle.connection_steps.specs.Tallies.{no_counts};
     ghost use Rattle.connection_desk.specs.Desks.{after_saying, capped_tally, IsDone};
     ghost use Rattle.open_calls.specs.Numbered.{at};
-    ghost use Rattle.outbox.specs.Output.{after_take, given_of, next_of, IsAllTaken};
+    ghost use Rattle.outbox.specs.Output.{after_take, given_of, next_of};
     ghost use Rattle.std.specs.Prelude.{drop, IsTrue, ◌↔◌};
 
     /// A desk where nothing has happened. Calls can be withdrawn by these cancels, where there are any. Takes no memory.
@@ -187,9 +188,7 @@ impl Desk {
         ensures room { result.items ≡ [] }
         ensures state { self.new ≡ self.old }
     {
-        let mut room = mem::replace(&mut self.room, Vec::new(self.alloc));
-        room.clear();
-        room
+        emptied(self.alloc, &mut self.room)
     }
 
     /// Keeps the room of a text for the next.
@@ -201,13 +200,23 @@ impl Desk {
         }
     }
 
-    /// Writes a text.
-    pub(crate) fn write(&mut self, text: Vec<u8>) -> Result<(), AllocError>
+    /// Writes a text. A long one is moved, and not copied.
+    pub(crate) fn write(&mut self, mut text: Vec<u8>) -> Result<(), AllocError>
         ensures ok { OnOk result (self.new ≡ after_saying (text.items ∷ []) self.old) }
         ensures err { OnErr result (self.new ≡ self.old) }
     {
-        self.outbox.put(text.as_slice())?;
+        self.outbox.put_from(&mut text)?;
         self.keep_room(text);
         Ok(())
     }
+}
+
+/// The room without bytes. None is left in its place.
+pub(crate) fn emptied(alloc: Global, room: &mut Vec<u8>) -> Vec<u8>
+    ensures room { result.items ≡ [] }
+    ensures left { vec_capacity room.old ≤ 65536 → vec_capacity room.new ≤ 65536 }
+{
+    let mut emptied = mem::replace(room, Vec::new(alloc));
+    emptied.clear();
+    emptied
 }

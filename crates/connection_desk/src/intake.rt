@@ -17,7 +17,7 @@ ghost use Rattle.connection_desk.specs.Inner.{IsAdmitted, IsLonger, IsOpenEnded,
 
 use crate::desk::Desk;
 use crate::events::Events;
-use crate::leaving::{let_out, write_leaving};
+use crate::leaving::let_out;
 use crate::settling::settle;
 use crate::tally::Tally;
 use crate::unit_slots::UnitSlots;
@@ -125,9 +125,9 @@ fn owe(
         let _answers = tally.answers;
         return Ok(());
     }
-    match write_leaving(order, owed, place, outbox, room) {
-        Ok(()) => {
-            let_out(order, owed, place, tally);
+    match let_out(order, owed, place, outbox, room) {
+        Ok(count) => {
+            tally.add_answers(count);
             Ok(())
         }
         Err(refused) => {

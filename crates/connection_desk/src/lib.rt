@@ -6,6 +6,7 @@ mod answering;
 mod desk;
 mod ending;
 mod events;
+mod giving;
 mod intake;
 mod leaving;
 mod saying;

@@ -125,6 +125,8 @@ fn withdraw_by(own: &mut OwnCalls, by: Cancels, key: u64)
 {
     match by {
         Cancels::Lsp => own.withdraw(key),
-        Cancels::Mcp => own.remove(key),
+        Cancels::Mcp => {
+            own.remove(key);
+        }
     }
 }

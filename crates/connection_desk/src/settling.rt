@@ -192,9 +192,8 @@ fn tell_reply(own: &mut OwnCalls, events: &mut Events, tally: &mut Tally, key: u
     ensures tally { tally.new ≡ with_ignored_if
         (if is_some (at key own.old.waiting) then event.Replied key reply ∷ [] else []) tally.old }
 {
-    if own.get(key).is_none() {
+    if !own.remove(key) {
         return tally.add_ignored();
     }
-    own.remove(key);
     events.push(Event::Replied { key, reply });
 }

@@ -1,4 +1,5 @@
-ghost use Rattle.std.specs.Prelude.{◌≡◌, ◌==◌, ◌∷◌, [], true, None, length};
+ghost use Rattle.std.specs.Prelude.{◌≡◌, ◌<◌, ◌==◌, true, length};
+ghost use Rattle.owed_answers.specs.Owed.{lacking_slots};
 
 use owed_answers::Slot;
 
@@ -25,13 +26,16 @@ impl UnitSlots {
         }
     }
 
-    /// Whether there is one slot, and no text in it.
+    /// Whether a slot has no text yet.
     pub fn is_lacking(&self) -> bool
-        ensures { result ≡ true → slots_in self.now ≡ None ∷ [] }
+        ensures { result ≡ true → 0 < lacking_slots (slots_in self.now) }
     {
         match self {
+            UnitSlots::Nothing => false,
             UnitSlots::One(slot) => slot.is_lacking(),
-            UnitSlots::Nothing | UnitSlots::Several(_) => false,
+            UnitSlots::Several(slots) => {
+                slots.iter().filter(|slot| slot.is_lacking()).count() > 0
+            }
         }
     }
 }

@@ -1,5 +1,6 @@
 -- What a connection told is at hand.
-use Rattle.std.proofs.Common.{◌≡◌, ℕ, List, [], ◌∷◌, ◌++◌, Option, Some, None, Result, Ok, Err, IfOk, OnErr, IfSome, refl, sym, ap, subst}
+use Rattle.std.proofs.Common.{◌≡◌, ℕ, List, [], ◌∷◌, ◌++◌, Option, Some, None, Result, Ok, Err, IfOk, OnErr, IfSome, refl, sym, ap, subst, is_some, false}
+use Rattle.std.proofs.lemmas.Bool.{true≢false}
 use Rattle.std.specs.declared.alloc.AllocError.{AllocError}
 use Rattle.connection_history.specs.declared.event.Event.{Event}
 use Rattle.connection_history.specs.History.{History}
@@ -29,11 +30,10 @@ of_ok : (c d : Connection) (next : Option Event) → SaysTold c d (Ok next) → 
 of_ok c d None f g = λ history told stands. g history told stands refl
 of_ok c d (Some e) f g = f
 
--- the event that waits is the next one
-pub waits : (a : Outlet) (e : Event) → a.next ≡ Some e → Fetched a (record a { next = Some e })
-waits a e h =
-    let P : Option Event → Type 0 = λ next. At next a (record a { next = Some e }) in
-    subst P (sym h) (ap (λ next. record a { next = next }) (sym h))
+-- no event waits where that is seen
+pub none_waits : (next : Option Event) → is_some next ≡ false → next ≡ None
+none_waits None none = refl
+none_waits (Some e) none = absurd (true≢false none)
 
 -- else it is the connection's
 pub asked : (a : Outlet) (d : Connection) (r : Asked) → a.next ≡ None → RetainsPieces a.connection d → SaysTold a.connection d r → SaysNone a.connection d r

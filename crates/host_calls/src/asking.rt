@@ -121,9 +121,11 @@ impl Outlet {
         ensures out { OnOk result (self.new.next ≡ None) }
         ensures err { OnErr result (Failed self.old self.new) }
     {
-        match self.next.take() {
-            Some(event) => Ok(Some(event)),
-            None => self.connection.next_event(),
+        // (mostly none waits, and then nothing is moved)
+        if self.next.is_some() {
+            Ok(self.next.take())
+        } else {
+            self.connection.next_event()
         }
     }
 }

@@ -8,5 +8,6 @@ mod piece;
 mod value;
 
 pub use fault::ReadFault;
+pub use number::read_number;
 pub use piece::{Piece, read_piece};
 pub use value::{read_value, value_from};

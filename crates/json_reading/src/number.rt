@@ -9,7 +9,7 @@ use serde_json::Number;
 
 /// The number that a token of JSON writes. There is none where it is too large for a float.
 #[inline(always)]
-pub(crate) fn read_number(text: &str) -> Option<Number>
+pub fn read_number(text: &str) -> Option<Number>
     ensures { option_map number_view result ≡ number_of text.now }
 {
     let bytes = text.as_bytes();

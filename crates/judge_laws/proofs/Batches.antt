@@ -1,5 +1,5 @@
 -- Batches that a connection writes.
-use Rattle.std.proofs.Common.{◌≡◌, ℕ, suc, ◌+◌, ◌<◌, ◌≤◌, ◌^◌, List, [], ◌∷◌, ◌++◌, length, IsUtf8, true, false, refl, sym, ap, ◌∙◌, subst, arith, append_assoc, if◌then◌else◌}
+use Rattle.std.proofs.Common.{◌≡◌, ℕ, suc, ◌+◌, ◌<◌, ◌≤◌, ◌^◌, List, [], ◌∷◌, ◌++◌, map, length, IsUtf8, true, false, refl, sym, ap, ◌∙◌, subst, arith, append_assoc, if◌then◌else◌}
 use Rattle.std.specs.Prelude.{codes, ⊤}
 use Rattle.std.specs.List.{join_with_byte}
 use Rattle.std.specs.Str.{is_utf8}
@@ -21,10 +21,11 @@ use Rattle.connection_messages.proofs.Whole.{IsWhole, read_back, whole_deeper}
 use Rattle.conversation_reading.specs.Strictly.{entry_of, entries_of, json_reading, reading_of}
 use Rattle.conversation_reading.specs.declared.entry.Kind.{Kind}
 use Rattle.conversation_reading.specs.declared.entry.Kind.TheVariants.{Request, Answer}
+use Rattle.conversation_reading.specs.declared.entry.WrittenId.{WrittenId}
 use Rattle.conversation_reading.specs.declared.reading.Reading.TheVariants.{Array, NotText}
 use Rattle.conversation_reading.specs.declared.reading.TheConstants.{MOST_DEPTH_IN}
 use Rattle.message_ids.specs.declared.id.Id.{Id}
-use Rattle.judge_laws.specs.Messages.{IsEntry, AreEntries, AreMessages, HaveKeys, AreKeyed}
+use Rattle.judge_laws.specs.Messages.{IsEntry, AreEntries, AreMessages, HaveKeys, AreKeyed, written_as, EachHasId, HaveIds}
 use Rattle.judge_laws.proofs.Failures.{answer_value_of}
 use Rattle.judge_laws.proofs.SaidStrictly.{call_is, call_has_key, fit_by}
 
@@ -129,15 +130,21 @@ batch_by : (kind : Kind) (t : List ℕ) (ts : List (List ℕ)) (js : Items) → 
 batch_by kind t ts no_items are = absurd are
 batch_by kind t ts (item j js) are = subst (AreMessages kind) (sym (batch_reading kind t ts j js are)) (entries_are kind (t ∷ ts) (item j js) are)
 
+named_by : (kind : Kind) (ids : List WrittenId) (t : List ℕ) (ts : List (List ℕ)) (js : Items) → AreOf kind (t ∷ ts) js → EachHasId ids (entries_of js) → HaveIds ids (reading_of false (batch_text (t ∷ ts)))
+named_by kind ids t ts no_items are named = absurd are
+named_by kind ids t ts (item j js) are named = subst (HaveIds ids) (sym (batch_reading kind t ts j js are)) named
+
 keyed_by : (key count : ℕ) (t : List ℕ) (ts : List (List ℕ)) (js : Items) → AreOf Request (t ∷ ts) js → length (entries_of js) ≡ count → HaveKeys key (entries_of js) → AreKeyed key count (reading_of false (batch_text (t ∷ ts)))
 keyed_by key count t ts no_items are size keys = absurd are
 keyed_by key count t ts (item j js) are size keys = subst (AreKeyed key count) (sym (batch_reading Request t ts j js are)) (size, keys)
 
 -- ---- calls, and answers
 
-record HasItems (kind : Kind) (ts : List (List ℕ)) : Type 0 where
+-- those of answers, with their ids
+record HasAnswers (all : List (Id × Said)) : Type 0 where
   items : Items
-  are : AreOf kind ts items
+  are : AreOf Answer (answer_texts all) items
+  named : EachHasId (map (λ a. written_as a.0) all) (entries_of items)
 
 -- those of calls, whose ids are their keys
 record HasCalls (k count : ℕ) (ts : List (List ℕ)) : Type 0 where
@@ -169,14 +176,19 @@ calls_keyed k o os fits are =
     let it = calls_of k (o ∷ os) fits are in
     keyed_by k (length (o ∷ os)) (call_text k o) (call_texts (k + 1) os) it.items it.are it.size it.keys
 
-answers_of : (all : List (Id × Said)) → AreAnswers all → HasItems Answer (answer_texts all)
-answers_of [] are = record { items = no_items; are = tt }
+answers_of : (all : List (Id × Said)) → AreAnswers all → HasAnswers all
+answers_of [] are = record { items = no_items; are = tt; named = tt }
 answers_of (a ∷ more) are =
     let it = answer_value_of a.0 a.1 are.0 are.1 in
     let others = answers_of more are.2 in
-    record { items = item it.value others.items; are = (it.is, it.whole, it.entry, others.are) }
+    record { items = item it.value others.items; are = (it.is, it.whole, it.entry, others.are); named = (it.id_is, others.named) }
 
 pub answers_messages : (a : Id × Said) (more : List (Id × Said)) → AreAnswers (a ∷ more) → AreMessages Answer (reading_of false (batch_text (answer_texts (a ∷ more))))
 answers_messages a more are =
     let it = answers_of (a ∷ more) are in
     batch_by Answer (answer_text a.0 a.1) (answer_texts more) it.items it.are
+
+pub answers_named : (a : Id × Said) (more : List (Id × Said)) → AreAnswers (a ∷ more) → HaveIds (map (λ b. written_as b.0) (a ∷ more)) (reading_of false (batch_text (answer_texts (a ∷ more))))
+answers_named a more are =
+    let it = answers_of (a ∷ more) are in
+    named_by Answer (map (λ b. written_as b.0) (a ∷ more)) (answer_text a.0 a.1) (answer_texts more) it.items it.are it.named

@@ -30,7 +30,7 @@ use Rattle.message_ids.specs.declared.id.Id.{Id}
 use Rattle.message_ids.specs.declared.id.Id.TheVariants.{Null, Text, Signed, Unsigned}
 use Rattle.message_ids.specs.declared.standard.Standard.{Standard}
 use Rattle.message_ids.specs.declared.standard.Standard.TheVariants.{ParseError, InvalidRequest, MethodNotFound, InvalidParams, InternalError, Cancelled, NoReply, InvalidReply}
-use Rattle.judge_laws.specs.Messages.{IsEntry, IsMessage, written_as, HasId}
+use Rattle.judge_laws.specs.Messages.{IsEntry, IsMessage, written_as, HasId, code_of, HasCode}
 use Rattle.judge_laws.proofs.SaidStrictly.{object_reading, result_is, result_message}
 
 -- ---- the decimals of a code are a whole number
@@ -48,7 +48,7 @@ later_by : (b : Bool) (n : ℕ) → cond b (Some n) None ≡ None → cond b (So
 later_by true n is = cc
 later_by false n is = refl
 
-passed_by : {X : Type 0} (p : X → Bool) (x : X) (xs : List X) → p x ≡ false → position p xs ≡ None → position p (x ∷ xs) ≡ None
+pub passed_by : {X : Type 0} (p : X → Bool) (x : X) (xs : List X) → p x ≡ false → position p xs ≡ None → position p (x ∷ xs) ≡ None
 passed_by p x xs fails none =
     ap (λ b. cond (nat_lt (cond (not b) (1 + position_or_len p xs) 0) (suc (length xs))) (Some (cond (not b) (1 + position_or_len p xs) 0)) None) fails
     ∙ ap (λ t. cond t (Some (1 + position_or_len p xs)) None) (lt_more (position_or_len p xs) (length xs))
@@ -151,6 +151,10 @@ failure_named (Text s) e = refl
 failure_named (Signed z) e = refl
 failure_named (Unsigned n) e = refl
 
+failure_coded : (id : Id) (code : ℤ) (message : List ℕ) (extra : Option Json) → (entry_of (answer_value id (error_value code message extra))).code ≡ Some (signed_decimal code)
+failure_coded id code message None = refl
+failure_coded id code message (Some j) = refl
+
 result_named : (id : Id) (j : Json) → (entry_of (result_value id j)).id ≡ Some (written_as id)
 result_named Null j = refl
 result_named (Text s) j = refl
@@ -158,15 +162,18 @@ result_named (Signed z) j = refl
 result_named (Unsigned n) j = refl
 
 -- the value of an answer's text
-pub record AnswerValue (id : Id) (text : List ℕ) : Type 0 where
+pub record AnswerValue (id : Id) (code : Option (List ℕ)) (text : List ℕ) : Type 0 where
   pub value : Json
   pub is : json_text value ≡ text
   pub whole : IsWhole 122 value
   pub entry : IsEntry Answer (entry_of value)
+  pub id_is : (entry_of value).id ≡ Some (written_as id)
+  pub code_is : (entry_of value).code ≡ code
+  pub coded : HasCode code (reading_of false text)
   pub alone : IsMessage Answer (reading_of false text)
   pub named : HasId (written_as id) (reading_of false text)
 
-failure_value : (id : Id) (e : AnswerError) → IsId id → IsFailure e → AnswerValue id (error_answer_text id e)
+failure_value : (id : Id) (e : AnswerError) → IsId id → IsFailure e → AnswerValue id (Some (signed_decimal e.code)) (error_answer_text id e)
 failure_value id e is failure =
     let h = data_is_whole e.message e.«data» failure.message failure.extra in
     let j = error_value e.code e.message h.value in
@@ -178,6 +185,9 @@ failure_value id e is failure =
       is = text;
       whole = answer_is_whole id j is whole;
       entry = entry;
+      id_is = failure_named id j;
+      code_is = failure_coded id e.code e.message h.value;
+      coded = subst (HasCode (Some (signed_decimal e.code))) (sym (object_reading 122 _ (error_answer_text id e) text (answer_is_whole id j is whole) (omega arith))) (failure_coded id e.code e.message h.value);
       alone = subst (IsMessage Answer) (sym (object_reading 122 _ (error_answer_text id e) text (answer_is_whole id j is whole) (omega arith))) entry;
       named = subst (HasId (written_as id)) (sym (object_reading 122 _ (error_answer_text id e) text (answer_is_whole id j is whole) (omega arith))) (failure_named id j);
     }
@@ -192,7 +202,7 @@ fixed_is Cancelled = record { code = omega arith; message = IsUtf8-are_ascii (me
 fixed_is NoReply = record { code = omega arith; message = IsUtf8-are_ascii (message_of NoReply) refl; extra = tt }
 fixed_is InvalidReply = record { code = omega arith; message = IsUtf8-are_ascii (message_of InvalidReply) refl; extra = tt }
 
-pub answer_value_of : (id : Id) (a : Said) → IsId id → IsAnswer a → AnswerValue id (answer_text id a)
+pub answer_value_of : (id : Id) (a : Said) → IsId id → IsAnswer a → AnswerValue id (code_of a) (answer_text id a)
 answer_value_of id (Result text) is answer =
     let it = json_of text answer in
     record {
@@ -200,6 +210,9 @@ answer_value_of id (Result text) is answer =
       is = result_value_text id it.value text it.is;
       whole = whole_deeper 121 122 (result_value id it.value) (omega arith) (result_whole id it.value is it.whole);
       entry = result_is id it.value;
+      id_is = result_named id it.value;
+      code_is = refl;
+      coded = subst (HasCode None) (sym (object_reading 121 _ (result_text id text) (result_value_text id it.value text it.is) (result_whole id it.value is it.whole) (omega arith))) refl;
       alone = result_message id text is answer;
       named = subst (HasId (written_as id)) (sym (object_reading 121 _ (result_text id text) (result_value_text id it.value text it.is) (result_whole id it.value is it.whole) (omega arith))) (result_named id it.value);
     }
@@ -211,3 +224,6 @@ answer_message id a is answer = (answer_value_of id a is answer).alone
 
 pub answer_named : (id : Id) (a : Said) → IsId id → IsAnswer a → HasId (written_as id) (reading_of false (answer_text id a))
 answer_named id a is answer = (answer_value_of id a is answer).named
+
+pub answer_coded : (id : Id) (a : Said) → IsId id → IsAnswer a → HasCode (code_of a) (reading_of false (answer_text id a))
+answer_coded id a is answer = (answer_value_of id a is answer).coded

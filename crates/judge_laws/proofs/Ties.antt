@@ -221,7 +221,7 @@ came_parts true None params id is = cc
 came_parts true (Some method) None id is = cc
 came_parts true (Some method) (Some params) None is = cc
 
-object_of : (j : Json) → has (codes "method") j ≡ true → is_object j ≡ true
+pub object_of : (j : Json) → has (codes "method") j ≡ true → is_object j ≡ true
 object_of null is = cc
 object_of (boolean b) is = cc
 object_of (number s) is = cc

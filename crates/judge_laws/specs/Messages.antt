@@ -1,6 +1,9 @@
 -- Contents that are messages of one kind by all rules (JSON-RPC 2.0, sections 4 to 6).
 use Rattle.std.specs.Fmt.{signed_decimal}
-use Rattle.std.specs.Prelude.{◌≡◌, ℕ, ◌+◌, false, List, [], ◌∷◌, length, None, Some, ⊤, decimal}
+use Rattle.std.specs.Prelude.{◌≡◌, ℕ, ◌+◌, false, List, [], ◌∷◌, length, Option, None, Some, ⊤, decimal}
+use Rattle.connection_messages.specs.Texts.{fixed_error}
+use Rattle.connection_messages.specs.declared.answer.Answer.{Answer}
+use Rattle.connection_messages.specs.declared.answer.Answer.TheVariants.{Result, Error, Standard}
 use Rattle.conversation_reading.specs.Strictly.{has_fault}
 use Rattle.conversation_reading.specs.declared.entry.Entry.{Entry}
 use Rattle.conversation_reading.specs.declared.entry.Kind.{Kind}
@@ -102,3 +105,38 @@ HasId id TooDeep = ⊥
 HasId id HalfPair = ⊥
 HasId id (Single entry) = entry.id ≡ Some id
 HasId id (Array entries) = ⊥
+
+-- their ids, in the order of the entries
+abbrev pub EachHasId : List WrittenId → List Entry → Type 0
+EachHasId [] [] = ⊤
+EachHasId [] (entry ∷ entries) = ⊥
+EachHasId (id ∷ ids) [] = ⊥
+EachHasId (id ∷ ids) (entry ∷ entries) = (entry.id ≡ Some id) × EachHasId ids entries
+
+-- it is an array whose entries have these ids
+abbrev pub HaveIds : List WrittenId → Reading → Type 0
+HaveIds ids Foreign = ⊥
+HaveIds ids NotText = ⊥
+HaveIds ids NotJson = ⊥
+HaveIds ids TooDeep = ⊥
+HaveIds ids HalfPair = ⊥
+HaveIds ids (Single entry) = ⊥
+HaveIds ids (Array entries) = EachHasId ids entries
+
+-- ---- codes of answers
+
+-- the code of an answer's error, as a connection writes it
+abbrev pub code_of : Answer → Option (List ℕ)
+code_of (Result text) = None
+code_of (Error e) = Some (signed_decimal e.code)
+code_of (Standard s) = Some (signed_decimal (fixed_error s).code)
+
+-- it is one entry, which has this code, or none
+abbrev pub HasCode : Option (List ℕ) → Reading → Type 0
+HasCode code Foreign = ⊥
+HasCode code NotText = ⊥
+HasCode code NotJson = ⊥
+HasCode code TooDeep = ⊥
+HasCode code HalfPair = ⊥
+HasCode code (Single entry) = entry.code ≡ code
+HasCode code (Array entries) = ⊥

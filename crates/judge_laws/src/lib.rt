@@ -9,9 +9,9 @@ mod values;
 
 pub use cuts::cutting_plays_no_part;
 pub use said::{
-    answers_have_their_ids, answers_read_as_messages, calls_have_their_keys,
-    calls_read_as_messages, notifications_have_no_ids, notifications_read_as_messages,
-    withdrawals_read_as_messages,
+    answers_have_their_codes, answers_have_their_ids, answers_read_as_messages,
+    calls_have_their_keys, calls_read_as_messages, notifications_have_no_ids,
+    notifications_read_as_messages, withdrawals_read_as_messages,
 };
 pub use tied::{entries_are_tied, unreadable_contents_are_tied};
 pub use values::only_values_count;

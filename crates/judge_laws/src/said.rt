@@ -1,7 +1,7 @@
 //! What a connection writes breaks no rule of a content or of an entry by itself. Each law is the contract of a
 //! function that does nothing.
 
-ghost use Rattle.std.specs.Prelude.{◌<◌, ◌≤◌, ◌+◌, ◌^◌, ℕ, List, ◌∷◌, false, length};
+ghost use Rattle.std.specs.Prelude.{◌<◌, ◌≤◌, ◌+◌, ◌^◌, ℕ, List, ◌∷◌, false, length, map};
 ghost use Rattle.connection_messages.specs.ReadBack.{IsSayable, AreSayable, IsId, IsAnswer, AreAnswers, answer_texts};
 ghost use Rattle.connection_messages.specs.Texts.{call_text, calls_text, notice_text, withdrawal_text, answer_text, batch_text};
 ghost use Rattle.connection_messages.specs.declared.answer.Answer.{Answer};
@@ -10,7 +10,7 @@ ghost use Rattle.connection_messages.specs.declared.outgoing.Outgoing.{Outgoing}
 ghost use Rattle.conversation_reading.specs.Strictly.{reading_of};
 ghost use Rattle.conversation_reading.specs.declared.entry.Kind.TheVariants as kinds;
 ghost use Rattle.message_ids.specs.declared.id.Id.{Id};
-ghost use Rattle.judge_laws.specs.Messages.{IsMessage, AreMessages, IsKeyed, AreKeyed, HasNoId, written_as, HasId};
+ghost use Rattle.judge_laws.specs.Messages.{IsMessage, AreMessages, IsKeyed, AreKeyed, HasNoId, written_as, HasId, HaveIds, code_of, HasCode};
 
 /// A call is read strictly as a request, and a batch of calls as requests.
 pub fn calls_read_as_messages()
@@ -54,8 +54,16 @@ pub fn answers_read_as_messages()
         AreMessages kinds.Answer (reading_of false (batch_text (answer_texts (a ∷ more)))) }
 {}
 
-/// The id of an answer is read strictly as the one that it was said with.
+/// The id of an answer is read strictly as the one that it was said with; those of a batch are so too, in their order.
 pub fn answers_have_their_ids()
-    ensures { (id : Id) (a : Answer) → IsId id → IsAnswer a →
+    ensures single { (id : Id) (a : Answer) → IsId id → IsAnswer a →
         HasId (written_as id) (reading_of false (answer_text id a)) }
+    ensures batch { (a : Id × Answer) (more : List (Id × Answer)) → AreAnswers (a ∷ more) →
+        HaveIds (map (λ b. written_as b.0) (a ∷ more)) (reading_of false (batch_text (answer_texts (a ∷ more)))) }
+{}
+
+/// The code of an answer's error is read strictly as the one that it was said with; a result has none.
+pub fn answers_have_their_codes()
+    ensures { (id : Id) (a : Answer) → IsId id → IsAnswer a →
+        HasCode (code_of a) (reading_of false (answer_text id a)) }
 {}

@@ -3,18 +3,14 @@ use Rattle.std.proofs.Common.{◌≡◌, ℕ, ◌<◌, ◌≤◌, ◌==◌, ◌&
 use Rattle.std.proofs.lemmas.Bool.{eqb-true, eqb-false, leb-true, le-leb, false_from_ne_true, ne_eqb, ltb-true}
 use Rattle.std.proofs.lemmas.Map.Keys.{sorted_head, sorted_tail}
 use Rattle.std.specs.Cmp.{unsigned_ties, nat_cmp_is}
-use Rattle.std.specs.Ordering.{nat_cmp, is_lt, match_ordering}
+use Rattle.std.specs.Ordering.{nat_cmp, match_ordering}
 use Rattle.std.specs.declared.cmp.Ordering.TheVariants.{Less, Equal, Greater}
 use Rattle.std.specs.List.{AllByRecursion, find, filter, slice_get}
 use Rattle.std.specs.List.Sorted.{IsStrictlySortedBy}
 use Rattle.std.specs.Map.{lookup, remove_entry, set_value, keys_of}
-use Rattle.std.specs.BTreeMap as tree
 use Rattle.std.specs.BTreeMap.{is_at, insert_entry}
-use Rattle.std.specs.Option.{unwrap_or, option_map}
-use Rattle.std.specs.BTreeMap.Range.{range_contains, entries_between}
-use Rattle.std.specs.declared.ops.Bound.TheVariants.{Excluded, Unbounded}
-use Rattle.std.proofs.lemmas.List.Elements.{filter_agree}
-use Rattle.number_windows.specs.Numbered.{at, without, up_to, changed_at, next_number, Above, Below, Ascending}
+use Rattle.std.specs.Option.{unwrap_or}
+use Rattle.number_windows.specs.Numbered.{at, without, up_to, changed_at, Above, Below, Ascending}
 
 -- ---- order
 

@@ -1,5 +1,5 @@
 -- Entries on their pages.
-use Rattle.std.proofs.Common.{◌≡◌, ℕ, ◌<◌, ◌≤◌, ◌==◌, ◌/◌, not, Bool, true, false, cond, List, [], ◌∷◌, ◌++◌, Option, Some, None, refl, sym, ap, subst, ◌∙◌, arith, length, suc, append_assoc, eq-eqb, nat_lt, ◌&&◌}
+use Rattle.std.proofs.Common.{◌≡◌, ℕ, ◌<◌, ◌≤◌, ◌==◌, ◌/◌, not, Bool, true, false, cond, List, [], ◌∷◌, ◌++◌, Option, Some, None, refl, sym, ap, subst, ◌∙◌, arith, length, append_assoc, eq-eqb, nat_lt, ◌&&◌}
 use Rattle.std.proofs.lemmas.Bool.{eqb-true, eqb-false, ne_eqb, false_from_ne_true, ltb-true, lt-ltb}
 use Rattle.std.proofs.lemmas.List.{append-nil, map-append}
 use Rattle.std.proofs.lemmas.List.Elements.{filter-append}
@@ -16,7 +16,7 @@ use Rattle.std.specs.declared.collections.VecDeque.{VecDeque}
 use Rattle.std.specs.BTreeMap.{insert_entry}
 use Rattle.number_windows.specs.Numbered.{at, without, changed_at, first_number, next_number, Above, Below, Ascending}
 use Rattle.number_windows.specs.Windows.{flat, OnPage, Paged, Filled, IsPaged}
-use Rattle.number_windows.proofs.Numbered.{changed, changed_above, without_above, removed, unchanged, pushed, keeps, apart, apart_after, ascending}
+use Rattle.number_windows.proofs.Numbered.{changed, changed_above, without_above, removed, unchanged, pushed, keeps}
 use Rattle.number_windows.proofs.Rows.{at_over, at_behind, at_front, without_missing, ascending_front, ascending_behind, ascending_without, ascending_changed, ascending_push, at_changed}
 
 true_not_false : true ≡ false → ⊥

@@ -1,18 +1,13 @@
 -- Entries by their index, and two lists of entries one after the other.
-use Rattle.std.proofs.Common.{◌≡◌, ℕ, ◌<◌, ◌≤◌, ◌==◌, not, Bool, true, false, cond, List, [], ◌∷◌, ◌++◌, Option, Some, None, refl, sym, ap, subst, ◌∙◌, arith, nat_lt, length, eq-eqb, zero, suc, take, drop, get_or, set, append_assoc}
+use Rattle.std.proofs.Common.{◌≡◌, ℕ, ◌<◌, ◌≤◌, ◌==◌, not, Bool, true, false, cond, List, [], ◌∷◌, ◌++◌, Option, Some, None, refl, sym, ap, subst, ◌∙◌, arith, length, eq-eqb, zero, suc, take, drop, get_or, set, append_assoc}
 use Rattle.std.proofs.lemmas.Bool.{eqb-true}
 use Rattle.std.proofs.lemmas.List.{map-append}
 use Rattle.std.proofs.lemmas.List.Elements.{filter-append}
-use Rattle.std.proofs.lemmas.List.Folds.{find-append}
 use Rattle.std.specs.Ordering.{nat_cmp}
-use Rattle.std.specs.List.{find, slice_get}
-use Rattle.std.specs.Map.{lookup, remove_entry, set_value}
-use Rattle.std.specs.BTreeMap.{is_at, insert_entry}
-use Rattle.std.specs.Option.{option_map, option_or}
-use Rattle.std.specs.BTreeMap.Range.{entries_between}
-use Rattle.std.specs.declared.ops.Bound.TheVariants.{Excluded, Unbounded}
-use Rattle.number_windows.specs.Numbered.{at, without, changed_at, first_number, next_number, Above, Below, Ascending}
-use Rattle.number_windows.proofs.Numbered.{apart, apart_after, at-get, at_above, at_below, without_above, without_below, removed, changed_above, changed, unchanged, pushed, keeps, above_filter, above_changed, above_push}
+use Rattle.std.specs.BTreeMap.{insert_entry}
+use Rattle.std.specs.Option.{option_map}
+use Rattle.number_windows.specs.Numbered.{at, without, changed_at, Above, Below, Ascending}
+use Rattle.number_windows.proofs.Numbered.{apart, apart_after, at_above, without_above, changed_above, unchanged, pushed, keeps, above_filter, above_changed, above_push}
 
 -- ---- an entry by its index
 

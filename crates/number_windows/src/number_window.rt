@@ -1,4 +1,4 @@
-ghost use Rattle.std.specs.Prelude.{◌≡◌, ℕ, ◌<◌, ◌^◌, ◌-◌, ◌++◌, ◌∷◌, [], length, true, Some, None, OnOk, IfOk, IfErr, option_copied};
+ghost use Rattle.std.specs.Prelude.{◌≡◌, ◌<◌, ◌^◌, ◌-◌, ◌++◌, ◌∷◌, [], length, true, Some, None, OnOk, IfOk, IfErr, option_copied};
 ghost use Rattle.number_windows.specs.Numbered.{at, without, changed_at, first_number, next_number, Below};
 
 use crate::block;
@@ -25,6 +25,9 @@ pub struct NumberWindow<T> {
 }
 
 impl<T: Drop> NumberWindow<T> {
+    ghost use Rattle.std.specs.Borrow.{sem};
+    ghost use Rattle.std.specs.Option.{option_copied_mut};
+    ghost use Rattle.number_windows.specs.Lends.{lends_in_window};
     ghost use Rattle.number_windows.specs.Windows.{window_entries, IsWindow, HasRoom};
 
     /// Takes no memory.
@@ -115,6 +118,18 @@ impl<T: Drop> NumberWindow<T> {
         match block::get(&self.recent, number) {
             Some(value) => Some(value),
             None => self.older.get(number),
+        }
+    }
+
+    /// The value with this number, for writing.
+    pub fn get_mut(&mut self, number: u64) -> Option<&mut T>
+        requires { IsWindow self.old }
+        ensures* writes_back { sem 𝓛 (lends_in_window T.row self.entry number result) }
+        ensures value { option_copied_mut result ≡ at number (window_entries self.old) }
+    {
+        match block::place(&self.recent, number) {
+            Some(index) => Some(&mut self.recent[index].1),
+            None => self.older.get_mut(number),
         }
     }
 

@@ -1,8 +1,8 @@
-ghost use Rattle.std.specs.Prelude.{◌≡◌, ℕ, ◌<◌, ◌/◌, ◌++◌, ◌∷◌, [], Some, None, OnOk, OnErr, IfOk, IfErr, option_copied};
+ghost use Rattle.std.specs.Prelude.{◌≡◌, ◌<◌, ◌/◌, ◌++◌, ◌∷◌, [], Some, None, OnOk, OnErr, IfOk, IfErr, option_copied};
 ghost use Rattle.number_windows.specs.Numbered.{at, without, changed_at, first_number, next_number, Below};
 
 use crate::block;
-use std::alloc::{AllocError, Global};
+use std::alloc::Global;
 use std::collections::{BTreeMap, VecDeque};
 use std::ops::Bound;
 
@@ -19,6 +19,9 @@ pub struct Pages<T> {
 }
 
 impl<T: Drop> Pages<T> {
+    ghost use Rattle.std.specs.Borrow.{sem};
+    ghost use Rattle.std.specs.Option.{option_copied_mut};
+    ghost use Rattle.number_windows.specs.Lends.{lends_in_pages};
     ghost use Rattle.number_windows.specs.Windows.{page_entries, IsPages};
 
     pub fn new(alloc: Global) -> Pages<T>
@@ -79,6 +82,21 @@ impl<T: Drop> Pages<T> {
     {
         match self.pages.get(&(number / PAGE)) {
             Some(block) => block::get(block, number),
+            None => None,
+        }
+    }
+
+    /// The value with this number, for writing.
+    pub fn get_mut(&mut self, number: u64) -> Option<&mut T>
+        requires { IsPages self.old }
+        ensures* writes_back { sem 𝓛 (lends_in_pages T.row self.entry number result) }
+        ensures value { option_copied_mut result ≡ at number (page_entries self.old) }
+    {
+        match self.pages.get_mut(&(number / PAGE)) {
+            Some(block) => match block::place(block, number) {
+                Some(index) => Some(&mut block[index].1),
+                None => None,
+            },
             None => None,
         }
     }

@@ -80,23 +80,6 @@ and_false false = refl
 pub false_and : (b other : Bool) → b ≡ false → (b && other) ≡ false
 false_and b other is = ap (λ x. x && other) is
 
--- a key that came and went
-pub undone_step : (same here was : Bool) → (same ≡ true → here ≡ true → was ≡ false)
-    → (if same && here then false else (if same && here then true else was)) ≡ was
-undone_step true true was none = sym (none refl refl)
-undone_step true false was none = refl
-undone_step false true was none = refl
-undone_step false false was none = refl
-
-pub index_undone : (test : ℕ → OwnCall → Bool) (old between new : KeysByCaller) (was : List (ℕ × OwnCall)) (key caller : ℕ)
-    → ((c k : ℕ) → has_key between c k ≡ (if (caller == c) && (key == k) then true else has_key old c k))
-    → ((c k : ℕ) → has_key new c k ≡ (if (caller == c) && (key == k) then false else has_key between c k))
-    → IsKeyIndex old test was → at key was ≡ None → IsKeyIndex new test was
-index_undone test old between new was key caller came went index none =
-    λ c k. went c k ∙ ap (λ b. if (caller == c) && (key == k) then false else b) (came c k)
-    ∙ undone_step (caller == c) (key == k) (has_key old c k) (λ same here. index c k ∙ ap (passes (test c)) (ap (λ n. at n was) (sym (eqb-true key k here)) ∙ none))
-    ∙ index c k
-
 -- ---- the next key of a caller
 
 pub some_of : {X : Type 0} (p : X → Bool) (o : Option X) → passes p o ≡ true → (x : X) × (o ≡ Some x) × (p x ≡ true)

@@ -59,11 +59,6 @@ number_reached old new was now number id call has index changes there is =
 unreached : (index : NumbersById) (es : List (ℕ × TheirCall)) (id : Id) (n : ℕ) (x : TheirCall) → IsNumberIndex index es → at n es ≡ Some x → is_listed index id n ≡ false → is_reached id x ≡ false
 unreached index es id n x is there none = ap (passes (is_reached id)) (sym there) ∙ sym (is id n) ∙ none
 
-pub reached_none : (index : NumbersById) (es : List (ℕ × TheirCall)) (id : Id) → Ascending es → IsNumberIndex index es → ((k : ℕ) → is_listed index id k ≡ false)
-    → None ≡ reached id es
-reached_none index es id order is none =
-    sym (ap (λ o. option_map (λ e. e.0) o) (find_none (λ e. is_reached id e.1) es order (λ n x there. unreached index es id n x is there (none n))))
-
 pub reached_some : (index : NumbersById) (es : List (ℕ × TheirCall)) (id : Id) (number : ℕ) (call : TheirCall) → Ascending es → IsNumberIndex index es → at number es ≡ Some call
     → is_listed index id number ≡ true → ((k : ℕ) → k < number → is_listed index id k ≡ false) → Some number ≡ reached id es
 reached_some index es id number call order is there listed least =
@@ -89,9 +84,3 @@ first_up_to index came es state id number most seen order is within listed least
     ∙ sym (reached_among id most es ∙ ap (λ o. option_map (λ e. e.0) o) (find_first (λ e. nat_le e.0 most && is_reached id e.1) number found.0 es order found.1
     (ap (λ b. b && is_reached id found.0) (le-leb number most within) ∙ found.2)
     (λ n y under it. both_false (nat_le n most) (is_reached id y) (λ _. unreached index es id n y is it (least n under))))))
-
-true_not_false : true ≡ false → ⊥
-true_not_false is = cc
-
-pub listed_open : (index : NumbersById) (es : List (ℕ × TheirCall)) (id : Id) (number : ℕ) → IsNumberIndex index es → is_listed index id number ≡ true → at number es ≡ None → ⊥
-listed_open index es id number is listed none = true_not_false (sym listed ∙ is id number ∙ ap (passes (is_reached id)) none)

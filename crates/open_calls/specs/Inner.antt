@@ -1,5 +1,5 @@
 -- What the indexes hold.
-use Rattle.std.specs.Prelude.{ℕ, suc, ◌≡◌, ◌==◌, ◌&&◌, ◌||◌, Bool, true, false, if◌then◌else◌, List, [], ◌∷◌, Option, Some, None}
+use Rattle.std.specs.Prelude.{ℕ, suc, ◌≡◌, ◌==◌, ◌&&◌, ◌||◌, Bool, true, false, if◌then◌else◌, List, Option, Some, None}
 use Rattle.std.specs.Ordering.{nat_cmp, ordering_then}
 use Rattle.std.specs.Option.{option_map_or}
 use Rattle.std.specs.declared.cmp.Ordering.{Ordering}
@@ -18,7 +18,7 @@ use Rattle.open_calls.specs.declared.other_numbers.OtherNumbers.{OtherNumbers}
 use Rattle.open_calls.specs.declared.scattered_numbers.ScatteredNumbers.{ScatteredNumbers}
 use Rattle.number_windows.specs.declared.number_window.NumberWindow.{NumberWindow}
 use Rattle.number_windows.specs.Windows.{IsWindow, window_entries}
-use Rattle.number_windows.specs.Numbered.{at, Above, Below, Ascending}
+use Rattle.number_windows.specs.Numbered.{at, Above, Below}
 use Rattle.open_calls.specs.Own.{is_wanted_by}
 use Rattle.open_calls.specs.Theirs.{is_reached}
 

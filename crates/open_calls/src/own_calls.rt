@@ -1,4 +1,4 @@
-ghost use Rattle.std.specs.Prelude.{◌≡◌, ℕ, ◌==◌, ◌&&◌, true, false, if◌then◌else◌, ◌+◌, ◌-◌, ◌<◌, ◌≤◌, ◌^◌, ◌++◌, ◌∷◌, [], length, OnOk, OnErr, IfOk, MatchOption, Option, Some, None};
+ghost use Rattle.std.specs.Prelude.{◌≡◌, ℕ, ◌==◌, ◌&&◌, true, false, if◌then◌else◌, ◌+◌, ◌-◌, ◌<◌, ◌≤◌, ◌^◌, ◌++◌, ◌∷◌, [], length, OnOk, OnErr, IfOk, MatchOption, Option, Some, None, is_some};
 ghost use Rattle.open_calls.specs.Inner.{has_key};
 ghost use Rattle.open_calls.specs.declared.own_call.OwnCall.{OwnCall};
 ghost use Rattle.number_windows.specs.Numbered.{at, without, up_to, changed_at, Above, Ascending};
@@ -141,25 +141,25 @@ impl OwnCalls {
     pub fn withdraw(&mut self, key: u64)
         ensures { self.new ≡ record self.old { waiting = changed_at key withdrawn self.old.waiting } }
     {
-        let Some(call) = self.waiting.get(key).copied() else {
+        let Some(call) = self.waiting.get_mut(key) else {
             return;
         };
-        let withdrawn = OwnCall {
-            caller: call.caller,
-            is_withdrawn: true,
-        };
-        drop(self.waiting.replace(key, withdrawn));
-        self.wanted.remove(call.caller, key);
+        call.is_withdrawn = true;
+        let caller = call.caller;
+        self.wanted.remove(caller, key);
     }
 
-    /// The call with this key doesn't wait any more.
-    pub fn remove(&mut self, key: u64)
-        ensures { self.new ≡ record self.old { waiting = without key self.old.waiting } }
+    /// The call with this key doesn't wait any more. Says whether it did.
+    pub fn remove(&mut self, key: u64) -> bool
+        ensures was { result ≡ is_some (at key self.old.waiting) }
+        ensures state { self.new ≡ record self.old { waiting = without key self.old.waiting } }
     {
-        if let Some(call) = self.waiting.remove(key) {
-            self.by_caller.remove(call.caller, key);
-            self.wanted.remove(call.caller, key);
-        }
+        let Some(call) = self.waiting.remove(key) else {
+            return false;
+        };
+        self.by_caller.remove(call.caller, key);
+        self.wanted.remove(call.caller, key);
+        true
     }
 
     /// No call of this caller waits any more.

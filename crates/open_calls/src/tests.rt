@@ -65,14 +65,14 @@ fn keeps_their_calls(rt: HostRuntime) -> Result<(), Fail> {
     assert_eq!(rt; calls.add(Some(Id::Unsigned(4)), 2, 0)?, 3);
     assert_eq!(rt; calls.add(Some(Id::Unsigned(5)), 2, 1)?, 4);
     assert_eq!(rt; (calls.came(), calls.len()), (4, 4));
-    assert_eq!(rt; calls.reach(&Id::Null), None);
-    assert_eq!(rt; calls.reach(&Id::Unsigned(4)), Some(1));
+    assert_eq!(rt; calls.reach_up_to(&Id::Null, u64::MAX), None);
+    assert_eq!(rt; calls.reach_up_to(&Id::Unsigned(4), u64::MAX), Some(1));
     assert_eq!(rt;
         calls.get(1).map(|call| (call.is_cancelled, call.place)),
         Some((true, 0))
     );
-    assert_eq!(rt; calls.reach(&Id::Unsigned(4)), Some(3));
-    assert_eq!(rt; calls.reach(&Id::Unsigned(4)), None);
+    assert_eq!(rt; calls.reach_up_to(&Id::Unsigned(4), u64::MAX), Some(3));
+    assert_eq!(rt; calls.reach_up_to(&Id::Unsigned(4), u64::MAX), None);
     assert_eq!(rt;
         calls.close(2).map(|call| (call.id.is_none(), call.place)),
         Some((true, 1))
@@ -81,12 +81,17 @@ fn keeps_their_calls(rt: HostRuntime) -> Result<(), Fail> {
     assert_eq!(rt; calls.len(), 3);
     calls.take_back(2);
     assert_eq!(rt; (calls.came(), calls.len()), (2, 1));
-    assert_eq!(rt; calls.reach(&Id::Unsigned(5)), None);
+    assert_eq!(rt; calls.reach_up_to(&Id::Unsigned(5), u64::MAX), None);
     assert_eq!(rt; calls.add(Some(Id::Unsigned(5)), 2, 0)?, 3);
     assert_eq!(rt; calls.reach_up_to(&Id::Unsigned(5), 2), None);
     assert_eq!(rt; calls.reach_up_to(&Id::Unsigned(5), 3), Some(3));
-    assert_eq!(rt; calls.reach(&Id::Unsigned(5)), None);
+    assert_eq!(rt; calls.reach_up_to(&Id::Unsigned(5), u64::MAX), None);
     Ok(())
+}
+
+/// Reaches the first request with this id.
+fn reach(calls: &mut TheirCalls, id: &Id) -> Option<u64> {
+    calls.reach_up_to(id, u64::MAX)
 }
 
 /// Takes a request in.
@@ -117,7 +122,7 @@ fn closes_many_calls_in_any_order(rt: HostRuntime) -> Result<(), Fail> {
             assert_eq!(rt; calls.get(number).is_none(), true);
             assert_eq!(rt; calls.len(), 4999 - index);
         }
-        assert_eq!(rt; calls.reach(&Id::Unsigned(1)), None);
+        assert_eq!(rt; reach(&mut calls, &Id::Unsigned(1)), None);
     }
     Ok(())
 }
@@ -131,10 +136,10 @@ fn reaches_the_requests_of_an_id_in_turn(rt: HostRuntime) -> Result<(), Fail> {
     for number in 1..200 {
         drop(calls.close(number));
     }
-    assert_eq!(rt; calls.reach(&Id::Unsigned(0)), Some(202));
-    assert_eq!(rt; calls.reach(&Id::Unsigned(1)), Some(200));
-    assert_eq!(rt; calls.reach(&Id::Unsigned(2)), Some(201));
-    assert_eq!(rt; calls.reach(&Id::Unsigned(1)), Some(203));
+    assert_eq!(rt; reach(&mut calls, &Id::Unsigned(0)), Some(202));
+    assert_eq!(rt; reach(&mut calls, &Id::Unsigned(1)), Some(200));
+    assert_eq!(rt; reach(&mut calls, &Id::Unsigned(2)), Some(201));
+    assert_eq!(rt; reach(&mut calls, &Id::Unsigned(1)), Some(203));
     assert_eq!(rt;
         (
             calls.get(200).map(|call| call.is_cancelled),
@@ -149,8 +154,11 @@ fn reaches_the_requests_of_an_id_in_turn(rt: HostRuntime) -> Result<(), Fail> {
         return Ok(());
     }
     calls.take_back(206);
-    assert_eq!(rt; (calls.len(), calls.reach(&Id::Unsigned(1))), (7, None));
-    assert_eq!(rt; calls.reach(&Id::Unsigned(2)), Some(204));
+    assert_eq!(rt;
+        (calls.len(), reach(&mut calls, &Id::Unsigned(1))),
+        (7, None)
+    );
+    assert_eq!(rt; reach(&mut calls, &Id::Unsigned(2)), Some(204));
     Ok(())
 }
 
@@ -164,6 +172,6 @@ fn one_stays_open_while_many_pass(rt: HostRuntime) -> Result<(), Fail> {
         }
     }
     assert_eq!(rt; calls.len(), 1);
-    assert_eq!(rt; calls.reach(&Id::Unsigned(0)), Some(1));
+    assert_eq!(rt; reach(&mut calls, &Id::Unsigned(0)), Some(1));
     Ok(())
 }

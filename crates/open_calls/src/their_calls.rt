@@ -133,22 +133,6 @@ impl TheirCalls {
         Some(call)
     }
 
-    /// Cancels the first request with this id that no cancel has reached, and answers its number.
-    pub fn reach(&mut self, id: &Id) -> Option<u64>
-        ensures number { result ≡ reached id.now self.old.calls }
-        ensures state { self.new ≡ record self.old {
-          calls = cancelled_at (reached id.now self.old.calls) self.old.calls;
-        } }
-    {
-        let number = match self.by_id.least(id) {
-            Some(number) => number,
-            None => return None,
-        };
-        cancel(&mut self.calls, number);
-        self.by_id.remove(id, number);
-        Some(number)
-    }
-
     /// Cancels the first request with this id and at most this number that no cancel has reached, and answers its number.
     /// Numbers ascend, so no other call has it.
     pub fn reach_up_to(&mut self, id: &Id, most: u64) -> Option<u64>
@@ -158,28 +142,24 @@ impl TheirCalls {
         } }
         ensures ascending { Ascending self.old.calls }
     {
-        match self.by_id.least(id) {
-            Some(number) if number <= most => self.reach(id),
-            _ => None,
-        }
+        let number = match self.by_id.least(id) {
+            Some(number) if number <= most => number,
+            _ => return None,
+        };
+        cancel(&mut self.calls, number);
+        self.by_id.remove(id, number);
+        Some(number)
     }
 }
 
-/// Cancels the call with this number, where it is open. A stand-in holds its place meanwhile.
+/// Cancels the call with this number, where it is open.
 fn cancel(calls: &mut NumberWindow<TheirCall>, number: u64)
     requires { IsWindow calls.old }
     ensures entries { window_entries calls.new ≡ changed_at number cancelled (window_entries calls.old) }
     ensures window { IsWindow calls.new }
 {
-    let stand_in = TheirCall {
-        id: None,
-        is_cancelled: true,
-        place: 0,
-        slot: 0,
-    };
-    if let Ok(mut call) = calls.replace(number, stand_in) {
+    if let Some(call) = calls.get_mut(number) {
         call.is_cancelled = true;
-        drop(calls.replace(number, call));
     }
 }
 

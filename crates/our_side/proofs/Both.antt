@@ -1,5 +1,5 @@
 -- What is found in all that was seen, by what holds of both sides and of the contents of both that are still to come.
-use Rattle.std.proofs.Common.{◌≡◌, ℕ, ◌≤◌, Bool, true, false, if◌then◌else◌, List, [], ◌∷◌, ◌++◌, Option, Some, None, length, drop, refl, sym, ap, subst, ◌∙◌, arith}
+use Rattle.std.proofs.Common.{◌≡◌, ℕ, ◌≤◌, Bool, true, false, if◌then◌else◌, List, [], ◌∷◌, ◌++◌, Option, Some, None, length, drop, refl, sym, ap, subst, ◌∙◌, arith, append-nil}
 use Rattle.std.specs.Prelude.{is_some}
 use Rattle.lsp_frames.specs.declared.frame.Frame.{Frame}
 use Rattle.content_streams.specs.Streams.{Stream, placed_contents}
@@ -12,7 +12,7 @@ use Rattle.conversation_rules.specs.declared.finding.Finding.{Finding}
 use Rattle.conversation_rules.specs.declared.protocol.Protocol.{Protocol}
 use Rattle.conversation_rules.specs.declared.side.Side.{Side}
 use Rattle.conversation_rules.specs.declared.side.Side.TheVariants.{Client, Server}
-use Rattle.our_side.proofs.Streaming.{other, IsSide, own, others, which, swap, own_stream, own_pair, other_stream, other_pair, pair_of_other, Later, retaken, fed_later, ended_later, same, all_later, Grow, grown, dropped_front, dropped_all, IsSteady, steady_later, all_taken_steady}
+use Rattle.our_side.proofs.Streaming.{ended_contents, other, IsSide, own, others, which, swap, own_stream, own_pair, other_stream, other_pair, pair_of_other, Later, retaken, fed_later, ended_later, same, all_later, Grow, grown, dropped_front, dropped_all, IsSteady, steady_later, all_taken_steady}
 use Rattle.our_side.proofs.Walking.{Each, each-append}
 
 abbrev pub Placed : Type 0
@@ -26,7 +26,7 @@ pub record KeepsBoth (protocol : Protocol) (side : Side) (P : Finding → Type 0
       → Each P (content_outcome protocol (other side) is_unfinished placed (swap pair)).findings × Holds ours rest (swap (content_outcome protocol (other side) is_unfinished placed (swap pair)).pair)
   pub our_end : (s : Stream) (ours theirs : Placed) (pair : Pair) → Holds ours theirs pair → Holds ours theirs (over_pair s pair)
   pub their_end : (s : Stream) (ours theirs : Placed) (pair : Pair) → Holds ours theirs pair → Holds ours theirs (swap (over_pair s (swap pair)))
-  pub we_ended : (s : Stream) (ours theirs : Placed) (pair : Pair) → Later s mine → is_some s.ended ≡ true → Holds ours theirs pair → Holds ours theirs (ended_pair pair)
+  pub we_ended : (s : Stream) (ours theirs : Placed) (pair : Pair) → Later s mine → is_some s.ended ≡ true → ours ≡ [] → Holds ours theirs pair → Holds ours theirs (ended_pair pair)
   pub they_ended : (ours theirs : Placed) (pair : Pair) → Holds ours theirs pair → Holds ours theirs (swap (ended_pair (swap pair)))
   pub our_fault : (s : Stream) (pair : Pair) → Later s mine → Each P (fault_findings side s pair)
   pub their_fault : (s : Stream) (pair : Pair) → Each P (fault_findings (other side) s pair)
@@ -55,19 +55,19 @@ module _ (grow : Grow) (protocol : Protocol) (side : Side) (P : Finding → Type
       let behind = their_contents is_unfinished new ours rest (content_outcome protocol (other side) is_unfinished placed pair).pair now.1 in
       (each-append P (content_outcome protocol (other side) is_unfinished placed pair).findings _ now.0 behind.0, behind.1)
 
-  our_seen : (end : Option HowEnded) (after : Stream) (rest theirs : Placed) (pair : Pair) → Later after mine → (is_some end ≡ true → is_some after.ended ≡ true) → Timely rest theirs → Holds (new_contents after ++ rest) theirs pair
+  our_seen : (end : Option HowEnded) (after : Stream) (rest theirs : Placed) (pair : Pair) → Later after mine → (is_some end ≡ true → is_some after.ended ≡ true) → (is_some end ≡ true → rest ≡ []) → Timely rest theirs → Holds (new_contents after ++ rest) theirs pair
       → Each P (seen_findings protocol side end after pair) × Holds rest theirs (behind_seen protocol side end after pair)
-  our_seen None after rest theirs pair later ends timely holds =
+  our_seen None after rest theirs pair later ends last_one timely holds =
       let got = our_contents false (new_contents after) rest theirs pair timely holds in (
         each-append P (contents_findings protocol side false (new_contents after) pair) _ got.0 (keeps.our_fault after (behind_contents protocol side false (new_contents after) pair) later),
         keeps.our_end after rest theirs (behind_contents protocol side false (new_contents after) pair) got.1,
       )
-  our_seen (Some end) after rest theirs pair later ends timely holds =
+  our_seen (Some end) after rest theirs pair later ends last_one timely holds =
       let got = our_contents true (new_contents after) rest theirs pair timely holds in
       let last = behind_contents protocol side true (new_contents after) pair in (
         each-append P _ (unanswered_findings side end last)
             (each-append P (contents_findings protocol side true (new_contents after) pair) _ got.0 (keeps.our_fault after last later)) (keeps.we_left end last),
-        keeps.we_ended after rest theirs last later (ends refl) got.1,
+        keeps.we_ended after rest theirs last later (ends refl) (last_one refl) got.1,
       )
 
   their_seen : (end : Option HowEnded) (after : Stream) (ours rest : Placed) (pair : Pair) → Holds ours (new_contents after ++ rest) (swap pair)
@@ -100,6 +100,12 @@ module _ (grow : Grow) (protocol : Protocol) (side : Side) (P : Finding → Type
         ap (λ k. drop k (placed_contents final)) (all_taken_steady after few) ∙ ap (drop (length (placed_contents after))) g.is ∙ dropped_all (placed_contents after) g.later,
       )
 
+  -- behind its end a stream has no more
+  nothing_left : (final after : Stream) → IsSteady after → Later (all_taken after) final → is_some after.ended ≡ true → to_come final (all_taken after) ≡ []
+  nothing_left final after few l ended =
+      ap (λ k. drop k (placed_contents final)) (all_taken_steady after few) ∙ ap (drop (length (placed_contents after))) (ended_contents (all_taken after) final l ended ∙ sym (append-nil (placed_contents after)))
+      ∙ dropped_all (placed_contents after) []
+
   our_event : (end : Option HowEnded) (before after : Stream) (theirs : Placed) (pair : Pair) → after.taken ≡ before.taken → (is_some end ≡ true → is_some after.ended ≡ true) → (is_some before.ended ≡ false → IsSteady after)
       → Later (event_stream before after) mine → Timely (to_come mine (event_stream before after)) theirs → Holds (to_come mine before) theirs pair
       → Each P (event_findings protocol side end before after pair) × Holds (to_come mine (event_stream before after)) theirs (event_pair protocol side end before after pair)
@@ -110,7 +116,7 @@ module _ (grow : Grow) (protocol : Protocol) (side : Side) (P : Finding → Type
       from true is l t = (tt, holds)
       from false is l t =
           let it = split mine before after taken (steady is) l in
-          let got = our_seen end after it.0 theirs pair (retaken after mine l) ends (subst (λ xs. Timely xs theirs) it.2 t) (subst (λ xs. Holds xs theirs pair) it.1 holds) in
+          let got = our_seen end after it.0 theirs pair (retaken after mine l) ends (λ e. sym it.2 ∙ nothing_left mine after (steady is) l (ends e)) (subst (λ xs. Timely xs theirs) it.2 t) (subst (λ xs. Holds xs theirs pair) it.1 holds) in
           (got.0, subst (λ xs. Holds xs theirs (behind_seen protocol side end after pair)) (sym it.2) got.1)
 
   their_event : (end : Option HowEnded) (before after : Stream) (ours : Placed) (pair : Pair) → after.taken ≡ before.taken → (is_some before.ended ≡ false → IsSteady after)

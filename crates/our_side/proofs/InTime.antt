@@ -1,12 +1,14 @@
--- A connection to which requests, notifications and answers came, each alone, is accused of no answer.
-use Rattle.std.proofs.Common.{◌≡◌, ℕ, zero, suc, ◌≤◌, Bool, true, false, if◌then◌else◌, List, [], ◌∷◌, ◌++◌, map, take, length, Some, None, refl, sym, ap, subst, ◌∙◌, arith, append-nil}
+-- A connection is accused of no answer, where it takes each batch whole, and its host reads calls with the id null.
+use Rattle.std.proofs.Common.{◌≡◌, ℕ, zero, suc, ◌≤◌, Bool, true, false, if◌then◌else◌, List, [], ◌∷◌, ◌++◌, map, take, length, Option, None, refl, sym, ap, subst, ◌∙◌, arith, append-nil}
 use Rattle.std.specs.Prelude.{is_some}
 use Rattle.lsp_frames.specs.declared.frame.Frame.{Frame}
-use Rattle.connection.specs.BackToBack.{messages_of, whole_count, text_of}
+use Rattle.connection.specs.BackToBack.{Message, messages_of, whole_count, text_of}
 use Rattle.connection.specs.Connections.{Connection, read}
-use Rattle.connection.specs.Settings.{rules_of}
-use Rattle.connection_history.specs.History.{History, units_of, stream}
-use Rattle.connection_history.specs.Stream.{calls_in, entries_along}
+use Rattle.connection.specs.Settings.{Chosen, rules_of}
+use Rattle.connection_history.specs.History.{History, units_of}
+use Rattle.connection_history.specs.Refusals.{IsLawful}
+use Rattle.connection_messages.specs.declared.answer.Answer.{Answer}
+use Rattle.connection_messages.specs.declared.cancels.Cancels.{Cancels}
 use Rattle.connection_history.specs.declared.order.Order.{Order}
 use Rattle.content_streams.specs.Framed.{placed, placed_frames}
 use Rattle.content_streams.specs.Lines.{placed_line_contents}
@@ -14,24 +16,22 @@ use Rattle.content_streams.specs.Streams.{Stream, plain, plain_at, contents, pla
 use Rattle.content_streams.specs.declared.ending.HowEnded.TheVariants as how
 use Rattle.content_streams.specs.declared.framing.Framing.{Framing}
 use Rattle.content_streams.specs.declared.framing.Framing.TheVariants.{Frames, Lines, Contents}
-use Rattle.conversation_reading.specs.declared.entry.WrittenId.{WrittenId}
 use Rattle.conversation_rules.specs.Judging.{Seen, Wrote, Closed, Failed, State, new_state, stream_of, state_with, state_from, all_taken, fed, ended_stream, event_stream, step}
 use Rattle.conversation_rules.specs.Speakers.{Pair}
 use Rattle.conversation_rules.specs.declared.finding.Limits.{Limits}
 use Rattle.conversation_rules.specs.declared.protocol.Protocol.{Protocol}
 use Rattle.conversation_rules.specs.declared.side.Side.{Side}
 use Rattle.conversation_rules.specs.declared.side.Side.TheVariants.{Client, Server}
-use Rattle.message_ids.specs.Ids.{has_id}
 use Rattle.message_ids.specs.declared.id.Id.{Id}
-use Rattle.message_ids.specs.declared.id.Id.TheVariants as ids
-use Rattle.our_side.specs.Answered.{answered_with, asked_with}
-use Rattle.our_side.specs.Asked.{IsNamed, AllAsk, AllSay, asked_in, answered_in, judged}
-use Rattle.our_side.specs.OurSide.{seen_of, IsInTime}
-use Rattle.our_side.proofs.Asking.{known_as, known_not_null, AskEach, asked_each, each_asks, each_asked, first_ask, first_asked, AreAlone as AreOnes, units_alone, units_few}
+use Rattle.our_side.specs.Answered.{AreAnsweredWhole, OfSingleCalls, ReadsNullCalls, came_alone, came_together, said_alone, said_together, total}
+use Rattle.our_side.specs.Asked.{AllSay, Question, CanBeAsked, asked_in, answered_in, judged}
+use Rattle.our_side.specs.OurSide.{seen_of, IsInTime, AllTakenWhole}
+use Rattle.our_side.proofs.Asking.{IsRead, counts, may_count, may_pass, counts_all, TakenEach, asked_each, each_taken, each_asked, first_taken as first_frames, first_asked, units_whole, units_few}
+use Rattle.our_side.proofs.Forms.{calls_at_first, calls_weaker}
 use Rattle.our_side.proofs.Plainly.{later_of}
-use Rattle.our_side.proofs.Replying.{AreAlone, all_alone, SayEach, answered_each, all_say, each_answered, first_answered, messages_say, messages_few}
+use Rattle.our_side.proofs.Replying.{SayEach, answered_each, all_say, each_answered, first_answered, messages_say, messages_few}
 use Rattle.our_side.proofs.SaidSound.{AreSound}
-use Rattle.our_side.proofs.Streaming.{other, IsSide, own, others, which, own_stream, other_stream, grown}
+use Rattle.our_side.proofs.Streaming.{Later, other, IsSide, own, others, which, own_stream, other_stream, grown}
 use Rattle.our_side.proofs.Writes.{Laws, sound, contents_are}
 
 -- ---- all contents that there are were judged
@@ -90,11 +90,15 @@ judged_is protocol framing limits seen side =
 -- ---- a moment of the conversation
 
 -- what a connection answers, whatever its history
-abbrev pub AnswersFew : Type 0
-AnswersFew = (order : Order) (history : History) (id : Id) → has_id id (Some ids.Null) ≡ false → answered_with id (messages_of order history) ≤ asked_with id (calls_in (stream history))
+pub record AnswersOnce : Type 0 where
+  pub alone : (order : Order) (history : History) (test : Id × Answer → Bool) (may : Id → Bool) → OfSingleCalls (λ id a. test (id, a) ≡ true → may id ≡ true) history
+      → total (said_alone test) (messages_of order history) ≤ total (came_alone test may) (units_of history)
+  pub together : (cancels : Option Cancels) (order : Order) (history : History) → IsLawful cancels history → AreAnsweredWhole cancels (units_of history) → (test : List Id → Bool)
+      → total (said_together test) (messages_of order history) ≤ total (came_together test) (units_of history)
 
-module _ (laws : Laws) (few : AnswersFew) (protocol : Protocol) (framing : Framing) (limits : Limits) (side : Side) (connection : Connection) (history : History) (before : List Seen)
-    (it : IsInTime protocol framing limits side connection history before) (asks : AllAsk (placed_contents (seen_of protocol framing limits before (other side)))) where
+module _ (laws : Laws) (once : AnswersOnce) (protocol : Protocol) (framing : Framing) (limits : Limits) (side : Side) (connection : Connection) (history : History) (before : List Seen)
+    (it : IsInTime protocol framing limits side connection history before)
+    (reads : ReadsNullCalls history) (taken : AllTakenWhole connection.settings (placed_contents (seen_of protocol framing limits before (other side)))) where
   abbrev ours : Stream
   ours = seen_of protocol framing limits before side
 
@@ -107,65 +111,72 @@ module _ (laws : Laws) (few : AnswersFew) (protocol : Protocol) (framing : Frami
   frames_are : map (λ placed. placed.1) (placed_contents theirs) ≡ contents theirs
   frames_are = laws.placed theirs.framing theirs.limit theirs.pieces theirs.ended
 
-  they_ask : AskEach (contents theirs)
-  they_ask = subst AskEach frames_are (each_asks (placed_contents theirs) asks)
+  came_taken : TakenEach connection.settings came
+  came_taken = first_frames connection.settings (length (units_of it.past)) (contents theirs) (subst (TakenEach connection.settings) frames_are (each_taken connection.settings (placed_contents theirs) taken))
 
-  came_ask : AskEach came
-  came_ask = first_ask (length (units_of it.past)) (contents theirs) they_ask
+  -- and so did the connection as it stood then
+  past_reads : ReadsNullCalls it.past
+  past_reads = calls_at_first IsRead it.more it.past (subst (OfSingleCalls IsRead) it.whole reads)
 
-  ones : AreOnes (units_of it.past)
-  ones = subst AreOnes (sym it.came) (units_alone (rules_of connection.settings) came came_ask)
+  answered_whole : AreAnsweredWhole it.earlier.settings.cancels (units_of it.past)
+  answered_whole = subst (λ s. AreAnsweredWhole s.cancels (units_of it.past)) (sym it.settings) (subst (AreAnsweredWhole connection.settings.cancels) (sym it.came) (units_whole connection.settings came came_taken))
 
   abbrev whole : ℕ
   whole = whole_count framing it.count it.earlier.desk.out.written
 
-  alone : AreAlone (messages_of it.earlier.settings.order it.past)
-  alone = all_alone it.earlier.settings.order it.past ones
+  abbrev messages : List Message
+  messages = messages_of it.earlier.settings.order it.past
 
-  are_sound : AreSound it.earlier.settings.cancels (messages_of it.earlier.settings.order it.past)
+  are_sound : AreSound it.earlier.settings.cancels messages
   are_sound = sound laws protocol framing limits before side it.earlier it.past it.told it.count it.written
 
-  texts_are : map (λ placed. placed.1) (placed_contents ours) ≡ map plain (take whole (map text_of (messages_of it.earlier.settings.order it.past)))
+  texts_are : map (λ placed. placed.1) (placed_contents ours) ≡ map plain (take whole (map text_of messages))
   texts_are =
       laws.placed ours.framing ours.limit ours.pieces ours.ended ∙ contents_are laws protocol framing limits before side it.earlier it.past it.told it.count it.written
       ∙ ap (λ ts. map plain (take whole ts)) (laws.texts it.earlier it.past it.told it.written.stands)
 
   we_say : AllSay (placed_contents ours)
-  we_say = all_say (placed_contents ours) (subst SayEach (sym texts_are) (messages_say it.earlier.settings.cancels (messages_of it.earlier.settings.order it.past) whole are_sound alone))
+  we_say = all_say (placed_contents ours) (subst SayEach (sym texts_are) (messages_say it.earlier.settings.cancels messages whole are_sound))
 
-  by_then : (id : WrittenId) → IsNamed id → answered_in id (placed_contents ours) ≤ asked_in id (placed_contents theirs)
-  by_then id named =
-      let o = known_as id named in
-      let said : answered_in id (placed_contents ours) ≡ answered_each id (map plain (take whole (map text_of (messages_of it.earlier.settings.order it.past)))) = sym (each_answered id (placed_contents ours)) ∙ ap (answered_each id) texts_are in
-      let told = messages_few it.earlier.settings.cancels (messages_of it.earlier.settings.order it.past) whole id named are_sound alone in
-      let answers = few it.earlier.settings.order it.past o (known_not_null id named) in
-      let calls : asked_with o (calls_in (stream it.past)) ≡ asked_with o (calls_in (entries_along (map (read (rules_of connection.settings)) came))) = ap (λ us. asked_with o (calls_in (entries_along us))) it.came in
-      let read_few = units_few (rules_of connection.settings) came id named came_ask in
-      let came_few = first_asked id (length (units_of it.past)) (contents theirs) in
-      let asked : asked_each id (contents theirs) ≡ asked_in id (placed_contents theirs) = ap (asked_each id) (sym frames_are) ∙ each_asked id (placed_contents theirs) in
-      omega (arith, said, told, answers, calls, read_few, came_few, asked)
+  by_then : (q : Question) → CanBeAsked q → answered_in q (placed_contents ours) ≤ asked_in q (placed_contents theirs)
+  by_then q can =
+      let said : answered_in q (placed_contents ours) ≡ answered_each q (map plain (take whole (map text_of messages))) = sym (each_answered q (placed_contents ours)) ∙ ap (answered_each q) texts_are in
+      let told = messages_few it.earlier.settings.cancels messages whole q can are_sound in
+      let singly = once.alone it.earlier.settings.order it.past (counts q) (may_count q) (calls_weaker IsRead (λ id a. counts q (id, a) ≡ true → may_count q id ≡ true) (may_pass q) it.past past_reads) in
+      let in_arrays = once.together it.earlier.settings.cancels it.earlier.settings.order it.past it.written.stands.lawful answered_whole (counts_all q) in
+      let one : total (came_alone (counts q) (may_count q)) (units_of it.past) ≡ total (came_alone (counts q) (may_count q)) (map (read (rules_of connection.settings)) came) = ap (total (came_alone (counts q) (may_count q))) it.came in
+      let all : total (came_together (counts_all q)) (units_of it.past) ≡ total (came_together (counts_all q)) (map (read (rules_of connection.settings)) came) = ap (total (came_together (counts_all q))) it.came in
+      let read_few = units_few connection.settings came q can came_taken in
+      let came_few = first_asked q (length (units_of it.past)) (contents theirs) in
+      let asked : asked_each q (contents theirs) ≡ asked_in q (placed_contents theirs) = ap (asked_each q) (sym frames_are) ∙ each_asked q (placed_contents theirs) in
+      omega (arith, said, told, singly, in_arrays, one, all, read_few, came_few, asked)
 
 -- ---- the whole conversation
 
-first_asks : (xs ys : List (ℕ × Frame)) → AllAsk (xs ++ ys) → AllAsk xs
-first_asks [] ys asks = tt
-first_asks (x ∷ xs) ys asks = (asks.0, first_asks xs ys asks.1)
+first_taken : (settings : Chosen) (xs ys : List (ℕ × Frame)) → AllTakenWhole settings (xs ++ ys) → AllTakenWhole settings xs
+first_taken settings [] ys taken = tt
+first_taken settings (x ∷ xs) ys taken = (taken.0, first_taken settings xs ys taken.1)
 
-module _ (laws : Laws) (few : AnswersFew) (protocol : Protocol) (framing : Framing) (limits : Limits) (seen : List Seen) (side : Side) (connection : Connection) (history : History)
-    (in_time : (before after : List Seen) → seen ≡ before ++ after → IsInTime protocol framing limits side connection history before) (asks : AllAsk (placed_contents (seen_of protocol framing limits seen (other side)))) where
+module _ (laws : Laws) (once : AnswersOnce) (protocol : Protocol) (framing : Framing) (limits : Limits) (seen : List Seen) (side : Side) (connection : Connection) (history : History)
+    (in_time : (before after : List Seen) → seen ≡ before ++ after → IsInTime protocol framing limits side connection history before)
+    (reads : ReadsNullCalls history) (taken : AllTakenWhole connection.settings (placed_contents (seen_of protocol framing limits seen (other side)))) where
   pub says : AllSay (placed_contents (seen_of protocol framing limits seen side))
-  says = we_say laws few protocol framing limits side connection history seen (in_time seen [] (sym (append-nil seen))) asks
+  says = we_say laws once protocol framing limits side connection history seen (in_time seen [] (sym (append-nil seen))) reads taken
 
-  asks_by : (before after : List Seen) → seen ≡ before ++ after → AllAsk (placed_contents (seen_of protocol framing limits before (other side)))
-  asks_by before after split =
-      let s = seen_of protocol framing limits before (other side) in
-      let g = grown laws.grow s (seen_of protocol framing limits seen (other side)) (later_of laws.grow protocol side framing limits seen (other side) before after split) in
-      first_asks (placed_contents s) g.later (subst AllAsk g.is asks)
+  module _ (before after : List Seen) (split : seen ≡ before ++ after) where
+    by_now : Later (seen_of protocol framing limits before (other side)) (seen_of protocol framing limits seen (other side))
+    by_now = later_of laws.grow protocol side framing limits seen (other side) before after split
 
-  pub counts : (before after : List Seen) → seen ≡ before ++ after → (id : WrittenId) → IsNamed id
-      → answered_in id (judged (seen_of protocol framing limits before side)) ≤ asked_in id (judged (seen_of protocol framing limits before (other side)))
-  counts before after split id named =
-      let now = by_then laws few protocol framing limits side connection history before (in_time before after split) (asks_by before after split) id named in
-      let mine = first_answered id (seen_of protocol framing limits before side).taken (placed_contents (seen_of protocol framing limits before side)) in
-      let yours : asked_in id (judged (seen_of protocol framing limits before (other side))) ≡ asked_in id (placed_contents (seen_of protocol framing limits before (other side))) = ap (asked_in id) (judged_is protocol framing limits before (other side)) in
+    taken_by : AllTakenWhole connection.settings (placed_contents (seen_of protocol framing limits before (other side)))
+    taken_by =
+        let s = seen_of protocol framing limits before (other side) in
+        let g = grown laws.grow s (seen_of protocol framing limits seen (other side)) by_now in
+        first_taken connection.settings (placed_contents s) g.later (subst (AllTakenWhole connection.settings) g.is taken)
+
+  pub counts_by : (before after : List Seen) → seen ≡ before ++ after → (q : Question) → CanBeAsked q
+      → answered_in q (judged (seen_of protocol framing limits before side)) ≤ asked_in q (judged (seen_of protocol framing limits before (other side)))
+  counts_by before after split q can =
+      let now = by_then laws once protocol framing limits side connection history before (in_time before after split) reads (taken_by before after split) q can in
+      let mine = first_answered q (seen_of protocol framing limits before side).taken (placed_contents (seen_of protocol framing limits before side)) in
+      let yours : asked_in q (judged (seen_of protocol framing limits before (other side))) ≡ asked_in q (placed_contents (seen_of protocol framing limits before (other side))) = ap (asked_in q) (judged_is protocol framing limits before (other side)) in
       omega (arith, now, mine, yours)

@@ -6,11 +6,15 @@ mod Both
 mod Counting
 mod Ends
 mod Fair
+mod Formed
+mod Forms
 mod Found
+mod Ids
 mod InTime
 mod Keys
 mod Matched
 mod Open
+mod Placing
 mod Plain
 mod Plainly
 mod ReadIds
@@ -20,5 +24,7 @@ mod Replying
 mod Said
 mod SaidSound
 mod Streaming
+mod Tied
 mod Walking
+mod Worked
 mod Writes

@@ -67,7 +67,7 @@ some_parts : (b : Bool) (n place : ℕ) → cond b (Some n) None ≡ Some place 
 some_parts true n place is = (refl, cc)
 some_parts false n place is = absurd (cc)
 
-next_place : {X : Type 0} (test : X → Bool) (x : X) (xs : List X) (place : ℕ) → test x ≡ false → position test xs ≡ Some place → position test (x ∷ xs) ≡ Some (suc place)
+pub next_place : {X : Type 0} (test : X → Bool) (x : X) (xs : List X) (place : ℕ) → test x ≡ false → position test xs ≡ Some place → position test (x ∷ xs) ≡ Some (suc place)
 next_place test x xs place isnt is =
     let parts = some_parts (nat_lt (position_or_len test xs) (length xs)) (position_or_len test xs) place is in
     let within : position_or_len test xs < length xs = ltb-true (position_or_len test xs) (length xs) parts.0 in
@@ -264,7 +264,7 @@ taken_none : (protocol : Protocol) (sight : Sight) (message : Message) (reply : 
 taken_none protocol sight message reply None = tt
 taken_none protocol sight message reply (Some fit) = fit_none protocol sight message reply fit
 
-array_none : (protocol : Protocol) (sight : Sight) (message : Message) (replies : List Reply) (fits : List (Option Fit)) → NoneOf is_of_answers (array_findings protocol sight message replies fits)
+pub array_none : (protocol : Protocol) (sight : Sight) (message : Message) (replies : List Reply) (fits : List (Option Fit)) → NoneOf is_of_answers (array_findings protocol sight message replies fits)
 array_none protocol sight message [] fits = tt
 array_none protocol sight message (reply ∷ replies) [] = tt
 array_none protocol sight message (reply ∷ replies) (fit ∷ fits) = none-append (taken_findings protocol sight message reply fit) _ (taken_none protocol sight message reply fit) (array_none protocol sight message replies fits)

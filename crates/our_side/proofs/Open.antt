@@ -1,245 +1,465 @@
--- What is owed where each content is one message: requests, each alone, and how often each id is expected.
-use Rattle.std.proofs.Common.{◌≡◌, ◌==◌, ◌||◌, ◌&&◌, not, ℕ, suc, ◌+◌, ◌*◌, ◌<◌, ◌≤◌, ◌^◌, Bool, true, false, if◌then◌else◌, List, [], ◌∷◌, ◌++◌, map, length, position, nat_lt, cond, Some, None, option_map, refl, sym, ap, subst, ◌∙◌, arith, decimal}
-use Rattle.std.proofs.lemmas.Bool.{eqb-true}
+-- What is owed: how often each thing is asked.
+use Rattle.std.proofs.Common.{◌≡◌, ◌==◌, ◌||◌, ◌&&◌, not, ℕ, suc, ◌+◌, ◌≤◌, Bool, true, false, if◌then◌else◌, List, [], ◌∷◌, ◌++◌, map, length, position, Option, Some, None, option_map, refl, sym, ap, subst, ◌∙◌, arith}
 use Rattle.std.proofs.lemmas.Bool.Decides.{nat_tests}
-use Rattle.std.proofs.lemmas.Slice.Eq.{bytes_eq-Decides}
-use Rattle.std.specs.Prelude.{slice_get, remove}
-use Rattle.std.specs.List.{position_or_len}
-use Rattle.std.specs.Option.{option_map_or}
-use Rattle.std.specs.Str.{bytes_eq}
+use Rattle.std.proofs.lemmas.List.Elements.{filter_map-append}
+use Rattle.std.specs.Prelude.{⊤, slice_get, remove}
+use Rattle.std.specs.List.{filter_map}
+use Rattle.std.specs.Option.{option_map_or, option_to_list}
 use Rattle.conversation_reading.specs.declared.entry.WrittenId.{WrittenId}
-use Rattle.conversation_reading.specs.declared.entry.WrittenId.TheVariants.{Null, Text, Number}
-use Rattle.conversation_rules.specs.Amounts.{amount_of, same_amount, same_id}
 use Rattle.conversation_rules.specs.Dues as dues
 use Rattle.conversation_rules.specs.Dues.{owed_more, is_open, closed, cancelled, cancelled_in, with_entries, settled_entry, fit_of}
-use Rattle.conversation_rules.specs.Matching.{later, oldest, is_request_for}
-use Rattle.conversation_rules.specs.Owed.{Owed, Due, new_due, has_id, is_expected}
+use Rattle.conversation_rules.specs.Matching.{place_in, later, oldest, is_request_for, expects_null, is_null_request, is_null_other, expected_ids}
+use Rattle.conversation_rules.specs.Owed.{Owed, Due, unreadable_due, is_expected}
 use Rattle.conversation_rules.specs.declared.found.Fit.{Fit}
 use Rattle.conversation_rules.specs.declared.found.Found.TheVariants.{Entry as EntryFit}
 use Rattle.conversation_rules.specs.declared.found.Target.TheVariants.{EntryOf}
-use Rattle.our_side.specs.Asked.{IsNamed, as_number}
-use Rattle.our_side.proofs.Below.{AllOf}
-use Rattle.our_side.proofs.Matched.{first_place}
-use Rattle.our_side.proofs.Plain.{amount}
-
--- ---- ids
-
-texts_equal : (a b : List ℕ) → bytes_eq a b ≡ true → a ≡ b
-texts_equal a b is = (bytes_eq-Decides a b).0 is
-
-and_first : (b c : Bool) → (b && c) ≡ true → b ≡ true
-and_first true c is = refl
-and_first false c is = cc
-
-times_one : (a b : ℕ) → a * 10 ^ 0 ≡ b * 10 ^ 0 → a ≡ b
-times_one a b is = omega (arith, is)
-
-pub numbers_are : (a b : ℕ) → a < 2 ^ 64 → b < 2 ^ 64 → same_amount (amount_of (decimal a)) (amount_of (decimal b)) ≡ true → a ≡ b
-numbers_are a b small few is =
-    let both = sym (λ i. same_amount (amount a small i) (amount b few i)) ∙ is in
-    let same = eqb-true (a * 10 ^ 0) (b * 10 ^ 0) (and_first (a * 10 ^ 0 == b * 10 ^ 0) _ both) in
-    times_one a b same
-
-numbers_equal : (a b : ℕ) → a < 2 ^ 64 → b < 2 ^ 64 → same_amount (amount_of (decimal a)) (amount_of (decimal b)) ≡ true → decimal a ≡ decimal b
-numbers_equal a b small few is = ap decimal (numbers_are a b small few is)
-
-number_itself : (a : ℕ) → a < 2 ^ 64 → same_amount (amount_of (decimal a)) (amount_of (decimal a)) ≡ true
-number_itself a small = (λ i. same_amount (amount a small i) (amount a small i)) ∙ ap (λ b. b && true) (itself (a * 10 ^ 0))
-  where
-    itself : (n : ℕ) → (n == n) ≡ true
-    itself n = grind (arith, nat_tests)
-
-pub same_itself : (id : WrittenId) → IsNamed id → same_id id id ≡ true
-same_itself Null named = absurd named
-same_itself (Text text) named = (bytes_eq-Decides text text).1 refl
-same_itself (Number digits) named = (λ i. same_amount (amount_of (named.2 i)) (amount_of (named.2 i))) ∙ number_itself named.0 named.1
+use Rattle.judge_laws.proofs.Failures.{passed_by}
+use Rattle.our_side.specs.Asked.{ArePlain, Question, alone, together, unread, unnamed, CanBeAsked, as_number, times, nulls, asked_from}
+use Rattle.our_side.proofs.Below.{AllOf, all-append}
+use Rattle.our_side.proofs.Matched.{first_place, next_place}
 
 -- ---- what is expected
 
-abbrev pub expected_in : WrittenId → List Owed → ℕ
-expected_in id [] = 0
-expected_in id (one ∷ entries) = as_number (is_expected id one) + expected_in id entries
+abbrev pub IsFew : List Owed → Type 0
+IsFew [] = ⊤
+IsFew (x ∷ []) = ⊤
+IsFew (x ∷ y ∷ entries) = ⊥
 
-abbrev pub open_in : WrittenId → List Due → ℕ
-open_in id [] = 0
-open_in id (due ∷ owed) = expected_in id due.entries + open_in id owed
+-- Of a content alone there is an entry at most.
+pub record IsOrderly (due : Due) : Type 0 where
+  pub few : due.is_batch ≡ false → IsFew due.entries
+  pub plain : ArePlain (expected_ids due)
+  pub empty : due.is_unreadable ≡ true → (due.is_batch ≡ false) × (due.entries ≡ [])
 
--- a content on which nothing is owed any more, or one request's answer
-pub data IsPlainDue (due : Due) : Type 0 where
-  none : due.is_batch ≡ false → due.entries ≡ [] → IsPlainDue due
-  one : (owed : Owed) (id : WrittenId) → due.is_batch ≡ false → due.entries ≡ owed ∷ [] → owed.is_request ≡ true → owed.expected ≡ Some id → IsNamed id → IsPlainDue due
+abbrev pub AreOrderly : List Due → Type 0
+AreOrderly owed = AllOf IsOrderly owed
 
-abbrev pub ArePlain : List Due → Type 0
-ArePlain owed = AllOf IsPlainDue owed
+abbrev pub open_on : Question → Due → ℕ
+open_on q due = asked_from q due.is_batch due.is_unreadable (expected_ids due)
 
--- ---- a content comes
+abbrev pub open_in : Question → List Due → ℕ
+open_in q [] = 0
+open_in q (due ∷ owed) = open_on q due + open_in q owed
 
--- plain, and nothing is owed on the last content yet
-abbrev pub EndsEmpty : List Due → Type 0
-EndsEmpty [] = ⊥
-EndsEmpty (due ∷ []) = (due.is_batch ≡ false) × (due.entries ≡ [])
-EndsEmpty (due ∷ next ∷ owed) = IsPlainDue due × EndsEmpty (next ∷ owed)
+pub open-append : (q : Question) (xs ys : List Due) → open_in q (xs ++ ys) ≡ open_in q xs + open_in q ys
+open-append q [] ys = (let same : open_in q ys ≡ 0 + open_in q ys = omega arith in same)
+open-append q (x ∷ xs) ys = let rest = open-append q xs ys in omega (arith, rest)
 
-pub new_ends : (owed : List Due) (number offset : ℕ) (huge : Bool) → ArePlain owed → EndsEmpty (owed ++ new_due number offset false huge ∷ [])
-new_ends [] number offset huge plain = (refl, refl)
-new_ends (due ∷ []) number offset huge plain = (plain.0, (refl, refl))
-new_ends (due ∷ next ∷ owed) number offset huge plain = (plain.0, new_ends (next ∷ owed) number offset huge plain.1)
+-- nothing is asked by a content from which nothing is expected
+pub nothing_asked : (q : Question) → CanBeAsked q → (batch : Bool) → asked_from q batch false [] ≡ 0
+nothing_asked (alone id) can true = refl
+nothing_asked (alone id) can false = refl
+nothing_asked (together []) can batch = absurd can
+nothing_asked (together (id ∷ ids)) can true = refl
+nothing_asked (together (id ∷ ids)) can false = refl
+nothing_asked unread can batch = refl
+nothing_asked unnamed can true = refl
+nothing_asked unnamed can false = refl
 
-pub new_open : (id : WrittenId) (owed : List Due) (number offset : ℕ) (huge : Bool) → open_in id (owed ++ new_due number offset false huge ∷ []) ≡ open_in id owed
-new_open id [] number offset huge = refl
-new_open id (due ∷ owed) number offset huge = ap (λ n. expected_in id due.entries + n) (new_open id owed number offset huge)
+-- ---- one that can't be read
 
--- a cancel changes neither
-same_request : (settles : Bool) (id : WrittenId) (x : Owed) → ((cancelled settles id x).is_request ≡ x.is_request) × ((cancelled settles id x).expected ≡ x.expected)
-same_request settles id x = from (is_request_for id x)
+unreadable_orderly : (number offset : ℕ) → IsOrderly (unreadable_due number offset)
+unreadable_orderly number offset = record { few = λ e. tt; plain = tt; empty = λ e. (refl, refl) }
+
+pub unreadable_more : (owed : List Due) (number offset : ℕ) → AreOrderly owed → AreOrderly (owed ++ unreadable_due number offset ∷ [])
+unreadable_more owed number offset orderly = all-append IsOrderly owed (unreadable_due number offset ∷ []) orderly (unreadable_orderly number offset, tt)
+
+pub unreadable_open : (q : Question) (owed : List Due) (number offset : ℕ) → open_in q (owed ++ unreadable_due number offset ∷ []) ≡ open_in q owed + asked_from q false true []
+unreadable_open q owed number offset = let sum = open-append q owed (unreadable_due number offset ∷ []) in omega (arith, sum)
+
+-- ---- a content comes, and stands last
+
+abbrev pub Ends : (Due → Type 0) → List Due → Type 0
+Ends P [] = ⊥
+Ends P (due ∷ []) = P due
+Ends P (due ∷ next ∷ owed) = IsOrderly due × Ends P (next ∷ owed)
+
+-- of all but the last
+abbrev pub front_in : Question → List Due → ℕ
+front_in q [] = 0
+front_in q (due ∷ []) = 0
+front_in q (due ∷ next ∷ owed) = open_on q due + front_in q (next ∷ owed)
+
+pub new_ends : (P : Due → Type 0) (owed : List Due) (new : Due) → AreOrderly owed → P new → Ends P (owed ++ new ∷ [])
+new_ends P [] new orderly is = is
+new_ends P (due ∷ []) new orderly is = (orderly.0, is)
+new_ends P (due ∷ next ∷ owed) new orderly is = (orderly.0, new_ends P (next ∷ owed) new orderly.1 is)
+
+pub new_front : (q : Question) (owed : List Due) (new : Due) → front_in q (owed ++ new ∷ []) ≡ open_in q owed
+new_front q [] new = refl
+new_front q (due ∷ []) new = (let same : open_on q due + 0 ≡ open_on q due + 0 = refl in same)
+new_front q (due ∷ next ∷ owed) new = ap (λ n. open_on q due + n) (new_front q (next ∷ owed) new)
+
+-- a cancel changes neither what is expected, nor whether it is a request
+module _ (settles : Bool) (by : WrittenId) where
+  same_request : (x : Owed) → ((cancelled settles by x).is_request ≡ x.is_request) × ((cancelled settles by x).expected ≡ x.expected)
+  same_request x = from (is_request_for by x)
+    where
+      from : (b : Bool) → ((if b then record x { is_cancelled = true; must = x.must && not settles } else x).is_request ≡ x.is_request)
+          × ((if b then record x { is_cancelled = true; must = x.must && not settles } else x).expected ≡ x.expected)
+      from true = (refl, refl)
+      from false = (refl, refl)
+
+  pub same_ids_of : (entries : List Owed) → filter_map (λ x. x.expected) (map (cancelled settles by) entries) ≡ filter_map (λ x. x.expected) entries
+  same_ids_of [] = refl
+  same_ids_of (x ∷ entries) = by_first (cancelled settles by x).expected x.expected (same_request x).1 (same_ids_of entries)
+    where
+      by_first : (one other : Option WrittenId) → one ≡ other → filter_map (λ x. x.expected) (map (cancelled settles by) entries) ≡ filter_map (λ x. x.expected) entries
+          → filter_map (λ x. x.expected) (map (cancelled settles by) (x ∷ entries)) ≡ filter_map (λ x. x.expected) (x ∷ entries)
+      by_first one other same rest = simp ((same_request x).1, rest) refl
+
+  few_map : (entries : List Owed) → IsFew entries → IsFew (map (cancelled settles by) entries)
+  few_map [] few = tt
+  few_map (x ∷ []) few = tt
+  few_map (x ∷ y ∷ entries) few = few
+
+  orderly_cancelled : (due : Due) → IsOrderly due → IsOrderly (cancelled_in settles by due)
+  orderly_cancelled due is = record {
+    few = λ e. few_map due.entries (is.few e);
+    plain = subst ArePlain (sym (same_ids_of due.entries)) is.plain;
+    empty = λ e. ((is.empty e).0, ap (map (cancelled settles by)) (is.empty e).1);
+  }
+
+  pub ends_cancelled : (P : Due → Type 0) → ((due : Due) → P due → P (cancelled_in settles by due)) → (owed : List Due) → Ends P owed → Ends P (map (cancelled_in settles by) owed)
+  ends_cancelled P keeps [] ends = absurd ends
+  ends_cancelled P keeps (due ∷ []) ends = keeps due ends
+  ends_cancelled P keeps (due ∷ next ∷ owed) ends = (orderly_cancelled due ends.0, ends_cancelled P keeps (next ∷ owed) ends.1)
+
+  pub front_cancelled : (q : Question) (owed : List Due) → front_in q (map (cancelled_in settles by) owed) ≡ front_in q owed
+  front_cancelled q [] = refl
+  front_cancelled q (due ∷ []) = refl
+  front_cancelled q (due ∷ next ∷ owed) = λ i. asked_from q due.is_batch due.is_unreadable (same_ids_of due.entries i) + front_cancelled q (next ∷ owed) i
+
+-- one more entry, on the last content
+abbrev pub with_more : Owed → Due → Due
+with_more x due = record due { entries = due.entries ++ x ∷ [] }
+
+pub ends_more : (P Q : Due → Type 0) (x : Owed) → ((due : Due) → P due → Q (with_more x due)) → (owed : List Due) → Ends P owed → Ends Q (owed_more x owed)
+ends_more P Q x more [] ends = absurd ends
+ends_more P Q x more (due ∷ []) ends = more due ends
+ends_more P Q x more (due ∷ next ∷ []) ends = (ends.0, more next ends.1)
+ends_more P Q x more (due ∷ next ∷ third ∷ owed) ends = (ends.0, ends_more P Q x more (next ∷ third ∷ owed) ends.1)
+
+pub front_more : (q : Question) (P : Due → Type 0) (x : Owed) (owed : List Due) → Ends P owed → front_in q (owed_more x owed) ≡ front_in q owed
+front_more q P x [] ends = absurd ends
+front_more q P x (due ∷ []) ends = refl
+front_more q P x (due ∷ next ∷ []) ends = refl
+front_more q P x (due ∷ next ∷ third ∷ owed) ends = ap (λ n. open_on q due + n) (front_more q P x (next ∷ third ∷ owed) ends.1)
+
+more_ids : (x : Owed) (entries : List Owed) → filter_map (λ x. x.expected) (entries ++ x ∷ []) ≡ filter_map (λ x. x.expected) entries ++ option_to_list x.expected
+more_ids x entries = filter_map-append (λ (x : Owed). x.expected) entries (x ∷ []) ∙ ap (λ ids. filter_map (λ x. x.expected) entries ++ ids) (one_id x x.expected refl)
   where
-    from : (b : Bool) → ((if b then record x { is_cancelled = true; must = x.must && not settles } else x).is_request ≡ x.is_request) × ((if b then record x { is_cancelled = true; must = x.must && not settles } else x).expected ≡ x.expected)
-    from true = (refl, refl)
-    from false = (refl, refl)
+    one_id : (x : Owed) (o : Option WrittenId) → x.expected ≡ o → filter_map (λ x. x.expected) (x ∷ []) ≡ option_to_list x.expected
+    one_id x None is = simp (is) refl
+    one_id x (Some id) is = simp (is) refl
 
-due_cancelled : (settles : Bool) (id : WrittenId) (due : Due) → IsPlainDue due → IsPlainDue (cancelled_in settles id due)
-due_cancelled settles id due (none alone empty) = none alone (ap (map (cancelled settles id)) empty)
-due_cancelled settles id due (one x name alone only request is named) =
-    let same = same_request settles id x in
-    one (cancelled settles id x) name alone (ap (map (cancelled settles id)) only) (same.0 ∙ request) (same.1 ∙ is) named
-
-pub ends_cancelled : (settles : Bool) (id : WrittenId) (owed : List Due) → EndsEmpty owed → EndsEmpty (map (cancelled_in settles id) owed)
-ends_cancelled settles id [] ends = absurd ends
-ends_cancelled settles id (due ∷ []) ends = (ends.0, ap (map (cancelled settles id)) ends.1)
-ends_cancelled settles id (due ∷ next ∷ owed) ends = (due_cancelled settles id due ends.0, ends_cancelled settles id (next ∷ owed) ends.1)
-
-expected_cancelled : (settles : Bool) (by id : WrittenId) (entries : List Owed) → expected_in id (map (cancelled settles by) entries) ≡ expected_in id entries
-expected_cancelled settles by id [] = refl
-expected_cancelled settles by id (x ∷ entries) = λ i. as_number (has_id id ((same_request settles by x).1 i)) + expected_cancelled settles by id entries i
-
-pub open_cancelled : (settles : Bool) (by id : WrittenId) (owed : List Due) → open_in id (map (cancelled_in settles by) owed) ≡ open_in id owed
-open_cancelled settles by id [] = refl
-open_cancelled settles by id (due ∷ owed) = λ i. expected_cancelled settles by id due.entries i + open_cancelled settles by id owed i
-
--- one more request, on the last content
-pub more_plain : (x : Owed) (name : WrittenId) (owed : List Due) → x.is_request ≡ true → x.expected ≡ Some name → IsNamed name → EndsEmpty owed → ArePlain (owed_more x owed)
-more_plain x name [] request is named ends = absurd ends
-more_plain x name (due ∷ []) request is named ends = (one x name ends.0 (ap (λ es. es ++ x ∷ []) ends.1) request is named, tt)
-more_plain x name (due ∷ next ∷ owed) request is named ends = (ends.0, more_plain x name (next ∷ owed) request is named ends.1)
-
-expected-append : (id : WrittenId) (xs ys : List Owed) → expected_in id (xs ++ ys) ≡ expected_in id xs + expected_in id ys
-expected-append id [] ys = (let same : expected_in id ys ≡ 0 + expected_in id ys = omega arith in same)
-expected-append id (x ∷ xs) ys =
-    let rest = expected-append id xs ys in
-    (let same : as_number (is_expected id x) + expected_in id (xs ++ ys) ≡ as_number (is_expected id x) + expected_in id xs + expected_in id ys = omega (arith, rest) in same)
-
-pub more_open : (id : WrittenId) (x : Owed) (owed : List Due) → EndsEmpty owed → open_in id (owed_more x owed) ≡ open_in id owed + as_number (is_expected id x)
-more_open id x [] ends = absurd ends
-more_open id x (due ∷ []) ends = let sum = expected-append id due.entries (x ∷ []) in omega (arith, sum)
-more_open id x (due ∷ next ∷ owed) ends = let rest = more_open id x (next ∷ owed) ends.1 in omega (arith, rest)
-
-pub ends_plain : (owed : List Due) → EndsEmpty owed → ArePlain owed
-ends_plain [] ends = absurd ends
-ends_plain (due ∷ []) ends = (none ends.0 ends.1, tt)
-ends_plain (due ∷ next ∷ owed) ends = (ends.0, ends_plain (next ∷ owed) ends.1)
-
--- the last content is read
-last_plain : (b : Bool) (due : Due) → IsPlainDue due → ArePlain (if b then due ∷ [] else [])
-last_plain true due is = (is, tt)
-last_plain false due is = tt
-
-pub closed_plain : (owed : List Due) → ArePlain owed → ArePlain (closed owed)
-closed_plain [] plain = tt
-closed_plain (due ∷ []) plain = last_plain (is_open due) due plain.0
-closed_plain (due ∷ next ∷ owed) plain = (plain.0, closed_plain (next ∷ owed) plain.1)
-
-or_parts : (a b c : Bool) → (a || b || c) ≡ false → a ≡ false
-or_parts true b c is = is
-or_parts false b c is = refl
+-- it may be forgotten behind its last entry
+or_parts : (a b c : Bool) → (a || b || c) ≡ false → (a ≡ false) × (b ≡ false)
+or_parts true b c is = cc
+or_parts false true c is = cc
+or_parts false false c is = (refl, refl)
 
 some_left : (n : ℕ) → (suc n == 0) ≡ false
 some_left n = grind (arith, nat_tests)
 
-empty_of : (id : WrittenId) (entries : List Owed) → not (length entries == 0) ≡ false → expected_in id entries ≡ 0
-empty_of id [] is = refl
-empty_of id (x ∷ entries) is = absurd (let no : true ≡ false = sym (ap not (some_left (length entries))) ∙ is in cc)
+none_left : (entries : List Owed) → not (length entries == 0) ≡ false → entries ≡ []
+none_left [] is = refl
+none_left (x ∷ entries) is = absurd (let no : true ≡ false = sym (ap not (some_left (length entries))) ∙ is in cc)
 
-last_open : (id : WrittenId) (b : Bool) (due : Due) → is_open due ≡ b → open_in id (if b then due ∷ [] else []) ≡ open_in id (due ∷ [])
-last_open id true due is = refl
-last_open id false due is =
-    let none = empty_of id due.entries (or_parts (not (length due.entries == 0)) due.is_unreadable due.has_huge is) in
-    (let same : 0 ≡ expected_in id due.entries + 0 = omega (arith, none) in same)
+last_orderly : (b : Bool) (due : Due) → IsOrderly due → AreOrderly (if b then due ∷ [] else [])
+last_orderly true due is = (is, tt)
+last_orderly false due is = tt
 
-pub closed_open : (id : WrittenId) (owed : List Due) → open_in id (closed owed) ≡ open_in id owed
-closed_open id [] = refl
-closed_open id (due ∷ []) = last_open id (is_open due) due refl
-closed_open id (due ∷ next ∷ owed) = ap (λ n. expected_in id due.entries + n) (closed_open id (next ∷ owed))
+pub closed_orderly : (P : Due → Type 0) → ((due : Due) → P due → IsOrderly due) → (owed : List Due) → Ends P owed → AreOrderly (closed owed)
+closed_orderly P orderly [] ends = absurd ends
+closed_orderly P orderly (due ∷ []) ends = last_orderly (is_open due) due (orderly due ends)
+closed_orderly P orderly (due ∷ next ∷ owed) ends = (ends.0, closed_orderly P orderly (next ∷ owed) ends.1)
 
--- ---- an answer comes
+last_open : (q : Question) → CanBeAsked q → (b : Bool) (due : Due) → is_open due ≡ b → open_in q (if b then due ∷ [] else []) ≡ open_on q due
+last_open q can true due is = (let same : open_on q due + 0 ≡ open_on q due = omega arith in same)
+last_open q can false due is =
+    let parts = or_parts (not (length due.entries == 0)) due.is_unreadable due.has_huge is in
+    let empty = none_left due.entries parts.0 in
+    let none : open_on q due ≡ 0 = (λ i. asked_from q due.is_batch (parts.1 i) (filter_map (λ x. x.expected) (empty i))) ∙ nothing_asked q can due.is_batch in
+    sym none
 
-same_name : (a b : WrittenId) → IsNamed a → IsNamed b → same_id a b ≡ true → a ≡ b
-same_name Null b named other is = absurd named
-same_name (Text a) Null named other is = absurd other
-same_name (Text a) (Text b) named other is = ap Text (texts_equal a b is)
-same_name (Text a) (Number b) named other is = absurd (let no : false ≡ true = is in cc)
-same_name (Number a) Null named other is = absurd other
-same_name (Number a) (Text b) named other is = absurd (let no : false ≡ true = is in cc)
-same_name (Number a) (Number b) named other is =
-    ap Number (named.2 ∙ numbers_equal named.0 other.0 named.1 other.1 (sym (λ i. same_amount (amount_of (named.2 i)) (amount_of (other.2 i))) ∙ is) ∙ sym other.2)
+pub closed_open : (q : Question) → CanBeAsked q → (P : Due → Type 0) (n : ℕ) → ((due : Due) → P due → open_on q due ≡ n) → (owed : List Due) → Ends P owed → open_in q (closed owed) ≡ front_in q owed + n
+closed_open q can P n counts [] ends = absurd ends
+closed_open q can P n counts (due ∷ []) ends = let last = last_open q can (is_open due) due refl in let is = counts due ends in (let same : open_in q (closed (due ∷ [])) ≡ 0 + n = omega (arith, last, is) in same)
+closed_open q can P n counts (due ∷ next ∷ owed) ends = let rest = closed_open q can P n counts (next ∷ owed) ends.1 in omega (arith, rest)
 
--- the oldest request that expects this id, and what is left without it
-pub record Takes (id : WrittenId) (owed : List Due) : Type 0 where
+pub open_ends : (q : Question) (P : Due → Type 0) (n : ℕ) → ((due : Due) → P due → open_on q due ≡ n) → (owed : List Due) → Ends P owed → open_in q owed ≡ front_in q owed + n
+open_ends q P n counts [] ends = absurd ends
+open_ends q P n counts (due ∷ []) ends = let is = counts due ends in (let same : open_on q due + 0 ≡ 0 + n = omega (arith, is) in same)
+open_ends q P n counts (due ∷ next ∷ owed) ends = let rest = open_ends q P n counts (next ∷ owed) ends.1 in omega (arith, rest)
+
+pub ends_orderly : (P : Due → Type 0) → ((due : Due) → P due → IsOrderly due) → (owed : List Due) → Ends P owed → AreOrderly owed
+ends_orderly P orderly [] ends = absurd ends
+ends_orderly P orderly (due ∷ []) ends = (orderly due ends, tt)
+ends_orderly P orderly (due ∷ next ∷ owed) ends = (ends.0, ends_orderly P orderly (next ∷ owed) ends.1)
+
+-- ---- what stands last: a content alone, with no entry or with one; or a batch, from which these ids are expected
+
+pub record LastNew (due : Due) : Type 0 where
+  pub batch : due.is_batch ≡ false
+  pub readable : due.is_unreadable ≡ false
+  pub empty : due.entries ≡ []
+
+pub record LastOne (x : Owed) (due : Due) : Type 0 where
+  pub batch : due.is_batch ≡ false
+  pub readable : due.is_unreadable ≡ false
+  pub one : due.entries ≡ x ∷ []
+
+pub record LastBatch (ids : List WrittenId) (due : Due) : Type 0 where
+  pub batch : due.is_batch ≡ true
+  pub readable : due.is_unreadable ≡ false
+  pub are : expected_ids due ≡ ids
+
+never : {A : Type 0} (b : Bool) → b ≡ true → b ≡ false → A
+never true is isnt = absurd (cc)
+never false is isnt = absurd (cc)
+
+pub first_one : (x : Owed) (due : Due) → LastNew due → LastOne x (with_more x due)
+first_one x due last = record { batch = last.batch; readable = last.readable; one = ap (λ es. es ++ x ∷ []) last.empty }
+
+pub more_batch : (ids : List WrittenId) (x : Owed) (due : Due) → LastBatch ids due → LastBatch (ids ++ option_to_list x.expected) (with_more x due)
+more_batch ids x due last = record { batch = last.batch; readable = last.readable; are = more_ids x due.entries ∙ ap (λ them. them ++ option_to_list x.expected) last.are }
+
+module _ (settles : Bool) (by : WrittenId) where
+  pub new_cancelled : (due : Due) → LastNew due → LastNew (cancelled_in settles by due)
+  new_cancelled due last = record { batch = last.batch; readable = last.readable; empty = ap (map (cancelled settles by)) last.empty }
+
+  pub batch_cancelled : (ids : List WrittenId) (due : Due) → LastBatch ids due → LastBatch ids (cancelled_in settles by due)
+  batch_cancelled ids due last = record { batch = last.batch; readable = last.readable; are = same_ids_of settles by due.entries ∙ last.are }
+
+one_expected : (x : Owed) → filter_map (λ x. x.expected) (x ∷ []) ≡ option_to_list x.expected
+one_expected x = more_ids x []
+
+pub new_orderly : (due : Due) → LastNew due → IsOrderly due
+new_orderly due last = record {
+  few = λ e. subst IsFew (sym last.empty) tt;
+  plain = subst (λ es. ArePlain (filter_map (λ x. x.expected) es)) (sym last.empty) tt;
+  empty = λ e. (last.batch, last.empty);
+}
+
+pub one_orderly : (x : Owed) → ArePlain (option_to_list x.expected) → (due : Due) → LastOne x due → IsOrderly due
+one_orderly x plain due last = record {
+  few = λ e. subst IsFew (sym last.one) tt;
+  plain = subst ArePlain (sym (ap (filter_map (λ x. x.expected)) last.one ∙ one_expected x)) plain;
+  empty = λ e. never due.is_unreadable e last.readable;
+}
+
+pub batch_orderly : (ids : List WrittenId) → ArePlain ids → (due : Due) → LastBatch ids due → IsOrderly due
+batch_orderly ids plain due last = record {
+  few = λ e. never due.is_batch last.batch e;
+  plain = subst ArePlain (sym last.are) plain;
+  empty = λ e. never due.is_unreadable e last.readable;
+}
+
+module _ (q : Question) where
+  pub new_open : (due : Due) → LastNew due → open_on q due ≡ asked_from q false false []
+  new_open due last = λ i. asked_from q (last.batch i) (last.readable i) (filter_map (λ x. x.expected) (last.empty i))
+
+  pub one_open : (x : Owed) (due : Due) → LastOne x due → open_on q due ≡ asked_from q false false (option_to_list x.expected)
+  one_open x due last = (λ i. asked_from q (last.batch i) (last.readable i) (filter_map (λ x. x.expected) (last.one i))) ∙ ap (asked_from q false false) (one_expected x)
+
+  pub batch_open : (ids : List WrittenId) (due : Due) → LastBatch ids due → open_on q due ≡ asked_from q true false ids
+  batch_open ids due last = λ i. asked_from q (last.batch i) (last.readable i) (last.are i)
+
+-- ---- a single answer comes: the oldest entry alone that fits
+
+abbrev matching : (Owed → Bool) → List Owed → ℕ
+matching fits [] = 0
+matching fits (x ∷ entries) = as_number (fits x) + matching fits entries
+
+abbrev pub fitting_on : (Owed → Bool) → Due → ℕ
+fitting_on fits due = if due.is_batch then 0 else matching fits due.entries
+
+abbrev pub fitting : (Owed → Bool) → List Due → ℕ
+fitting fits [] = 0
+fitting fits (due ∷ owed) = fitting_on fits due + fitting fits owed
+
+-- it, and what is left without it
+pub record Takes (fits : Owed → Bool) (owed : List Due) : Type 0 where
   pub content : ℕ
-  pub is : oldest false (is_request_for id) owed ≡ Some (EntryOf content 0)
+  pub is : oldest false fits owed ≡ Some (EntryOf content 0)
   pub fit : Fit
   pub found_is : dues.found (Some (EntryOf content 0)) owed ≡ Some (EntryFit fit)
   pub alone : fit.in_batch ≡ false
-  pub plain : ArePlain (settled_entry content 0 owed)
-  pub enough : (other : WrittenId) → IsNamed other → open_in other owed ≤ open_in other (settled_entry content 0 owed) + as_number (same_id other id)
+  pub it : Owed
+  pub fits_it : fits it ≡ true
+  pub plain : ArePlain (option_to_list it.expected)
+  pub orderly : AreOrderly (settled_entry content 0 owed)
+  pub left : (q : Question) → open_in q owed ≡ open_in q (settled_entry content 0 owed) + asked_from q false false (option_to_list it.expected)
 
 one_none : (test : Owed → Bool) (x : Owed) → test x ≡ false → position test (x ∷ []) ≡ None
-one_none test x isnt = ap (λ b. cond (nat_lt (cond (not b) (1 + position_or_len test []) 0) 1) (Some (cond (not b) (1 + position_or_len test []) 0)) None) isnt
+one_none test x isnt = passed_by test x [] isnt refl
 
-behind_due : (id : WrittenId) (due : Due) (owed : List Due) → due.is_batch ≡ false → position (is_request_for id) due.entries ≡ None → IsPlainDue due → Takes id owed → Takes id (due ∷ owed)
-behind_due id due owed alone nowhere is rest = record {
+abbrev place_by : Bool → Option ℕ → Option ℕ
+place_by batch place = if (if false then batch else not batch) then place else None
+
+takes_behind : (fits : Owed → Bool) (due : Due) (owed : List Due) → place_in false fits due ≡ None → IsOrderly due → Takes fits owed → Takes fits (due ∷ owed)
+takes_behind fits due owed none is rest = record {
   content = suc rest.content;
-  is = ap (λ b. option_map_or (λ place. Some (EntryOf 0 place)) (if (if false then b else not b) then position (is_request_for id) due.entries else None) (option_map later (oldest false (is_request_for id) owed))) alone
-      ∙ ap (λ o. option_map_or (λ place. Some (EntryOf 0 place)) o (option_map later (oldest false (is_request_for id) owed))) nowhere ∙ ap (option_map later) rest.is;
+  is = ap (λ o. option_map_or (λ place. Some (EntryOf 0 place)) o (option_map later (oldest false fits owed))) none ∙ ap (option_map later) rest.is;
   fit = rest.fit;
   found_is = rest.found_is;
   alone = rest.alone;
-  plain = (is, rest.plain);
-  enough = λ other named. let e = rest.enough other named in omega (arith, e);
+  it = rest.it;
+  fits_it = rest.fits_it;
+  plain = rest.plain;
+  orderly = (is, rest.orderly);
+  left = λ q. let e = rest.left q in omega (arith, e);
 }
 
-pub takes : (id : WrittenId) (owed : List Due) → IsNamed id → ArePlain owed → 1 ≤ open_in id owed → Takes id owed
-takes id [] named plain some = absurd (omega (arith, some))
-takes id (due ∷ owed) named plain some = from plain.0 (takes id owed named plain.1)
+takes_here : (fits : Owed → Bool) (due : Due) (owed : List Due) (x : Owed) → due.is_batch ≡ false → due.entries ≡ x ∷ [] → fits x ≡ true → IsOrderly due → AreOrderly owed → Takes fits (due ∷ owed)
+takes_here fits due owed x single one fit is orderly =
+    let at : place_in false fits due ≡ Some 0 = (λ i. place_by (single i) (position fits (one i))) ∙ first_place fits x [] fit in
+    let gone : settled_entry 0 0 (due ∷ owed) ≡ owed = ap (λ es. with_entries (remove es 0) due owed) one in
+    let readable : due.is_unreadable ≡ false = unread_not due.is_unreadable refl in
+    let last : LastOne x due = record { batch = single; readable = readable; one = one } in
+    record {
+      content = 0;
+      is = ap (λ o. option_map_or (λ place. Some (EntryOf 0 place)) o (option_map later (oldest false fits owed))) at;
+      fit = fit_of due x;
+      found_is = ap (λ es. option_map EntryFit (option_map (fit_of due) (slice_get es 0))) one;
+      alone = single;
+      it = x;
+      fits_it = fit;
+      plain = subst ArePlain (ap (filter_map (λ x. x.expected)) one ∙ one_expected x) is.plain;
+      orderly = subst AreOrderly (sym gone) orderly;
+      left = λ q. let here = one_open q x due last in let same = ap (open_in q) gone in omega (arith, here, same);
+    }
   where
-    from : IsPlainDue due → (1 ≤ open_in id owed → Takes id owed) → Takes id (due ∷ owed)
-    from (none alone empty) rest =
-        let zero_here : expected_in id due.entries ≡ 0 = ap (expected_in id) empty in
-        behind_due id due owed alone (ap (position (is_request_for id)) empty) plain.0 (rest (omega (arith, some, zero_here)))
-    from (one x name alone only request is named_x) rest = by (same_id id name) refl
-      where
-        test_is : is_request_for id x ≡ same_id id name
-        test_is = (λ i. request i && has_id id (is i))
+    no_entry : x ∷ [] ≡ [] → ⊥
+    no_entry e = cc
 
-        here_is : expected_in id due.entries ≡ as_number (same_id id name) + 0
-        here_is = ap (expected_in id) only ∙ ap (λ o. as_number (has_id id o) + 0) is
+    unread_not : (b : Bool) → due.is_unreadable ≡ b → due.is_unreadable ≡ false
+    unread_not true e = absurd (no_entry (sym one ∙ (is.empty e).1))
+    unread_not false e = e
 
-        by : (b : Bool) → same_id id name ≡ b → Takes id (due ∷ owed)
-        by true same =
-            let equal = same_name id name named named_x same in
-            let at : position (is_request_for id) due.entries ≡ Some 0 = ap (position (is_request_for id)) only ∙ first_place (is_request_for id) x [] (test_is ∙ same) in
-            record {
-              content = 0;
-              is = ap (λ b. option_map_or (λ place. Some (EntryOf 0 place)) (if (if false then b else not b) then position (is_request_for id) due.entries else None) (option_map later (oldest false (is_request_for id) owed))) alone
-                  ∙ ap (λ o. option_map_or (λ place. Some (EntryOf 0 place)) o (option_map later (oldest false (is_request_for id) owed))) at;
-              fit = fit_of due x;
-              found_is = ap (λ es. option_map EntryFit (option_map (fit_of due) (slice_get es 0))) only;
-              alone = alone;
-              plain = subst (λ es. ArePlain (with_entries (remove es 0) due owed)) (sym only) plain.1;
-              enough = λ other other_named.
-                  let here : expected_in other due.entries ≡ as_number (same_id other id) + 0 = ap (expected_in other) only ∙ ap (λ o. as_number (has_id other o) + 0) is ∙ ap (λ n. as_number (same_id other n) + 0) (sym equal) in
-                  let left : open_in other (with_entries (remove due.entries 0) due owed) ≡ open_in other owed = ap (λ es. open_in other (with_entries (remove es 0) due owed)) only in
-                  omega (arith, here, left);
-            }
-        by false differ =
-            let zero_here : expected_in id due.entries ≡ 0 = here_is ∙ ap (λ b. as_number b + 0) differ in
-            behind_due id due owed alone (ap (position (is_request_for id)) only ∙ one_none (is_request_for id) x (test_is ∙ differ)) plain.0 (rest (omega (arith, some, zero_here)))
+takes_by : (fits : Owed → Bool) (due : Due) (owed : List Due) (batch : Bool) → due.is_batch ≡ batch → (entries : List Owed) → due.entries ≡ entries → IsOrderly due → AreOrderly owed → (1 ≤ fitting fits owed → Takes fits owed)
+    → 1 ≤ (if batch then 0 else matching fits entries) + fitting fits owed → Takes fits (due ∷ owed)
+takes_by fits due owed true single entries are is orderly later some =
+    takes_behind fits due owed (ap (λ b. place_by b (position fits due.entries)) single) is (later (omega (arith, some)))
+takes_by fits due owed false single [] are is orderly later some =
+    takes_behind fits due owed ((λ i. place_by (single i) (position fits (are i)))) is (later (omega (arith, some)))
+takes_by fits due owed false single (x ∷ []) are is orderly later some = from (fits x) refl
+  where
+    from : (b : Bool) → fits x ≡ b → Takes fits (due ∷ owed)
+    from true fit = takes_here fits due owed x single are fit is orderly
+    from false fit =
+        let none = ap as_number fit in
+        takes_behind fits due owed ((λ i. place_by (single i) (position fits (are i))) ∙ one_none fits x fit) is (later (omega (arith, some, none)))
+takes_by fits due owed false single (x ∷ y ∷ entries) are is orderly later some = absurd (subst IsFew are (is.few single))
+
+pub takes : (fits : Owed → Bool) (owed : List Due) → AreOrderly owed → 1 ≤ fitting fits owed → Takes fits owed
+takes fits [] orderly some = absurd (omega (arith, some))
+takes fits (due ∷ owed) orderly some = takes_by fits due owed due.is_batch refl due.entries refl orderly.0 orderly.1 (takes fits owed orderly.1) some
+
+-- where none fits
+none_matches : (fits : Owed → Bool) (entries : List Owed) → matching fits entries ≡ 0 → position fits entries ≡ None
+none_matches fits [] none = refl
+none_matches fits (x ∷ entries) none = from (fits x) refl (none_matches fits entries)
+  where
+    from : (b : Bool) → fits x ≡ b → (matching fits entries ≡ 0 → position fits entries ≡ None) → position fits (x ∷ entries) ≡ None
+    from true fit later = absurd (let one = ap as_number fit in omega (arith, none, one))
+    from false fit later = passed_by fits x entries fit (later (omega (arith, none)))
+
+place_none : (fits : Owed → Bool) (due : Due) (batch : Bool) → due.is_batch ≡ batch → (if batch then 0 else matching fits due.entries) ≡ 0 → place_in false fits due ≡ None
+place_none fits due true single none = ap (λ b. place_by b (position fits due.entries)) single
+place_none fits due false single none = ap (λ b. place_by b (position fits due.entries)) single ∙ none_matches fits due.entries none
+
+pub none_oldest : (fits : Owed → Bool) (owed : List Due) → fitting fits owed ≡ 0 → oldest false fits owed ≡ None
+none_oldest fits [] none = refl
+none_oldest fits (due ∷ owed) none =
+    ap (λ o. option_map_or (λ place. Some (EntryOf 0 place)) o (option_map later (oldest false fits owed))) (place_none fits due due.is_batch refl (omega (arith, none)))
+    ∙ ap (option_map later) (none_oldest fits owed (omega (arith, none)))
+
+-- ---- how many entries fit
+
+as_expected : (id : WrittenId) (entries : List Owed) → times id (filter_map (λ x. x.expected) entries) ≡ matching (is_expected id) entries
+as_expected id [] = refl
+as_expected id (x ∷ entries) = from x.expected refl (as_expected id entries)
+  where
+    from : (o : Option WrittenId) → x.expected ≡ o → times id (filter_map (λ x. x.expected) entries) ≡ matching (is_expected id) entries → times id (filter_map (λ x. x.expected) (x ∷ entries)) ≡ matching (is_expected id) (x ∷ entries)
+    from None is rest = simp (is) (let same : times id (filter_map (λ x. x.expected) entries) ≡ 0 + matching (is_expected id) entries = omega (arith, rest) in same)
+    from (Some other) is rest = simp (is, rest) refl
+
+pub alone_fits : (id : WrittenId) (owed : List Due) → open_in (alone id) owed ≡ fitting (is_expected id) owed
+alone_fits id [] = refl
+alone_fits id (due ∷ owed) = λ i. (if due.is_batch then 0 else as_expected id due.entries i) + alone_fits id owed i
+
+as_null : (entries : List Owed) → nulls (filter_map (λ x. x.expected) entries) ≡ matching expects_null entries
+as_null [] = refl
+as_null (x ∷ entries) = from x.expected refl (as_null entries)
+  where
+    from : (o : Option WrittenId) → x.expected ≡ o → nulls (filter_map (λ x. x.expected) entries) ≡ matching expects_null entries → nulls (filter_map (λ x. x.expected) (x ∷ entries)) ≡ matching expects_null (x ∷ entries)
+    from None is rest = simp (is) (let same : nulls (filter_map (λ x. x.expected) entries) ≡ 0 + matching expects_null entries = omega (arith, rest) in same)
+    from (Some other) is rest = simp (is, rest) refl
+
+pub unnamed_fits : (owed : List Due) → open_in unnamed owed ≡ fitting expects_null owed
+unnamed_fits [] = refl
+unnamed_fits (due ∷ owed) = λ i. (if due.is_batch then 0 else as_null due.entries i) + unnamed_fits owed i
+
+-- a request, or another entry
+parts_of : (request null : Bool) → as_number null ≡ as_number (request && null) + as_number (not request && null)
+parts_of true true = refl
+parts_of true false = refl
+parts_of false true = refl
+parts_of false false = refl
+
+matching_parts : (entries : List Owed) → matching expects_null entries ≡ matching is_null_request entries + matching is_null_other entries
+matching_parts [] = refl
+matching_parts (x ∷ entries) = let first = parts_of x.is_request (expects_null x) in let rest = matching_parts entries in omega (arith, first, rest)
+
+fitting_by : (batch : Bool) (entries : List Owed) → (if batch then 0 else matching expects_null entries) ≡ (if batch then 0 else matching is_null_request entries) + (if batch then 0 else matching is_null_other entries)
+fitting_by true entries = refl
+fitting_by false entries = matching_parts entries
+
+pub null_parts : (owed : List Due) → fitting expects_null owed ≡ fitting is_null_request owed + fitting is_null_other owed
+null_parts [] = refl
+null_parts (due ∷ owed) = let first = fitting_by due.is_batch due.entries in let rest = null_parts owed in omega (arith, first, rest)
+
+-- ---- the whole of a content is answered
+
+pub record TakesWhole (test : Due → Bool) (owed : List Due) : Type 0 where
+  pub content : ℕ
+  pub is : position test owed ≡ Some content
+  pub it : Due
+  pub there : slice_get owed content ≡ Some it
+  pub fits_it : test it ≡ true
+  pub was : IsOrderly it
+  pub orderly : AreOrderly (remove owed content)
+  pub left : (q : Question) → open_in q owed ≡ open_in q (remove owed content) + open_on q it
+
+whole_by : (test : Due → Bool) (due : Due) (owed : List Due) (b : Bool) → test due ≡ b → IsOrderly due → AreOrderly owed → (b ≡ false → TakesWhole test owed) → TakesWhole test (due ∷ owed)
+whole_by test due owed true fit is orderly later = record {
+  content = 0;
+  is = first_place test due owed fit;
+  it = due;
+  there = refl;
+  fits_it = fit;
+  was = is;
+  orderly = orderly;
+  left = λ q. (let same : open_on q due + open_in q owed ≡ open_in q owed + open_on q due = omega arith in same);
+}
+whole_by test due owed false fit is orderly later =
+    let rest = later refl in
+    record {
+      content = suc rest.content;
+      is = next_place test due owed rest.content fit rest.is;
+      it = rest.it;
+      there = rest.there;
+      fits_it = rest.fits_it;
+      was = rest.was;
+      orderly = (is, rest.orderly);
+      left = λ q. let e = rest.left q in (let same : open_on q due + open_in q owed ≡ open_on q due + open_in q (remove owed rest.content) + open_on q rest.it = omega (arith, e) in same);
+    }
+
+module _ (asked : Question) (test : Due → Bool) (counts : (due : Due) → open_on asked due ≡ as_number (test due)) where
+  pub takes_whole : (owed : List Due) → AreOrderly owed → 1 ≤ open_in asked owed → TakesWhole test owed
+  takes_whole [] orderly some = absurd (omega (arith, some))
+  takes_whole (due ∷ owed) orderly some =
+      whole_by test due owed (test due) refl orderly.0 orderly.1
+      (λ isnt. takes_whole owed orderly.1 (let none = counts due ∙ ap as_number isnt in omega (arith, some, none)))

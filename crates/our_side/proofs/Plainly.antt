@@ -1,14 +1,13 @@
--- All of a conversation where each content is one message.
-use Rattle.std.proofs.Common.{◌≡◌, ℕ, ◌+◌, ◌≤◌, Bool, true, false, List, [], ◌∷◌, ◌++◌, drop, take, None, refl, sym, ap, subst, ◌∙◌, arith, take-append-drop}
+-- All of a conversation.
+use Rattle.std.proofs.Common.{◌≡◌, ℕ, ◌+◌, ◌≤◌, Bool, false, List, [], ◌∷◌, ◌++◌, drop, take, refl, sym, ap, subst, ◌∙◌, arith, take-append-drop}
 use Rattle.std.proofs.lemmas.List.{take-append-le}
-use Rattle.std.specs.Prelude.{is_some}
+use Rattle.std.specs.Prelude.{⊤}
 use Rattle.lsp_frames.specs.declared.frame.Frame.{Frame}
 use Rattle.lsp_frames.specs.declared.frame.FrameFault.{FrameFault}
 use Rattle.lsp_frames.specs.declared.frame.FrameFault.TheVariants.{BadHead, BadLength, TwoLengths, TooLarge, NoLength, HeadTooLong, Truncated}
 use Rattle.content_streams.specs.Streams.{Stream, placed_contents}
 use Rattle.content_streams.specs.declared.framing.Framing.{Framing}
 use Rattle.conversation_reading.specs.Strictly.{reading_of}
-use Rattle.conversation_reading.specs.declared.entry.WrittenId.{WrittenId}
 use Rattle.conversation_rules.specs.Contents.{content_outcome, next_message, counted}
 use Rattle.conversation_rules.specs.Judging.{Seen, State, stream_of, pair_of, new_state, state_of, state_from, findings_of, fault_rule}
 use Rattle.conversation_rules.specs.Speakers.{Pair}
@@ -18,24 +17,25 @@ use Rattle.conversation_rules.specs.declared.protocol.Protocol.{Protocol}
 use Rattle.conversation_rules.specs.declared.side.Side.{Side}
 use Rattle.conversation_rules.specs.declared.side.Side.TheVariants.{Client, Server}
 use Rattle.conversation_rules.proofs.Growing.{state_from-append}
-use Rattle.our_side.specs.Asked.{IsNamed, answered_by, asked_in, answered_in, AllAsk, AllSay, judged}
+use Rattle.our_side.specs.Asked.{Question, CanBeAsked, answered_by, asked_in, answered_in, AllSay, judged}
 use Rattle.our_side.specs.Breaking.{BreaksNone, is_of_answers}
-use Rattle.our_side.proofs.Answering.{ask_single, fair, our_may, our_behind}
+use Rattle.our_side.proofs.Answering.{ask_content, fair, our_may, our_behind}
 use Rattle.our_side.proofs.Both.{Placed, KeepsBoth, both_each, step_steady}
 use Rattle.our_side.proofs.Fair.{Silent, own_hosts, own_is, their_content, faults_each, their_fault_each, we_left_each, they_left_each, breaks_none}
-use Rattle.our_side.proofs.Open.{open_in, ArePlain}
+use Rattle.our_side.proofs.Formed.{reading_formed}
+use Rattle.our_side.proofs.Open.{open_in, AreOrderly}
 use Rattle.our_side.proofs.Streaming.{other, swap, Later, Grow, grown, all_later, IsSteady}
 use Rattle.our_side.proofs.Walking.{Each, reading_each}
 
 -- ---- counts
 
-answered-append : (id : WrittenId) (xs ys : Placed) → answered_in id (xs ++ ys) ≡ answered_in id xs + answered_in id ys
-answered-append id [] ys = (let same : answered_in id ys ≡ 0 + answered_in id ys = omega arith in same)
-answered-append id (x ∷ xs) ys = let rest = answered-append id xs ys in omega (arith, rest)
+answered-append : (q : Question) (xs ys : Placed) → answered_in q (xs ++ ys) ≡ answered_in q xs + answered_in q ys
+answered-append q [] ys = (let same : answered_in q ys ≡ 0 + answered_in q ys = omega arith in same)
+answered-append q (x ∷ xs) ys = let rest = answered-append q xs ys in omega (arith, rest)
 
-asked-append : (id : WrittenId) (xs ys : Placed) → asked_in id (xs ++ ys) ≡ asked_in id xs + asked_in id ys
-asked-append id [] ys = (let same : asked_in id ys ≡ 0 + asked_in id ys = omega arith in same)
-asked-append id (x ∷ xs) ys = let rest = asked-append id xs ys in omega (arith, rest)
+asked-append : (q : Question) (xs ys : Placed) → asked_in q (xs ++ ys) ≡ asked_in q xs + asked_in q ys
+asked-append q [] ys = (let same : asked_in q ys ≡ 0 + asked_in q ys = omega arith in same)
+asked-append q (x ∷ xs) ys = let rest = asked-append q xs ys in omega (arith, rest)
 
 no_rule : (fault : FrameFault) → is_of_answers (fault_rule fault) ≡ false
 no_rule BadHead = refl
@@ -46,37 +46,40 @@ no_rule NoLength = refl
 no_rule HeadTooLong = refl
 no_rule Truncated = refl
 
-module _ (protocol : Protocol) (side : Side) (mine yours : Stream) (unended : mine.ended ≡ None) where
+module _ (protocol : Protocol) (side : Side) (mine yours : Stream) where
   abbrev P : Finding → Type 0
   P = Silent side is_of_answers
 
-  -- no id was answered more often than it was asked, by what is still to come
+  -- nothing was answered more often than it was asked, by what is still to come
   abbrev pub Timely : Placed → Placed → Type 0
-  Timely rest theirs = (id : WrittenId) → IsNamed id → answered_in id (placed_contents mine) + asked_in id theirs ≤ asked_in id (placed_contents yours) + answered_in id rest
+  Timely rest theirs = (q : Question) → CanBeAsked q → answered_in q (placed_contents mine) + asked_in q theirs ≤ asked_in q (placed_contents yours) + answered_in q rest
 
-  -- what is open is enough for what is asked and not answered yet
+  -- there is more to come
+  abbrev IsMore : Placed → Type 0
+  IsMore [] = ⊥
+  IsMore (placed ∷ rest) = ⊤
+
+  -- what is open is enough for what is asked and not answered yet, as long as more is said
   pub record Holds (ours theirs : Placed) (pair : Pair) : Type 0 where
-    pub asks : AllAsk theirs
     pub says : AllSay ours
-    pub plain : ArePlain pair.other.owed
-    pub enough : (id : WrittenId) → IsNamed id → asked_in id (placed_contents yours) + answered_in id ours ≤ open_in id pair.other.owed + asked_in id theirs + answered_in id (placed_contents mine)
+    pub orderly : AreOrderly pair.other.owed
+    pub enough : IsMore ours → (q : Question) → CanBeAsked q → asked_in q (placed_contents yours) + answered_in q ours ≤ open_in q pair.other.owed + asked_in q theirs + answered_in q (placed_contents mine)
 
   more_timely : (new rest theirs : Placed) → Timely rest theirs → Timely (new ++ rest) theirs
-  more_timely new rest theirs timely = λ id named. let le = timely id named in let sum = answered-append id new rest in omega (arith, le, sum)
+  more_timely new rest theirs timely = λ q can. let le = timely q can in let sum = answered-append q new rest in omega (arith, le, sum)
 
   ours : (is_unfinished : Bool) (placed : ℕ × Frame) (rest theirs : Placed) (pair : Pair) → Timely rest theirs → Holds (placed ∷ rest) theirs pair
       → Each P (content_outcome protocol side is_unfinished placed pair).findings × Holds rest theirs (content_outcome protocol side is_unfinished placed pair).pair
   ours is_unfinished placed rest theirs pair timely holds =
       let message = next_message side placed.0 pair in
       let reading = reading_of placed.1.foreign placed.1.content in
-      let expects : (id : WrittenId) → IsNamed id → 1 ≤ answered_by id reading → 1 ≤ open_in id pair.other.owed = λ id named some. let have = holds.enough id named in let time = timely id named in omega (arith, have, time, some) in
-      let behind = our_behind side protocol message refl is_unfinished (counted pair) reading holds.plain holds.says.0 expects in (
-        reading_each P message (own_hosts side is_of_answers message refl (fair side)) protocol is_unfinished (counted pair) reading (our_may side protocol message refl is_unfinished (counted pair) reading holds.plain holds.says.0 expects),
+      let expects : (q : Question) → CanBeAsked q → 1 ≤ answered_by q reading → 1 ≤ open_in q pair.other.owed = λ q can some. let have = holds.enough tt q can in let time = timely q can in omega (arith, have, time, some) in
+      let behind = our_behind side protocol message refl is_unfinished (counted pair) reading holds.orderly holds.says.0 expects in (
+        reading_each P message (own_hosts side is_of_answers message refl (fair side)) protocol is_unfinished (counted pair) reading (our_may side protocol message refl is_unfinished (counted pair) reading holds.orderly holds.says.0 expects),
         record {
-          asks = holds.asks;
           says = holds.says.1;
-          plain = behind.plain_after;
-          enough = λ id named. let have = holds.enough id named in let left = behind.enough id named in omega (arith, have, left);
+          orderly = behind.orderly_after;
+          enough = λ more q can. let have = holds.enough tt q can in let left = behind.enough q can in omega (arith, have, left);
         },
       )
 
@@ -85,28 +88,24 @@ module _ (protocol : Protocol) (side : Side) (mine yours : Stream) (unended : mi
   theirs is_unfinished placed ours rest pair holds =
       let message = next_message (other side) placed.0 (swap pair) in
       let reading = reading_of placed.1.foreign placed.1.content in
-      let got = ask_single protocol is_unfinished message (counted (swap pair)) reading holds.plain holds.asks.0 in (
+      let got = ask_content protocol is_unfinished message (counted (swap pair)) reading holds.orderly (reading_formed placed.1.foreign placed.1.content) in (
         their_content side is_of_answers protocol is_unfinished placed (swap pair),
         record {
-          asks = holds.asks.1;
           says = holds.says;
-          plain = got.0;
-          enough = λ id named. let have = holds.enough id named in let more = got.1 id in omega (arith, have, more);
+          orderly = got.orderly;
+          enough = λ some q can. let have = holds.enough some q can in let more = got.opened q can in omega (arith, have, more);
         },
       )
-
-  not_ended : (s : Stream) → Later s mine → is_some s.ended ≡ true → ⊥
-  not_ended s later is = let no : false ≡ true = ap is_some (sym unended) ∙ ap is_some (later.ended is) ∙ is in cc
 
   keeps : KeepsBoth protocol side P Timely Holds mine yours
   keeps = record {
     more_timely = more_timely;
     ours = ours;
     theirs = theirs;
-    our_end = λ s ours theirs pair holds. record { asks = holds.asks; says = holds.says; plain = holds.plain; enough = holds.enough };
-    their_end = λ s ours theirs pair holds. record { asks = holds.asks; says = holds.says; plain = holds.plain; enough = holds.enough };
-    we_ended = λ s ours theirs pair later is holds. absurd (not_ended s later is);
-    they_ended = λ ours theirs pair holds. record { asks = holds.asks; says = holds.says; plain = holds.plain; enough = holds.enough };
+    our_end = λ s ours theirs pair holds. record { says = holds.says; orderly = holds.orderly; enough = holds.enough };
+    their_end = λ s ours theirs pair holds. record { says = holds.says; orderly = holds.orderly; enough = holds.enough };
+    we_ended = λ s ours theirs pair later is none holds. record { says = holds.says; orderly = tt; enough = λ more. absurd (subst IsMore none more) };
+    they_ended = λ ours theirs pair holds. record { says = holds.says; orderly = holds.orderly; enough = holds.enough };
     our_fault = λ s pair later. faults_each P side s pair (λ place fault is. own_is side (is_of_answers (fault_rule fault)) (no_rule fault));
     their_fault = their_fault_each side is_of_answers;
     we_left = we_left_each side is_of_answers refl;
@@ -123,9 +122,9 @@ start_steady : (side : Side) (framing : Framing) (limits : Limits) → IsSteady 
 start_steady Client framing limits = omega arith
 start_steady Server framing limits = omega arith
 
-start_plain : (side : Side) (framing : Framing) (limits : Limits) → ArePlain (pair_of side (new_state framing limits)).other.owed
-start_plain Client framing limits = tt
-start_plain Server framing limits = tt
+start_orderly : (side : Side) (framing : Framing) (limits : Limits) → AreOrderly (pair_of side (new_state framing limits)).other.owed
+start_orderly Client framing limits = tt
+start_orderly Server framing limits = tt
 
 start_untaken : (side : Side) (framing : Framing) (limits : Limits) (contents : Placed) → drop (stream_of side (new_state framing limits)).taken contents ≡ contents
 start_untaken Client framing limits contents = refl
@@ -158,22 +157,22 @@ module _ (grow : Grow) (protocol : Protocol) (side : Side) (framing : Framing) (
   parts_of a front back split =
       parts grow (stream_of a (state_from protocol start front)) (stream_of a (state_of protocol framing limits seen)) (later_of a front back split) (all_steady grow protocol a front start (start_steady a framing limits))
 
-  pub answers_none : AllAsk (placed_contents yours) → AllSay (placed_contents mine) → mine.ended ≡ None
-      → ((before after : List Seen) → seen ≡ before ++ after → (id : WrittenId) → IsNamed id
-      → answered_in id (judged (stream_of side (state_of protocol framing limits before))) ≤ asked_in id (judged (stream_of (other side) (state_of protocol framing limits before))))
+  pub answers_none : AllSay (placed_contents mine)
+      → ((before after : List Seen) → seen ≡ before ++ after → (q : Question) → CanBeAsked q
+      → answered_in q (judged (stream_of side (state_of protocol framing limits before))) ≤ asked_in q (judged (stream_of (other side) (state_of protocol framing limits before))))
       → BreaksNone side is_of_answers (findings_of protocol framing limits seen)
-  answers_none asks says unended counts =
+  answers_none says counts =
       breaks_none side is_of_answers (findings_of protocol framing limits seen)
-      (both_each grow protocol side (Silent side is_of_answers) (Timely protocol side mine yours unended) (Holds protocol side mine yours unended) mine yours (keeps protocol side mine yours unended) seen start
+      (both_each grow protocol side (Silent side is_of_answers) (Timely protocol side mine yours) (Holds protocol side mine yours) mine yours (keeps protocol side mine yours) seen start
       (start_steady side framing limits) (start_steady (other side) framing limits)
-      (subst (λ xs. Holds protocol side mine yours unended xs (drop (stream_of (other side) start).taken (placed_contents yours)) (pair_of side start)) (sym (start_untaken side framing limits (placed_contents mine)))
-      (subst (λ ys. Holds protocol side mine yours unended (placed_contents mine) ys (pair_of side start)) (sym (start_untaken (other side) framing limits (placed_contents yours)))
-      (record { asks = asks; says = says; plain = start_plain side framing limits; enough = λ id named. omega arith })))
+      (subst (λ xs. Holds protocol side mine yours xs (drop (stream_of (other side) start).taken (placed_contents yours)) (pair_of side start)) (sym (start_untaken side framing limits (placed_contents mine)))
+      (subst (λ ys. Holds protocol side mine yours (placed_contents mine) ys (pair_of side start)) (sym (start_untaken (other side) framing limits (placed_contents yours)))
+      (record { says = says; orderly = start_orderly side framing limits; enough = λ more q can. omega arith })))
       refl refl
-      (λ front back split id named.
-      let count = counts front back split id named in
-      let m : answered_in id (placed_contents mine) ≡ answered_in id (judged (stream_of side (state_from protocol start front))) + answered_in id (drop (stream_of side (state_from protocol start front)).taken (placed_contents mine)) =
-      ap (answered_in id) (parts_of side front back split) ∙ answered-append id (judged (stream_of side (state_from protocol start front))) (drop (stream_of side (state_from protocol start front)).taken (placed_contents mine)) in
-      let y : asked_in id (placed_contents yours) ≡ asked_in id (judged (stream_of (other side) (state_from protocol start front))) + asked_in id (drop (stream_of (other side) (state_from protocol start front)).taken (placed_contents yours)) =
-      ap (asked_in id) (parts_of (other side) front back split) ∙ asked-append id (judged (stream_of (other side) (state_from protocol start front))) (drop (stream_of (other side) (state_from protocol start front)).taken (placed_contents yours)) in
+      (λ front back split q can.
+      let count = counts front back split q can in
+      let m : answered_in q (placed_contents mine) ≡ answered_in q (judged (stream_of side (state_from protocol start front))) + answered_in q (drop (stream_of side (state_from protocol start front)).taken (placed_contents mine)) =
+      ap (answered_in q) (parts_of side front back split) ∙ answered-append q (judged (stream_of side (state_from protocol start front))) (drop (stream_of side (state_from protocol start front)).taken (placed_contents mine)) in
+      let y : asked_in q (placed_contents yours) ≡ asked_in q (judged (stream_of (other side) (state_from protocol start front))) + asked_in q (drop (stream_of (other side) (state_from protocol start front)).taken (placed_contents yours)) =
+      ap (asked_in q) (parts_of (other side) front back split) ∙ asked-append q (judged (stream_of (other side) (state_from protocol start front))) (drop (stream_of (other side) (state_from protocol start front)).taken (placed_contents yours)) in
       omega (arith, count, m, y)))

@@ -105,7 +105,7 @@ call_id_is (Some j) has = given_id (id_of j) (id_is j has)
 id_named : (name : List ℕ) (j : Json) → HasTexts j → IfHasId (call_id (get name j))
 id_named name j texts = call_id_is (get name j) (member_has_texts name j texts)
 
-last_is : (p : Option (Json × List Token)) (j : Json) → option_and_then (λ p. if_last p.0 p.1) p ≡ Some j → p ≡ Some (j, [])
+pub last_is : (p : Option (Json × List Token)) (j : Json) → option_and_then (λ p. if_last p.0 p.1) p ≡ Some j → p ≡ Some (j, [])
 last_is None j e = cc
 last_is (Some (i, [])) j e = cc
 last_is (Some (i, t ∷ ts)) j e = cc

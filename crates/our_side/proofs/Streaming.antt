@@ -150,6 +150,12 @@ dropped_front zero xs ys le = refl
 dropped_front (suc k) [] ys le = absurd (let e : suc k ≤ 0 = le in omega (arith, e))
 dropped_front (suc k) (x ∷ xs) ys le = dropped_front k xs ys (let e : suc k ≤ suc (length xs) = le in omega (arith, e))
 
+-- behind its end there are no more
+pub ended_contents : (s f : Stream) → Later s f → is_some s.ended ≡ true → placed_contents f ≡ placed_contents s
+ended_contents s f l is =
+    let pieces = l.pieces ∙ ap (λ more. s.pieces ++ more) (l.none is) ∙ append-nil s.pieces in
+    (λ i. placed_contents_of (l.framing i) (l.limit i) (pieces i) (l.ended is i))
+
 pub dropped_all : {X : Type 0} (xs ys : List X) → drop (length xs) (xs ++ ys) ≡ ys
 dropped_all [] ys = refl
 dropped_all (x ∷ xs) ys = dropped_all xs ys

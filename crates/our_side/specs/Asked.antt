@@ -1,91 +1,168 @@
--- How often an id is asked, and answered, where each content is one message.
-use Rattle.std.specs.Prelude.{◌≡◌, ◌+◌, ◌<◌, ◌^◌, ℕ, List, [], ◌∷◌, Bool, true, false, Option, Some, decimal, take, ⊤, if◌then◌else◌}
+-- How often something is asked, and answered: an id alone, the ids of a batch, and what can't be read or is invalid.
+use Rattle.std.specs.Prelude.{◌≡◌, ◌⊎◌, ◌+◌, ◌<◌, ◌^◌, ℕ, suc, ◌&&◌, not, List, [], ◌∷◌, ◌++◌, Bool, true, false, Option, Some, option_and_then, decimal, take, ⊤, if◌then◌else◌}
+use Rattle.std.specs.Option.{option_map_or, option_to_list}
 use Rattle.lsp_frames.specs.declared.frame.Frame.{Frame}
 use Rattle.content_streams.specs.Streams.{Stream, placed_contents}
 use Rattle.conversation_reading.specs.Strictly.{reading_of}
 use Rattle.conversation_reading.specs.declared.entry.Entry.{Entry}
-use Rattle.conversation_reading.specs.declared.entry.Kind.{Kind}
-use Rattle.conversation_reading.specs.declared.entry.Kind.TheVariants.{Request, Notification, Answer, BrokenAnswer, Invalid}
 use Rattle.conversation_reading.specs.declared.entry.WrittenId.{WrittenId}
 use Rattle.conversation_reading.specs.declared.entry.WrittenId.TheVariants.{Null, Text, Number}
 use Rattle.conversation_reading.specs.declared.reading.Reading.{Reading}
 use Rattle.conversation_reading.specs.declared.reading.Reading.TheVariants.{Foreign, NotText, NotJson, TooDeep, HalfPair, Single, Array}
-use Rattle.conversation_rules.specs.Entries.{is_answer, is_request}
-use Rattle.conversation_rules.specs.Owed.{has_id}
+use Rattle.conversation_rules.specs.Amounts.{same_id, is_null}
+use Rattle.conversation_rules.specs.Entries.{is_answer, is_between, code_of}
+use Rattle.conversation_rules.specs.Matching.{same_ids}
+use Rattle.conversation_rules.specs.Owed.{owed_on}
+use Rattle.conversation_rules.specs.declared.protocol.Protocol.TheVariants.{JsonRpc}
 
--- a string, or a whole number from 0 on, in decimal digits
+-- ---- ids
+
+-- a whole number of 64 bits in decimal digits, without a sign or below 0
+abbrev pub IsWhole : List ℕ → Type 0
+IsWhole digits = ((n : ℕ) × (n < 2 ^ 64) × (digits ≡ decimal n)) ⊎ ((n : ℕ) × (n < 2 ^ 63) × (digits ≡ 45 ∷ decimal (suc n)))
+
+-- an id that a connection gives back as it is written
+abbrev pub IsPlain : WrittenId → Type 0
+IsPlain Null = ⊤
+IsPlain (Text text) = ⊤
+IsPlain (Number digits) = IsWhole digits
+
+abbrev pub ArePlain : List WrittenId → Type 0
+ArePlain [] = ⊤
+ArePlain (id ∷ ids) = IsPlain id × ArePlain ids
+
+-- and that isn't null
 abbrev pub IsNamed : WrittenId → Type 0
 IsNamed Null = ⊥
 IsNamed (Text text) = ⊤
-IsNamed (Number digits) = (n : ℕ) × (n < 2 ^ 64) × (digits ≡ decimal n)
+IsNamed (Number digits) = IsWhole digits
 
--- it has such an id
-abbrev pub HasName : Entry → Type 0
-HasName entry = (id : WrittenId) × IsNamed id × (entry.id ≡ Some id)
+-- ---- what is asked
 
--- What is asked: a request with such an id, a notification, or an answer by all rules.
-abbrev pub IsAsking : Entry → Kind → Type 0
-IsAsking entry Request = HasName entry
-IsAsking entry Notification = ⊤
-IsAsking entry Answer = ⊤
-IsAsking entry BrokenAnswer = ⊥
-IsAsking entry Invalid = ⊥
+-- the id that the answer of an entry is expected to have, if any is: it is the same by all rules, and at each place
+abbrev pub expected_of : Entry → Option WrittenId
+expected_of entry = option_and_then (λ owed. owed.expected) (owed_on JsonRpc 0 entry)
 
-abbrev pub Asks : Reading → Type 0
-Asks Foreign = ⊥
-Asks NotText = ⊥
-Asks NotJson = ⊥
-Asks TooDeep = ⊥
-Asks HalfPair = ⊥
-Asks (Single entry) = IsAsking entry entry.kind
-Asks (Array entries) = ⊥
+abbrev pub ids_expected : List Entry → List WrittenId
+ids_expected [] = []
+ids_expected (entry ∷ entries) = option_to_list (expected_of entry) ++ ids_expected entries
 
--- What is said: an answer has such an id, and an array has no answer.
+-- ---- what is said
+
+-- it has an id that a connection could have
+abbrev pub HasPlain : Entry → Type 0
+HasPlain entry = (id : WrittenId) × IsPlain id × (entry.id ≡ Some id)
+
 abbrev pub AreNoAnswers : List Entry → Type 0
 AreNoAnswers [] = ⊤
 AreNoAnswers (entry ∷ entries) = (is_answer entry.kind ≡ false) × AreNoAnswers entries
 
+abbrev pub AreAnswers : List Entry → Type 0
+AreAnswers [] = ⊤
+AreAnswers (entry ∷ entries) = (is_answer entry.kind ≡ true) × HasPlain entry × AreAnswers entries
+
+-- An answer has such an id, and an array has no answer, or is one of answers alone.
 abbrev pub Says : Reading → Type 0
 Says Foreign = ⊥
 Says NotText = ⊥
 Says NotJson = ⊥
 Says TooDeep = ⊥
 Says HalfPair = ⊥
-Says (Single entry) = is_answer entry.kind ≡ true → HasName entry
-Says (Array entries) = AreNoAnswers entries
+Says (Single entry) = is_answer entry.kind ≡ true → HasPlain entry
+Says (Array entries) = AreNoAnswers entries ⊎ AreAnswers entries
+
+-- ---- how often
+
+-- What is counted: an id alone; the ids of a batch together, in any order; what can't be read, which is answered by -32700
+-- under the id null; and what stands alone and is expected to be answered under null, as what is invalid: by another code.
+pub data Question : Type 0 where
+  alone : WrittenId → Question
+  together : List WrittenId → Question
+  unread : Question
+  unnamed : Question
+
+abbrev pub CanBeAsked : Question → Type 0
+CanBeAsked (alone id) = IsNamed id
+CanBeAsked (together []) = ⊥
+CanBeAsked (together (id ∷ ids)) = ArePlain (id ∷ ids)
+CanBeAsked unread = ⊤
+CanBeAsked unnamed = ⊤
 
 abbrev pub as_number : Bool → ℕ
 as_number true = 1
 as_number false = 0
 
-abbrev pub names : WrittenId → Bool → Option WrittenId → ℕ
-names id counts other = if counts then as_number (has_id id other) else 0
+-- how many of these ids are this one, and how many are null
+abbrev pub times : WrittenId → List WrittenId → ℕ
+times id [] = 0
+times id (other ∷ ids) = as_number (same_id id other) + times id ids
 
--- how often a content asks an id, and answers it
-abbrev pub asked_by : WrittenId → Reading → ℕ
-asked_by id (Single entry) = names id (is_request entry.kind) entry.id
-asked_by id _ = 0
+abbrev pub nulls : List WrittenId → ℕ
+nulls [] = 0
+nulls (id ∷ ids) = as_number (is_null id) + nulls ids
 
-abbrev pub answered_by : WrittenId → Reading → ℕ
-answered_by id (Single entry) = names id (is_answer entry.kind) entry.id
-answered_by id _ = 0
+-- how often it is asked by a content, be it a batch or not, or one that can't be read, from which these ids are expected
+abbrev pub asked_from : Question → Bool → Bool → List WrittenId → ℕ
+asked_from (alone id) is_batch is_unread ids = if is_batch then 0 else times id ids
+asked_from (together all) is_batch is_unread ids = as_number (is_batch && same_ids all ids)
+asked_from unread is_batch is_unread ids = as_number is_unread
+asked_from unnamed is_batch is_unread ids = if is_batch then 0 else nulls ids
 
-abbrev pub asked_in : WrittenId → List (ℕ × Frame) → ℕ
-asked_in id [] = 0
-asked_in id (placed ∷ contents) = asked_by id (reading_of placed.1.foreign placed.1.content) + asked_in id contents
+abbrev pub asked_by : Question → Reading → ℕ
+asked_by question Foreign = asked_from question false true []
+asked_by question NotText = asked_from question false true []
+asked_by question NotJson = asked_from question false true []
+asked_by question TooDeep = asked_from question false true []
+asked_by question HalfPair = asked_from question false true []
+asked_by question (Single entry) = asked_from question false false (option_to_list (expected_of entry))
+asked_by question (Array []) = asked_from question false false (Null ∷ [])
+asked_by question (Array (entry ∷ entries)) = asked_from question true false (ids_expected (entry ∷ entries))
 
-abbrev pub answered_in : WrittenId → List (ℕ × Frame) → ℕ
-answered_in id [] = 0
-answered_in id (placed ∷ contents) = answered_by id (reading_of placed.1.foreign placed.1.content) + answered_in id contents
+-- an answer's code is -32700
+abbrev pub says_unread : Entry → Bool
+says_unread entry = option_map_or (is_between 32700 32700) (code_of entry) false
 
-abbrev pub AllAsk : List (ℕ × Frame) → Type 0
-AllAsk [] = ⊤
-AllAsk (placed ∷ contents) = Asks (reading_of placed.1.foreign placed.1.content) × AllAsk contents
+-- a single answer
+abbrev pub answered_under : Question → Bool → Option WrittenId → ℕ
+answered_under (alone id) says id_of = as_number (option_map_or (same_id id) id_of false)
+answered_under (together ids) says id_of = 0
+answered_under unread says id_of = as_number (option_map_or is_null id_of false && says)
+answered_under unnamed says id_of = as_number (option_map_or is_null id_of false && not says)
+
+-- the answers of an array
+abbrev pub ids_answered : List Entry → List WrittenId
+ids_answered [] = []
+ids_answered (entry ∷ entries) = if is_answer entry.kind then option_to_list entry.id ++ ids_answered entries else ids_answered entries
+
+abbrev pub answered_together : Question → List WrittenId → ℕ
+answered_together (alone id) ids = 0
+answered_together (together all) ids = as_number (same_ids all ids)
+answered_together unread ids = 0
+answered_together unnamed ids = 0
+
+abbrev pub answered_by : Question → Reading → ℕ
+answered_by question Foreign = 0
+answered_by question NotText = 0
+answered_by question NotJson = 0
+answered_by question TooDeep = 0
+answered_by question HalfPair = 0
+answered_by question (Single entry) = if is_answer entry.kind then answered_under question (says_unread entry) entry.id else 0
+answered_by question (Array entries) = answered_together question (ids_answered entries)
+
+-- ---- all contents of a stream
+
+abbrev pub asked_in : Question → List (ℕ × Frame) → ℕ
+asked_in question [] = 0
+asked_in question (placed ∷ contents) = asked_by question (reading_of placed.1.foreign placed.1.content) + asked_in question contents
+
+abbrev pub answered_in : Question → List (ℕ × Frame) → ℕ
+answered_in question [] = 0
+answered_in question (placed ∷ contents) = answered_by question (reading_of placed.1.foreign placed.1.content) + answered_in question contents
 
 abbrev pub AllSay : List (ℕ × Frame) → Type 0
 AllSay [] = ⊤
 AllSay (placed ∷ contents) = Says (reading_of placed.1.foreign placed.1.content) × AllSay contents
 
--- the contents of a stream that were judged
+-- those that were judged
 abbrev pub judged : Stream → List (ℕ × Frame)
 judged stream = take stream.taken (placed_contents stream)

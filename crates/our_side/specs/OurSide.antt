@@ -1,17 +1,23 @@
 -- A side of a conversation that is a connection of this library, whatever its host does.
-use Rattle.std.specs.Prelude.{◌≡◌, ◌≤◌, ℕ, List, ◌++◌, map, take, length}
+use Rattle.std.specs.Prelude.{◌≡◌, ◌≢◌, ◌≤◌, ℕ, List, [], ◌∷◌, ◌++◌, map, take, length, false, Some, ⊤}
 use Rattle.connection_history.specs.History.{Happening, History, units_of}
 use Rattle.connection_history.specs.declared.event.Event.{Event}
 use Rattle.connection.specs.BackToBack.{AllCanBeSaid, AllFit, AreFirst, IsEndedWhole}
 use Rattle.connection.specs.Connections.{Connection, StandsAfter, output, read}
-use Rattle.connection.specs.Settings.{rules_of}
+use Rattle.connection.specs.Settings.{Chosen, rules_of}
 use Rattle.content_streams.specs.Streams.{Stream, contents}
 use Rattle.content_streams.specs.declared.framing.Framing.{Framing}
+use Rattle.connection_messages.specs.Reading.{are_too_many}
+use Rattle.connection_messages.specs.declared.cancels.Cancels.TheVariants.{Mcp}
+use Rattle.conversation_reading.specs.Strictly.{reading_of}
+use Rattle.conversation_reading.specs.declared.reading.Reading.{Reading}
+use Rattle.conversation_reading.specs.declared.reading.Reading.TheVariants.{Array}
 use Rattle.conversation_rules.specs.Judging.{Seen, state_of, stream_of}
 use Rattle.conversation_rules.specs.declared.finding.Limits.{Limits}
 use Rattle.conversation_rules.specs.declared.protocol.Protocol.{Protocol}
 use Rattle.conversation_rules.specs.declared.side.Side.{Side}
 use Rattle.conversation_rules.specs.declared.side.Side.TheVariants.{Client, Server}
+use Rattle.lsp_frames.specs.declared.frame.Frame.{Frame}
 
 abbrev pub other : Side → Side
 other Client = Server
@@ -56,3 +62,13 @@ pub record IsInTime (protocol : Protocol) (framing : Framing) (limits : Limits) 
 pub record IsOurSide (protocol : Protocol) (framing : Framing) (limits : Limits) (seen : List Seen) (side : Side) (connection : Connection) (history : History) (told : List Event) (n : ℕ) : Type 0 where
   pub written : IsWritten protocol framing limits seen side connection history told n
   pub in_time : (before after : List Seen) → seen ≡ before ++ after → IsInTime protocol framing limits side connection history before
+
+-- A connection with these settings answers each request of an array, and all in one array: the array has no more entries than
+-- the connection takes, and no cancel of MCP takes an answer out.
+abbrev pub IsTakenWhole : Chosen → Reading → Type 0
+IsTakenWhole settings (Array (entry ∷ entries)) = (are_too_many settings.most_entries (length (entry ∷ entries)) ≡ false) × (settings.cancels ≢ Some Mcp)
+IsTakenWhole settings _ = ⊤
+
+abbrev pub AllTakenWhole : Chosen → List (ℕ × Frame) → Type 0
+AllTakenWhole settings [] = ⊤
+AllTakenWhole settings (placed ∷ contents) = IsTakenWhole settings (reading_of placed.1.foreign placed.1.content) × AllTakenWhole settings contents

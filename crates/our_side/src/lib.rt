@@ -4,9 +4,11 @@
 
 mod accused;
 mod asked;
+mod counted;
 mod expected;
 mod joined;
 mod messages;
+mod met;
 mod once;
 
 pub use accused::{
@@ -14,7 +16,9 @@ pub use accused::{
     cancelled_requests_are_left_in_batches,
 };
 pub use asked::who_answers_what_was_asked_is_not_accused;
+pub use counted::{contents_answer, contents_ask};
 pub use expected::expected_answers_are_not_accused;
 pub use joined::a_connection_is_not_accused_of_its_answers;
 pub use messages::our_side_writes_messages;
-pub use once::no_id_is_answered_more_often_than_asked;
+pub use met::a_connection_that_answers_is_our_side;
+pub use once::{each_unit_is_answered_in_its_form, no_id_is_answered_more_often_than_asked};

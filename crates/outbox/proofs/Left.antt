@@ -1,11 +1,10 @@
 -- What is left of the texts after more are put, after they are taken back, and after a take.
-use Rattle.std.proofs.Common.{◌≡◌, ◌≢◌, ℕ, ◌+◌, ◌<◌, ◌≤◌, List, [], ◌∷◌, ◌++◌, length, take, drop, map, slice_index_or, nat_le, true, codes, decimal, refl, ap, sym, ◌∙◌, subst, arith, append_assoc, append-nil, length-append, length-drop}
+use Rattle.std.proofs.Common.{◌≡◌, ◌≢◌, ℕ, ◌+◌, ◌<◌, ◌-◌, ◌≤◌, List, [], ◌∷◌, ◌++◌, length, take, drop, map, slice_index_or, nat_le, true, refl, ap, sym, ◌∙◌, subst, arith, append_assoc, append-nil, length-append, length-drop}
 use Rattle.std.proofs.lemmas.Grind.{common_steps, flat_map-append}
 use Rattle.std.proofs.lemmas.List.{drop-append-le, drop-drop, map-append, take-append-drop}
-use Rattle.std.proofs.Math.Seq.{take-add, take-append_seam, drop-append_seam}
+use Rattle.std.proofs.Math.Seq.{take-add, take-append_seam, take-append-add, drop-append_seam, drop-append-add}
 use Rattle.content_streams.specs.declared.framing.Framing.{Framing}
 use Rattle.content_streams.specs.declared.framing.Framing.TheVariants.{Frames, Lines, Contents}
-use Rattle.lsp_frames.specs.Frames.{written as frame_of}
 use Rattle.outbox.specs.Output.{Output, OnlyPutSince, framed, bytes_of_texts, full_count, next_bytes, bytes_given, count_given, first_text, fitting_text}
 use Rattle.outbox.specs.Inner.{bytes_left, lengths_of, IsKept, IsMarked}
 
@@ -145,15 +144,38 @@ taken_given Frames texts taken room stream = taken_more (bytes_of_texts Frames t
 taken_given Lines texts taken room stream = taken_more (bytes_of_texts Lines texts) taken room
 taken_given Contents texts taken room stream = absurd (stream refl)
 
--- a frame behind the bytes
-pub frame_put : (start : ℕ) (bytes text after : List ℕ) → start ≤ length bytes
-    → after ≡ bytes ++ codes "Content-Length: " ++ decimal (length text) ++ codes "\r\n\r\n" ++ text
-    → drop start after ≡ drop start bytes ++ frame_of text
-frame_put start bytes text after within is =
-    let head = codes "Content-Length: " in
-    let number = decimal (length text) in
-    let end = codes "\r\n\r\n" in
-    ap (drop start) (is ∙ append_assoc (bytes ++ head ++ number) end text ∙ append_assoc (bytes ++ head) number (end ++ text)
-    ∙ append_assoc bytes head (number ++ (end ++ text))
-    ∙ ap (λ rest. bytes ++ rest) (sym (append_assoc (head ++ number) end text ∙ append_assoc head number (end ++ text))))
-    ∙ drop-append-le start bytes (frame_of text) within
+-- a take that goes on in the block behind
+
+pub begins_at_none : (start : ℕ) (bytes : List ℕ) → start + start ≤ length bytes → drop start bytes ≡ [] → start ≡ 0
+begins_at_none start bytes few none = omega (arith, few, ap length none, length-drop start bytes)
+
+pub rest_behind : (front back : List ℕ) (count : ℕ) → length front ≤ count
+    → drop (count - length front) back ≡ drop count (front ++ back)
+rest_behind front back count goes_on =
+    let whole : length front + (count - length front) ≡ count = omega (arith, goes_on) in
+    sym (drop-append-add front back (count - length front)) ∙ ap (λ n. drop n (front ++ back)) whole
+
+pub given_behind : (front back : List ℕ) (count : ℕ) → length front ≤ count
+    → front ++ take (count - length front) back ≡ take count (front ++ back)
+given_behind front back count goes_on =
+    let whole : length front + (count - length front) ≡ count = omega (arith, goes_on) in
+    sym (take-append-add front back (count - length front)) ∙ ap (λ n. take n (front ++ back)) whole
+
+-- what stands in the room then, of which the first part was as long as what was in front
+pub given_across : (front back first others : List ℕ) (count : ℕ) → length front ≤ count → length first ≡ length front
+    → (take (length front) front ++ drop (length front) first) ++ (take (count - length front) back ++ drop (count - length front) others)
+    ≡ take count (front ++ back) ++ drop count (first ++ others)
+given_across front back first others count goes_on long =
+    let more = take (count - length front) back in
+    let kept = drop (count - length front) others in
+    let all : take (length front) front ≡ front = sym (ap (take (length front)) (append-nil front)) ∙ take-append_seam front [] in
+    let none : drop (length front) first ≡ [] =
+    sym (ap (λ n. drop n first) long) ∙ sym (ap (drop (length first)) (append-nil first)) ∙ drop-append_seam first [] in
+    let rest : kept ≡ drop count (first ++ others) =
+    sym (ap (λ n. drop (count - n) others) long) ∙ rest_behind first others count (omega (arith, goes_on, long)) in
+    ap (λ bytes. (bytes ++ drop (length front) first) ++ (more ++ kept)) all
+    ∙ ap (λ bytes. (front ++ bytes) ++ (more ++ kept)) none
+    ∙ ap (λ bytes. bytes ++ (more ++ kept)) (append-nil front)
+    ∙ sym (append_assoc front more kept)
+    ∙ ap (λ bytes. bytes ++ kept) (given_behind front back count goes_on)
+    ∙ ap (λ bytes. take count (front ++ back) ++ bytes) rest

@@ -1,5 +1,5 @@
 -- What an outbox and a mark keep.
-use Rattle.std.specs.Prelude.{◌≡◌, ℕ, ◌≤◌, List, [], length, drop, map}
+use Rattle.std.specs.Prelude.{◌≡◌, ℕ, ◌≤◌, ◌++◌, List, [], length, drop, map, codes, decimal}
 use Rattle.content_streams.specs.declared.framing.Framing.{Framing}
 use Rattle.content_streams.specs.declared.framing.Framing.TheVariants.{Frames, Lines, Contents}
 use Rattle.outbox.specs.Output.{bytes_of_texts, full_count}
@@ -15,6 +15,10 @@ abbrev pub lengths_of : Framing → List (List ℕ) → List ℕ
 lengths_of Frames texts = []
 lengths_of Lines texts = []
 lengths_of Contents texts = map length texts
+
+-- what stands before a text of so many bytes in a frame
+abbrev pub head_of : ℕ → List ℕ
+head_of size = codes "Content-Length: " ++ decimal size ++ codes "\r\n\r\n"
 
 -- the bytes that aren't taken, and in Contents the lengths of the texts that aren't
 pub record IsKept (framing : Framing) (texts : List (List ℕ)) (taken : ℕ) (kept_bytes kept_lengths : List ℕ) : Type 0 where

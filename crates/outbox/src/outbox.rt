@@ -73,8 +73,8 @@ impl Outbox {
         }
     }
 
-    /// Writes the text in this room. What is in the room then has no meaning. A long text is moved where nothing stands before
-    /// it, except in Frames.
+    /// Writes the text in this room. What is in the room then has no meaning. A long text is moved, and not copied, unless
+    /// another that was moved is still behind others.
     pub fn put_from(&mut self, room: &mut Vec<u8>) -> Result<(), AllocError>
         ensures ok { OnOk result (self.new ≡ with_text room.old.items self.old) }
         ensures err { OnErr result (self.new ≡ self.old) }

@@ -74,37 +74,70 @@ fn goes_back_to_a_mark(rt: HostRuntime) -> Result<(), Fail> {
 }
 
 fn long_text(alloc: Global, byte: u8) -> Result<Vec<u8>, AllocError> {
-    let mut text = Vec::new(alloc);
-    for _ in 0..10_000 {
-        text.push(byte)?;
+    vec![in alloc; byte; 100_000]
+}
+
+/// Puts the text into both: into the one it is copied, and to the other it is handed over.
+fn put_both(copied: &mut Outbox, moved: &mut Outbox, mut text: Vec<u8>) -> Result<(), AllocError> {
+    copied.put(text.as_slice())?;
+    moved.put_from(&mut text)
+}
+
+/// Whether both give the same next.
+fn give_alike(copied: &mut Outbox, moved: &mut Outbox, one: &mut [u8], other: &mut [u8]) -> bool {
+    if moved.pending() != copied.pending() {
+        return false;
     }
-    Ok(text)
+    let count = copied.take(one);
+    moved.take(other) == count && one[..count] == other[..count]
+}
+
+/// Two long texts between short ones: whether what is given is the same, moved or copied.
+fn moves_as_it_copies(
+    alloc: Global,
+    framing: Framing,
+    one: &mut [u8],
+    other: &mut [u8],
+) -> Result<bool, AllocError> {
+    let mut copied = Outbox::new(alloc, framing);
+    let mut moved = Outbox::new(alloc, framing);
+    put_both(&mut copied, &mut moved, b"[]".to_vec(alloc)?)?;
+    put_both(&mut copied, &mut moved, long_text(alloc, b'1')?)?;
+    put_both(&mut copied, &mut moved, long_text(alloc, b'2')?)?;
+    put_both(&mut copied, &mut moved, b"{}".to_vec(alloc)?)?;
+    // In Frames and Lines, the end of the first text, and the front of a long one.
+    let (mut few, mut others) = ([b'-'; 60], [b'-'; 60]);
+    let mut is_alike = give_alike(&mut copied, &mut moved, &mut few, &mut others);
+    for _ in 0..4 {
+        is_alike = give_alike(&mut copied, &mut moved, one, other) && is_alike;
+    }
+    Ok(is_alike && moved.is_empty())
 }
 
 #[test]
 fn moves_a_long_text(rt: HostRuntime) -> Result<(), Fail> {
     let alloc = rt.alloc();
-    let mut large = vec![in alloc; 0; 30_000]?;
+    let mut one = vec![in alloc; 0; 300_000]?;
+    let mut other = vec![in alloc; 0; 300_000]?;
     for framing in [Framing::Frames, Framing::Lines, Framing::Contents] {
-        let mut copied = Outbox::new(alloc, framing);
-        let mut moved = Outbox::new(alloc, framing);
-        for byte in [b'1', b'2'] {
-            let mut room = long_text(alloc, byte)?;
-            copied.put(room.as_slice())?;
-            moved.put_from(&mut room)?;
-        }
-        let mut short = b"{}".to_vec(alloc)?;
-        copied.put(short.as_slice())?;
-        moved.put_from(&mut short)?;
-        for _ in 0..4 {
-            assert_eq!(rt; moved.pending(), copied.pending());
-            let count = copied.take(large.as_mut_slice());
-            let wanted = large.as_slice()[..count].to_vec(alloc)?;
-            assert_eq!(rt; moved.take(large.as_mut_slice()), count);
-            assert_eq!(rt; &large.as_slice()[..count], wanted.as_slice());
-        }
-        assert_eq!(rt; moved.is_empty(), true);
+        assert!(rt; moves_as_it_copies(alloc, framing, one.as_mut_slice(), other.as_mut_slice())?);
     }
+    Ok(())
+}
+
+#[test]
+fn goes_back_before_a_moved_text(rt: HostRuntime) -> Result<(), Fail> {
+    let alloc = rt.alloc();
+    let mut room = [0; 60];
+    let mut frames = Outbox::new(alloc, Framing::Frames);
+    frames.put(b"{}")?;
+    let mark = frames.mark();
+    frames.put_from(&mut long_text(alloc, b'1')?)?;
+    frames.back_to(mark);
+    frames.put(b"[]")?;
+    assert_eq!(rt; frames.take(&mut room), 46);
+    assert_eq!(rt; &room[21..25], b"{}Co".as_slice());
+    assert_eq!(rt; &room[44..46], b"[]".as_slice());
     Ok(())
 }
 

@@ -1,5 +1,4 @@
 ghost use Rattle.std.specs.Prelude.{◌≡◌, ◌+◌, ◌-◌, ◌<◌, ◌^◌, ◌++◌, ◌∷◌, [], true, false, length, OnOk, OnErr, option_copied};
-ghost use Rattle.number_windows.specs.Windows.{window_entries, IsWindow};
 ghost use Rattle.owed_answers.specs.Owed.{seen_slot, slot_at, replaced};
 ghost use Rattle.number_windows.specs.Numbered.{at, without, changed_at, first_number, next_number, Ascending};
 
@@ -32,6 +31,9 @@ impl Model for OwedAnswers {
 }
 
 impl OwedAnswers {
+    ghost use Rattle.std.specs.Borrow.{sem};
+    ghost use Rattle.std.specs.Option.{option_copied_mut};
+    ghost use Rattle.owed_answers.specs.Lends.{lends_unit};
     ghost use Rattle.owed_answers.specs.Owed.{seen_slots, opened, has_answer_in, text_or_none};
 
     pub fn new(alloc: Global) -> OwedAnswers
@@ -119,7 +121,10 @@ impl OwedAnswers {
         } }
         ensures ascending { Ascending self.old.owed }
     {
-        replace_in(&mut self.owed, place, slot, text)
+        match self.get_mut(place) {
+            Some(unit) => unit.replace(slot, text),
+            None => Slot::Lacking,
+        }
     }
 
     /// The unit at this place, where it is owed an answer. Places ascend.
@@ -128,6 +133,15 @@ impl OwedAnswers {
         ensures ascending { Ascending self.now.owed }
     {
         self.owed.get(place)
+    }
+
+    /// The same for writing.
+    pub fn get_mut(&mut self, place: u64) -> Option<&mut Owed>
+        ensures* writes_back { sem 𝓛 (lends_unit self.entry place result) }
+        ensures unit { option_copied_mut result ≡ at place self.old.owed }
+        ensures ascending { Ascending self.old.owed }
+    {
+        self.owed.get_mut(place)
     }
 
     /// Whether the unit at this place has something to write: an answer that isn't empty.
@@ -174,23 +188,4 @@ impl OwedAnswers {
     {
         self.owed.next(after)
     }
-}
-
-/// Puts a text, or none, into this slot of the unit at this place, and answers what stood there. A stand-in holds the
-/// unit's place meanwhile.
-fn replace_in(owed: &mut NumberWindow<Owed>, place: u64, slot: u64, text: Slot) -> Slot
-    requires { IsWindow owed.old }
-    ensures was { seen_slot result ≡ slot_at slot (at place (window_entries owed.old)) }
-    ensures entries { window_entries owed.new ≡
-        changed_at place (replaced slot (seen_slot text)) (window_entries owed.old) }
-    ensures window { IsWindow owed.new }
-{
-    let stand_in = Owed::single(Slot::Lacking);
-    let mut unit = match owed.replace(place, stand_in) {
-        Ok(unit) => unit,
-        Err(_) => return Slot::Lacking,
-    };
-    let was = unit.replace(slot, text);
-    drop(owed.replace(place, unit));
-    was
 }

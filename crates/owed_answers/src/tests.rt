@@ -91,6 +91,11 @@ fn keeps_a_single_answer(rt: HostRuntime) -> Result<(), Fail> {
     assert_eq!(rt; text_at(alloc, &owed, 1)?.as_slice(), b"1".as_slice());
     let was = owed.replace(1, 0, Slot::Lacking);
     assert_eq!(rt; (was.text(), lacking(&owed, 1)), (b"1".as_slice(), 1));
+    if let Some(unit) = owed.get_mut(1) {
+        drop(unit.replace(0, Slot::Text(b"2".to_vec(alloc)?)));
+    }
+    assert_eq!(rt; text_at(alloc, &owed, 1)?.as_slice(), b"2".as_slice());
+    assert_eq!(rt; owed.get_mut(2).is_none(), true);
     owed.remove(0);
     assert_eq!(rt; (owed.len(), owed.first()), (1, Some(1)));
     Ok(())

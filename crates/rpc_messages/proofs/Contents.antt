@@ -3,10 +3,7 @@ use Rattle.std.proofs.Common.{◌≡◌, ℕ, List, [], ◌∷◌, map, Bool, tr
 use Rattle.std.proofs.lemmas.Str.{is_utf8-from_IsUtf8, IsUtf8-from_is_utf8}
 use Rattle.std.specs.Str.{IsUtf8, is_utf8}
 use Rattle.serde_json.specs.Data.{Data}
-use Rattle.std.specs.Prelude.{option_and_then}
-use Rattle.json.specs.Json.{value, if_last}
-use Rattle.json.specs.Lex.{tokens}
-use Rattle.serde_json.specs.Read.{read, of_json, max_depth}
+use Rattle.serde_json.specs.Read.{read}
 use Rattle.rpc_messages.specs.Entry.{entry_seen}
 use Rattle.rpc_messages.specs.Unit.{unreadable, batch, batch_of, value_unit, unit_of_reading, unit_of}
 use Rattle.rpc_messages.specs.declared.entry.Entry.{Entry}
@@ -32,7 +29,3 @@ pub unit_of_text : (content text : List ℕ) → IsUtf8 content → text ≡ con
 unfolding unit_of
 unit_of_text content text utf8 same =
     ap (λ t. unit_of_reading (read t)) same ∙ sym (ap (λ b. cond b (unit_of_reading (read content)) unreadable) (is_utf8-from_IsUtf8 content utf8))
-
--- texts with the same tokens
-pub read_same : (text other : List ℕ) → tokens text ≡ tokens other → read text ≡ read other
-read_same text other same = ap (λ ts. option_and_then of_json (option_and_then (λ p. if_last p.0 p.1) (value max_depth ts))) same

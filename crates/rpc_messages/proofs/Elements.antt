@@ -3,7 +3,7 @@ use Rattle.std.proofs.Common.{◌≡◌, List, [], ◌∷◌, ◌++◌, map, Opt
 use Rattle.json.specs.Json.{parse_map}
 use Rattle.json.specs.Token.{Token}
 use Rattle.serde_json.specs.Data.{Data, Items, no_items, item}
-use Rattle.compact_values.proofs.Elements.{elements_before, push}
+use Rattle.value_reading.proofs.Elements.{elements_before, push}
 use Rattle.rpc_messages.specs.Entry.{entry_of}
 use Rattle.rpc_messages.specs.Unit.{entries_of}
 

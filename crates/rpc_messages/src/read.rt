@@ -18,7 +18,7 @@ use json_reading::{ReadFault, value_from};
 use json_values::Items;
 use std::alloc::{AllocError, Global};
 
-pub(crate) mod compact;
+pub(crate) mod direct;
 mod envelope;
 mod members;
 mod reply;

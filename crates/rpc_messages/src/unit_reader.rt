@@ -4,15 +4,15 @@ ghost use Rattle.std.specs.Prelude.{◌≡◌, IfOk, false};
 ghost use Rattle.serde_json.specs.Read.{read};
 ghost use Rattle.rpc_messages.specs.Unit.{unit_seen, unit_of, unit_of_reading};
 
-use crate::read::compact::{read_compact, read_compacted};
+use crate::read::direct::read_direct;
 use crate::read::read_text;
 use crate::unit::Unit;
-use compact_values::Unread;
 use json::Scratch;
 use json_reading::ReadFault;
 use json_texts::utf8_text;
 use lsp_frames::Frame;
 use std::alloc::{AllocError, Global};
+use value_reading::Unread;
 
 /// The room that reading takes is kept from one content to the next where the content is at most this long, in bytes.
 const KEPT_ROOM: usize = 65_536;
@@ -51,17 +51,7 @@ impl UnitReader {
         let Some(text) = utf8_text(content) else {
             return Ok(Unit::Unreadable);
         };
-        match read_compact(self.alloc, text) {
-            Ok(unit) => Ok(unit),
-            Err(Unread::Unusual) => self.read_unusual(text),
-            Err(Unread::Memory) => Err(AllocError),
-        }
-    }
-
-    fn read_unusual(&mut self, text: &str) -> Result<Unit, AllocError>
-        ensures { IfOk result (λ u. unit_seen u ≡ unit_of_reading (read text.now)) }
-    {
-        match read_compacted(self.alloc, text) {
+        match read_direct(self.alloc, text) {
             Ok(unit) => Ok(unit),
             Err(Unread::Unusual) => self.read_tokens(text),
             Err(Unread::Memory) => Err(AllocError),

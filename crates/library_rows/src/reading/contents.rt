@@ -25,6 +25,123 @@ const ROWS: &[(&str, Row)] = &[
         },
     ),
     (
+        "blanks in a call, each where it may stand",
+        Row {
+            content: &[(
+                b" \t\n\r{ \"jsonrpc\" : \"2.0\" ,\r\n\t\"method\"\t:\n\"f\", \"params\" : [ 1 ,-2\n,[ ] , { } ,{ \"a\" : null\r},true , \"x\" ] } \n",
+                1,
+            )],
+            foreign: false,
+            shown: &[(
+                b"Single(Call(Call { id: None, method: \"f\", params: Whole([1,-2,[],{},{\"a\":null},true,\"x\"]), target: None }))",
+                1,
+            )],
+        },
+    ),
+    (
+        "an indented call",
+        Row {
+            content: &[
+                (
+                    b"{\n  \"jsonrpc\": \"2.0\",\n  \"method\": \"f\",\n  \"params\": [0",
+                    1,
+                ),
+                (b",\n                 1", 20_000),
+                (b"\n  ]\n}\n", 1),
+            ],
+            foreign: false,
+            shown: &[
+                (
+                    b"Single(Call(Call { id: None, method: \"f\", params: Whole([0",
+                    1,
+                ),
+                (b",1", 20_000),
+                (b"]), target: None }))", 1),
+            ],
+        },
+    ),
+    (
+        "a form feed is no blank",
+        Row {
+            content: &[(b"{\"jsonrpc\":\x0c\"2.0\",\"method\":\"f\"}", 1)],
+            foreign: false,
+            shown: UNREADABLE,
+        },
+    ),
+    (
+        "a control byte in a string",
+        Row {
+            content: &[(
+                b"{\"jsonrpc\":\"2.0\",\"method\":\"f\",\"params\":[\"\\na\tb\"]}",
+                1,
+            )],
+            foreign: false,
+            shown: UNREADABLE,
+        },
+    ),
+    (
+        "a long string of escapes",
+        Row {
+            content: &[
+                (b"{\"jsonrpc\":\"2.0\",\"method\":\"f\",\"params\":[\"", 1),
+                (b"\\n\\\"\\\\a\\u0041\\t", 20_000),
+                (b"\"]}", 1),
+            ],
+            foreign: false,
+            shown: &[
+                (
+                    b"Single(Call(Call { id: None, method: \"f\", params: Whole([\"",
+                    1,
+                ),
+                (b"\\n\\\"\\\\aA\\t", 20_000),
+                (b"\"]), target: None }))", 1),
+            ],
+        },
+    ),
+    (
+        "a call that nests 127 deep, with escapes and blanks",
+        Row {
+            content: &[
+                (
+                    b"{\"jsonrpc\":\"2.0\",\"method\":\"f\",\"id\":1,\"params\":",
+                    1,
+                ),
+                (b" [", 126),
+                (b"\"\\n\"", 1),
+                (b" ]", 126),
+                (b"}", 1),
+            ],
+            foreign: false,
+            shown: &[
+                (
+                    b"Single(Call(Call { id: Some(Unsigned(1)), method: \"f\", params: Whole(",
+                    1,
+                ),
+                (b"[", 126),
+                (b"\"\\n\"", 1),
+                (b"]", 126),
+                (b"), target: None }))", 1),
+            ],
+        },
+    ),
+    (
+        "a call that nests 128 deep, with escapes and blanks",
+        Row {
+            content: &[
+                (
+                    b"{\"jsonrpc\":\"2.0\",\"method\":\"f\",\"id\":1,\"params\":",
+                    1,
+                ),
+                (b" [", 127),
+                (b"\"\\n\"", 1),
+                (b" ]", 127),
+                (b"}", 1),
+            ],
+            foreign: false,
+            shown: UNREADABLE,
+        },
+    ),
+    (
         "arrays 127 deep",
         Row {
             content: &[(b"[", 127), (b"]", 127)],

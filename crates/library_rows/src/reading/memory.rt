@@ -26,6 +26,13 @@ const ROWS: &[Row] = &[
         shown_back: "",
     },
     Row {
+        front: r#"{"jsonrpc": "2.0", "method": "a\/b", "params": [{"\u0063": 1, "d": [[], {}]}, "\n"#,
+        letters: 5_000,
+        back: r#"\"\u0041"]}"#,
+        shown_front: r#"Single(Call(Call { id: None, method: "a/b", params: Whole([{"c":1,"d":[[],{}]},"\n"#,
+        shown_back: r#"\"A"]), target: None }))"#,
+    },
+    Row {
         front: r#"{"jsonrpc":"2.0","method":"f","params":[""#,
         letters: 70_000,
         back: r#""]}"#,

@@ -52,6 +52,108 @@ const GROUPS: &[Group] = &[
 {"a":[{"b":0.5}]} => Fractional"#,
     },
     Group {
+        name: "a string may have each escape",
+        content: r#"{"jsonrpc":"2.0","method":"f","params":["@"]}"#,
+        is_target: false,
+        unit: r#"Single(Call(Call { id: None, method: "f", params: Whole(["@"]), target: None }))"#,
+        lines: r#"a => a
+\" => \"
+\\ => \\
+\/ => /
+\b => \b
+\f => \f
+\n => \n
+\r => \r
+\t => \t
+\u0041 => A
+\u00e9 => é
+\u20AC => €
+\ud83d\ude00 => 😀
+\uD800\uDC00 => 𐀀
+\u0000 => \u0000
+\u001F => \u001f
+\u0022 => \"
+\u005c => \\
+\u0008 => \b
+\n\n\t\tx\u0041\/y\\ => \n\n\t\txA/y\\
+é\n€\"😀 => é\n€\"😀
+\"0123456789012345678901234567890123456789\n0123456789\r => \"0123456789012345678901234567890123456789\n0123456789\r"#,
+    },
+    Group {
+        name: "so may a name, and what a message says of itself",
+        content: "@",
+        is_target: false,
+        unit: "Single(Call(Call { id: @, target: None }))",
+        lines: r#"{"jsonrpc":"2.0","method":"f","params":{"\u0061\n":{"b\/":1}}} => None, method: "f", params: Whole({"a\n":{"b/":1}})
+{"jsonrpc":"2\u002e0","\u006dethod":"f"} => None, method: "f", params: Omitted
+{"jsonrpc":"2.0","method":"a\/\u0062","id":"\u0031\t"} => Some(Text("1\t")), method: "a/b", params: Omitted"#,
+    },
+    Group {
+        name: "whole numbers have any length that fits",
+        content: r#"{"jsonrpc":"2.0","method":"f","params":[@]}"#,
+        is_target: false,
+        unit: r#"Single(Call(Call { id: None, method: "f", params: Whole([@]), target: None }))"#,
+        lines: r#"0 => 0
+10 => 10
+99999999999999999 => 99999999999999999
+100000000000000000 => 100000000000000000
+999999999999999999 => 999999999999999999
+1000000000000000000 => 1000000000000000000
+18446744073709551615 => 18446744073709551615
+-1 => -1
+-100000000000000000 => -100000000000000000
+-9223372036854775808 => -9223372036854775808
+0 , 1 ,2, -3 => 0,1,2,-3"#,
+    },
+    Group {
+        name: "a call that is no JSON is unreadable",
+        content: r#"{"jsonrpc":"2.0","method":"f","params":[@]}"#,
+        is_target: false,
+        unit: "Unreadable",
+        lines: r#""a
+"\"
+"\x"
+"\v"
+"\'"
+"\U0041"
+"\u004"
+"\u004g"
+"\u"
+"\ud800"
+"\ud800x"
+"\ud800\n"
+"\ud800\u0041"
+"\ud800\ud800"
+"\udc00"
+"\ud800/udc00"
+"a" "b"
+1 2
+1,,2
+1,
+,1
+00
+01
+-01
+-
++1
+.5
+1.
+1e
+1e+
+1e999
+0x1
+tru
+truee
+nul
+nulll
+{"a" 1}
+{"a":1,}
+{"a":1 "b":2}
+{a:1}
+[1}
+{]"#,
+    },
+    Group {
         name: "a method with other parts amiss is invalid",
         content: "@",
         is_target: false,

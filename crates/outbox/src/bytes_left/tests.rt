@@ -1,5 +1,4 @@
 use super::*;
-use std::alloc::Global;
 use std::test::Fail;
 
 #[test]
@@ -9,35 +8,30 @@ fn nothing_is_left_at_first(rt: HostRuntime) -> Result<(), Fail> {
     Ok(())
 }
 
-/// A text of 100,000 bytes, and one of 2 behind it.
-fn large_and_small(alloc: Global, framing: Framing) -> Result<BytesLeft, AllocError> {
-    let large = vec![in alloc; b' '; 100_000]?;
-    let mut left = BytesLeft::new(alloc);
-    left.put(framing, large.as_slice())?;
-    left.put(framing, b"[]")?;
-    Ok(left)
-}
-
-/// Whether the memory follows what is left, once so many bytes were taken: 4,096 bytes are kept, and no more where only
-/// few are left.
-fn gives_memory_back(
-    alloc: Global,
-    left: &mut BytesLeft,
-    count: usize,
-) -> Result<bool, AllocError> {
-    let was_large = left.bytes.capacity() >= 100_000;
-    let mut room = vec![in alloc; 0; 100_000]?;
-    if left.len() < count || room.len() < count {
-        return Ok(false);
+/// A text of 100,000 bytes that is moved and none of it copied, also behind one that is short and waits.
+#[test]
+fn long_text_is_there_once(rt: HostRuntime) -> Result<(), Fail> {
+    let alloc = rt.alloc();
+    for framing in [Framing::Frames, Framing::Lines, Framing::Contents] {
+        let mut left = BytesLeft::new(alloc);
+        left.put(framing, b"[]")?;
+        let mut large = vec![in alloc; b' '; 100_000]?;
+        left.put_from(framing, &mut large)?;
+        assert!(rt; large.capacity() < 100_000);
+        assert!(rt; left.back.len() >= 100_000 && left.front.len() < 64);
     }
-    left.take(count, room.as_mut_slice());
-    Ok(was_large && left.len() == 2 && left.bytes.capacity() <= 4096)
+    Ok(())
 }
 
 #[test]
-fn memory_behind_a_large_text_is_given_back(rt: HostRuntime) -> Result<(), Fail> {
+fn memory_of_a_moved_text_is_given_back(rt: HostRuntime) -> Result<(), Fail> {
     let alloc = rt.alloc();
-    let mut left = large_and_small(alloc, Framing::Contents)?;
-    assert_eq!(rt; gives_memory_back(alloc, &mut left, 100_000)?, true);
+    let mut left = BytesLeft::new(alloc);
+    let mut large = vec![in alloc; b' '; 100_000]?;
+    left.put_from(Framing::Contents, &mut large)?;
+    left.put(Framing::Contents, b"[]")?;
+    left.truncate(2);
+    assert_eq!(rt; left.len(), 2);
+    assert!(rt; left.back.capacity() <= 4096);
     Ok(())
 }

@@ -1,6 +1,5 @@
-use Rattle.std.proofs.Common.{◌≡◌, ◌+◌, ◌++◌, [], length, ap, sym, subst, ◌∙◌, arith}
+use Rattle.std.proofs.Common.{◌≡◌, ◌+◌, ◌++◌, [], length, ap, sym, ◌∙◌, arith}
 use Rattle.std.proofs.lemmas.Bool.{eqb-true}
-use Rattle.owed_answers.specs.Owed.{OwedState}
 use Rattle.connection_steps.specs.States.{owed_slots}
 use Rattle.connection_steps.specs.Steps.{staying}
 use Rattle.connection_desk.specs.Desks.{answer_count, answer_texts, with_answers, with_texts}

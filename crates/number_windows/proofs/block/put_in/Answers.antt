@@ -1,4 +1,4 @@
-use Rattle.std.proofs.Common.{◌≡◌, ℕ, Some, ap, sym, ◌∙◌, set, get_or}
+use Rattle.std.proofs.Common.{Some, ap, sym, ◌∙◌, set}
 use Rattle.number_windows.proofs.Numbered.{unchanged}
 use Rattle.number_windows.proofs.Rows.{at_index, changed_index}
 use Rattle.number_windows.proofs.block.put_in.Goals as goal

@@ -1,4 +1,4 @@
-use Rattle.std.proofs.Common.{◌≡◌, ℕ, Some, ap, sym, ◌∙◌}
+use Rattle.std.proofs.Common.{ℕ, Some, ap, sym, ◌∙◌}
 use Rattle.number_windows.proofs.Rows.{at_index, without_index, without_missing}
 use Rattle.number_windows.proofs.block.take_out.Goals as goal
 

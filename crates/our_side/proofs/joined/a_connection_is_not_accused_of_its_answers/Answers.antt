@@ -1,4 +1,4 @@
-use Rattle.our_side.proofs.InTime.{says, counts}
+use Rattle.our_side.proofs.InTime.{AnswersOnce, says, counts_by}
 use Rattle.our_side.proofs.Writes.{Laws}
 use Rattle.our_side.proofs.joined.a_connection_is_not_accused_of_its_answers.Goals as goal
 
@@ -10,9 +10,14 @@ laws c = record {
   grow = c.places_stay.ensures.grow;
 }
 
+once : goal.After-who_answers_what_was_asked_is_not_accused → AnswersOnce
+once c = record {
+  alone = c.each_unit_is_answered_in_its_form.ensures.alone;
+  together = c.each_unit_is_answered_in_its_form.ensures.together;
+}
+
 pub returns : goal.returns
-returns c = λ protocol framing limits seen side connection history told n is asks unended.
-    let few = c.no_id_is_answered_more_often_than_asked.ensures in
-    c.who_answers_what_was_asked_is_not_accused.ensures protocol framing limits seen side asks
-    (says (laws c) few protocol framing limits seen side connection history is.in_time asks) unended
-    (counts (laws c) few protocol framing limits seen side connection history is.in_time asks)
+returns c = λ protocol framing limits seen side connection history told n is reads taken.
+    c.who_answers_what_was_asked_is_not_accused.ensures protocol framing limits seen side
+    (says (laws c) (once c) protocol framing limits seen side connection history is.in_time reads taken)
+    (counts_by (laws c) (once c) protocol framing limits seen side connection history is.in_time reads taken)

@@ -1,6 +1,5 @@
 -- One slot more, and all of them.
-use Rattle.std.proofs.Common.{◌≡◌, ◌++◌, ◌∷◌, [], refl, ap, sym, ◌∙◌, drop, subst, arith, append-nil}
-use Rattle.std.specs.Io.{StartsWith}
+use Rattle.std.proofs.Common.{◌++◌, [], ap, sym, ◌∙◌, arith, append-nil}
 use Rattle.owed_answers.proofs.OwedTexts.{texts_in, marked, next_text, none_left, array_marked, OnOk-map, on_err, starts_with_append, starts_with_trans, put_last, last_front}
 use Rattle.owed_answers.proofs.owed.put_each.Goals as goal
 

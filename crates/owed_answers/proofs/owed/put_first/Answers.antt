@@ -1,7 +1,7 @@
 -- The first answer, and none.
-use Rattle.std.proofs.Common.{◌≡◌, ◌++◌, ◌∷◌, [], refl, ap, sym, ◌∙◌, drop, ◌+◌, arith, append-nil}
+use Rattle.std.proofs.Common.{◌++◌, refl, ap, sym, ◌∙◌, arith, append-nil}
 use Rattle.owed_answers.specs.Owed.{first_or_none}
-use Rattle.owed_answers.proofs.OwedTexts.{texts_in, found_one, passed_one, none_left, OnOk-map, OnErr-map, put_last, kept_part}
+use Rattle.owed_answers.proofs.OwedTexts.{found_one, passed_one, none_left, OnOk-map, OnErr-map, put_last, kept_part}
 use Rattle.owed_answers.proofs.owed.put_first.Goals as goal
 
 pub loop-slot-init : goal.loop-slot-init

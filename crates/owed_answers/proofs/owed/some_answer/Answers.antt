@@ -1,5 +1,5 @@
 -- One is found, or none is.
-use Rattle.std.proofs.Common.{◌≡◌, refl, ap, sym, ◌∙◌, arith}
+use Rattle.std.proofs.Common.{refl, ap, sym, ◌∙◌, arith}
 use Rattle.owed_answers.specs.Owed.{some_text}
 use Rattle.owed_answers.proofs.OwedTexts.{found_one, passed_one, none_left}
 use Rattle.owed_answers.proofs.owed.some_answer.Goals as goal

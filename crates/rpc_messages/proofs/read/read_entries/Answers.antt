@@ -4,7 +4,7 @@ use Rattle.json.specs.Json.{after_end_array, value, parse_map}
 use Rattle.json_reading.proofs.Reading.{item_read, item_refused, items_over}
 use Rattle.serde_json.specs.Data.{no_items}
 use Rattle.rpc_messages.specs.Entry.{entry_seen, entry_of}
-use Rattle.compact_values.proofs.Elements.{elements_before}
+use Rattle.value_reading.proofs.Elements.{elements_before}
 use Rattle.rpc_messages.proofs.Elements.{none_before, one_more, entries_of-all}
 use Rattle.rpc_messages.proofs.read.read_entries.Goals as goal
 

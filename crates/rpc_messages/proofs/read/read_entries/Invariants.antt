@@ -3,7 +3,7 @@ use Rattle.json.specs.Json.{items, value, parse_map}
 use Rattle.serde_json.specs.Data.{Data}
 use Rattle.serde_json.specs.Read.{of_items, converted}
 use Rattle.rpc_messages.specs.Entry.{entry_seen, entry_of}
-use Rattle.compact_values.proofs.Elements.{elements_before}
+use Rattle.value_reading.proofs.Elements.{elements_before}
 use Rattle.rpc_messages.proofs.read.read_entries.Given as goal
 
 abbrev pub invariant-elements : goal.invariant-elements

@@ -1,4 +1,4 @@
-use Rattle.std.proofs.Common.{◌≡◌, Some, sym, ◌∙◌}
+use Rattle.std.proofs.Common.{sym, ◌∙◌}
 use Rattle.number_windows.specs.Windows.{page_entries}
 use Rattle.number_windows.proofs.Rows.{ascending_behind, got_behind, at_front}
 use Rattle.number_windows.proofs.number_window.NumberWindow.get.Goals as goal

@@ -1,4 +1,4 @@
-use Rattle.std.proofs.Common.{◌≡◌, ℕ, List, ◌++◌, ◌∷◌, [], suc, length, subst, sym, ap, ◌∙◌, append_assoc, arith}
+use Rattle.std.proofs.Common.{◌≡◌, ℕ, ◌++◌, ◌∷◌, [], suc, length, subst, sym, ap, ◌∙◌, append_assoc, arith}
 use Rattle.number_windows.specs.Numbered.{Ascending, Below}
 use Rattle.number_windows.specs.Windows.{page_entries, window_entries}
 use Rattle.number_windows.proofs.Numbered.{below_push}

@@ -1,5 +1,4 @@
 use Rattle.std.proofs.Common.{◌≡◌, ◌++◌, ◌==◌, Some, None, not, suc, length, ap, sym, ◌∙◌, subst, arith}
-use Rattle.std.proofs.lemmas.List.Elements.{filter-append}
 use Rattle.number_windows.specs.Numbered.{at, without, Ascending, Below}
 use Rattle.number_windows.specs.Windows.{page_entries, window_entries}
 use Rattle.number_windows.proofs.Numbered.{below_filter}

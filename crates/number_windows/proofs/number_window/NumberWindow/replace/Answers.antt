@@ -1,4 +1,4 @@
-use Rattle.std.proofs.Common.{◌≡◌, ◌++◌, Some, None, Result, Ok, Err, IfOk, IfErr, suc, length, ap, sym, ◌∙◌, subst, arith}
+use Rattle.std.proofs.Common.{◌≡◌, ◌++◌, Some, None, IfOk, IfErr, suc, length, ap, sym, ◌∙◌, subst, arith}
 use Rattle.number_windows.specs.Numbered.{at, changed_at, Ascending, Below}
 use Rattle.number_windows.specs.Windows.{page_entries, window_entries}
 use Rattle.number_windows.proofs.Numbered.{below_changed, unchanged}

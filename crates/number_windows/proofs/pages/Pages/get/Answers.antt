@@ -1,4 +1,4 @@
-use Rattle.std.proofs.Common.{◌≡◌, ◌/◌, Some, None, ap, sym, ◌∙◌}
+use Rattle.std.proofs.Common.{◌/◌, sym, ◌∙◌}
 use Rattle.number_windows.proofs.Numbered.{at-get}
 use Rattle.number_windows.proofs.PageLemmas.{found_on, no_page, block_order}
 use Rattle.number_windows.proofs.pages.Pages.get.Goals as goal

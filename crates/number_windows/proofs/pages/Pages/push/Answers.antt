@@ -1,4 +1,4 @@
-use Rattle.std.proofs.Common.{◌≡◌, ◌<◌, ◌/◌, ◌++◌, ◌∷◌, [], Some, None, length, ap, sym, ◌∙◌, subst, arith}
+use Rattle.std.proofs.Common.{◌≡◌, ◌<◌, ◌/◌, Some, length, ap, sym, ◌∙◌, subst, arith}
 use Rattle.std.specs.BTreeMap as tree
 use Rattle.number_windows.specs.Numbered.{at}
 use Rattle.number_windows.proofs.Numbered.{ascending, at-get}

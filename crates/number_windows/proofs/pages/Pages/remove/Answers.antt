@@ -1,11 +1,11 @@
-use Rattle.std.proofs.Common.{◌≡◌, ◌<◌, ◌/◌, [], Some, None, true, false, length, ap, sym, ◌∙◌, arith}
+use Rattle.std.proofs.Common.{◌≡◌, ◌/◌, Some, true, false, ap, sym, ◌∙◌, arith}
 use Rattle.std.proofs.lemmas.Bool.{eqb-true, eqb-false}
 use Rattle.std.specs.BTreeMap as tree
 use Rattle.std.specs.VecDeque.{deque_len}
 use Rattle.number_windows.specs.Numbered.{at, without}
 use Rattle.number_windows.specs.Windows.{flat}
-use Rattle.number_windows.proofs.Numbered.{ascending, at-get, changed}
-use Rattle.number_windows.proofs.Rows.{at_changed, without_missing}
+use Rattle.number_windows.proofs.Numbered.{ascending, at-get}
+use Rattle.number_windows.proofs.Rows.{without_missing}
 use Rattle.number_windows.proofs.PageLemmas.{edited_flat, edited_whole, dropped_flat, dropped_whole, going, found_on, no_page, block_order, no_items, put_back}
 use Rattle.number_windows.proofs.pages.Pages.remove.Goals as goal
 

@@ -1,4 +1,4 @@
-use Rattle.std.proofs.Common.{◌≡◌, ◌<◌, ◌/◌, Some, None, Result, Ok, Err, IfOk, IfErr, length, ap, sym, refl, ◌∙◌, subst, arith}
+use Rattle.std.proofs.Common.{◌≡◌, ◌/◌, Some, None, IfOk, IfErr, ap, sym, refl, ◌∙◌, subst, arith}
 use Rattle.std.specs.BTreeMap as tree
 use Rattle.number_windows.specs.Numbered.{at, changed_at}
 use Rattle.number_windows.specs.Windows.{flat}

@@ -13,7 +13,7 @@ loop-key-smaller c =
     let key = c.in-Some.key in
     let found = some_of (is_of c.args.caller) (at key es) (sym (c.self.invariant.by_caller c.args.caller key) ∙ c.in-Some.ensures.1) in
     let before : es ≡ c.loop-key.self.waiting = ap (λ (s : OwnState). s.waiting) c.self.view_is in
-    let after : c.remove.new.self.waiting ≡ without key c.loop-key.self.waiting = ap (λ (s : OwnState). s.waiting) c.remove.ensures in
+    let after : c.remove.new.self.waiting ≡ without key c.loop-key.self.waiting = ap (λ (s : OwnState). s.waiting) c.remove.ensures.state in
     let less : length (without key es) < length es = shorter key found.0 es found.1 in
     subst (λ fs. length fs < length c.loop-key.self.waiting) (sym after) (subst (λ fs. length (without key fs) < length fs) before less)
 
@@ -24,8 +24,8 @@ loop-key-preserved c =
     let found = some_of (is_of c.args.caller) (at key es) (sym (c.self.invariant.by_caller c.args.caller key) ∙ c.in-Some.ensures.1) in
     let before : es ≡ c.loop-key.self.waiting = ap (λ (s : OwnState). s.waiting) c.self.view_is in
     record {
-      made = ap (λ (s : OwnState). s.made) c.remove.ensures ∙ c.loop-key.invariant.made;
-      rest = ap (λ (s : OwnState). without_caller c.args.caller s.waiting) c.remove.ensures
+      made = ap (λ (s : OwnState). s.made) c.remove.ensures.state ∙ c.loop-key.invariant.made;
+      rest = ap (λ (s : OwnState). without_caller c.args.caller s.waiting) c.remove.ensures.state
           ∙ ap (λ fs. without_caller c.args.caller (without key fs)) (sym before)
           ∙ filter_without (λ e. not (e.1.caller == c.args.caller)) key found.0 es c.self.invariant.window.ordered found.1 (ap not found.2)
           ∙ ap (λ fs. without_caller c.args.caller fs) before

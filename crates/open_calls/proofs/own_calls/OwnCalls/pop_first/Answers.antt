@@ -1,5 +1,4 @@
 use Rattle.std.proofs.Common.{◌≡◌, ◌∷◌, ◌∙◌, ap, sym, subst}
-use Rattle.open_calls.specs.declared.own_call.OwnCall.{OwnCall}
 use Rattle.number_windows.specs.Windows.{window_entries}
 use Rattle.number_windows.specs.Numbered.{without}
 use Rattle.open_calls.specs.Own.{OwnState}
@@ -12,7 +11,7 @@ returns-clause-first c =
     let es = window_entries c.self.inside.waiting in
     let seen : es ≡ c.args.self.now.waiting = ap (λ (s : OwnState). s.waiting) c.self.view_is in
     let first = first_goes key es c.self.invariant.window.ordered c.in-Some.ensures in
-    (first.0, subst (λ fs. fs ≡ (key, first.0) ∷ without key fs) seen first.1 ∙ ap (λ fs. (key, first.0) ∷ fs) (sym (ap (λ (s : OwnState). s.waiting) c.remove.ensures)))
+    (first.0, subst (λ fs. fs ≡ (key, first.0) ∷ without key fs) seen first.1 ∙ ap (λ fs. (key, first.0) ∷ fs) (sym (ap (λ (s : OwnState). s.waiting) c.remove.ensures.state)))
 
 pub returns-in-None-clause-first : goal.returns-in-None-clause-first
 returns-in-None-clause-first c =

@@ -1,7 +1,7 @@
-use Rattle.std.proofs.Common.{◌≡◌, suc, Some, None, ◌∙◌, ◌==◌, not, subst, sym, refl}
+use Rattle.std.proofs.Common.{◌≡◌, suc, Some, None, ◌∙◌, ◌==◌, not, ap, is_some, subst, sym, refl}
 use Rattle.number_windows.specs.Windows.{window_entries}
 use Rattle.number_windows.specs.Numbered.{at, without, Above, Below}
-use Rattle.open_calls.specs.Own.{is_wanted_by}
+use Rattle.open_calls.specs.Own.{OwnState, is_wanted_by}
 use Rattle.open_calls.specs.Inner.{is_of, IsKeyIndex}
 use Rattle.number_windows.proofs.Numbered.{below_filter, above_filter}
 use Rattle.number_windows.proofs.Rows.{at_gone, without_missing}
@@ -9,8 +9,8 @@ use Rattle.open_calls.proofs.States.{through}
 use Rattle.open_calls.proofs.Own.{state_of, same_waiting, index_gone, false_and}
 use Rattle.open_calls.proofs.own_calls.OwnCalls.remove.Goals as goal
 
-pub invariant_of-self : goal.invariant_of-self
-invariant_of-self c =
+pub invariant_of-self-2 : goal.invariant_of-self-2
+invariant_of-self-2 c =
     let es = window_entries c.self.inside.waiting in
     let now = window_entries c.remove.new.self in
     let call = c.in-Some.call in
@@ -21,14 +21,14 @@ invariant_of-self c =
       window = c.remove.ensures.window;
       positive = subst (λ fs. Above 0 fs) (sym is) (above_filter 0 (λ e. not (c.args.key == e.0)) es c.self.invariant.positive);
       numbered = subst (λ fs. Below (suc c.self.inside.made) fs) (sym is) (below_filter (suc c.self.inside.made) (λ e. not (c.args.key == e.0)) es c.self.invariant.numbered);
-      by_caller = index_gone is_of c.self.inside.by_caller c.remove-in-Some.new.self es now c.args.key call None
-          c.remove-in-Some.ensures c.self.invariant.by_caller changes there (λ k. refl) (λ k other. other);
-      wanted = index_gone is_wanted_by c.self.inside.wanted c.remove-in-Some-2.new.self es now c.args.key call None
-          c.remove-in-Some-2.ensures c.self.invariant.wanted changes there (λ k. refl) (λ k other. false_and (call.caller == k) (not call.is_withdrawn) other);
+      by_caller = index_gone is_of c.self.inside.by_caller c.remove-2.new.self es now c.args.key call None
+          c.remove-2.ensures c.self.invariant.by_caller changes there (λ k. refl) (λ k other. other);
+      wanted = index_gone is_wanted_by c.self.inside.wanted c.remove-3.new.self es now c.args.key call None
+          c.remove-3.ensures c.self.invariant.wanted changes there (λ k. refl) (λ k other. false_and (call.caller == k) (not call.is_withdrawn) other);
     }
 
-pub invariant_of-self-in_default : goal.invariant_of-self-in_default
-invariant_of-self-in_default c =
+pub invariant_of-self : goal.invariant_of-self
+invariant_of-self c =
     let es = window_entries c.self.inside.waiting in
     let same : window_entries c.remove.new.self ≡ es = c.remove.ensures.entries ∙ without_missing c.args.key es (sym c.in_default.ensures.value) in
     record {
@@ -39,14 +39,22 @@ invariant_of-self-in_default c =
       wanted = subst (λ fs. IsKeyIndex c.self.inside.wanted is_wanted_by fs) (sym same) c.self.invariant.wanted;
     }
 
-pub returns-in-Some : goal.returns-in-Some
-returns-in-Some c =
+pub returns-in_default-clause-was : goal.returns-in_default-clause-was
+returns-in_default-clause-was c =
+    ap is_some (c.in_default.ensures.value ∙ ap (λ (s : OwnState). at c.args.key s.waiting) c.self.view_is)
+
+pub returns-in_default-clause-state : goal.returns-in_default-clause-state
+returns-in_default-clause-state c =
     let es = window_entries c.self.inside.waiting in
     through (λ s. state_of s.made (without c.args.key s.waiting)) _ _ c.args.self.now c.self.view_is
     (same_waiting c.self.inside.made (window_entries c.remove.new.self) (without c.args.key es) c.remove.ensures.entries)
 
-pub returns-in_default : goal.returns-in_default
-returns-in_default c =
+pub returns-clause-was : goal.returns-clause-was
+returns-clause-was c =
+    ap is_some (c.in-Some.ensures.value ∙ ap (λ (s : OwnState). at c.args.key s.waiting) c.self.view_is)
+
+pub returns-clause-state : goal.returns-clause-state
+returns-clause-state c =
     let es = window_entries c.self.inside.waiting in
     through (λ s. state_of s.made (without c.args.key s.waiting)) _ _ c.args.self.now c.self.view_is
     (same_waiting c.self.inside.made (window_entries c.remove.new.self) (without c.args.key es) c.remove.ensures.entries)

@@ -13,7 +13,7 @@ invariant_of-self c =
     let now = c.args.self.now.waiting in
     let made : key ≡ c.args.self.now.made = ap (λ (s : OwnState). s.made) c.self.view_is in
     let before : (window_entries c.self.inside.waiting) ≡ now = ap (λ (s : OwnState). s.waiting) c.self.view_is in
-    let after : (window_entries c.self-2.inside.waiting) ≡ without key now = ap (λ (s : OwnState). s.waiting) (c.self-2.view_is ∙ c.remove.ensures) in
+    let after : (window_entries c.self-2.inside.waiting) ≡ without key now = ap (λ (s : OwnState). s.waiting) (c.self-2.view_is ∙ c.remove.ensures.state) in
     let last : key ≡ suc (key - 1) = omega (arith, c.requires) in
     record {
       window = c.self-2.invariant.window;
@@ -29,6 +29,6 @@ returns c =
     let key = c.self.inside.made in
     let now = c.args.self.now.waiting in
     let before : (window_entries c.self.inside.waiting) ≡ now = ap (λ (s : OwnState). s.waiting) c.self.view_is in
-    let after : (window_entries c.self-2.inside.waiting) ≡ without key now = ap (λ (s : OwnState). s.waiting) (c.self-2.view_is ∙ c.remove.ensures) in
+    let after : (window_entries c.self-2.inside.waiting) ≡ without key now = ap (λ (s : OwnState). s.waiting) (c.self-2.view_is ∙ c.remove.ensures.state) in
     through (λ s. state_of (s.made - 1) (without s.made s.waiting)) _ _ c.args.self.now c.self.view_is
     (same_waiting (key - 1) (window_entries c.self-2.inside.waiting) (without key (window_entries c.self.inside.waiting)) (after ∙ ap (without key) (sym before)))

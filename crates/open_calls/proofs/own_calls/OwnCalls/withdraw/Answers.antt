@@ -1,8 +1,8 @@
-use Rattle.std.proofs.Common.{◌≡◌, suc, Some, None, ◌∙◌, ◌==◌, not, ap, subst, sym, refl}
+use Rattle.std.proofs.Common.{◌≡◌, suc, Some, ◌∙◌, ◌==◌, not, subst, sym, refl}
 use Rattle.number_windows.specs.Windows.{window_entries}
 use Rattle.number_windows.specs.Numbered.{at, changed_at, Above, Below}
-use Rattle.open_calls.specs.Own.{OwnState, is_wanted_by, withdrawn}
-use Rattle.open_calls.specs.Inner.{is_of}
+use Rattle.open_calls.specs.Own.{is_wanted_by, withdrawn}
+use Rattle.open_calls.specs.Inner.{is_of, IsKeyIndex}
 use Rattle.number_windows.proofs.Numbered.{unchanged, below_changed, above_changed}
 use Rattle.number_windows.proofs.Rows.{at_replaced}
 use Rattle.open_calls.proofs.States.{through}
@@ -10,23 +10,36 @@ use Rattle.open_calls.proofs.Own.{state_of, same_waiting, index_gone, index_same
 use Rattle.number_windows.proofs.StandIns.{put}
 use Rattle.open_calls.proofs.own_calls.OwnCalls.withdraw.Goals as goal
 
-pub returns-in_default : goal.returns-in_default
-returns-in_default c =
-    let now = c.args.self.now in
-    let none : at c.args.key now.waiting ≡ None =
-    ap (λ (s : OwnState). at c.args.key s.waiting) (sym c.self.view_is) ∙ sym (c.in_default.ensures ∙ c.get.ensures) in
-    ap (λ es. state_of now.made es) (unchanged c.args.key withdrawn now.waiting none)
-
 pub invariant_of-self : goal.invariant_of-self
 invariant_of-self c =
+    let none = c.get_mut.follows.holds-at-none in
+    record {
+      window = none.1;
+      positive = subst (λ fs. Above 0 fs) (sym none.0) c.self.invariant.positive;
+      numbered = subst (λ fs. Below (suc c.self.inside.made) fs) (sym none.0) c.self.invariant.numbered;
+      by_caller = subst (λ fs. IsKeyIndex c.self.inside.by_caller is_of fs) (sym none.0) c.self.invariant.by_caller;
+      wanted = subst (λ fs. IsKeyIndex c.self.inside.wanted is_wanted_by fs) (sym none.0) c.self.invariant.wanted;
+    }
+
+pub returns-in_default : goal.returns-in_default
+returns-in_default c =
     let es = window_entries c.self.inside.waiting in
-    let call = c.in-Some.call in
-    let now = window_entries c.replace.new.self in
-    let there : at c.args.key es ≡ Some call = sym (c.in-Some.ensures ∙ c.get.ensures) in
-    let is : now ≡ changed_at c.args.key withdrawn es = c.replace.ensures.entries ∙ put c.args.key withdrawn call (withdrawn call) es c.self.invariant.window.ordered there refl in
+    through (λ s. state_of s.made (changed_at c.args.key withdrawn s.waiting)) _ _ c.args.self.now c.self.view_is
+    (same_waiting c.self.inside.made (window_entries c.get_mut.follows.lender-at-none) (changed_at c.args.key withdrawn es)
+    (c.get_mut.follows.holds-at-none.0 ∙ unchanged c.args.key withdrawn es (sym c.in_default.ensures.value)))
+
+pub invariant_of-self-2 : goal.invariant_of-self-2
+invariant_of-self-2 c =
+    let es = window_entries c.self.inside.waiting in
+    let call = c.in-Some.call.now in
+    let window = c.get_mut.follows.lender (withdrawn call) in
+    let holds = c.get_mut.follows.holds (withdrawn call) in
+    let now = window_entries window in
+    let there : at c.args.key es ≡ Some call = sym c.in-Some.ensures.value in
+    let is : now ≡ changed_at c.args.key withdrawn es = holds.0 ∙ put c.args.key withdrawn call (withdrawn call) es c.self.invariant.window.ordered there refl in
     let changes = at_replaced c.args.key withdrawn call es now is there in
     record {
-      window = c.replace.ensures.window;
+      window = holds.1;
       positive = subst (λ fs. Above 0 fs) (sym is) (above_changed 0 c.args.key withdrawn es c.self.invariant.positive);
       numbered = subst (λ fs. Below (suc c.self.inside.made) fs) (sym is) (below_changed (suc c.self.inside.made) c.args.key withdrawn es c.self.invariant.numbered);
       by_caller = index_same is_of c.self.inside.by_caller es now c.args.key call (withdrawn call) c.self.invariant.by_caller changes there (λ k. refl);
@@ -37,8 +50,9 @@ invariant_of-self c =
 pub returns : goal.returns
 returns c =
     let es = window_entries c.self.inside.waiting in
-    let call = c.in-Some.call in
-    let there : at c.args.key es ≡ Some call = sym (c.in-Some.ensures ∙ c.get.ensures) in
+    let call = c.in-Some.call.now in
+    let holds = c.get_mut.follows.holds (withdrawn call) in
+    let there : at c.args.key es ≡ Some call = sym c.in-Some.ensures.value in
     through (λ s. state_of s.made (changed_at c.args.key withdrawn s.waiting)) _ _ c.args.self.now c.self.view_is
-    (same_waiting c.self.inside.made (window_entries c.replace.new.self) (changed_at c.args.key withdrawn es)
-    (c.replace.ensures.entries ∙ put c.args.key withdrawn call (withdrawn call) es c.self.invariant.window.ordered there refl))
+    (same_waiting c.self.inside.made (window_entries (c.get_mut.follows.lender (withdrawn call))) (changed_at c.args.key withdrawn es)
+    (holds.0 ∙ put c.args.key withdrawn call (withdrawn call) es c.self.invariant.window.ordered there refl))

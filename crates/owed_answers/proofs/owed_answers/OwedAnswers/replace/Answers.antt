@@ -1,25 +1,17 @@
-use Rattle.std.proofs.Common.{◌∙◌, ap, subst, sym}
-use Rattle.number_windows.specs.Windows.{window_entries}
-use Rattle.number_windows.specs.Numbered.{at, changed_at, Below}
-use Rattle.owed_answers.specs.Owed.{OwedState, seen_slot, slot_at, replaced}
-use Rattle.number_windows.proofs.Numbered.{below_changed}
-use Rattle.owed_answers.proofs.OwedLemmas.{through, state_of, same_owed}
+use Rattle.std.proofs.Common.{sym}
+use Rattle.owed_answers.specs.Owed.{seen_slot, replaced}
+use Rattle.number_windows.proofs.Numbered.{unchanged}
+use Rattle.number_windows.proofs.StandIns.{put}
+use Rattle.owed_answers.proofs.OwedLemmas.{same_owed}
 use Rattle.owed_answers.proofs.owed_answers.OwedAnswers.replace.Goals as goal
 
-pub invariant_of-self : goal.invariant_of-self
-invariant_of-self c =
+pub returns-in-Some-clause-state : goal.returns-in-Some-clause-state
+returns-in-Some-clause-state c =
+    let was = c.args.self.now in
     let change = replaced c.args.slot (seen_slot c.args.text) in
-    record {
-      window = c.replace_in.ensures.window;
-      numbered = subst (λ fs. Below c.self.inside.places fs) (sym c.replace_in.ensures.entries)
-          (below_changed c.self.inside.places c.args.place change (window_entries c.self.inside.owed) c.self.invariant.numbered);
-    }
+    same_owed was.places _ _ (put c.args.place change c.in-Some.unit.now c.replace.new.self was.owed c.get_mut.ensures.ascending (sym c.in-Some.ensures.unit) c.replace.ensures.state)
 
-pub returns-clause-was : goal.returns-clause-was
-returns-clause-was c = c.replace_in.ensures.was ∙ ap (λ (s : OwedState). slot_at c.args.slot (at c.args.place s.owed)) c.self.view_is
-
-pub returns-clause-state : goal.returns-clause-state
-returns-clause-state c =
-    let change = replaced c.args.slot (seen_slot c.args.text) in
-    through (λ s. state_of s.places (changed_at c.args.place change s.owed)) _ _ c.args.self.now c.self.view_is
-    (same_owed c.self.inside.places (window_entries c.replace_in.new.owed) (changed_at c.args.place change (window_entries c.self.inside.owed)) c.replace_in.ensures.entries)
+pub returns-in-None-clause-state : goal.returns-in-None-clause-state
+returns-in-None-clause-state c =
+    let was = c.args.self.now in
+    same_owed was.places _ _ (unchanged c.args.place (replaced c.args.slot (seen_slot c.args.text)) was.owed (sym c.in-None.ensures.unit))

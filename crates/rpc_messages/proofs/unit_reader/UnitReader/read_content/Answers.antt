@@ -14,4 +14,4 @@ returns-in-Ok c =
 pub returns-in-Err-Unusual : goal.returns-in-Err-Unusual
 returns-in-Err-Unusual c =
     let text = c.in-Some.ensures in
-    IfOk-weaker c.read_unusual.result _ _ (λ u read. read ∙ unit_of_text c.args.content.now c.in-Some.text.now text.1 text.0) c.read_unusual.ensures
+    IfOk-weaker c.read_tokens.result _ _ (λ u read. read ∙ unit_of_text c.args.content.now c.in-Some.text.now text.1 text.0) c.read_tokens.ensures

@@ -1,0 +1,261 @@
+-- A connection answers units that are no batches by single messages, and batches by arrays, each once.
+use Rattle.std.proofs.Common.{◌≡◌, ◌==◌, ◌&&◌, ◌||◌, not, ℕ, zero, suc, ◌+◌, ◌≤◌, Bool, true, false, cond, List, [], ◌∷◌, ◌++◌, length, map, get_or, Option, Some, None, option_map, refl, ap, ◌∙◌, arith}
+use Rattle.std.proofs.lemmas.List.{map-append}
+use Rattle.std.specs.Prelude.{◌≢◌, slice_get, option_to_list}
+use Rattle.connection_history.specs.declared.refused.Refused.TheVariants.{NotOpen, Empty}
+use Rattle.message_ids.specs.declared.id.Id.{Id}
+use Rattle.connection_messages.specs.declared.answer.Answer.{Answer}
+use Rattle.connection_messages.specs.declared.cancels.Cancels.{Cancels}
+use Rattle.connection_messages.specs.declared.cancels.Cancels.TheVariants.{Lsp, Mcp}
+use Rattle.connection_messages.specs.declared.entry.Entry.{Entry}
+use Rattle.connection_messages.specs.declared.entry.Entry.TheVariants.{Call, Cancel, Reply, Stray, Invalid}
+use Rattle.connection_messages.specs.declared.unit.Unit.{Unit}
+use Rattle.connection_messages.specs.declared.unit.Unit.TheVariants.{Unreadable, Single, Batch}
+use Rattle.connection.specs.BackToBack.{answer, said_at, given_to, answer_in, answers_in, in_one, answer_of, answers_along, messages_of}
+use Rattle.connection_history.specs.Answers.{Texts, both, texts_of, call_texts, entry_texts, texts_along, due_from, due_of, dues_along, text}
+use Rattle.connection_history.specs.declared.order.Order.{Order}
+use Rattle.connection_history.specs.Stream.{entries_in, call_in, calls_in}
+use Rattle.connection_history.specs.History.{Happening, came, called, called_all, noticed, withdrew, answered, ended, History, or_else, units_of, units_at, is_open, answer_at, answer_to}
+use Rattle.connection_history.specs.Items.{items_of}
+use Rattle.connection_history.specs.Refusals.{first_of, has_cancels, may_be_left, IsLawful}
+use Rattle.connection_history.specs.Written.{answers_of}
+use Rattle.our_side.specs.Answered.{AreAnsweredWhole, OfCall, OfUnit, OfUnits, OfSingleCalls, id_due, ids_due, passing, alone_at, came_alone, came_together, said_alone, said_together, total}
+use Rattle.our_side.specs.Asked.{as_number}
+use Rattle.our_side.proofs.Placing.{AreFew, all_counted}
+
+-- a unit's answer is written once
+abbrev pub WrittenOnce : Order → History → Type 0
+WrittenOnce order history = (place : ℕ) → (o : Option (List ℕ)) × (answers_of place (items_of order history) ≡ option_to_list o)
+
+-- ---- single messages
+
+-- what holds of calls that came alone, held of those before
+module _ (P : Id → Answer → Type 0) where
+  call_before : (h : Happening) (past : History) (n : ℕ) (e : Entry) → OfCall P (h ∷ past) n e → OfCall P past n e
+  call_before h past n (Call c) holds = λ id a is given. holds id a is (ap (λ o. or_else o (answer_at n h)) given)
+  call_before h past n (Cancel id) holds = tt
+  call_before h past n (Reply k r) holds = tt
+  call_before h past n Stray holds = tt
+  call_before h past n Invalid holds = tt
+
+  unit_before : (h : Happening) (past : History) (n : ℕ) (u : Unit) → OfUnit P (h ∷ past) n u → OfUnit P past n u
+  unit_before h past n Unreadable holds = tt
+  unit_before h past n (Single e) holds = call_before h past n e holds
+  unit_before h past n (Batch es) holds = tt
+
+  units_before : (h : Happening) (past : History) (n : ℕ) (us more : List Unit) → OfUnits P (h ∷ past) n (us ++ more) → OfUnits P past n us
+  units_before h past n [] more holds = tt
+  units_before h past n (u ∷ us) more holds = (unit_before h past n u holds.0, units_before h past (n + length (calls_in (entries_in u))) us more holds.1)
+
+  pub calls_before : (h : Happening) (past : History) → OfSingleCalls P (h ∷ past) → OfSingleCalls P past
+  calls_before h past holds = units_before h past 1 (units_of past) (units_at h) holds
+
+  pub calls_at_first : (more : List Happening) (past : History) → OfSingleCalls P (more ++ past) → OfSingleCalls P past
+  calls_at_first [] past holds = holds
+  calls_at_first (h ∷ more) past holds = calls_at_first more past (calls_before h (more ++ past) holds)
+
+  -- and what follows from it
+  module _ (Q : Id → Answer → Type 0) (weaker : (id : Id) (a : Answer) → P id a → Q id a) where
+    call_weaker : (history : History) (n : ℕ) (e : Entry) → OfCall P history n e → OfCall Q history n e
+    call_weaker history n (Call c) holds = λ id a is given. weaker id a (holds id a is given)
+    call_weaker history n (Cancel id) holds = tt
+    call_weaker history n (Reply k r) holds = tt
+    call_weaker history n Stray holds = tt
+    call_weaker history n Invalid holds = tt
+
+    unit_weaker : (history : History) (n : ℕ) (u : Unit) → OfUnit P history n u → OfUnit Q history n u
+    unit_weaker history n Unreadable holds = tt
+    unit_weaker history n (Single e) holds = call_weaker history n e holds
+    unit_weaker history n (Batch es) holds = tt
+
+    units_weaker : (history : History) (n : ℕ) (us : List Unit) → OfUnits P history n us → OfUnits Q history n us
+    units_weaker history n [] holds = tt
+    units_weaker history n (u ∷ us) holds = (unit_weaker history n u holds.0, units_weaker history (n + length (calls_in (entries_in u))) us holds.1)
+
+    pub calls_weaker : (history : History) → OfSingleCalls P history → OfSingleCalls Q history
+    calls_weaker history holds = units_weaker history 1 (units_of history) holds
+
+at_most : (b c : Bool) → (b ≡ true → c ≡ true) → as_number b ≤ as_number c
+at_most false c is = omega arith
+at_most true c is = let one : as_number c ≡ 1 = ap as_number (is refl) in omega (arith, one)
+
+module _ (test : Id × Answer → Bool) (may : Id → Bool) where
+  -- the answer of a call alone may pass, where it passes
+  abbrev May : Id → Answer → Type 0
+  May id a = test (id, a) ≡ true → may id ≡ true
+
+  given_few : (o : Option Id) (given : Option (Option Answer)) → ((id : Id) (a : Answer) → o ≡ Some id → given ≡ Some (Some a) → May id a)
+      → total (said_alone test) (map (λ a. answer a.0 a.1) (given_to o given)) ≤ passing may (option_to_list o)
+  given_few None given passes = omega arith
+  given_few (Some id) None passes = omega arith
+  given_few (Some id) (Some None) passes = omega arith
+  given_few (Some id) (Some (Some a)) passes = let few = at_most (test (id, a)) (may id) (passes id a refl refl) in omega (arith, few)
+
+  entry_few : (history : History) (n : ℕ) (e : Entry) → OfCall May history n e → total (said_alone test) (map (λ a. answer a.0 a.1) (answer_in history n e)) ≤ alone_at test may e
+  entry_few history n (Call c) passes = given_few c.id (answer_to n history) passes
+  entry_few history n (Cancel id) passes = omega arith
+  entry_few history n (Reply k r) passes = omega arith
+  entry_few history n Stray passes = omega arith
+  entry_few history n Invalid passes = omega arith
+
+  array_few : (xs : List (Id × Answer)) → total (said_alone test) (in_one xs) ≤ 0
+  array_few [] = omega arith
+  array_few (x ∷ xs) = omega arith
+
+  unit_few : (history : History) (n : ℕ) (u : Unit) → OfUnit May history n u → total (said_alone test) (answer_of history n u) ≤ came_alone test may u
+  unit_few history n Unreadable passes = omega arith
+  unit_few history n (Single e) passes = entry_few history n e passes
+  unit_few history n (Batch es) passes = array_few (answers_in history n es)
+
+  along_few : (history : History) (n : ℕ) (us : List Unit) (place : ℕ) → OfUnits May history n us → total (said_alone test) (get_or (answers_along history n us) place []) ≤ get_or (map (came_alone test may) us) place 0
+  along_few history n [] place passes = omega arith
+  along_few history n (u ∷ us) zero passes = unit_few history n u passes.0
+  along_few history n (u ∷ us) (suc place) passes = along_few history (n + length (calls_in (entries_in u))) us place passes.1
+
+  alone_few : (history : History) → OfSingleCalls May history → AreFew (said_alone test) (came_alone test may) history
+  alone_few [] passes = tt
+  alone_few (h ∷ past) passes = (λ place is_out. along_few (h ∷ past) 1 (units_of (h ∷ past)) place passes, alone_few past (calls_before May h past passes))
+
+  none_alone : (past : History) (h : Happening) → total (said_alone test) (said_at past h) ≡ 0
+  none_alone past (came o u) = refl
+  none_alone past (called n o) = refl
+  none_alone past (called_all n os) = refl
+  none_alone past (noticed o) = refl
+  none_alone past (withdrew by k) = refl
+  none_alone past (answered n a) = refl
+  none_alone past (ended close) = refl
+
+  pub alone_once : (order : Order) (history : History) → OfSingleCalls May history → WrittenOnce order history → total (said_alone test) (messages_of order history) ≤ total (came_alone test may) (units_of history)
+  alone_once order history passes once = all_counted (said_alone test) (came_alone test may) order none_alone history (alone_few history passes) once
+
+-- ---- without MCP's cancels no request is closed without an answer
+
+left_passed : (closed left : Bool) → first_of ((closed, NotOpen) ∷ (true && not left, Empty) ∷ []) ≡ None → left ≡ true
+left_passed true left h = absurd (cc)
+left_passed false true h = refl
+left_passed false false h = absurd (cc)
+
+left_by : (cancels : Option Cancels) (b : Bool) → (has_cancels Mcp cancels && b) ≡ true → cancels ≡ Some Mcp
+left_by None b h = absurd (cc)
+left_by (Some Lsp) b h = absurd (cc)
+left_by (Some Mcp) b h = refl
+
+chosen_none : (b : Bool) (a : Answer) → cond b (Some (Some a)) None ≡ Some None → ⊥
+chosen_none true a h = cc
+chosen_none false a h = cc
+
+module _ (cancels : Option Cancels) (other : cancels ≢ Some Mcp) where
+  left_at : (n : ℕ) (past : History) (h : Happening) → IsLawful cancels (h ∷ past) → answer_at n h ≡ Some None → ⊥
+  left_at n past (came o u) lawful is = cc
+  left_at n past (called m o) lawful is = cc
+  left_at n past (called_all m os) lawful is = cc
+  left_at n past (noticed o) lawful is = cc
+  left_at n past (withdrew by k) lawful is = cc
+  left_at n past (answered m None) lawful is = other (left_by cancels _ (left_passed ((m == 0) || not (is_open m past)) (may_be_left cancels m past) lawful.0))
+  left_at n past (answered m (Some a)) lawful is = chosen_none (m == n) a is
+  left_at n past (ended close) lawful is = cc
+
+  left_from : (n : ℕ) (past : History) (h : Happening) (o : Option (Option Answer)) → (o ≡ Some None → ⊥) → IsLawful cancels (h ∷ past) → or_else o (answer_at n h) ≡ Some None → ⊥
+  left_from n past h None earlier lawful is = left_at n past h lawful is
+  left_from n past h (Some a) earlier lawful is = earlier is
+
+  never_left : (history : History) (n : ℕ) → IsLawful cancels history → answer_to n history ≡ Some None → ⊥
+  never_left [] n lawful is = cc
+  never_left (h ∷ past) n lawful is = left_from n past h (answer_to n past) (never_left past n lawful.1) lawful is
+
+-- ---- arrays
+
+first_whole : (cancels : Option Cancels) (u : Unit) (us : List Unit) → AreAnsweredWhole cancels (u ∷ us) → AreAnsweredWhole cancels (u ∷ []) × AreAnsweredWhole cancels us
+first_whole cancels Unreadable us whole = (tt, whole)
+first_whole cancels (Single e) us whole = (tt, whole)
+first_whole cancels (Batch es) us whole = ((whole.0, tt), whole.1)
+
+pub both_whole : (cancels : Option Cancels) (u : Unit) (us : List Unit) → AreAnsweredWhole cancels (u ∷ []) → AreAnsweredWhole cancels us → AreAnsweredWhole cancels (u ∷ us)
+both_whole cancels Unreadable us first rest = rest
+both_whole cancels (Single e) us first rest = rest
+both_whole cancels (Batch es) us first rest = (first.0, rest)
+
+whole_front : (cancels : Option Cancels) (us more : List Unit) → AreAnsweredWhole cancels (us ++ more) → AreAnsweredWhole cancels us
+whole_front cancels [] more whole = tt
+whole_front cancels (u ∷ us) more whole =
+    let parts = first_whole cancels u (us ++ more) whole in
+    both_whole cancels u us parts.0 (whole_front cancels us more parts.1)
+
+-- A batch that is owed a text is answered under all of its ids.
+module _ (history : History) where
+  given_ids : (id : Id) (given : Option (Option Answer)) → (given ≡ Some None → ⊥) → (ts : List (List ℕ)) → option_map (texts_of id) given ≡ Some ts → map (λ a. a.0) (given_to (Some id) given) ≡ id ∷ []
+  given_ids id None never ts is = absurd (cc)
+  given_ids id (Some None) never ts is = absurd (never refl)
+  given_ids id (Some (Some a)) never ts is = refl
+
+  both_some : (these others : Texts) (ts : List (List ℕ)) → both these others ≡ Some ts → ((us : List (List ℕ)) × (these ≡ Some us)) × ((vs : List (List ℕ)) × (others ≡ Some vs))
+  both_some None others ts is = absurd (cc)
+  both_some (Some us) None ts is = absurd (cc)
+  both_some (Some us) (Some vs) ts is = ((us, refl), (vs, refl))
+
+  module _ (kept : (n : ℕ) → answer_to n history ≡ Some None → ⊥) where
+    call_ids : (n : ℕ) (o : Option Id) (ts : List (List ℕ)) → call_texts history n o ≡ Some ts → map (λ a. a.0) (given_to o (answer_to n history)) ≡ option_to_list o
+    call_ids n None ts is = refl
+    call_ids n (Some id) ts is = given_ids id (answer_to n history) (kept n) ts is
+
+    entry_ids : (n : ℕ) (e : Entry) (ts : List (List ℕ)) → entry_texts history n e ≡ Some ts → map (λ a. a.0) (answer_in history n e) ≡ id_due e
+    entry_ids n (Call c) ts is = call_ids n c.id ts is
+    entry_ids n (Cancel id) ts is = refl
+    entry_ids n (Reply k r) ts is = refl
+    entry_ids n Stray ts is = refl
+    entry_ids n Invalid ts is = refl
+
+    all_ids : (n : ℕ) (es : List Entry) (ts : List (List ℕ)) → texts_along history n es ≡ Some ts → map (λ a. a.0) (answers_in history n es) ≡ ids_due es
+    all_ids n [] ts is = refl
+    all_ids n (e ∷ es) ts is =
+        let parts = both_some (entry_texts history n e) (texts_along history (n + length (call_in e)) es) ts is in
+        map-append (λ a. a.0) (answer_in history n e) (answers_in history (n + length (call_in e)) es)
+        ∙ (λ i. entry_ids n e parts.0.0 parts.0.1 i ++ all_ids (n + length (call_in e)) es parts.1.0 parts.1.1 i)
+
+  module _ (test : List Id → Bool) where
+    array_ids : (xs : List (Id × Answer)) (ids : List Id) → map (λ a. a.0) xs ≡ ids → total (said_together test) (in_one xs) ≤ as_number (test ids)
+    array_ids [] ids is = omega arith
+    array_ids (x ∷ xs) ids is = let same : as_number (test (map (λ a. a.0) (x ∷ xs))) ≡ as_number (test ids) = ap (λ all. as_number (test all)) is in omega (arith, same)
+
+    single_none : (xs : List (Id × Answer)) → total (said_together test) (map (λ a. answer a.0 a.1) xs) ≡ 0
+    single_none [] = refl
+    single_none (x ∷ xs) = let rest = single_none xs in omega (arith, rest)
+
+    due_some : (u : Unit) (texts : Texts) (t : List ℕ) → due_from u texts ≡ text t → (ts : List (List ℕ)) × (texts ≡ Some ts)
+    due_some u None t is = absurd (cc)
+    due_some u (Some ts) t is = (ts, refl)
+
+    module _ (cancels : Option Cancels) (lawful : IsLawful cancels history) where
+      unit_together : (n : ℕ) (u : Unit) (t : List ℕ) → AreAnsweredWhole cancels (u ∷ []) → due_of history n u ≡ text t → total (said_together test) (answer_of history n u) ≤ came_together test u
+      unit_together n Unreadable t whole is = omega arith
+      unit_together n (Single e) t whole is = let none = single_none (answer_in history n e) in omega (arith, none)
+      unit_together n (Batch es) t whole is =
+          let due = due_some (Batch es) (texts_along history n es) t is in
+          array_ids (answers_in history n es) (ids_due es) (all_ids (λ k. never_left cancels whole.0 history k lawful) n es due.0 due.1)
+
+      along_together : (n : ℕ) (us : List Unit) (place : ℕ) (t : List ℕ) → AreAnsweredWhole cancels us → slice_get (dues_along history n us) place ≡ Some (text t)
+          → total (said_together test) (get_or (answers_along history n us) place []) ≤ get_or (map (came_together test) us) place 0
+      along_together n [] place t whole is = omega arith
+      along_together n (u ∷ us) zero t whole is = unit_together n u t (first_whole cancels u us whole).0 (let same : due_of history n u ≡ text t = cc in same)
+      along_together n (u ∷ us) (suc place) t whole is = along_together (n + length (calls_in (entries_in u))) us place t (first_whole cancels u us whole).1 is
+
+module _ (test : List Id → Bool) where
+  together_few : (cancels : Option Cancels) (history : History) → IsLawful cancels history → AreAnsweredWhole cancels (units_of history) → AreFew (said_together test) (came_together test) history
+  together_few cancels [] lawful whole = tt
+  together_few cancels (h ∷ past) lawful whole = (
+    λ place is_out. along_together (h ∷ past) test cancels lawful 1 (units_of (h ∷ past)) place is_out.0 whole is_out.1,
+    together_few cancels past lawful.1 (whole_front cancels (units_of past) (units_at h) whole),
+  )
+
+  none_together : (past : History) (h : Happening) → total (said_together test) (said_at past h) ≡ 0
+  none_together past (came o u) = refl
+  none_together past (called n o) = refl
+  none_together past (called_all n os) = refl
+  none_together past (noticed o) = refl
+  none_together past (withdrew by k) = refl
+  none_together past (answered n a) = refl
+  none_together past (ended close) = refl
+
+  pub together_once : (cancels : Option Cancels) (order : Order) (history : History) → IsLawful cancels history → AreAnsweredWhole cancels (units_of history) → WrittenOnce order history
+      → total (said_together test) (messages_of order history) ≤ total (came_together test) (units_of history)
+  together_once cancels order history lawful whole once = all_counted (said_together test) (came_together test) order none_together history (together_few cancels history lawful whole) once

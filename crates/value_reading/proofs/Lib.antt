@@ -1,0 +1,4 @@
+pub mod Elements
+pub mod Lexemes
+pub mod Placed
+pub mod Quoted
