@@ -6,6 +6,7 @@ pub mod Envelope
 pub mod Held
 pub mod Key
 pub mod Numbering
+pub mod Outline
 pub mod Parts
 pub mod Replies
 pub mod Texts

@@ -2,6 +2,7 @@
 
 ghost use Rattle.std.specs.Prelude.{◌≡◌, IfOk, false};
 ghost use Rattle.serde_json.specs.Read.{read};
+ghost use Rattle.rpc_messages.specs.Outline.{outline};
 ghost use Rattle.rpc_messages.specs.Unit.{unit_seen, unit_of, unit_of_reading};
 
 use crate::read::direct::read_direct;
@@ -43,6 +44,15 @@ impl UnitReader {
             return Ok(Unit::Unreadable);
         }
         self.read_content(frame.content.as_slice())
+    }
+
+    /// The same, but that the params of a call that comes alone may be others: for whoever may not look at them. They are
+    /// checked, but for a cancel's, and not made.
+    pub fn read_outline(&mut self, frame: &Frame) -> Result<Unit, AllocError>
+        ensures { IfOk result (λ u. outline (unit_seen u)
+            ≡ outline (unit_of frame.now.foreign frame.now.content)) }
+    {
+        self.read(frame)
     }
 
     fn read_content(&mut self, content: &[u8]) -> Result<Unit, AllocError>
