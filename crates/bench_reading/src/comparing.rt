@@ -1,7 +1,7 @@
 //! Texts at random, each read in two ways, which give the same unit.
+use crate::by_value::read_by_value;
 use crate::chance::Chance;
 use crate::random_text::next_text;
-use crate::value_reading::read_by_value;
 use json_values::Items;
 use lsp_frames::Frame;
 use program_edge::Failure;

@@ -4,11 +4,11 @@
 
 mod answerer;
 mod answering;
+mod by_value;
 mod chance;
 mod comparing;
 mod random_text;
 mod refusing;
-mod value_reading;
 
 pub use answering::answer_all;
 pub use comparing::compare;

@@ -1,3 +1,4 @@
+mod Alike
 mod Drains
 mod Ended
 mod Entering

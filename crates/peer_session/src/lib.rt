@@ -9,6 +9,7 @@ mod hearing;
 mod job;
 mod limits;
 mod passing;
+mod reading;
 mod report;
 mod session;
 mod taken;

@@ -14,6 +14,7 @@ use crate::drain_fault::DrainFault;
 use crate::job::Job;
 use crate::limits::Limits;
 use crate::passing::take_unit;
+use crate::reading::read_unit;
 use crate::report::{Close, Report};
 use crate::taken::Taken;
 use crate::turning::{come_back, leave};
@@ -135,7 +136,7 @@ impl<'a> Session<'a> {
             (unit_of frame.now.foreign frame.now.content) taken (view self.new)) }
         ensures err { OnErr result (view self.new ≡ view self.old) }
     {
-        let unit = self.reader.read(frame)?;
+        let unit = read_unit(&mut self.reader, self.table, frame)?;
         let left = self
             .limits
             .numbers

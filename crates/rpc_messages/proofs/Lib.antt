@@ -7,6 +7,7 @@ mod Envelopes
 mod Flat
 mod KeyLemmas
 mod Placed
+mod Shown
 mod TakenMember
 mod Tokens
 pub mod Stream

@@ -9,5 +9,6 @@ pub mod Numbering
 pub mod Outline
 pub mod Parts
 pub mod Replies
+pub mod Shown
 pub mod Texts
 pub mod Unit

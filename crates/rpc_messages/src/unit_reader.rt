@@ -3,6 +3,7 @@
 ghost use Rattle.std.specs.Prelude.{◌≡◌, IfOk, false};
 ghost use Rattle.serde_json.specs.Read.{read};
 ghost use Rattle.rpc_messages.specs.Outline.{outline};
+ghost use Rattle.rpc_messages.specs.Shown.{shown};
 ghost use Rattle.rpc_messages.specs.Unit.{unit_seen, unit_of, unit_of_reading};
 
 use crate::read::direct::read_direct;
@@ -36,14 +37,10 @@ impl UnitReader {
 
     /// The unit of a frame's content. Every content has one, so the only error is want of memory, after which others
     /// can be read.
-    #[tactic(auto, unfolding(crate::specs::Unit::unit_of))]
     pub fn read(&mut self, frame: &Frame) -> Result<Unit, AllocError>
         ensures { IfOk result (λ u. unit_seen u ≡ unit_of frame.now.foreign frame.now.content) }
     {
-        if frame.foreign {
-            return Ok(Unit::Unreadable);
-        }
-        self.read_content(frame.content.as_slice())
+        self.read_frame(frame, true)
     }
 
     /// The same, but that the params of a call that comes alone may be others: for whoever may not look at them. They are
@@ -52,16 +49,28 @@ impl UnitReader {
         ensures { IfOk result (λ u. outline (unit_seen u)
             ≡ outline (unit_of frame.now.foreign frame.now.content)) }
     {
-        self.read(frame)
+        self.read_frame(frame, false)
     }
 
-    fn read_content(&mut self, content: &[u8]) -> Result<Unit, AllocError>
-        ensures { IfOk result (λ u. unit_seen u ≡ unit_of false content.now) }
+    #[tactic(auto, unfolding(crate::specs::Unit::unit_of))]
+    fn read_frame(&mut self, frame: &Frame, with_params: bool) -> Result<Unit, AllocError>
+        ensures { IfOk result (λ u. shown with_params (unit_seen u)
+            ≡ shown with_params (unit_of frame.now.foreign frame.now.content)) }
+    {
+        if frame.foreign {
+            return Ok(Unit::Unreadable);
+        }
+        self.read_content(frame.content.as_slice(), with_params)
+    }
+
+    fn read_content(&mut self, content: &[u8], with_params: bool) -> Result<Unit, AllocError>
+        ensures { IfOk result (λ u. shown with_params (unit_seen u)
+            ≡ shown with_params (unit_of false content.now)) }
     {
         let Some(text) = utf8_text(content) else {
             return Ok(Unit::Unreadable);
         };
-        match read_direct(self.alloc, text) {
+        match read_direct(self.alloc, text, with_params) {
             Ok(unit) => Ok(unit),
             Err(Unread::Unusual) => self.read_tokens(text),
             Err(Unread::Memory) => Err(AllocError),

@@ -4,11 +4,13 @@
 
 mod escapes;
 mod numbers;
+mod passed;
 mod passing;
 mod strings;
 mod unread;
 mod values;
 
+pub use passed::pass_container;
 pub use passing::{is_over, next_byte, pass};
 pub use strings::{read_name, read_string};
 pub use unread::Unread;

@@ -72,7 +72,7 @@ pub(crate) fn copy_string(alloc: Global, text: &str, at: &mut usize) -> Result<S
 
 /// Passes the first quote of a string.
 #[inline(always)]
-fn open(text: &str, at: &mut usize) -> Result<(), Unread>
+pub(crate) fn open(text: &str, at: &mut usize) -> Result<(), Unread>
     ensures opens { OnOk result (Opens text.now at.old at.new) }
     ensures bounds { OnOk result ((at.old < at.new) × (at.new ≤ length text.now)) }
     ensures boundary { OnOk result (IsCharBoundary text.now at.new) }
@@ -144,12 +144,25 @@ fn append_run(text: &str, at: &mut usize, copy: &mut String) -> Result<(), Unrea
     ensures boundary { OnOk result (IsCharBoundary text.now at.new) }
 {
     let from = *at;
-    let end = plain_end(text.as_bytes(), from);
+    pass_run(text, at)?;
+    copy.push_str(&text[from..*at])?;
+    Ok(())
+}
+
+/// Passes bytes that stand for themselves, from there to the next quote or escape.
+#[inline(always)]
+pub(crate) fn pass_run(text: &str, at: &mut usize) -> Result<(), Unread>
+    requires some { (get_or text.now at.old 0 ≢ 34) × (get_or text.now at.old 0 ≢ 92) }
+    requires within { at.old < length text.now }
+    ensures bytes { OnOk result (HasBytes text.now at.old (slice_range text.now at.old at.new) at.new) }
+    ensures bounds { OnOk result ((at.old < at.new) × (at.new ≤ length text.now)) }
+    ensures boundary { OnOk result (IsCharBoundary text.now at.new) }
+{
+    let end = plain_end(text.as_bytes(), *at);
     let stop = byte_at(text, end);
     if stop != b'"' && stop != b'\\' {
         return Err(Unread::Unusual);
     }
-    copy.push_str(&text[from..end])?;
     *at = end;
     Ok(())
 }

@@ -8,6 +8,7 @@ ghost use Rattle.serde_json.specs.Data.{Members, no_members};
 ghost use Rattle.serde_json.specs.Read.{of_members, converted};
 ghost use Rattle.rpc_messages.specs.Envelope.{envelope_of};
 ghost use Rattle.rpc_messages.specs.Held.{envelope_view, with_member};
+ghost use Rattle.rpc_messages.specs.Shown.{is_cancel_method};
 
 use json::Reader;
 use json_reading::{Piece, ReadFault, read_piece};
@@ -107,4 +108,14 @@ fn put<'a>(place: &mut Option<Piece<'a>>, member: Piece<'a>)
     ensures { place.new ≡ Some member.entry }
 {
     drop(mem::replace(place, Some(member)));
+}
+
+/// Whether it has a cancel's method (LSP 3.17, "Cancellation Support").
+pub(super) fn is_for_cancel(envelope: &Envelope<'_>) -> bool
+    ensures { result ≡ is_cancel_method (envelope_view envelope.now).method }
+{
+    match &envelope.method {
+        Some(method) => method.as_str() == Some("$/cancelRequest"),
+        None => false,
+    }
 }

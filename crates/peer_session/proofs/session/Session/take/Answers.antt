@@ -1,9 +1,8 @@
 -- A unit that needs more numbers than are left is full, and any other is taken.
-use Rattle.std.proofs.Common.{◌≡◌, ◌≤◌, ◌<◌, ◌-◌, Result, Ok, Err, refl, sym, ap, ◌∙◌, subst, arith}
+use Rattle.std.proofs.Common.{◌≡◌, ◌≤◌, ◌<◌, ◌-◌, Result, Ok, Err, refl, sym, ap, ◌∙◌, subst, nat_le, arith}
 use Rattle.std.specs.Prelude.{OnErr}
 use Rattle.rpc_messages.specs.Numbering.{unit_numbers}
 use Rattle.rpc_messages.specs.Unit.{unit_seen}
-use Rattle.peer_session.specs.Events.{fits_in, TakesAll}
 use Rattle.peer_session.specs.Session.{view}
 use Rattle.peer_session.specs.SessionState.{numbers_left, with_core}
 use Rattle.peer_session.proofs.Ended.{nat_le-yes, nat_le-no}
@@ -29,7 +28,7 @@ returns-then-numbers_of-left-clause-ok c =
     let left : c.saturating_sub-left.result ≡ numbers_left (view c.args.self.now) =
     c.saturating_sub-left.ensures ∙ ap (λ n. c.args.self.now.limits.numbers - (n - 1)) c.next_number.ensures.next in
     let more = subst (λ n. n < unit_numbers (unit_seen c.in_ok-unit.unit)) left (subst (λ n. c.saturating_sub-left.result < n) c.numbers_of.ensures c.if-numbers_of-left.true) in (
-      ap (λ u. fits_in (view c.args.self.now) u) (sym c.in_ok-unit.ensures) ∙ nat_le-no (unit_numbers (unit_seen c.in_ok-unit.unit)) (numbers_left (view c.args.self.now)) more,
+      ap (λ n. nat_le n (numbers_left (view c.args.self.now))) (sym c.in_ok-unit.ensures.numbers) ∙ nat_le-no (unit_numbers (unit_seen c.in_ok-unit.unit)) (numbers_left (view c.args.self.now)) more,
       c.end.ensures,
     )
 
@@ -53,6 +52,6 @@ returns-clause-ok c =
     let left : c.saturating_sub-left.result ≡ numbers_left (view c.args.self.now) =
     c.saturating_sub-left.ensures ∙ ap (λ n. c.args.self.now.limits.numbers - (n - 1)) c.next_number.ensures.next in
     let fits = subst (λ n. unit_numbers (unit_seen c.in_ok-unit.unit) ≤ n) left (subst (λ n. n ≤ c.saturating_sub-left.result) c.numbers_of.ensures c.if-numbers_of-left.false) in (
-      ap (λ u. fits_in (view c.args.self.now) u) (sym c.in_ok-unit.ensures) ∙ nat_le-yes (unit_numbers (unit_seen c.in_ok-unit.unit)) (numbers_left (view c.args.self.now)) fits,
-      subst (λ u. TakesAll (view c.args.self.now) u (with_core (view c.args.self.now) c.take_unit.new.runs)) c.in_ok-unit.ensures (c.take_unit.new.runs, c.in_ok-take_unit.ensures.ok, refl),
+      ap (λ n. nat_le n (numbers_left (view c.args.self.now))) (sym c.in_ok-unit.ensures.numbers) ∙ nat_le-yes (unit_numbers (unit_seen c.in_ok-unit.unit)) (numbers_left (view c.args.self.now)) fits,
+      (c.take_unit.new.runs, c.in_ok-unit.ensures.takes c.args.self.now.runs c.take_unit.new.runs c.in_ok-take_unit.ensures.ok, refl),
     )

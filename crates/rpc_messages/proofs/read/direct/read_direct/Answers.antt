@@ -1,4 +1,5 @@
 use Rattle.std.proofs.Common.{ap, sym, ◌∙◌}
+use Rattle.rpc_messages.specs.Shown.{shown}
 use Rattle.rpc_messages.specs.Unit.{unit_of_reading}
 use Rattle.value_reading.proofs.Lexemes.{text_read}
 use Rattle.rpc_messages.proofs.read.direct.read_direct.Goals as goal
@@ -7,4 +8,6 @@ pub returns : goal.returns
 returns c =
     let done = c.in_ok-unit.ensures in
     let text = c.args.text.now in
-    done.2 ∙ ap unit_of_reading (sym (text_read text c.read_unit.new.at c.next_byte.new.at done.0 done.1 c.next_byte.ensures.blanks c.if-at-text.false))
+    done.2
+    ∙ ap (λ read. shown c.args.with_params (unit_of_reading read))
+    (sym (text_read text c.read_unit.new.at c.next_byte.new.at done.0 done.1 c.next_byte.ensures.blanks c.if-at-text.false))

@@ -2,7 +2,7 @@ use Rattle.std.proofs.Common.{◌+◌, drop, ap, ◌∙◌}
 use Rattle.std.specs.List.{prefix_len}
 use Rattle.json.specs.Run.{is_plain}
 use Rattle.value_reading.proofs.Quoted.{run_bytes}
-use Rattle.value_reading.proofs.strings.append_run.Goals as goal
+use Rattle.value_reading.proofs.strings.pass_run.Goals as goal
 
 pub returns-clause-bytes : goal.returns-clause-bytes
 returns-clause-bytes c =

@@ -1,0 +1,162 @@
+//! Values that are passed by, without their being made.
+
+ghost use Rattle.std.specs.Prelude.{◌≡◌, ◌<◌, ◌≤◌, ◌∷◌, [], List, ℕ, true, length, OnOk};
+ghost use Rattle.json.specs.Lex.{token, colon};
+ghost use Rattle.json.specs.Token.{string};
+ghost use Rattle.serde_json.specs.Data.{Data, Items, Members};
+ghost use Rattle.value_reading.specs.Containers.{is_container};
+ghost use Rattle.value_reading.specs.Lexed.{Lexed, HasRest, IsRead, ItemsAreRead, MembersAreRead};
+
+use crate::escapes::read_escape;
+use crate::numbers::{read_number, whole_at};
+use crate::passing::{byte_at, is_over, next_byte, pass, pass_word};
+use crate::strings::{open, pass_run};
+use crate::unread::Unread;
+use json_texts::plain_end;
+
+/// Passes an array or an object, without its values being made. It may nest `levels` deep.
+#[cycle(container)]
+pub fn pass_container(text: &str, at: &mut usize, levels: usize) -> Result<(), Unread>
+    ensures container { OnOk result
+        ((d : Data) × IsRead levels text.now at.old at.new d × (is_container d ≡ true)) }
+    ensures bounds { OnOk result ((at.old < at.new) × (at.new ≤ length text.now)) }
+{
+    let bracket = next_byte(text, at);
+    if levels == 0 {
+        return Err(Unread::Unusual);
+    }
+    match bracket {
+        b'[' => {
+            *at += 1;
+            pass_items(text, at, levels - 1)
+        }
+        b'{' => {
+            *at += 1;
+            pass_members(text, at, levels - 1)
+        }
+        _ => Err(Unread::Unusual),
+    }
+}
+
+/// Passes the rest of an array, from behind its bracket on.
+#[cycle(container)]
+fn pass_items(text: &str, at: &mut usize, levels: usize) -> Result<(), Unread>
+    ensures items { OnOk result ((ds : Items) × ItemsAreRead levels text.now at.old at.new ds) }
+    ensures bounds { OnOk result ((at.old < at.new) × (at.new ≤ length text.now)) }
+{
+    if next_byte(text, at) == b']' {
+        *at += 1;
+        return Ok(());
+    }
+    while *at < text.len() {
+        pass_value(text, at, levels)?;
+        if is_over(text, at, b']')? {
+            return Ok(());
+        }
+    }
+    Err(Unread::Unusual)
+}
+
+/// Passes the rest of an object, from behind its brace on.
+#[cycle(container)]
+fn pass_members(text: &str, at: &mut usize, levels: usize) -> Result<(), Unread>
+    ensures members { OnOk result
+        ((ms : Members) × MembersAreRead levels text.now at.old at.new ms) }
+    ensures bounds { OnOk result ((at.old < at.new) × (at.new ≤ length text.now)) }
+{
+    if next_byte(text, at) == b'}' {
+        *at += 1;
+        return Ok(());
+    }
+    while *at < text.len() {
+        pass_name(text, at)?;
+        pass_value(text, at, levels)?;
+        if is_over(text, at, b'}')? {
+            return Ok(());
+        }
+    }
+    Err(Unread::Unusual)
+}
+
+/// Passes a value. A whole number, of which there can be many, is passed without a call.
+#[cycle(container)]
+#[inline(always)]
+fn pass_value(text: &str, at: &mut usize, levels: usize) -> Result<(), Unread>
+    ensures value { OnOk result ((d : Data) × IsRead levels text.now at.old at.new d) }
+    ensures bounds { OnOk result ((at.old < at.new) × (at.new ≤ length text.now)) }
+{
+    next_byte(text, at);
+    let Some((_, end)) = whole_at(text, *at) else {
+        return pass_any(text, at, levels);
+    };
+    *at = end;
+    Ok(())
+}
+
+/// Passes a value, whatever it is.
+#[cycle(container)]
+fn pass_any(text: &str, at: &mut usize, levels: usize) -> Result<(), Unread>
+    ensures value { OnOk result ((d : Data) × IsRead levels text.now at.old at.new d) }
+    ensures bounds { OnOk result ((at.old < at.new) × (at.new ≤ length text.now)) }
+{
+    match next_byte(text, at) {
+        b'"' => pass_string(text, at),
+        b'[' | b'{' => pass_container(text, at, levels),
+        b't' => pass_word(text, at, b"true"),
+        b'f' => pass_word(text, at, b"false"),
+        b'n' => pass_word(text, at, b"null"),
+        _ => {
+            read_number(text, at)?;
+            Ok(())
+        }
+    }
+}
+
+/// Passes the name of a member, with its colon.
+fn pass_name(text: &str, at: &mut usize) -> Result<(), Unread>
+    ensures name { OnOk result
+        ((s : List ℕ) × Lexed text.now at.old (token (string s) ∷ colon ∷ []) at.new) }
+    ensures bounds { OnOk result ((at.old < at.new) × (at.new ≤ length text.now)) }
+{
+    pass_string(text, at)?;
+    pass(text, at, b':')
+}
+
+/// Passes a string, which may have escapes.
+fn pass_string(text: &str, at: &mut usize) -> Result<(), Unread>
+    ensures string { OnOk result ((s : List ℕ) × Lexed text.now at.old (token (string s) ∷ []) at.new) }
+    ensures bounds { OnOk result ((at.old < at.new) × (at.new ≤ length text.now)) }
+{
+    open(text, at)?;
+    let end = plain_end(text.as_bytes(), *at);
+    if byte_at(text, end) == b'"' {
+        *at = end + 1;
+        return Ok(());
+    }
+    pass_rest(text, at)
+}
+
+/// Passes the rest of a string that has escapes, from behind its first quote on. Escapes come in rows, so the next one
+/// is looked for right there.
+#[inline(never)]
+fn pass_rest(text: &str, at: &mut usize) -> Result<(), Unread>
+    ensures string { OnOk result ((s : List ℕ) × HasRest text.now at.old s at.new) }
+    ensures bounds { OnOk result ((at.old < at.new) × (at.new ≤ length text.now)) }
+{
+    while *at < text.len() {
+        let byte = byte_at(text, *at);
+        if byte == b'"' {
+            *at += 1;
+            return Ok(());
+        }
+        if byte == b'\\' {
+            let Some((_, end)) = read_escape(text, *at) else {
+                return Err(Unread::Unusual);
+            };
+            *at = end;
+        } else {
+            pass_run(text, at)?;
+        }
+    }
+    Err(Unread::Unusual)
+}
