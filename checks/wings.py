@@ -1,6 +1,7 @@
 #!/usr/bin/env python3
 """The groups of crates.txt keep to their rule: the floor (values, streams, messages) stands on itself alone, and of the three wings on it, the
-table peer, the connection and the judge, none names a crate of another. So an edit in one wing proves nothing of the other again."""
+table peer, the connection and the judge, none names a crate of another. So an edit in one wing proves nothing of the other again.
+And no crate has a module or a type with the name of a library that it stands on, which the gate refuses."""
 import os
 import re
 import sys
@@ -49,6 +50,25 @@ def broken(text: str) -> list[str]:
     ]
 
 
+def names_in(source: str) -> set[str]:
+    """The names of the modules and types that a file declares."""
+    return {*re.findall(r"^\s*(?:pub(?:\(\w+\))? )?(?:mod|struct|enum|trait|type) (\w+)", source, re.M)}
+
+
+def sources_of(name: str) -> str:
+    """What a crate's files of src/ hold."""
+    folders = os.walk(f"{ran.TOP}/crates/{name}/src")
+    return "\n".join(read_text(f"{at}/{it}") for at, _, files in folders for it in files if it.endswith(".rt"))
+
+
+def taken(listing: Listing, sources: dict[str, str]) -> list[str]:
+    """The crates that declare the name of a library below them, and that name."""
+    below = {
+        name: {it for at in listing.below(name) for it in (at, *listing.libraries[at])} - {name} for name in sources
+    }
+    return [f"{name} declares {it}" for name in sources for it in sorted(names_in(sources[name]) & below[name])]
+
+
 def main() -> None:
     count = ran.Count()
     text = read_text(f"{ran.TOP}/crates.txt")
@@ -64,6 +84,13 @@ def main() -> None:
         "a floor on a wing",
         broken(text.replace("message_ids:", "message_ids: rpc_messages")),
         ["message_ids names rpc_messages"],
+    )
+    sources = {name: sources_of(name) for name in Listing(text).lines}
+    count.same("crates with the name of a library below them", taken(Listing(text), sources), [])
+    count.same(
+        "a module with the name of a library below it",
+        taken(Listing(text), {"bench_reading": "mod value_reading;", "rpc_messages": "pub mod bench_reading;"}),
+        ["bench_reading declares value_reading"],
     )
     count.end()
 
