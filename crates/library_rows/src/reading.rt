@@ -2,6 +2,7 @@
 
 mod contents;
 mod memory;
+mod outlines;
 mod texts;
 
 use json_values::Items;

@@ -43,8 +43,8 @@ impl UnitReader {
         self.read_frame(frame, true)
     }
 
-    /// The same, but that the params of a call that comes alone may be others: for whoever may not look at them. They are
-    /// checked, but for a cancel's, and not made.
+    /// The same, except that the params of a call that comes alone may be others, for callers that don't look at them.
+    /// Their values are checked and not made, unless the call is a cancel.
     pub fn read_outline(&mut self, frame: &Frame) -> Result<Unit, AllocError>
         ensures { IfOk result (λ u. outline (unit_seen u)
             ≡ outline (unit_of frame.now.foreign frame.now.content)) }

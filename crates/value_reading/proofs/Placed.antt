@@ -1,5 +1,6 @@
 -- Values, one part behind another, and the data that they are read as.
 use Rattle.std.proofs.Common.{◌≡◌, ℕ, suc, ◌+◌, ◌-◌, ◌*◌, ◌/◌, ◌%◌, ◌<◌, ◌≤◌, ◌^◌, List, [], ◌∷◌, ◌++◌, length, take, drop, cond, map, get_or, decimal, true, false, Some, refl, sym, ap, ap₂, ◌∙◌, subst, arith, append_assoc, append-nil, get_or-drop, negsuc, String, Global, string_bytes, string_cmp}
+use Rattle.std.proofs.Math.Nat.{pow-suc, pow-le-pow_right}
 use Rattle.std.proofs.lemmas.Fmt.{decimal_digit, decimal_step}
 use Rattle.std.proofs.lemmas.List.{map-append}
 use Rattle.std.specs.BTreeMap.{insert_entry}
@@ -130,6 +131,13 @@ one_digit_stands text at d small is =
 
 pub digit_within : (text : List ℕ) (at d : ℕ) → get_or text at 0 ≡ 48 + d → at + 1 ≤ length text
 digit_within text at d is = let within = byte_within text at (47 + d) (is ∙ omega arith) in omega (arith, within)
+
+-- a number of so many digits, and one more
+pub digit_below : (k n d : ℕ) → n < 10 ^ k → d ≤ 9 → n * 10 + d < 10 ^ suc k
+digit_below k n d below small = let next : 10 ^ suc k ≡ 10 ^ k * 10 = pow-suc 10 k in omega (arith, next, below, small)
+
+pub digits_fit : (k n : ℕ) → k ≤ 18 → n < 10 ^ k → n < 2 ^ 63
+digits_fit k n few below = let most = pow-le-pow_right {n = 10} (omega arith) few in omega (arith, below, most)
 
 -- ---- items
 

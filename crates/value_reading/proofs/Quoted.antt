@@ -81,6 +81,9 @@ rest_over text s from at h quote = record {
   lexed = h.lexed ∙ ap (lex in_string) (byte_stands text at 33 quote) ∙ lex-quote (drop (at + 1) text);
 }
 
+pub rest_behind : (text a b : List ℕ) (from mid end : ℕ) → HasBytes text from a mid → HasRest text mid b end → HasRest text from (a ++ b) end
+rest_behind text a b from mid end first rest = record { content = first.content ∙ ap (prepend a) rest.content; lexed = first.lexed ∙ rest.lexed }
+
 pub plain_lexed : (text s : List ℕ) (from at end : ℕ) → Opens text from at → end ≡ at + prefix_len is_plain (drop at text) → get_or text end 0 ≡ 34 → s ≡ take (end - at) (drop at text)
     → Lexed text from (token (string s) ∷ []) (end + 1)
 plain_lexed text s from at end opens found quote slice =

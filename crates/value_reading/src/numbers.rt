@@ -1,6 +1,6 @@
 //! Numbers.
 
-ghost use Rattle.std.specs.Prelude.{◌≡◌, ◌<◌, ◌≤◌, ◌+◌, ◌-◌, ◌^◌, length, get_or, decimal, negsuc, IfOk, IfSome, OnOk};
+ghost use Rattle.std.specs.Prelude.{ℕ, ◌≡◌, ◌<◌, ◌≤◌, ◌+◌, ◌-◌, ◌^◌, length, get_or, decimal, negsuc, IfOk, IfSome, OnOk};
 ghost use Rattle.json_texts.specs.Standing.{Stands};
 ghost use Rattle.serde_json.specs.Data.{number};
 ghost use Rattle.serde_json.specs.View.{number_view};
@@ -13,6 +13,9 @@ use serde_json::Number;
 
 /// Whole numbers are read at once while they are below this. One digit more still fits 63 bits.
 const ROOM_FOR_A_DIGIT: u64 = 100_000_000_000_000_000;
+
+/// A whole number of so many digits fits 63 bits.
+const DIGITS_THAT_FIT: usize = 18;
 
 /// Passes a number.
 pub(crate) fn read_number(text: &str, at: &mut usize) -> Result<Number, Unread>
@@ -103,6 +106,31 @@ pub(crate) fn whole_at(text: &str, from: usize) -> Option<(u64, usize)>
         b'.' | b'e' | b'E' => None,
         _ => Some((number, at)),
     }
+}
+
+/// The end of the same number, which isn't worked out.
+#[inline(always)]
+pub(crate) fn whole_end(text: &str, from: usize) -> Option<usize>
+    ensures number { IfSome result
+        (λ end. (n : ℕ) × (n < 2 ^ 63) × Stands text.now from (decimal n) end) }
+    ensures bounds { IfSome result (λ end. (from < end) × (end ≤ length text.now)) }
+{
+    let first = digit_at(text, from);
+    if first > 9 {
+        return None;
+    }
+    let last = text.len().min(from + DIGITS_THAT_FIT);
+    let mut at = from + 1;
+    while first != 0 && at < last {
+        if digit_at(text, at) > 9 {
+            break;
+        }
+        at += 1;
+    }
+    if matches!(byte_at(text, at), b'0'..=b'9' | b'.' | b'e' | b'E') {
+        return None;
+    }
+    Some(at)
 }
 
 /// The digit at a place, or more than 9 where there is none.

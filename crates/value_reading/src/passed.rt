@@ -3,16 +3,15 @@
 ghost use Rattle.std.specs.Prelude.{◌≡◌, ◌<◌, ◌≤◌, ◌∷◌, [], List, ℕ, true, length, OnOk};
 ghost use Rattle.json.specs.Lex.{token, colon};
 ghost use Rattle.json.specs.Token.{string};
-ghost use Rattle.serde_json.specs.Data.{Data, Items, Members};
+ghost use Rattle.serde_json.specs.Data.{Num, Data, number, Items, Members};
 ghost use Rattle.value_reading.specs.Containers.{is_container};
 ghost use Rattle.value_reading.specs.Lexed.{Lexed, HasRest, IsRead, ItemsAreRead, MembersAreRead};
 
 use crate::escapes::read_escape;
-use crate::numbers::{read_number, whole_at};
+use crate::numbers::{read_number, whole_end};
 use crate::passing::{byte_at, is_over, next_byte, pass, pass_word};
 use crate::strings::{open, pass_run};
 use crate::unread::Unread;
-use json_texts::plain_end;
 
 /// Passes an array or an object, without its values being made. It may nest `levels` deep.
 #[cycle(container)]
@@ -54,7 +53,7 @@ fn pass_items(text: &str, at: &mut usize, levels: usize) -> Result<(), Unread>
             return Ok(());
         }
     }
-    Err(Unread::Unusual)
+    Ok(())
 }
 
 /// Passes the rest of an object, from behind its brace on.
@@ -78,24 +77,10 @@ fn pass_members(text: &str, at: &mut usize, levels: usize) -> Result<(), Unread>
     Err(Unread::Unusual)
 }
 
-/// Passes a value. A whole number, of which there can be many, is passed without a call.
+/// Passes a value.
 #[cycle(container)]
 #[inline(always)]
 fn pass_value(text: &str, at: &mut usize, levels: usize) -> Result<(), Unread>
-    ensures value { OnOk result ((d : Data) × IsRead levels text.now at.old at.new d) }
-    ensures bounds { OnOk result ((at.old < at.new) × (at.new ≤ length text.now)) }
-{
-    next_byte(text, at);
-    let Some((_, end)) = whole_at(text, *at) else {
-        return pass_any(text, at, levels);
-    };
-    *at = end;
-    Ok(())
-}
-
-/// Passes a value, whatever it is.
-#[cycle(container)]
-fn pass_any(text: &str, at: &mut usize, levels: usize) -> Result<(), Unread>
     ensures value { OnOk result ((d : Data) × IsRead levels text.now at.old at.new d) }
     ensures bounds { OnOk result ((at.old < at.new) × (at.new ≤ length text.now)) }
 {
@@ -105,11 +90,38 @@ fn pass_any(text: &str, at: &mut usize, levels: usize) -> Result<(), Unread>
         b't' => pass_word(text, at, b"true"),
         b'f' => pass_word(text, at, b"false"),
         b'n' => pass_word(text, at, b"null"),
-        _ => {
-            read_number(text, at)?;
-            Ok(())
+        _ => pass_number(text, at),
+    }
+}
+
+/// Passes a number. A whole one, of which there can be many, is passed without a call.
+#[inline(always)]
+fn pass_number(text: &str, at: &mut usize) -> Result<(), Unread>
+    ensures number { OnOk result ((n : Num) × IsRead 0 text.now at.old at.new (number n)) }
+    ensures bounds { OnOk result ((at.old < at.new) × (at.new ≤ length text.now)) }
+{
+    let Some(end) = whole_end(text, *at) else {
+        return pass_any_number(text, at);
+    };
+    if byte_at(text, end) == b' ' {
+        if let Some(last) = whole_end(text, end + 1) {
+            *at = last;
+            return Ok(());
         }
     }
+    *at = end;
+    Ok(())
+}
+
+/// Apart, since few numbers have a sign, a fraction, an exponent or many digits. The number is worked out, since one
+/// that is too large for a float is left to the reader of tokens.
+#[inline(never)]
+fn pass_any_number(text: &str, at: &mut usize) -> Result<(), Unread>
+    ensures number { OnOk result ((n : Num) × IsRead 0 text.now at.old at.new (number n)) }
+    ensures bounds { OnOk result ((at.old < at.new) × (at.new ≤ length text.now)) }
+{
+    read_number(text, at)?;
+    Ok(())
 }
 
 /// Passes the name of a member, with its colon.
@@ -119,25 +131,28 @@ fn pass_name(text: &str, at: &mut usize) -> Result<(), Unread>
     ensures bounds { OnOk result ((at.old < at.new) × (at.new ≤ length text.now)) }
 {
     pass_string(text, at)?;
+    if byte_at(text, *at) != b':' {
+        return Ok(());
+    }
     pass(text, at, b':')
 }
 
 /// Passes a string, which may have escapes.
+#[inline(always)]
 fn pass_string(text: &str, at: &mut usize) -> Result<(), Unread>
     ensures string { OnOk result ((s : List ℕ) × Lexed text.now at.old (token (string s) ∷ []) at.new) }
     ensures bounds { OnOk result ((at.old < at.new) × (at.new ≤ length text.now)) }
 {
-    open(text, at)?;
-    let end = plain_end(text.as_bytes(), *at);
+    let end = open(text, at)?;
     if byte_at(text, end) == b'"' {
         *at = end + 1;
         return Ok(());
     }
+    *at = end;
     pass_rest(text, at)
 }
 
-/// Passes the rest of a string that has escapes, from behind its first quote on. Escapes come in rows, so the next one
-/// is looked for right there.
+/// Passes the rest of a string that has escapes. Escapes come in rows, so the next one is looked for right there.
 #[inline(never)]
 fn pass_rest(text: &str, at: &mut usize) -> Result<(), Unread>
     ensures string { OnOk result ((s : List ℕ) × HasRest text.now at.old s at.new) }

@@ -1,8 +1,10 @@
 //! Strings, and the names of members.
 
-ghost use Rattle.std.specs.Prelude.{◌≡◌, ◌≢◌, ◌<◌, ◌≤◌, ◌++◌, ◌∷◌, [], length, get_or, slice_range, string_bytes, IfOk, OnOk};
+ghost use Rattle.std.specs.List.{prefix_len};
+ghost use Rattle.std.specs.Prelude.{◌≡◌, ◌≢◌, ◌<◌, ◌≤◌, ◌+◌, ◌++◌, ◌∷◌, [], length, drop, get_or, slice_range, string_bytes, IfOk, OnOk};
 ghost use Rattle.std.specs.Str.{IsCharBoundary};
 ghost use Rattle.json.specs.Lex.{token, colon};
+ghost use Rattle.json.specs.Run.{is_plain};
 ghost use Rattle.json.specs.Token.{string};
 ghost use Rattle.value_reading.specs.Lexed.{Lexed, Opens, HasBytes, HasRest};
 
@@ -28,9 +30,8 @@ pub fn read_string<'a>(text: &'a str, at: &mut usize) -> Result<&'a str, Unread>
     ensures string { IfOk result (λ s. Lexed text.now at.old (token (string s.now) ∷ []) at.new) }
     ensures bounds { OnOk result ((at.old < at.new) × (at.new ≤ length text.now)) }
 {
-    open(text, at)?;
+    let end = open(text, at)?;
     let from = *at;
-    let end = plain_end(text.as_bytes(), from);
     if byte_at(text, end) != b'"' {
         return Err(Unread::Unusual);
     }
@@ -60,9 +61,8 @@ pub(crate) fn copy_string(alloc: Global, text: &str, at: &mut usize) -> Result<S
         (λ s. Lexed text.now at.old (token (string (string_bytes s)) ∷ []) at.new) }
     ensures bounds { OnOk result ((at.old < at.new) × (at.new ≤ length text.now)) }
 {
-    open(text, at)?;
+    let end = open(text, at)?;
     let from = *at;
-    let end = plain_end(text.as_bytes(), from);
     if byte_at(text, end) != b'"' {
         return copy_escaped(alloc, text, at);
     }
@@ -70,10 +70,12 @@ pub(crate) fn copy_string(alloc: Global, text: &str, at: &mut usize) -> Result<S
     Ok(String::from_str(alloc, &text[from..end])?)
 }
 
-/// Passes the first quote of a string.
+/// Passes the first quote of a string. Gives the place of the first byte that doesn't stand for itself.
 #[inline(always)]
-pub(crate) fn open(text: &str, at: &mut usize) -> Result<(), Unread>
+pub(crate) fn open(text: &str, at: &mut usize) -> Result<usize, Unread>
     ensures opens { OnOk result (Opens text.now at.old at.new) }
+    ensures stop { IfOk result (λ end. end ≡ at.new + prefix_len is_plain (drop at.new text.now)) }
+    ensures within { IfOk result (λ end. end ≤ length text.now) }
     ensures bounds { OnOk result ((at.old < at.new) × (at.new ≤ length text.now)) }
     ensures boundary { OnOk result (IsCharBoundary text.now at.new) }
 {
@@ -81,7 +83,7 @@ pub(crate) fn open(text: &str, at: &mut usize) -> Result<(), Unread>
         return Err(Unread::Unusual);
     }
     *at += 1;
-    Ok(())
+    Ok(plain_end(text.as_bytes(), *at))
 }
 
 /// Passes the rest of a string that has escapes, from behind its first quote on.

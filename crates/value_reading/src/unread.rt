@@ -5,7 +5,7 @@ use std::alloc::{AllocError, AllocFailed};
 /// Why a text wasn't read.
 #[derive(Clone, Copy, Drop)]
 pub enum Unread {
-    /// It isn't compact, or has something rare.
+    /// It is no JSON, nests too deep, or has something rare, as a number that no float holds.
     Unusual,
     /// There is no memory.
     Memory,

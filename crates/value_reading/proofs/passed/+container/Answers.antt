@@ -1,13 +1,12 @@
-use Rattle.std.proofs.Common.{◌+◌, ◌-◌, [], ◌∷◌, ◌++◌, cond, true, false, refl, subst, sym, ap, ◌∙◌, arith}
+use Rattle.std.proofs.Common.{◌+◌, [], ◌∷◌, ◌++◌, cond, true, false, refl, subst, sym, ◌∙◌, arith}
 use Rattle.std.proofs.lemmas.Result.{on_ok_weaker}
 use Rattle.json.specs.Lex.{token, comma, operator_lexeme}
 use Rattle.json.specs.Token as tokens
-use Rattle.serde_json.specs.Data.{null, boolean, number, string, array, object, put, no_items, no_members, unsigned}
-use Rattle.serde_json.specs.View.{number_view}
+use Rattle.serde_json.specs.Data.{null, boolean, number, string, array, object, put, no_items, no_members}
 use Rattle.value_reading.specs.Lexed.{Lexed}
 use Rattle.value_reading.proofs.Elements.{elements_before}
 use Rattle.value_reading.proofs.Lexemes.{operator_behind}
-use Rattle.value_reading.proofs.Placed.{string_read, whole_read, true_read, false_read, null_read, read_behind, no_items_behind, item_behind, items_over, no_items_read, array_read, no_members_behind, member_behind, members_over, no_members_read, object_read, at_levels}
+use Rattle.value_reading.proofs.Placed.{string_read, true_read, false_read, null_read, read_behind, no_items_behind, item_behind, items_over, no_items_read, array_read, no_members_behind, member_behind, members_over, no_members_read, object_read, at_levels}
 use Rattle.value_reading.proofs.passed.+container.Goals as goal
 
 -- ---- items
@@ -110,17 +109,8 @@ pass_members-loop-at-preserved t c =
 
 -- ---- values
 
-pub pass_value-returns-clause-value : goal.pass_value-returns-clause-value
-pass_value-returns-clause-value t c =
-    let text = c.args.text.now in
-    let next = c.next_byte.new.at in
-    let end = c.in-Some.end in
-    let n = c.in-Some.field-0-0 in
-    let whole = c.in-Some.ensures in
-    (number (unsigned n), read_behind c.args.levels text c.args.at.now next end (number (unsigned n)) c.next_byte.ensures.blanks (whole_read c.args.levels text next end n whole.size whole.number))
-
-pub pass_any-returns-in-34-clause-value : goal.pass_any-returns-in-34-clause-value
-pass_any-returns-in-34-clause-value t c =
+pub pass_value-returns-in-34-clause-value : goal.pass_value-returns-in-34-clause-value
+pass_value-returns-in-34-clause-value t c =
     let text = c.args.text.now in
     let next = c.next_byte.new.at in
     let end = c.pass_string.new.at in
@@ -128,8 +118,8 @@ pass_any-returns-in-34-clause-value t c =
     (λ passed. (string passed.0, read_behind c.args.levels text c.args.at.now next end (string passed.0) c.next_byte.ensures.blanks (string_read c.args.levels text passed.0 next end passed.1)))
     c.pass_string.ensures.string
 
-pub pass_any-returns-in-116-clause-value : goal.pass_any-returns-in-116-clause-value
-pass_any-returns-in-116-clause-value t c =
+pub pass_value-returns-in-116-clause-value : goal.pass_value-returns-in-116-clause-value
+pass_value-returns-in-116-clause-value t c =
     let text = c.args.text.now in
     let next = c.next_byte.new.at in
     let end = c.pass_word.new.at in
@@ -137,8 +127,8 @@ pass_any-returns-in-116-clause-value t c =
     (λ stands. (boolean true, read_behind c.args.levels text c.args.at.now next end (boolean true) c.next_byte.ensures.blanks (true_read c.args.levels text next end stands)))
     c.pass_word.ensures.word
 
-pub pass_any-returns-in-102-clause-value : goal.pass_any-returns-in-102-clause-value
-pass_any-returns-in-102-clause-value t c =
+pub pass_value-returns-in-102-clause-value : goal.pass_value-returns-in-102-clause-value
+pass_value-returns-in-102-clause-value t c =
     let text = c.args.text.now in
     let next = c.next_byte.new.at in
     let end = c.pass_word-in-102.new.at in
@@ -146,8 +136,8 @@ pass_any-returns-in-102-clause-value t c =
     (λ stands. (boolean false, read_behind c.args.levels text c.args.at.now next end (boolean false) c.next_byte.ensures.blanks (false_read c.args.levels text next end stands)))
     c.pass_word-in-102.ensures.word
 
-pub pass_any-returns-in-110-clause-value : goal.pass_any-returns-in-110-clause-value
-pass_any-returns-in-110-clause-value t c =
+pub pass_value-returns-in-110-clause-value : goal.pass_value-returns-in-110-clause-value
+pass_value-returns-in-110-clause-value t c =
     let text = c.args.text.now in
     let next = c.next_byte.new.at in
     let end = c.pass_word-in-110.new.at in
@@ -155,13 +145,16 @@ pass_any-returns-in-110-clause-value t c =
     (λ stands. (null, read_behind c.args.levels text c.args.at.now next end null c.next_byte.ensures.blanks (null_read c.args.levels text next end stands)))
     c.pass_word-in-110.ensures.word
 
-pub pass_any-returns-in_ok-read_number-in_default-clause-value : goal.pass_any-returns-in_ok-read_number-in_default-clause-value
-pass_any-returns-in_ok-read_number-in_default-clause-value t c =
+pub pass_value-returns-in_default-clause-value : goal.pass_value-returns-in_default-clause-value
+pass_value-returns-in_default-clause-value t c =
     let text = c.args.text.now in
     let next = c.next_byte.new.at in
-    let end = c.read_number.new.at in
-    let d = number (number_view c.in_ok-read_number-in_default.field-0) in
-    (d, read_behind c.args.levels text c.args.at.now next end d c.next_byte.ensures.blanks (at_levels c.args.levels text next end d c.in_ok-read_number-in_default.ensures.number))
+    let end = c.pass_number.new.at in
+    on_ok_weaker c.pass_number.result
+    (λ passed.
+    let d = number passed.0 in
+    (d, read_behind c.args.levels text c.args.at.now next end d c.next_byte.ensures.blanks (at_levels c.args.levels text next end d passed.1)))
+    c.pass_number.ensures.number
 
 -- ---- arrays and objects
 

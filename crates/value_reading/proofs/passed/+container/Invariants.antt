@@ -4,19 +4,16 @@ use Rattle.value_reading.proofs.Placed.{ItemsBehind, MembersBehind}
 use Rattle.value_reading.proofs.passed.+container.Given as goal
 
 abbrev pub decreases-pass_container : goal.decreases-pass_container
-decreases-pass_container l = 4 * l.levels
-
-abbrev pub decreases-pass_any : goal.decreases-pass_any
-decreases-pass_any l = 4 * l.levels + 1
+decreases-pass_container l = 3 * l.levels
 
 abbrev pub decreases-pass_value : goal.decreases-pass_value
-decreases-pass_value l = 4 * l.levels + 2
+decreases-pass_value l = 3 * l.levels + 1
 
 abbrev pub decreases-pass_items : goal.decreases-pass_items
-decreases-pass_items l = 4 * l.levels + 3
+decreases-pass_items l = 3 * l.levels + 2
 
 abbrev pub decreases-pass_members : goal.decreases-pass_members
-decreases-pass_members l = 4 * l.levels + 3
+decreases-pass_members l = 3 * l.levels + 2
 
 abbrev pub invariant-pass_items-loop-at : goal.invariant-pass_items-loop-at
 invariant-pass_items-loop-at l = record {

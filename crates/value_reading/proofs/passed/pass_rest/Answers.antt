@@ -1,4 +1,4 @@
-use Rattle.std.proofs.Common.{◌+◌, ◌-◌, ◌++◌, [], slice_range, sym, ◌∙◌, arith}
+use Rattle.std.proofs.Common.{◌++◌, [], slice_range, sym, ◌∙◌, arith}
 use Rattle.std.specs.Char.{encode_utf8}
 use Rattle.value_reading.proofs.Quoted.{no_bytes, more_bytes, rest_over}
 use Rattle.value_reading.proofs.passed.pass_rest.Goals as goal
