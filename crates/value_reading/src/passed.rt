@@ -53,7 +53,7 @@ fn pass_items(text: &str, at: &mut usize, levels: usize) -> Result<(), Unread>
             return Ok(());
         }
     }
-    Ok(())
+    Err(Unread::Unusual)
 }
 
 /// Passes the rest of an object, from behind its brace on.
@@ -103,12 +103,6 @@ fn pass_number(text: &str, at: &mut usize) -> Result<(), Unread>
     let Some(end) = whole_end(text, *at) else {
         return pass_any_number(text, at);
     };
-    if byte_at(text, end) == b' ' {
-        if let Some(last) = whole_end(text, end + 1) {
-            *at = last;
-            return Ok(());
-        }
-    }
     *at = end;
     Ok(())
 }
@@ -131,9 +125,6 @@ fn pass_name(text: &str, at: &mut usize) -> Result<(), Unread>
     ensures bounds { OnOk result ((at.old < at.new) × (at.new ≤ length text.now)) }
 {
     pass_string(text, at)?;
-    if byte_at(text, *at) != b':' {
-        return Ok(());
-    }
     pass(text, at, b':')
 }
 
