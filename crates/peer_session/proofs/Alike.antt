@@ -18,7 +18,7 @@ use Rattle.peer_events.specs.Taking.PassesEntries.{none_left, next}
 use Rattle.peer_session.specs.Inner.Reading.{IsTakenAs, entry_has_method, has_method}
 
 -- a unit is taken as itself
-pub taken-itself : (table : MethodTable) (u v : SeenUnit) → u ≡ v → IsTakenAs table u v
+taken-itself : (table : MethodTable) (u v : SeenUnit) → u ≡ v → IsTakenAs table u v
 taken-itself table u v same = subst (λ w. IsTakenAs table u w) same (record { numbers = refl; takes = λ s after p. p })
 
 none-from-not_some : {A : Type 0} (o : Option A) → is_some o ≡ false → o ≡ None
@@ -64,6 +64,7 @@ entries-alike table (call c) f same none = absurd (cc)
 entries-alike table e (call d) same none = absurd (cc)
 entries-alike table e f same none = taken-itself table (single e) (single f) (ap single same)
 
+-- so where a unit isn't a call of the table's, its outline says how it is taken
 pub units-alike : (table : MethodTable) (u v : SeenUnit) → outline u ≡ outline v → has_method table u ≡ false → IsTakenAs table u v
 units-alike table (single e) (single f) same none = entries-alike table e f (cc) none
 units-alike table (single e) v same none = absurd (cc)

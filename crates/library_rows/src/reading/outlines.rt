@@ -9,7 +9,8 @@ use std::alloc::{AllocError, Global};
 use std::test::Fail;
 
 /// Contents, and what `Debug` shows of their units. The params of a batch are made, and so are those of a cancel.
-const LINES: &str = r#"{"jsonrpc":"2.0","method":"f","params":[1,{"a":["\u0041"]}],"id":1} => Single(Call(Call { id: Some(Unsigned(1)), method: "f", params: Omitted, target: None }))
+const LINES: &str =
+    r#"{"jsonrpc":"2.0","method":"f","params":[1,{"a":["\u0041"]}],"id":1} => Single(Call(Call { id: Some(Unsigned(1)), method: "f", params: Omitted, target: None }))
 { "params" : { "a" : 1.5 } , "jsonrpc" : "2.0" , "method" : "f" } => Single(Call(Call { id: None, method: "f", params: Omitted, target: None }))
 {"jsonrpc":"2.0","method":"f","params":[1],"params":null} => Single(Call(Call { id: None, method: "f", params: Omitted, target: None }))
 {"jsonrpc":"2.0","method":"f","params":1} => Single(Invalid)

@@ -7,4 +7,4 @@ use Rattle.peer_session.proofs.reading.read_unit.Goals as goal
 pub returns-then-not-has_method : goal.returns-then-not-has_method
 returns-then-not-has_method c =
     units-alike c.args.table.now (unit_seen c.in_ok-unit.unit) (unit_of c.args.frame.now.foreign c.args.frame.now.content) c.in_ok-unit.ensures
-        (sym c.has_method.ensures ∙ c.if-not-has_method.true)
+    (sym c.has_method.ensures ∙ c.if-not-has_method.true)
