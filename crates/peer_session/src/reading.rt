@@ -9,12 +9,12 @@ use method_steps::Table;
 use rpc_messages::{Entry, Unit, UnitReader};
 use std::alloc::AllocError;
 
-/// From so many bytes on a content is first read without the params of its call. Most long ones are for methods that the
-/// table doesn't have, and are answered whatever their params. A second look costs a short one more than it saves.
+/// From so many bytes on a content is first read without the params of its call. Most long ones are for methods that
+/// the table doesn't have, and are answered whatever their params. A second look costs a short one more than it saves.
 const LONG: usize = 4_096;
 
-/// The unit of a content, or one that the session takes as that one: the params of a call whose method isn't in the table
-/// may be others.
+/// The unit of a content, or one that the session takes as that one: the params of a call whose method isn't in the
+/// table may be others.
 pub(crate) fn read_unit(
     reader: &mut UnitReader,
     table: &Table,
