@@ -23,7 +23,7 @@ LONG = (
 )
 HOVERS = ("hovers", "hovers with blanks")
 READ = ("single requests", "batches of 100", *HOVERS, "one param of 8 MB", *LONG)
-PLAYED = (*READ, "adds", "adds with blanks", "adds in batches")
+PLAYED = (*READ, "completion list, known", "list with blanks, known", "adds", "adds with blanks", "adds in batches")
 PLAYED_WITH_CALLS = ("calls back", "the same in batches", "cancels")
 SERVED = ("unknown methods", "adds", "adds with blanks", "adds in batches")
 THERE_AND_BACK = ("a request", "one after 5 ms", "8 MB, unknown method", *LONG)

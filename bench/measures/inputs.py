@@ -99,9 +99,9 @@ def batches_of_calls_back(count: int) -> bytes:
     return b"".join(batch(ask, it) + batch(reply, it) for it in hundreds(count))
 
 
-def long_messages(message: Message, size: int) -> bytes:
+def long_messages(message: Message, size: int, method: str = "nope") -> bytes:
     count, length = parts_of(size)
-    return b"".join(map(frame, message.entries(length, range(1, count + 1))))
+    return b"".join(map(frame, message.entries(length, range(1, count + 1), method)))
 
 
 def long_text(count: int) -> bytes:
@@ -129,6 +129,9 @@ COPIED = "a content is copied out of the pieces that were read, and its strings 
 STEPS = "a method is steps of a table, run by a handler that is parked, turned and taken back; the baseline calls a function"
 
 VALUES = "each value of a message is read, checked and kept by itself; the baseline keeps them in one tree"
+PASSED = (
+    "a content is copied out of the pieces that were read, and read by code of our own that is checked in each step"
+)
 # Of hosts.
 KEPT = "what came and what is said are texts of their own, and each call has a place until it is answered"
 TEXTS = (
@@ -139,7 +142,12 @@ HOVERS = (
     Input("hovers", hovers, 100_000, DESK),
     Input("hovers with blanks", hovers_with_blanks, 100_000, DESK),
 )
-LONG = tuple(Input(it.name, partial(long_messages, it), 8 * LENGTH, VALUES, length=LENGTH) for it in MESSAGES)
+LONG = tuple(Input(it.name, partial(long_messages, it), 8 * LENGTH, PASSED, length=LENGTH) for it in MESSAGES)
+# To a method that there is, and that answers that these params are none for it.
+KNOWN = tuple(
+    Input(f"{it.name}, known", partial(long_messages, it, method="add"), 8 * LENGTH, VALUES, True, length=LENGTH)
+    for it in MESSAGES[:2]
+)
 ADDS = (
     Input("adds", adds, 200_000, STEPS, has_methods=True),
     Input("adds with blanks", adds_with_blanks, 200_000, STEPS, has_methods=True),
@@ -152,6 +160,7 @@ INPUTS: Tuple[Input, ...] = (
     *HOVERS,
     Input("one param of 8 MB", long_text, 8_000_000, COPIED, length=8_000_000),
     *LONG,
+    *KNOWN,
     *ADDS,
     ADDS_IN_BATCHES,
     Input("calls back", calls_back, 100_000, STEPS, has_methods=True, has_calls=True),

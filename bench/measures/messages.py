@@ -100,9 +100,9 @@ class Message(NamedTuple):
     params: Params
     spelling: Spelling
 
-    def entries(self, length: int, numbers: Iterable[int]) -> Iterator[bytes]:
-        """Requests with these ids, to a method that there isn't."""
-        text = self.spelling({"jsonrpc": "2.0", "method": "nope", "params": self.params(length), "id": ID})
+    def entries(self, length: int, numbers: Iterable[int], method: str = "nope") -> Iterator[bytes]:
+        """Requests with these ids, to a method that there isn't where none is named."""
+        text = self.spelling({"jsonrpc": "2.0", "method": method, "params": self.params(length), "id": ID})
         return (text.replace(b"%d" % ID, b"%d" % it) for it in numbers)
 
 

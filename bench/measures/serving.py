@@ -7,7 +7,7 @@ from typing import Callable, Dict, List, NamedTuple, Sequence
 from measures import loads, rounds
 from measures.behind import Behind
 from measures.contenders import Contender, Programs
-from measures.inputs import COPIED, VALUES
+from measures.inputs import COPIED, PASSED
 from measures.messages import LENGTH, MESSAGES
 from measures.rounds import Played
 
@@ -52,7 +52,7 @@ TRIPS = (
 )
 COPIES = f"{COPIED}; and a method's call takes copies of the param"
 # Each is sent once the one before is answered.
-LONG_MESSAGES = tuple(Row(it.name, partial(loads.messages, it), 8 * LENGTH, VALUES) for it in MESSAGES)
+LONG_MESSAGES = tuple(Row(it.name, partial(loads.messages, it), 8 * LENGTH, PASSED) for it in MESSAGES)
 LONG = (
     Row("8 MB, unknown method", loads.long_unknown, 8_000_000, COPIED),
     Row("a reply of 8 MB", loads.long_reply, 8_000_000, COPIED, has_calls=True),
