@@ -155,6 +155,22 @@ def test_members_that_come_twice() -> None:
     expect([request(f'["{TEXT}"],"params":1')], [INVALID_REQUEST])
 
 
+def test_methods_that_seem_others() -> None:
+    """What stands in the first bytes and looks like the method, and where these end within a character."""
+    head = '{"jsonrpc":"2.0","id":1,'
+    for inner, method, params, output in (
+        ("add", "nope", '"%s"' % TEXT, NOT_FOUND),
+        ("nope", "add", '"%s"' % TEXT, INVALID_PARAMS),
+        ('add","more":"', "nope", '"%s"' % TEXT, NOT_FOUND),
+    ):
+        expect([head + '"params":{"method":"%s","b":%s},"method":"%s"}' % (inner, params, method)], [output])
+    for count in range(240, 260):
+        late = '"more":"%s中","method":"%s","params":["%s"]}'
+        for method, output in (("add", INVALID_PARAMS), ("nope", NOT_FOUND)):
+            expect([head + late % ("m" * (count - len(head) - 8), method, TEXT)], [output])
+    expect([head + '"method":"ad\\u0064","params":[2,3],"more":"%s"}' % TEXT], [rows.answered("5", 1)])
+
+
 def test_cancels() -> None:
     """A long cancel names its request, wherever its method stands."""
     for text in (
