@@ -7,11 +7,13 @@ from typing import Optional, Sequence
 
 
 def instructions(words: Sequence[str], given: bytes = b"") -> Optional[int]:
-    """None where the run fails."""
-    with tempfile.TemporaryDirectory() as room:
+    """None where the run fails. The input comes from a file: what a pipe gives at once depends on the machine's load."""
+    with tempfile.TemporaryFile() as file, tempfile.TemporaryDirectory() as room:
+        file.write(given)
+        file.seek(0)
         tool = ["valgrind", "--tool=callgrind", f"--callgrind-out-file={os.path.join(room, 'out')}", *words]
         ended = subprocess.run(
-            tool, input=given, stdout=subprocess.DEVNULL, stderr=subprocess.PIPE, timeout=900, check=False
+            tool, stdin=file, stdout=subprocess.DEVNULL, stderr=subprocess.PIPE, timeout=900, check=False
         )
     found = re.search(rb"Collected : (\d+)", ended.stderr)
     return int(found[1]) if found and ended.returncode == 0 else None
