@@ -104,7 +104,7 @@ def test_read_with_blanks(row: tuple[str, bytes, bytes, str]) -> None:
     """The contents of a row without methods, each with blanks about it."""
     _, given, output, _ = row
     blanks = BLANKS.encode()
-    long = b"".join(rows.frame(blanks + it + blanks) for it in split(given))
+    long = rows.frames(*(blanks + it + blanks for it in split(given)))
     same(ran.run(["play"], long), (0, output, b""), "played")
 
 
