@@ -13,6 +13,8 @@ from support import rows
 from support.grammar import Grammar
 
 STREAMS = 3_000
+# These make a content long: of such a one the session reads the params only where the table has the method.
+BLANKS = " " * 4_096
 WAYS: tuple[list[str], ...] = ([], [], ["--lazy"], ["--last"], ["--lazy", "--last"])
 
 
@@ -25,11 +27,13 @@ def methods_of(table: str) -> dict[str, int]:
 
 
 def stream(chance: random.Random, table: str) -> Iterator[str]:
-    """Lines, mostly of calls, replies that calls wait for, and cancels; now and then a batch, or what can't be read."""
+    """Lines, mostly of calls, replies that calls wait for, and cancels; now and then a batch, or what can't be read.
+    Some are long."""
     grammar = Grammar(chance, methods_of(table))
     for _ in range(chance.randint(2, 16)):
         value = [grammar.entry() for _ in range(chance.randint(0, 4))] if chance.random() < 0.3 else grammar.entry()
-        yield "{" if chance.random() < 0.03 else json.dumps(value)
+        text = "{" if chance.random() < 0.03 else json.dumps(value)
+        yield text + BLANKS if chance.random() < 0.1 else text
 
 
 def check_model(count: ran.Count) -> None:
