@@ -319,15 +319,23 @@ def test_figures_of_sums() -> None:
     same([*zip(*rows)], [(instructions.replace("_", ","), requests) for instructions, requests in reached])
 
 
-DEFINITIONS = ("crates/stream_session/specs/Promise.antt", "crates/connection/specs/Connections.antt")
+DEFINITIONS = (
+    ("IsRun", "crates/stream_session/specs/Promise.antt"),
+    ("StandsAfter", "crates/connection/specs/Connections.antt"),
+)
 
 
-@pytest.mark.parametrize("number, file", enumerate(DEFINITIONS))
-def test_definitions_that_are_shown(number: int, file: str) -> None:
-    """What the page on proofs shows of a definition stands in it, line by line."""
+@pytest.mark.parametrize("number, definition", enumerate(DEFINITIONS))
+def test_definitions_that_are_shown(number: int, definition: tuple[str, str]) -> None:
+    """What the page on proofs shows of a record are its first fields, line by line and without comments, behind its
+    name."""
+    name, file = definition
+    record = ran.text_of(file).partition(f"\npub record {name} ")[2].partition(" where\n")[2]
+    fields = [it for it in record.splitlines() if not it.strip().startswith("--")]
     shown = pictures_of("docs/proofs.md", "antt")[number].splitlines()
-    lines = iter([it.strip() for it in ran.text_of(file).splitlines()])
-    same([it for it in shown if it.strip() not in lines], [])
+    same(shown, fields[: len(shown)])
+    before = ran.text_of("docs", "proofs.md").split("```antt\n")[number]
+    check(f"`{name}`, of" in before.rpartition("\n\n")[0].rpartition("\n\n")[2], f"the page names {name} before it")
 
 
 def test_definitions_that_are_named(names_of_code: set[str]) -> None:
