@@ -11,10 +11,9 @@ from support import model
 from support import ran
 from support import rows
 from support.grammar import Grammar
+from support.long_contents import BLANKS
 
 STREAMS = 3_000
-# These make a content long: of such a one the session reads the params only where the table has the method.
-BLANKS = " " * 4_096
 WAYS: tuple[list[str], ...] = ([], [], ["--lazy"], ["--last"], ["--lazy", "--last"])
 
 

@@ -8,11 +8,11 @@ import pytest
 
 from support import ran, rows
 from support.expecting import same
+from support.long_contents import LONG
 from support.naming import named
 
 HEAD = re.compile(rb"Content-Length: (\d+)\r\n\r\n")
-# From so many bytes on a content is long (LONG in crates/peer_session/src/reading.rt), and a text that makes one so.
-LONG = 4_096
+# A text that makes a content long, and blanks of three kinds that do.
 TEXT = "x" * LONG
 BLANKS = " \t\r" * (LONG // 3 + 1)
 PARSE_ERROR = '{"error":{"code":-32700,"message":"Parse error"},"id":null,"jsonrpc":"2.0"}'

@@ -4,6 +4,7 @@ import random
 from dataclasses import dataclass, field
 from typing import Any, Callable
 
+from support.long_contents import BLANKS
 from support.reading import entry_of
 
 # What params, results and errors may be, beside those that can be traced.
@@ -225,9 +226,8 @@ def nested(chance: random.Random, content: bytes) -> bytes:
 
 
 def framed(chance: random.Random, content: bytes) -> bytes:
-    """A content in its frame. Now and then it is long by its blanks: of such a one the session reads the params only
-    where the table has the method."""
-    content += b" " * 4_096 if chance.random() < 0.06 else b""
+    """A content in its frame. Now and then it is long."""
+    content += BLANKS.encode() if chance.random() < 0.06 else b""
     head = chance.choice(HEADS) if chance.random() < 0.06 else b"Content-Length: %d\r\n\r\n"
     return head % len(content) + content
 
