@@ -129,9 +129,7 @@ COPIED = "a content is copied out of the pieces that were read, and its strings 
 STEPS = "a method is steps of a table, run by a handler that is parked, turned and taken back; the baseline calls a function"
 
 VALUES = "each value of a message is read, checked and kept by itself; the baseline keeps them in one tree"
-PASSED = (
-    "a content is copied out of the pieces that were read, and read by code of our own that is checked in each step"
-)
+PASSED = "a content is copied out of the pieces that were read, and its bytes are checked one after another"
 # Of hosts.
 KEPT = "what came and what is said are texts of their own, and each call has a place until it is answered"
 TEXTS = (
