@@ -1,7 +1,6 @@
 """Runs the bench program on sizes that are no multiple of anything: each job comes home once, each unit is released,
-and its time is told; what it reads and writes alone it answers as the player does, and asks for little memory. What a
-desk took while much was open it gives back. And bench/run runs on small sizes, where what it measures can be built: each
-answer of the player, of the server and of the hosts is the one that it has to be."""
+and its time is printed. What a desk took while much was open it gives back. And bench/run runs on small sizes, where
+what it measures can be built: each answer of the player, of the server and of the hosts is the one that it has to be."""
 import os
 import re
 import subprocess
@@ -9,7 +8,6 @@ import sys
 
 from support import ran
 from support import refusals
-from support import rows
 
 sys.path.insert(0, os.path.join(ran.TOP, "bench"))
 
@@ -22,8 +20,10 @@ LONG = (
     *("semantic tokens", "tokens with blanks", "beyond ASCII", "beyond ASCII as \\u"),
 )
 HOVERS = ("hovers", "hovers with blanks")
-READ = ("single requests", "batches of 100", *HOVERS, "one param of 8 MB", *LONG)
-PLAYED = (*READ, "completion list, known", "list with blanks, known", "adds", "adds with blanks", "adds in batches")
+PLAYED = (
+    *("single requests", "batches of 100", *HOVERS, "one param of 8 MB", *LONG),
+    *("completion list, known", "list with blanks, known", "adds", "adds with blanks", "adds in batches"),
+)
 PLAYED_WITH_CALLS = ("calls back", "the same in batches", "cancels")
 SERVED = ("unknown methods", "adds", "adds with blanks", "adds in batches")
 THERE_AND_BACK = ("a request", "one after 5 ms", "8 MB, unknown method", *LONG)
@@ -33,12 +33,8 @@ HOSTED_THERE_AND_BACK = ("a request", "a call back", "a cancel", "a param of 8 M
 HOSTED_WHOLE = (*HOVERS, *LONG, "adds", "adds with blanks", "adds in batches", "cancels")
 HOSTED_MEMORY = ("a small request", "an unknown method", "a notification")
 
-# A request with small params and its answer ask for memory so often at most, where nothing but reading and writing is
-# done.
-MOST_REQUESTS = 8
-
 count = ran.Count()
-BENCH, HOST = (count.built(it, ran.gates_program(it)) for it in ("peer_bench", "script_host"))
+BENCH = count.built("peer_bench", ran.gates_program("peer_bench"))
 
 
 def check_work(words, name, number, outcome):
@@ -52,9 +48,8 @@ def check_work(words, name, number, outcome):
 def check_all():
     for workers, room in ((1, 1), (1, 128), (2, 3), (4, 8), (4, 128)):
         for jobs in (0, 5_003):
-            for kind in ("slots", "queue"):
-                words = [kind, f"--workers={workers}", f"--room={room}", "--jobs", str(jobs)]
-                check_work(words, kind, jobs, "turned")
+            words = ["slots", f"--workers={workers}", f"--room={room}", "--jobs", str(jobs)]
+            check_work(words, "slots", jobs, "turned")
     for order in ("straight", "windows", "cancels", "stream", "behind", "batch"):
         for units in (0, 1, 999, 1_000, 1_001, 2_017):
             # (the first unit of the one is never finished, and the other is one unit)
@@ -62,7 +57,7 @@ def check_all():
             check_work(["desk", "--order", order, f"--units={units}"], f"desk {order}", released, "released")
     for words in (
         ["--help"],
-        *([it, "--help"] for it in ("slots", "queue", "desk", "answer", "compare", "lockstep", "cases")),
+        *([it, "--help"] for it in ("slots", "desk", "lockstep", "cases")),
         ["--version"],
     ):
         status, output, errors = ran.run(words, program=BENCH)
@@ -70,13 +65,11 @@ def check_all():
     for words in (
         ["frobnicate"],
         ["slots", "--workers", "0"],
-        ["queue", "--room", "129"],
+        ["slots", "--room", "129"],
         ["slots", "--jobs", "1000000001"],
         ["desk", "--units", "1000001"],
         ["desk", "--order", "sideways"],
         ["desk", "more"],
-        ["compare", "--texts", "1000000001"],
-        ["answer", "more"],
         ["lockstep", "--rounds", "0"],
         ["lockstep", "--workers", "65"],
         ["lockstep", "--room", "1"],
@@ -110,61 +103,6 @@ def check_memory():
     )
 
 
-def check_reading():
-    """Frames are answered as the player answers them without methods, however they end; and texts at random are read
-    alike in two ways."""
-    for name, given, output, end in rows.ROWS:
-        status, errors = rows.ended(end)
-        count.same(f"answered alone: {name}", ran.run(["answer"], given, program=BENCH), (status, output, errors))
-    # (more than is read at once, so that some contents come in two pieces)
-    ids = range(1, 3_001)
-    requests = rows.frames(*('{"jsonrpc":"2.0","method":"nope","id":%d}' % it for it in ids))
-    answers = rows.frames(*(rows.failed(-32601, "Method not found", it) for it in ids))
-    count.same("3,000 requests answered alone", ran.run(["answer"], requests, program=BENCH), (0, answers, b""))
-    for texts in (0, 1, 100_000):
-        count.same(
-            f"{texts} texts",
-            ran.run(["compare", f"--texts={texts}"], program=BENCH),
-            (0, b"compare: %d alike\n" % texts, b""),
-        )
-    request, answer = rows.frames(rows.REQUEST), rows.frames(rows.NOT_FOUND)
-    for room in (0, 1, len(answer) - 1):
-        got = ran.run_into(room, ["answer"], request, program=BENCH)
-        count.same(f"an output that takes {room} bytes of an answer", got, (1, answer[:room], b"failed: Write\n"))
-    count.same(
-        "an input that breaks off",
-        ran.run_on_broken(["answer"], request, program=BENCH),
-        (1, answer, b"failed: Read\n"),
-    )
-
-
-def requests_each(params):
-    """How often reading a request with these params, and writing its answer, asks for memory: the second thousand of
-    them."""
-    made = []
-    for size in (1_000, 2_000):
-        requests = ('{"jsonrpc":"2.0","method":"nope","params":%s,"id":%d}' % (params, it) for it in range(1, size + 1))
-        status, *_, number = refusals.counted([BENCH, "answer"], rows.frames(*requests))
-        count.check(f"{size} requests with params {params} are answered", status == 0, f"{status}")
-        made.append(number)
-    return (made[1] - made[0]) / 1_000
-
-
-def check_requests():
-    """Few requests for memory are made for a request; and where its params have more parts there are more, so they are
-    counted."""
-    for params in ("[2,3]", '{"a":1}', '["x"]'):
-        each = requests_each(params)
-        print(f"a request with params {params}: {each:.2f} requests for memory", flush=True)
-        count.check(
-            f"few requests for memory with params {params}",
-            0 < each <= MOST_REQUESTS,
-            f"{each:.2f}, at most {MOST_REQUESTS}",
-        )
-    strings = "[" + ",".join(['"x"'] * 10) + "]"
-    count.check("ten strings take ten requests for memory", requests_each(strings) >= 10)
-
-
 def tables_in(output):
     """The lines of each table, by its title and which one of that title it is."""
     found, lines = {}, []
@@ -186,16 +124,17 @@ def check_table(found, key, names, labels):
         count.check(f"bench/run's row of {key}: {name}", {*lines} == {*labels}, f"it has {lines}")
 
 
-def check_hosts(found, title, at, ours):
-    """The four tables of hosts, whose titles end so: `at` says which one of that title each is, and of the last."""
+def check_hosts(found):
+    """The four tables of hosts."""
+    ours = ["in C", "in Rust"]
     labels = ["baseline", *(it.label for it in contenders.limits()), *ours]
-    check_table(found, (f"sent at once{title}", at[0]), HOSTED, labels)
-    check_table(found, (f"there and back{title}", at[0]), HOSTED_THERE_AND_BACK, labels)
-    check_table(found, (f"played{title or ' (host)'}", 0), HOSTED_WHOLE, labels)
-    check_table(found, ("requests for memory", at[1]), HOSTED_MEMORY, ["baseline", *ours])
+    check_table(found, ("sent at once (lib)", 0), HOSTED, labels)
+    check_table(found, ("there and back (lib)", 0), HOSTED_THERE_AND_BACK, labels)
+    check_table(found, ("played (lib)", 0), HOSTED_WHOLE, labels)
+    check_table(found, ("requests for memory", 0), HOSTED_MEMORY, ["baseline", *ours])
 
 
-def check_tables(output, is_released):
+def check_tables(output):
     found = tables_in(output)
     limits = [it.label for it in contenders.limits()]
     workers = ["ours, 1 worker", "ours, 4 workers"]
@@ -205,10 +144,7 @@ def check_tables(output, is_released):
     check_table(found, ("sent at once", 0), ("open calls",), ["baseline", *workers])
     check_table(found, ("there and back", 0), THERE_AND_BACK, ["baseline", *limits, *workers])
     check_table(found, ("there and back", 0), THERE_AND_BACK_WITH_CALLS, ["baseline", *workers])
-    check_hosts(found, " (lib)", (0, 0 if is_released else 1), ["in C", "in Rust"])
-    if not is_released:
-        check_table(found, ("read and answered", 0), READ, ["baseline", *limits, "reading"])
-        check_hosts(found, "", (1, 0), ["ours"])
+    check_hosts(found)
 
 
 def check_run():
@@ -218,20 +154,17 @@ def check_run():
     if wanted:
         print(f"SKIPPED: bench/run on small sizes, which wants {' '.join(wanted)}", flush=True)
         return
-    is_released = not (BENCH and HOST)
-    which = ["--released"] if is_released else ["--reading", BENCH, "--hosting", HOST]
+    which = [] if BENCH else ["--released"]
     words = [os.path.join(ran.TOP, "bench", "run"), "--quick", "--small", "1000", "--runs", "1", *which]
     ended = subprocess.run(words, capture_output=True, text=True, timeout=900, check=False)
     count.check("bench/run on small sizes", ended.returncode == 0, f"{ended.stdout[-500:]} {ended.stderr[-1000:]}")
-    check_tables(ended.stdout, is_released)
+    check_tables(ended.stdout)
     count.check("bench/run says where ours is behind", "behind the baseline at the largest size" in ended.stdout)
 
 
 if BENCH:
     check_all()
-    check_reading()
     if not ran.lacks("cc", refusals.WHY):
         check_memory()
-        check_requests()
 check_run()
 count.end()

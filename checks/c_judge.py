@@ -8,8 +8,6 @@ and nothing more is seen. Under valgrind, where it is installed, nothing is lost
 built and run."""
 import argparse
 import os
-import random
-import re
 import shutil
 import sys
 import tempfile
@@ -17,21 +15,15 @@ from typing import Iterable
 
 from support import c_interface as interface
 from support import judge_conversations as conversations
-from support import judge_planted as plants
 from support import judged_in_c as judged
 from support import ran
-from support.c_programs import C99, EXAMPLES, SUPPORT, VALGRIND, build, default_library, is_whole, said
-from support.judge_conversations import Conversation, Seen
+from support.c_programs import C99, EXAMPLES, SUPPORT, VALGRIND, build, default_library, is_whole, said, wrapped
+from support.judge_conversations import Seen
 from support.judge_model import MOST_CONTENT, MOST_IDS, Judge
-from support.judge_rules import NOT_JUDGED, RULES
+from support.judged_in_c import KINDS, NAMES, talks
 
 CASES, FEW = 300, 12
 TOGETHER = 40
-PAGE = ran.text_of("docs/judge.md")
-ROW = re.compile(r"^\| `([a-z-]+)` \| .* \| .*? \| (connection|host) \| (.*) \|$", re.M)
-# What each name of an enumeration begins with, and which names stand in it.
-WHOSE = ("connection", "host")
-NAMES = judged.Names([*(it[0] for it in ROW.findall(PAGE)), NOT_JUDGED])
 # What the example is given, its status, and what it has to write.
 SHOWN = (
     b'> {"jsonrpc":"2.0","method":"a","id":7}\n< {"jsonrpc":"2.0","id":"7","result":1}\n'
@@ -72,8 +64,9 @@ def check_header(count: ran.Count, room: str) -> None:
     with open(f"{room}/names.c", "w", encoding="ascii") as it:
         it.write(program_of_names())
     built = said([*C99, f"-I{ran.TOP}/include", f"{room}/names.c", "-o", f"{room}/names"])
-    rows = [f"{name}|{section}" for name, _, section in ROW.findall(PAGE)]
-    lines = [*rows, f"{NOT_JUDGED}|", "another rule|", *judged.LEVELS, "another level"]
+    sections = {name: section for name, _, section in judged.ROWS}
+    rows = [f"{it}|{sections.get(it, '')}" for it in NAMES.rules]
+    lines = [*rows, "another rule|", *judged.LEVELS, "another level"]
     got = said([f"{room}/names"]) if built[0] == 0 else built
     count.same(
         "the header has the page's names and sections", got[:2], (0, "".join(f"{it}\n" for it in lines).encode())
@@ -81,24 +74,6 @@ def check_header(count: ran.Count, room: str) -> None:
 
 
 # Conversations
-
-
-def planted(name: str) -> Conversation:
-    chance = random.Random(name)
-    return plants.planted(name, chance.choice((*plants.PLANTS, *plants.CUT))).conversation
-
-
-KINDS = {"with a peer": conversations.with_a_peer, "joined": conversations.joined, "planted": planted}
-
-
-def talks(kind: str, cases: int) -> list[judged.Talk]:
-    """Conversations of a kind, each cut at random and by one set of rules."""
-    made = []
-    for number in range(cases):
-        chance = random.Random(f"{kind} in C {number}")
-        conversation = conversations.cut_otherwise(chance, KINDS[kind](f"{kind} in C {number}"))
-        made.append(judged.made(chance, conversation, [*RULES][number % len(RULES)]))
-    return made
 
 
 def play(count: ran.Count, words: list[str], kind: str, trials: list[judged.Talk]) -> None:
@@ -154,10 +129,9 @@ def check_refused(count: ran.Count, program: str) -> None:
 
 def check_memory(count: ran.Count, library: str, room: str) -> None:
     """Each request for memory is refused, alone and with those behind it."""
-    with open(f"{SUPPORT}/refuse_judge.c", encoding="ascii") as it:
-        wraps = [f"-Wl,--wrap={name}" for name in sorted({*re.findall(r"__wrap_(\w+)\(", it.read())})]
-    words = [*C99, f"{SUPPORT}/refuse_judge.c"]
-    program = build(count, library, room, f"{SUPPORT}/judge_talks.c", "static", wraps, words)
+    refusing = f"{SUPPORT}/refuse_judge.c"
+    words = [*C99, refusing]
+    program = build(count, library, room, f"{SUPPORT}/judge_talks.c", "static", wrapped(refusing), words)
     refusals = 0
     for talk in [it for kind in KINDS for it in talks(kind, FEW)]:
         given = "".join(f"{line}\n" for line in talk.lines()).encode()

@@ -4,8 +4,9 @@ What judging takes, by `support/judge_costs.c` over the C library: instructions 
 judge, beside those of a connection that is fed the same requests and answers them. And what it takes grows with what is
 judged and no faster, where all is answered at once, and where all is open before the first answer comes, with ids that
 are numbers and that are strings: twice as many take at most 2.2 times the instructions, and the memory of 200,000 is at
-most 2.2 times that of 100,000. Contents that can't be read, on as many open requests, are known to take more; this is
-seen. Instructions are callgrind's."""
+most 2.2 times that of 100,000; and where all is answered at once, with ids that are numbers, 1,000, 100,000 and 200,000
+hold the same bytes, 20,560. Contents that can't be read, on as many open requests, are known to take more; this is seen.
+Instructions are callgrind's."""
 import argparse
 import os
 import subprocess
@@ -19,10 +20,10 @@ from support.c_programs import C99, SUPPORT, build, default_library, is_whole
 from support.callgrind import instructions
 
 COUNT, MOST_GROWTH = 10_000, 2.2
-# A request and its answer before the judge take so many times what a connection takes for them: a twentieth more than
-# was measured (docs/performance.md).
+# A request and its answer before the judge take so many times what a connection takes for them: a twelfth more than was
+# measured (docs/performance.md).
 MOST_TIMES = 3.35
-FEW_HELD, MANY_HELD = 100_000, 200_000
+FEWEST_HELD, FEW_HELD, MANY_HELD = 1_000, 100_000, 200_000
 KINDS = tuple(f"{way}{ids}" for ids in ("", "-strings") for way in ("passed", "open", "reversed"))
 # What takes time with the square of its size, and of which this size is enough.
 SQUARE, SIZE = "unreadable", 1_000
@@ -100,6 +101,9 @@ def check_memory(count: ran.Count, program: str) -> None:
         count.check(f"{kind}: memory grows with its size", well, f"{few}, {many}")
         if few is not None and many is not None:
             print(f"{kind}: {few:,} bytes held of {FEW_HELD:,}, {many:,} of {MANY_HELD:,}", flush=True)
+    # (ids that are strings are kept, so that one that comes again is known; a run of numbers is kept as one)
+    passed = [held(program, KINDS[0], it) for it in (FEWEST_HELD, FEW_HELD, MANY_HELD)]
+    count.check(f"{KINDS[0]}: nothing is kept", None not in passed and len({*passed}) == 1, passed)
 
 
 def main(words: list[str]) -> None:

@@ -3,8 +3,8 @@
 The C library in a folder; where none is named, in out/library, as bin/build-library builds it, or else the released one. Where there is none,
 the header alone is tried. Its header, its exports and its map have the same calls, with the same parameters, and the structs lie as C, ctypes
 and the exports lay them out. The header compiles without a warning, as C99 and as C++. The programs of examples/c are built and run, with the
-shared library and with the static one, and so is a player of scripts, which gives what the model of docs/connection.md does for its rows and for
-random sessions, call by call and several in one. What was in the first header stays as it was, and the texts of codes and ends are those of
+shared library and with the static one, and so is a player of scripts, which gives what the model of docs/connection.md does for its rows,
+call by call and several in one, and for random sessions, several in one. What was in the first header stays as it was, and the texts of codes and ends are those of
 docs/embedding.md. (What is refused, threads and memory are tried by c_library_use.py and c_library_memory.py.)"""
 import argparse
 import os
@@ -20,7 +20,8 @@ from support import connection_fuzzing as fuzzing
 from support import connection_rows as rows
 from support import hosts, playing_scripts, ran
 from support.c_programs import C99, EXAMPLES, PLAYER, PLAYER_NEEDS, SUPPORT, WARNINGS
-from support.c_programs import build, default_library, is_whole, lacks_cjson, lacks_open, said, said_slowly
+from support.c_programs import build, default_library, is_whole, lacks_cjson, said, said_slowly
+from support.c_programs import watched, wrapped
 
 SESSIONS = 1_000
 
@@ -33,6 +34,14 @@ def words_of(words: Iterable[str]) -> argparse.Namespace:
 
 
 # The interface
+
+
+def imports(file: str) -> tuple[list[str], list[str]]:
+    """The libraries that a shared library names, and the symbols that it takes, with their versions where it names
+    any."""
+    needed = re.findall(rb"\(NEEDED\).*\[(.*)\]", said(["readelf", "-dW", file])[1])
+    names = said(["nm", "-D", "--undefined-only", "--format=just-symbols", file])[1]
+    return [it.decode() for it in needed], sorted(names.decode().split())
 
 
 def check_interface(count: ran.Count, library: str, room: str) -> None:
@@ -53,6 +62,11 @@ def check_interface(count: ran.Count, library: str, room: str) -> None:
     versions = dict(it.split("@@") for it in names.decode().split() if "@@" in it)
     seen = sorted(it.partition("@")[0] for it in names.decode().split() if not it.startswith("BULLMYRTLE_"))
     count.check("of the shared library just the calls can be seen", status == 0 and seen == sorted(header), f"{seen}")
+    count.check(
+        "the shared library names no other and asks for just six functions of C, by no version",
+        imports(f"{library}/libbullmyrtle.so.1") == ([], sorted(interface.OF_C)),
+        f"{imports(f'{library}/libbullmyrtle.so.1')}",
+    )
     due = {it: interface.FIRST_VERSION if it in interface.FIRST_CALLS else interface.NEXT_VERSION for it in header}
     count.check("each call has its version", versions == due, f"{versions}")
     status, names, _ = said(["nm", "-g", "--defined-only", "--format=just-symbols", f"{library}/libbullmyrtle.a"])
@@ -147,12 +161,13 @@ def check_client(count: ran.Count, client: str, host: str, way: str) -> None:
         count.check(
             f"the client calls {words[0]} with {words[1]}"[:60] + f", {way}", got == (*wanted, b""), f"{got}"[:300]
         )
-    for server, why in (
-        ("true", b"client: the server ended without a reply\n"),
-        (f"{host}-none", b"client: the server doesn't start\n"),
-    ):
-        got = said([client, "echo", "[]", server])
-        count.check(f"the client says that there is no reply, {way}", got == (2, b"", why), f"{got}")
+
+
+def check_client_of_others(count: ran.Count, client: str) -> None:
+    """Servers of frames, servers that give no reply, or none in time; and words that it refuses."""
+    refused = [(it, hosts.CLIENT_USAGE) for it in hosts.CLIENT_REFUSES]
+    for words, others in (*hosts.CLIENT_OF_OTHERS, *refused):
+        count.same(f"the client with the words {words}", said([client, *words]), others)
 
 
 def check_server(count: ran.Count, library: str, room: str) -> None:
@@ -168,6 +183,24 @@ def check_server(count: ran.Count, library: str, room: str) -> None:
             count.check(f"the language server, byte by byte: {name}, {way}", got == wanted, f"{got}")
 
 
+def check_cpp(count: ran.Count, library: str, room: str) -> None:
+    """The header for C++17 compiles without a warning, alone too; its example answers; and what it adds holds."""
+    if ran.lacks("c++", "no program in C++ is built"):
+        return
+    words = ["c++", "-O1", "-g", *WARNINGS, f"-I{ran.TOP}/include"]
+    for standard in ("c++17", "c++20"):
+        got = said([*words, f"-std={standard}", "-fsyntax-only", "-x", "c++", "-"], b'#include "bullmyrtle.hpp"\n')
+        count.check(f"bullmyrtle.hpp compiles by {standard}", got[0] == 0, f"{got}")
+    for way in ("shared", "static"):
+        host = build(count, library, room, f"{EXAMPLES}/host.cpp", way, words=[*words, "-std=c++17"])
+        check_host(count, host, f"{way}, in C++")
+    use = f"{SUPPORT}/hpp_use.cpp"
+    program = build(count, library, room, use, "static", wrapped(use), [*words, "-std=c++17"])
+    got = said([program])
+    count.check("what bullmyrtle.hpp adds", got == (0, b"", b""), f"{got}")
+    watched(count, "what bullmyrtle.hpp adds", [program])
+
+
 # Scripts
 
 
@@ -181,8 +214,6 @@ def check_players(count: ran.Count, library: str, room: str, cases: int) -> None
     by_hand = rows.all_rows()
     for way in ("shared", "static"):
         check_packed(count, library, room, way)
-    if lacks_open(library):
-        return
     for way in ("shared", "static"):
         player = build(count, library, room, PLAYER, way, PLAYER_NEEDS)
         playing_scripts.check(count, [player], way, by_hand + [row.cut_once for row in by_hand])
@@ -192,11 +223,9 @@ def check_players(count: ran.Count, library: str, room: str, cases: int) -> None
         for line in (*rows.UNREADABLE, "next"):
             got = said([player], f"{line}\n".encode())
             count.check(f"the player refuses {line!r}", got[:2] == (2, b""), f"{got}")
-    again = f"python3 checks/connection_fuzz.py --program {player}"
-    fuzzing.Fuzzer(partial(fuzzing.play_by_program, player), count, again).try_all(1, cases)
-    fuzzing.Fuzzer(partial(fuzzing.play_by_program, player, how="together"), count, f"{again} --how together").try_all(
-        1, cases
-    )
+    # (call by call: connection_fuzz.py)
+    again = f"python3 checks/connection_fuzz.py --program {player} --how together"
+    fuzzing.Fuzzer(partial(fuzzing.play_by_program, player, how="together"), count, again).try_all(1, cases)
 
 
 def main(words: list[str]) -> None:
@@ -221,8 +250,11 @@ def main(words: list[str]) -> None:
                 host = build(count, library, room, f"{EXAMPLES}/host.c", way)
                 check_host(count, host, way)
                 check_explaining(count, build(count, library, room, f"{EXAMPLES}/explaining_host.c", way), way)
-                check_client(count, build(count, library, room, f"{EXAMPLES}/client.c", way), host, way)
+                client = build(count, library, room, f"{EXAMPLES}/client.c", way)
+                check_client(count, client, host, way)
+            check_client_of_others(count, client)
             check_server(count, library, room)
+            check_cpp(count, library, room)
             check_players(count, library, room, options.cases)
     count.end()
 

@@ -10,7 +10,7 @@ import sys
 from typing import Iterator
 
 from support import ran
-from support.c_programs import default_library, lacks_open
+from support.c_programs import default_library
 
 # As docs/embedding.md has them.
 FRAMES, LINES = 0, 1
@@ -130,8 +130,8 @@ def main(words: list[str]) -> None:
     parser = argparse.ArgumentParser(usage=__doc__.partition("\n\n")[0].removeprefix("usage: "))
     parser.add_argument("--library", default=default_library())
     folder, count = os.path.abspath(parser.parse_args(words).library), ran.Count()
-    if not os.path.isfile(f"{folder}/libbullmyrtle.so.1") or lacks_open(folder):
-        print(f"SKIPPED: there is no library in {folder} that has bm_open: bin/build-library builds it", flush=True)
+    if not os.path.isfile(f"{folder}/libbullmyrtle.so.1"):
+        print(f"SKIPPED: there is no library in {folder}: bin/build-library builds it", flush=True)
         count.end()
     if free_bytes() < FREE:
         print(f"SKIPPED: the longest content, since fewer than {FREE >> 30} GB of memory are free", flush=True)

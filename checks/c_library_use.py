@@ -18,7 +18,8 @@ from support import connection_fuzzing as fuzzing
 from support import connection_rows as rows
 from support import connection_script as script
 from support import playing_scripts, ran
-from support.c_programs import C99, PLAYER, PLAYER_NEEDS, SUPPORT, build, default_library, is_whole, said, watched
+from support.c_programs import C99, PLAYER, PLAYER_NEEDS, SUPPORT
+from support.c_programs import build, default_library, is_whole, said, watched, wrapped
 
 # The calls that need memory.
 NEED_MEMORY = {
@@ -38,8 +39,8 @@ NEED_MEMORY = {
     ),
     *("bm_fed", "bm_tell", "bm_say_all"),
 }
-# The calls by whose names requests are refused, as refuse_calls.c has them.
-WRAPPED = re.compile(r"__wrap_(\w+)\(")
+# By what requests are refused.
+REFUSING = f"{SUPPORT}/refuse_calls.c"
 # The codes that hosts meet: all but BM_OK, BM_NO_MEMORY and BM_FULL.
 CODES = range(2, 10)
 WAYS = ("REFUSE_NTH", "REFUSE_FROM")
@@ -77,10 +78,8 @@ class Refusing:
         self.count, self.runs = count, 0
         # How often each call gave BM_NO_MEMORY, and how many requests were refused.
         self.told = Counter[str]()
-        with open(f"{SUPPORT}/refuse_calls.c", encoding="ascii") as it:
-            names = sorted({*WRAPPED.findall(it.read())})
-        wraps = [f"-Wl,--wrap={it}" for it in names]
-        self.program = build(count, library, room, file, "static", [*more, *wraps], [*C99, f"{SUPPORT}/refuse_calls.c"])
+        words = [*C99, REFUSING]
+        self.program = build(count, library, room, file, "static", [*more, *wrapped(REFUSING)], words)
 
     def run(
         self, given: bytes, how: str, number: int, words: Iterable[str] = ()

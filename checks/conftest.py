@@ -32,6 +32,9 @@ def pytest_addoption(parser: pytest.Parser) -> None:
         help="the program that plays the rows of played_rows/, in place of the peer_bench that the gate built",
     )
     parser.addoption(
+        "--program", metavar="FILE", help="the program that is tested, in place of that of the sources that lie here"
+    )
+    parser.addoption(
         "--rows", metavar="FILE", action="append", help="a file of rows to play in place of those of played_rows/"
     )
 
@@ -44,6 +47,10 @@ def without_program(why: str) -> NoReturn:
 
 
 ran.unbuilt = without_program
+
+
+def pytest_configure(config: pytest.Config) -> None:
+    ran.NAMED = config.getoption("--program")
 
 
 @pytest.hookimpl(optionalhook=True)  # type: ignore[misc]

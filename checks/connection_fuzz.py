@@ -2,59 +2,74 @@
        python3 checks/connection_fuzz.py --replay FILE [--program FILE]               tries the script in a file that an earlier run wrote
 
 Makes sessions of a connection at random, by a random host and a random other side, each also with its bytes cut
-otherwise. A program runs them by its command `script`, many in one script; what it says has to be what the plain model
-of docs/connection.md says, line for line. A session that differs is made as small as it goes and written to
-out/connection_fuzz, and the line that says so has the command that tries it again."""
+otherwise. The player of scripts in C, or the program that is named, runs them by its command `script`, many in one
+script; what it gives has to be what the plain model of docs/connection.md gives, line for line. A session that differs
+is made as small as it goes and written to out/connection_fuzz, and the line that says so has the command that tries it
+again. Control: a model that is wrong in one thing, in the program's place, is found."""
 import argparse
 import sys
+import tempfile
 from functools import partial
 from typing import Iterable
 
 from support import connection_fuzzing as fuzzing
-from support import connection_model
-from support import connection_rows as rows
 from support import connection_script as script
 from support import ran
+from support.c_programs import PLAYER, PLAYER_NEEDS, built_alone
+from support.connection_model import Model
+from support.connection_reading import Entry
 
-CASES = 5_000
-# So many where there is no program, and only the model is tried.
-ALONE = 500
+CASES, CONTROL = 5_000, 60
+
+
+class CancelsTheAnswered(Model):
+    """A cancel reaches requests that are answered."""
+
+    def take_cancel(self, cancel: Entry) -> None:
+        were = [it.is_open for it in self.calls]
+        for it in self.calls:
+            it.is_open = True
+        super().take_cancel(cancel)
+        for it, was in zip(self.calls, were):
+            it.is_open = was
 
 
 def words_of(words: Iterable[str]) -> argparse.Namespace:
     parser = argparse.ArgumentParser(usage=__doc__.partition("\n\n")[0].removeprefix("usage: "))
-    parser.add_argument("--cases", type=int)
+    parser.add_argument("--cases", type=int, default=CASES)
     parser.add_argument("--seed", type=int, default=1)
-    parser.add_argument("--program", default=ran.gates_program("script_host"))
+    parser.add_argument("--program")
     parser.add_argument("--how", default="script", help="the program's word (play_script.c knows `together` too)")
     parser.add_argument("--replay")
     return parser.parse_args([*words])
 
 
-def check_refusals(count: ran.Count, program: str) -> None:
-    """The program refuses lines that can't be read."""
-    for line in (*rows.UNREADABLE, "next"):
-        got = ran.run(["script"], f"{line}\n".encode(), program=program)
-        count.check(f"refused: {line!r}", got[0] == 2 and got[1] == b"", f"{got}")
-
-
-def main(words: list[str]) -> None:
-    options, count = words_of(words), ran.Count()
-    player: fuzzing.Player = partial(fuzzing.play_by_model, connection_model.Model)
-    again = "python3 checks/connection_fuzz.py"
-    if options.program:
-        player = partial(fuzzing.play_by_program, options.program, how=options.how)
-        again += f" --program {options.program} --how {options.how}"
-    else:
-        print("SKIPPED: sessions by script_host, which isn't built; the model is tried by itself", flush=True)
+def try_sessions(options: argparse.Namespace, count: ran.Count, program: str) -> None:
+    player: fuzzing.Player = partial(fuzzing.play_by_program, program, how=options.how)
     if options.replay:
         with open(options.replay, encoding="ascii") as it:
             why = fuzzing.breaks(player, script.read(it.read()))
         count.check(options.replay, why is None, why or "")
-        count.end()
-    if options.program:
-        check_refusals(count, options.program)
-    fuzzing.Fuzzer(player, count, again).try_all(options.seed, options.cases or (CASES if options.program else ALONE))
+        return
+    named = f" --program {options.program}" if options.program else ""
+    again = f"python3 checks/connection_fuzz.py{named} --how {options.how}"
+    fuzzing.Fuzzer(player, count, again).try_all(options.seed, options.cases)
+
+
+def check_control(count: ran.Count) -> None:
+    wrong: fuzzing.Player = partial(fuzzing.play_by_model, CancelsTheAnswered)
+    found = fuzzing.first_found(wrong, 1, CONTROL)
+    count.check(f"a wrong model is found in {CONTROL} sessions", found is not None)
+
+
+def main(words: list[str]) -> None:
+    options, count = words_of(words), ran.Count()
+    with tempfile.TemporaryDirectory(prefix="connection-fuzz-") as room:
+        program = options.program or built_alone(PLAYER, room, PLAYER_NEEDS)
+        if program is not None:
+            try_sessions(options, count, program)
+    if not options.replay:
+        check_control(count)
     count.end()
 
 

@@ -4,18 +4,20 @@
 Makes streams at random and runs each by several schedules, whole and cut, and by servers of one and of four workers; a
 share of them by the built program too, over real pipes. What is written has to keep the laws of checks/support/laws.py.
 A stream that breaks one is made as small as it goes and written to out/fuzz, and the line that says so has the command
-that tries it again. Why laws and no model: docs/decisions/tests_and_releases.md#fuzzing."""
+that tries it again. Control: a player that forgets the last piece of a stream is found. Why laws and no model:
+docs/decisions/tests_and_releases.md#fuzzing."""
 import argparse
 import sys
+from dataclasses import replace
 from functools import partial
-from typing import Iterable
+from typing import Iterable, Sequence
 
 from support import cases
 from support import fuzzing
 from support import ran
 from support import rows
 
-CASES = 5_000
+CASES, CONTROL = 5_000, 20
 
 # A stream of one request, and what is written for it.
 REQUEST, ANSWERED = rows.frames(rows.REQUEST), rows.frames(rows.NOT_FOUND)
@@ -69,6 +71,17 @@ def check_refusals(count: ran.Count, player: str, file: str) -> None:
         count.same(f"refused: {table}", ran.run(["cases", "--table", table], b"", program=player), (2, b"", wanted))
 
 
+def forgetful(player: str, table: str, given: Sequence[cases.Case], patience: float) -> list[cases.Ran]:
+    """What the player gives where it has not heard the last piece of a stream that is cut."""
+    heard = [replace(it, stream=it.stream[: sum(it.sizes)]) if it.sizes else it for it in given]
+    return cases.run(player, table, heard, patience)
+
+
+def check_control(count: ran.Count, player: str) -> None:
+    found = fuzzing.Fuzzer(partial(forgetful, player)).first_broken(1, CONTROL)
+    count.check(f"a forgetful player is found in {CONTROL} streams", found is not None)
+
+
 def main(words: list[str]) -> None:
     options = words_of(words)
     ran.built()
@@ -82,6 +95,7 @@ def main(words: list[str]) -> None:
         check_refusals(fuzzer.count, options.player, fuzzer.tables.files["traced"])
         fuzzer.try_all(options.seed, options.cases)
         fuzzer.check_floors()
+        check_control(fuzzer.count, options.player)
     fuzzer.count.end()
 
 

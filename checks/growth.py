@@ -1,15 +1,22 @@
-"""The program's work grows with its input and no faster: twice the input takes at most 2.2 times the instructions. And
-no memory is asked for what is only promised: a head that says 16 MiB, with nothing behind it, makes no large request.
-Nor is any kept for what is over: a million runs of a method take as much as a thousand.
+"""The program's work grows with its input and no faster: twice the input takes at most 2.2 times the instructions, and so
+does what `judge` is shown: contents that can be read and that can't, long ids, ids that are used again and that are held
+open. Four conversations are known to take the judge the square of their size; this is seen. And no memory is asked for
+what is only promised: a head that says 16 MiB, with nothing behind it, makes no large request. Nor is any kept for what
+is over: a million runs of a method take as much as a thousand, and a server that rests holds the same bytes, to the
+kilobyte, behind the second and the third content, line or response of 16 MB. Behind 100,000 open calls it is known to
+hold more.
 
 Instructions are callgrind's, so that a busy machine changes nothing. What a size costs beside its start, the program's
 own beginning, is left out. Why by instructions: docs/decisions/tests_and_releases.md#measuring."""
+import os
+import tempfile
 from functools import partial
 
-from support import ran
+from support import c_programs, ran
 from support import refusals
 from support import rows
 from support.callgrind import instructions
+from support.resting import Resting
 
 MOST = 2.2
 # A request for more bytes is a large one: the program reads in pieces of so many at most.
@@ -29,6 +36,10 @@ def with_params(params):
     return rows.frames(request(1, f'"params":{params},'))
 
 
+def add_to(text):
+    return '{"jsonrpc":"2.0","method":"add","params":["%s",1],"id":1}' % text
+
+
 def to(size):
     return range(1, size + 1)
 
@@ -36,6 +47,11 @@ def to(size):
 # How the inputs are made, of so many calls, bytes or members. The requests of the last ones make one call each.
 SHAPES = {
     "single requests": lambda size: rows.frames(*map(request, to(size))),
+    "lines": lambda size: rows.lines(*map(request, to(size))),
+    "a line of so many bytes": lambda size: rows.lines(request(1, '"params":["%s"],' % ("a" * size))),
+    # (the table has the method, so the string is made, and then it is no number)
+    "a string of escapes": lambda size: rows.frames(add_to(r"\u0001" * (size // 6))),
+    "a string of runs and escapes": lambda size: rows.frames(add_to(r"aaaaaaaaaaaaaa\n" * (size // 16))),
     # (a head of so many bytes: its length, a field as long as needed, and the empty line)
     "heads of so many bytes": lambda size: f"Content-Length: 40\r\nX:{'a' * (size - 26)}\r\n\r\n{request(1)}".encode()
     * 20,
@@ -78,10 +94,72 @@ INPUTS = [
     ("open calls", 2_000, TABLE),
     ("open calls", 2_000, ("--lazy", "--last", *TABLE)),
     ("calls without a reply", 20_000, TABLE),
+    ("lines", 4_000, ("--lines",)),
+    ("a line of so many bytes", 2_000_000, ("--lines", "--piece", "512")),
+    ("a string of escapes", 1_000_000, TABLE),
+    ("a string of runs and escapes", 1_000_000, TABLE),
     ("cancels", 2_000, TABLE),
     ("cancels", 2_000, ("--lazy", *TABLE)),
 ]
 
+
+# What the judge is shown: the side that says it, and its line.
+def asks(id_):
+    return ">", '{"jsonrpc":"2.0","method":"m","id":%s}' % id_
+
+
+def answers(id_):
+    return "<", '{"jsonrpc":"2.0","id":%s,"result":1}' % id_
+
+
+def array_of(side, ids, form):
+    return side, rows.batch(*(form(it)[1] for it in ids))
+
+
+def shown(*lines):
+    """A recording of these lines."""
+    return "".join(["judge 1 lsp lines\n", *(f"{side} {rows.lines(text).hex()}\n" for side, text in lines)]).encode()
+
+
+def said_with(text):
+    return shown((">", '{"jsonrpc":"2.0","method":"m","params":["%s"]}' % text))
+
+
+# Name, how the recording of a size is made, and the greater size.
+JUDGED = [
+    ("a content that can be read", lambda size: said_with("a" * size), 2_000_000),
+    ("a content that isn't JSON", lambda size: said_with("a" * size + '",'), 2_000_000),
+    ("a content that is too deep", lambda size: shown((">", "[" * (size // 2) + "]" * (size // 2))), 2_000_000),
+    ("an id of so many bytes", lambda size: shown(asks(f'"{"a" * size}"')), 2_000_000),
+    ("an id with so many digits in its exponent", lambda size: shown(asks("0e9" + "9" * size)), 200_000),
+    ("an id that is used again", lambda size: shown(*[asks(1), answers(1)] * size), 4_000),
+    ("equal ids that are held open", lambda size: shown(*[asks(1)] * size, *[answers(1)] * size), 2_000),
+    (
+        "a batch, answered in order",
+        lambda size: shown(array_of(">", to(size), asks), array_of("<", to(size), answers)),
+        800,
+    ),
+]
+# Known to take the square of the size: each answer is tried on what is left of its batch, each cancel on all that has its
+# id, and each array on all batches that have its first.
+SQUARES = [
+    (
+        "a batch, answered from its end",
+        lambda size: shown(array_of(">", to(size), asks), array_of("<", reversed(to(size)), answers)),
+        300,
+    ),
+    (
+        "a batch of equal ids, answered one by one",
+        lambda size: shown(array_of(">", [1] * size, asks), *[answers(1)] * size),
+        600,
+    ),
+    ("cancels of equal ids", lambda size: shown(*[asks(1)] * size, *[(">", rows.cancel(1))] * size), 150),
+    (
+        "arrays that fit no batch",
+        lambda size: shown(*[array_of(">", (1, 2), asks)] * size, *[array_of("<", (3, 1), answers)] * size),
+        150,
+    ),
+]
 
 # The bench program's ways to finish units at the desk, and its greater number of them.
 ORDERS, UNITS = ("straight", "windows", "cancels", "stream", "behind", "batch"), 20_000
@@ -128,15 +206,22 @@ def head_in_bytes(size):
     return f"settings frames as-answered cancels 1000 10\n{feeds}{ends}".encode()
 
 
-# what a connection is measured by: name, how the input is made, its greater size, and the command that takes it
+# The host in C that bench/run measures, the player of scripts, and a program that writes many notifications.
+HOST = os.path.join(ran.TOP, "bench", "embedded", "host.c")
+PLAYER = c_programs.PLAYER
+WRITER = os.path.join(c_programs.SUPPORT, "kept_output.c")
+
+# what a connection is measured by: name, how the input is made, its greater size, and the program in C that takes it
 CONNECTION = [
-    ("a host's calls", hosted_calls, 20_000, "host"),
-    ("a host's open calls", hosted_open_calls, 20_000, "host"),
-    ("a host's cancelled calls", hosted_cancels, 20_000, "host"),
-    ("a host's one batch", hosted_batch, 100_000, "host"),
-    ("a host's param of so many bytes", hosted_text, 16_700_000, "host"),
-    ("a head of so many bytes, in single bytes", head_in_bytes, 4_096, "script"),
+    ("a host's calls", hosted_calls, 20_000, HOST),
+    ("a host's open calls", hosted_open_calls, 20_000, HOST),
+    ("a host's cancelled calls", hosted_cancels, 20_000, HOST),
+    ("a host's one batch", hosted_batch, 100_000, HOST),
+    ("a host's param of so many bytes", hosted_text, 16_700_000, HOST),
+    ("a head of so many bytes, in single bytes", head_in_bytes, 4_096, PLAYER),
 ]
+# So many lines are written by a host before the first is taken.
+LINES_OUT = 200_000
 
 
 def inputs():
@@ -148,6 +233,12 @@ def inputs():
         ], words=words: instructions(words, make(size) if size else b"")
 
 
+def judged(conversations):
+    """The same of what the program judges. (Its status tells whether a rule was broken.)"""
+    for name, make, size in conversations:
+        yield f"judged: {name}", size, lambda size, make=make: instructions([ran.BUILT, "judge"], make(size), (0, 1))
+
+
 def orders(bench):
     """The same of the desk."""
     for order in ORDERS:
@@ -156,39 +247,66 @@ def orders(bench):
         )
 
 
-def connections(bench):
-    """The same of a connection."""
-    for name, make, size, command in CONNECTION:
-        yield name, size, lambda size, make=make, command=command: instructions([bench, command], make(size))
+def connections(room):
+    """The same of a connection, by programs in C that are built in a folder."""
+    programs = {it: c_programs.built_alone(it, room, c_programs.PLAYER_NEEDS) for it in (HOST, PLAYER, WRITER)}
+    for name, make, size, file in CONNECTION:
+        if programs[file]:
+            yield name, size, lambda size, make=make, program=programs[file]: instructions([program], make(size))
+    if programs[WRITER]:
+        yield "a host's lines that wait", LINES_OUT, lambda size: instructions(
+            [programs[WRITER], "lines", "1000", str(max(size, 1))]
+        )
 
 
-def check_growth(count, label, size, begun, half, whole):
-    """Compares what a size and half of it take, each beside what a run of size 0 does."""
+def growth_of(count, label, size, begun, half, whole):
+    """How many times what half of a size takes it takes itself, each beside what a run of size 0 does."""
     if begun is None or half is None or whole is None:
         count.check(f"{label} is counted", False)
-        return
+        return None
     growth = (whole - begun) / (half - begun)
     print(f"{label}: {half:,} instructions at {size // 2:,} and {whole:,} at {size:,}, growth {growth:.2f}", flush=True)
-    count.check(label, growth <= MOST, f"growth {growth:.2f}, at most {MOST}")
+    return growth
+
+
+def check_growth(count, label, size, *taken):
+    growth = growth_of(count, label, size, *taken)
+    if growth is not None:
+        count.check(label, growth <= MOST, f"growth {growth:.2f}, at most {MOST}")
+
+
+def check_square(count, label, size, *taken):
+    """What is known to grow faster. Once it doesn't, its row belongs to the others."""
+    growth = growth_of(count, label, size, *taken)
+    if growth is not None:
+        count.check(f"{label} grows faster, which is seen", growth > MOST, f"growth {growth:.2f}")
 
 
 def check_all(count):
     """Counts the instructions of all sizes, as many side by side as there are processors, and compares them."""
     if ran.lacks("valgrind", "it counts the instructions"):
         return
-    bench, connection = (count.built(it, ran.gates_program(it)) for it in ("peer_bench", "script_host"))
-    measured = [*inputs(), *(orders(bench) if bench else ()), *(connections(connection) if connection else ())]
-    counts = iter(
-        ran.side_by_side(partial(counted, it) for _, size, counted in measured for it in (0, size // 2, size))
-    )
-    for label, size, _ in measured:
-        check_growth(count, label, size, next(counts), next(counts), next(counts))
+    bench = count.built("peer_bench", ran.gates_program("peer_bench"))
+    with tempfile.TemporaryDirectory(prefix="growth-") as room:
+        measured = [
+            *((check_growth, it) for it in (*inputs(), *judged(JUDGED), *(orders(bench) if bench else ()))),
+            *((check_growth, it) for it in connections(room)),
+            *((check_square, it) for it in judged(SQUARES)),
+        ]
+        counts = iter(
+            ran.side_by_side(partial(counted, it) for _, (_, size, counted) in measured for it in (0, size // 2, size))
+        )
+    for check, (label, size, _) in measured:
+        check(count, label, size, next(counts), next(counts), next(counts))
 
 
 def check_memory(count):
     if not ran.lacks("cc", refusals.WHY):
         check_promise(count)
         check_finished(count)
+        check_rests(count)
+        check_open(count)
+        check_reads(count)
 
 
 def check_promise(count):
@@ -222,6 +340,65 @@ def check_finished(count):
             (status, then) == (0, 0) and 0 < most <= least + 2 * written + SPARE,
             f"{least:,}, {most:,}",
         )
+
+
+def text_of(size):
+    return f'"{"a" * size}"'
+
+
+def escapes_of(size):
+    return '"%s"' % (r"\u0001" * (size // 6))
+
+
+# What comes to a server and passes: whether in lines, the size with which it begins, a large one, and what does it.
+RESTS = {
+    "a content": (False, 200_000, 16_000_000, lambda it, size: it.add(text_of(size))),
+    "a line": (True, 200_000, 16_000_000, lambda it, size: it.add(text_of(size))),
+    "escapes": (True, 200_000, 16_000_000, lambda it, size: it.add(escapes_of(size))),
+    "a call and its response": (True, 200_000, 16_000_000, lambda it, size: it.ask(1, text_of(size), text_of(size))),
+    "open calls": (True, 3_000, 100_000, lambda it, size: it.ask(size)),
+}
+# They are the same to the kilobyte. Known: behind open calls the sets of numbers keep room for the most that were open.
+EVEN, KEPT = 1_024, {"open calls": 200_000}
+# So many calls are open, and each takes so many bytes: docs/performance.md, "What bin/test holds".
+OPEN, OPEN_BYTES = 20_000, 1_586 * 1.05
+# A server asks for 16,384 bytes at once. A pipe may give fewer, but not so few for each read of so many.
+READ, A_READ = 4_000_000, 1_000
+
+
+def check_rests(count):
+    for name, (in_lines, small, large, come) in RESTS.items():
+        with Resting(in_lines) as server:
+            held = []
+            for size in (small, small, large, large):
+                come(server, size)
+                held.append(server.at_rest())
+        _, before, *behind = held
+        more = [it - before for it in behind]
+        print(f"{name} of {large:,}: {before:,} bytes held before, {more[0]:,} and {more[1]:,} more behind", flush=True)
+        if name in KEPT:
+            count.check(f"room is kept behind {name}, which is known", EVEN < max(more) <= KEPT[name], f"{held}")
+        else:
+            count.check(f"no room is kept behind {name}", max(map(abs, more)) <= EVEN, f"{held}")
+
+
+def check_open(count):
+    with Resting(in_lines=False) as server:
+        before = server.at_rest()
+        server.asked(OPEN)
+        each = (server.quiet() - before) / OPEN
+    print(f"{OPEN:,} open calls: {each:,.0f} bytes each", flush=True)
+    count.check("an open call takes what it needs", 0 < each <= OPEN_BYTES, f"{each:.0f}, at most {OPEN_BYTES:.0f}")
+
+
+def check_reads(count):
+    with Resting(in_lines=False) as server:
+        server.at_rest()
+        before = server.reads()
+        server.add(text_of(READ))
+        made = server.reads() - before
+    print(f"{READ:,} bytes: {made:,} reads", flush=True)
+    count.check("a long content is read in long pieces", 0 < made <= READ // A_READ, f"{made:,} reads")
 
 
 ran.script(check_memory, check_all)

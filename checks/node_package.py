@@ -1,4 +1,7 @@
-"""The package for Node.js in bindings/node, over the released addon. The addon is the one that its sources and the released library give, byte
+"""usage: python3 checks/node_package.py
+       python3 checks/node_package.py --tests [FILE ..]     the package's own tests alone, or those of some files, such as calls, each file by itself
+
+The package for Node.js in bindings/node, over the released addon. The addon is the one that its sources and the released library give, byte
 for byte; its declarations are those of Node.js's own headers; it calls nothing else. The package's own tests pass, with the examples, what
 docs/node.md shows, the types by TypeScript's compiler, and editors' sessions. A player of scripts over the lower floor gives what the model of
 docs/connection.md does, for its rows and for random sessions. Tests pass once more with the addon under AddressSanitizer, and others with each
@@ -9,8 +12,10 @@ import os
 import re
 import shutil
 import subprocess
+import sys
 import tempfile
-from functools import partial
+from concurrent.futures import ThreadPoolExecutor, as_completed
+from functools import cache, partial
 
 from support import connection_fuzzing as fuzzing
 from support import connection_rows as rows
@@ -22,8 +27,12 @@ from tools import addon, library  # (ran has put bin/ on the path)
 PACKAGE = os.path.join(ran.TOP, "bindings", "node")
 PLAYER = os.path.join(PACKAGE, "tests", "play_script.js")
 # So many tests there are at least, and so many random sessions are played.
-FEWEST, SESSIONS = 115, 500
-SECONDS = 600
+FEWEST, SESSIONS = 300, 500
+# (support/arm64.py runs them on a processor that is worked out in software, by fewer processes than there are processors)
+TIMES_SLOWER = int(os.environ.get("TIMES_SLOWER", "1"))
+PROCESSES = int(os.environ.get("PROCESSES", os.cpu_count() or 1))
+# (a limit that a busy machine doesn't meet)
+SECONDS = 1_800 * TIMES_SLOWER
 # What of the C library the addon and the library in it call.
 LIBC = {"calloc", "free", "malloc", "memchr", "memcpy", "memmove", "memset", "realloc"}
 # The tests that go through all of the addon, and start no process.
@@ -61,14 +70,7 @@ def headers_of(node: str) -> str:
 
 def compiled(node: str, words: list[str], made: str) -> tuple[int, bytes, bytes]:
     """Compiles the addon with Node.js's headers, which the compiler holds against the addon's own declarations."""
-    from_node = [
-        "-DNODE_HEADERS",
-        "-DNAPI_VERSION=8",
-        "-isystem",
-        headers_of(node),
-        f"-I{library.RELEASED}",
-        *addon.additions(library.RELEASED),
-    ]
+    from_node = ["-DNODE_HEADERS", "-DNAPI_VERSION=8", "-isystem", headers_of(node), f"-I{library.RELEASED}"]
     files = [f"{addon.FOLDER}/addon.c", *([f"{library.RELEASED}/{addon.STATIC}"] if "-shared" in words else [])]
     return said(["cc", "-std=c11", "-fPIC", *words, *from_node, *files, "-o", made])
 
@@ -84,9 +86,15 @@ def check_declarations(count: ran.Count, node: str) -> None:
         count.check(f"{node}: the addon's declarations are those of its headers", got[0] == 0, f"{got}")
 
 
+@cache
+def limit(node: str) -> list[str]:
+    """A file that has no end is named then, where its Node.js can: 20.11 and later."""
+    return [f"--test-timeout={SECONDS * 500}"] if b"--test-timeout" in said([node, "--help"])[1] else []
+
+
 def ran_tests(node: str, names: list[str], env: dict[str, str]) -> tuple[int, str]:
     files = [f"{PACKAGE}/tests/{it}.js" for it in names] or sorted(glob.glob(f"{PACKAGE}/tests/*.test.js"))
-    words = [node, "--test", "--test-reporter=tap", *files]
+    words = [node, "--test", "--test-reporter=tap", *limit(node), *files]
     try:
         ended = subprocess.run(
             words, cwd=PACKAGE, env={**os.environ, **env}, capture_output=True, text=True, timeout=SECONDS, check=False
@@ -97,7 +105,11 @@ def ran_tests(node: str, names: list[str], env: dict[str, str]) -> tuple[int, st
 
 
 def check_tests(count: ran.Count, node: str, way: str, names: list[str], env: dict[str, str], fewest: int) -> None:
-    status, text = ran_tests(node, names, env)
+    check_told(count, f"{node}{way}", *ran_tests(node, names, env), fewest)
+
+
+def check_told(count: ran.Count, of: str, status: int, text: str, fewest: int) -> int:
+    """What a run of tests told of them, and how many it was."""
     tests = re.findall(r"^ *(not )?ok \d+ - (.*?)(?: # SKIP (.*))?$", text, re.M)
     for is_wrong, name, why in tests:
         if why:
@@ -108,40 +120,22 @@ def check_tests(count: ran.Count, node: str, way: str, names: list[str], env: di
                 if is_wrong
                 else None
             )
-            count.check(f"{node}{way}: {name}", not is_wrong, found[1].strip()[-1200:] if found else "")
+            count.check(f"{of}: {name}", not is_wrong, found[1].strip()[-1200:] if found else "")
     count.check(
-        f"{node}{way}: its status",
+        f"{of}: its status",
         status == 0,
         text[-1500:] if status and not any(it[0] for it in tests) else f"{status}",
     )
     done = sum(not why for _, _, why in tests)
-    count.check(f"{node}{way}: {fewest} tests at least", done >= fewest, f"{done}")
-    print(f"{node}{way}: {done} tests", flush=True)
-
-
-def has_open() -> bool:
-    """Whether the library has bm_open."""
-    return "-DOPEN" in addon.additions(library.RELEASED)
-
-
-def needs_open(row: rows.Row) -> bool:
-    """Whether a row has MCP's cancels, is told of broken input, or asks where a fault lies."""
-    return any(it.name == "fault_place" or {"mcp", "broken"} & set(it.given) for it in row.actions)
-
-
-def known_rows() -> list[rows.Row]:
-    """The rows of what the library has."""
-    found = rows.all_rows()
-    if has_open():
-        return found
-    known = [it for it in found if not needs_open(it)]
-    print(f"SKIPPED: {len(found) - len(known)} rows for what the library has with bm_open, which it lacks", flush=True)
-    return known
+    if fewest:
+        count.check(f"{of}: {fewest} tests at least", done >= fewest, f"{done}")
+    print(f"{of}: {done} tests", flush=True)
+    return done
 
 
 def check_scripts(count: ran.Count, node: str) -> None:
     """The rows, whole and cut; their texts as bytes and as strings."""
-    by_hand = known_rows()
+    by_hand = rows.all_rows()
     scripts = playing_scripts.joined(by_hand + [row.cut_once for row in by_hand])
     for way in ("bytes", "strings"):
         playing_scripts.check(count, [node, PLAYER, way], f"{node}, {way}", scripts)
@@ -151,9 +145,6 @@ def check_scripts(count: ran.Count, node: str) -> None:
 
 
 def check_sessions(count: ran.Count) -> None:
-    if not has_open():
-        print("SKIPPED: random sessions through the lower floor, which need a library that has bm_open", flush=True)
-        return
     again = f"python3 checks/connection_fuzz.py --program {PLAYER}"
     fuzzing.Fuzzer(partial(fuzzing.play_by_program, PLAYER), count, again).try_all(5, SESSIONS)
 
@@ -198,8 +189,23 @@ def check_refused_memory(count: ran.Count, node: str) -> None:
         check_tests(count, node, ", without memory", ["refused_memory"], {"BULLMYRTLE_ADDON": f"{room}/addon.node"}, 3)
 
 
+def check_files(count: ran.Count, node: str, names: list[str]) -> None:
+    """Each file of the tests by itself, told as it ends, since each may take long."""
+    files = [it.removesuffix(".test.js") for it in sorted(os.listdir(f"{PACKAGE}/tests")) if it.endswith(".test.js")]
+    done = 0
+    with ThreadPoolExecutor(PROCESSES) as pool:
+        runs = {pool.submit(ran_tests, node, [f"{it}.test"], {}): it for it in names or files}
+        for ended in as_completed(runs):
+            done += check_told(count, f"{node}, {runs[ended]}", *ended.result(), 0)
+    if not names:
+        count.check(f"{node}: {FEWEST} tests at least", done >= FEWEST, f"{done}")
+
+
 def main() -> None:
     count = ran.Count()
+    if sys.argv[1:2] == ["--tests"]:
+        check_files(count, "node", sys.argv[2:])
+        count.end()
     check_addon(count)
     nodes = [it for it in os.environ.get("NODES", "node").split(":") if shutil.which(it)]
     if not nodes:
@@ -215,4 +221,5 @@ def main() -> None:
     count.end()
 
 
-main()
+if __name__ == "__main__":
+    main()

@@ -2,149 +2,50 @@
 servers of several small sizes. No thread is left that waits, every job is turned and comes home, and every thread ends.
 Bugs planted in the model are found by the same runs. And the model makes the same calls in the same order as the code:
 docs/server.md has a table of the functions that its steps are, and docs/decisions/programs_and_server.md#the-server-rpc_peer
-says why there is a model.
+says why there is a model. checks/progress/texts.txt has a sum of each function's text, from when the model was last held
+beside it: where a text has changed, the step that stands for it has to be looked at again.
 
-usage: python3 checks/progress.py [NAME ..]    only the runs of these names, and the bugs that they find"""
+usage: python3 checks/progress.py [--anew | --record | --looked] [NAME ..]    only the runs of these names, and the bugs
+                                                                              that they find
+
+A run that checks/progress/tried.txt has as it stands isn't made, unless it is named, or with --anew. --record makes those
+that it doesn't have, and writes that file. --looked writes the sums of the texts as they are: the model was held beside
+them."""
+import argparse
 import glob
+import hashlib
 import os
 import re
-import subprocess
-import sys
-import tempfile
-import time
-import tomllib
+import shutil
 from concurrent.futures import ThreadPoolExecutor
 from dataclasses import dataclass
-from typing import Iterator, Optional
+from typing import Optional
 
 from support import ran
 from support.functions import functions_of
+from support.interleavings import (
+    MODEL,
+    RUNS,
+    SIDE_BY_SIDE,
+    Bug,
+    Found,
+    Run,
+    bugs,
+    go_through,
+    line_of,
+    read,
+    record,
+    recorded,
+    sum_of,
+)
 from tools import kit
 
-MODEL = os.path.join(ran.TOP, "checks", "progress")
-# So many runs at once, each with so much memory in MB and so much time in seconds at most.
-SIDE_BY_SIDE, MEMORY, SECONDS = 2, 950, 600
+TEXTS = os.path.join(MODEL, "texts.txt")
+HEAD = """# The functions that the steps of the model are: a sum of the text that each had when its step was last held beside it.
+# Written by python3 checks/progress.py --looked
+"""
 # A source of whose functions the server needs a part.
 LARGE = "job_slots/src/slots.rt"
-# What is compiled in: one looks at where the threads come to a stand, the other whether they do.
-ENDS = ("-DSAFETY", "-DNOCLAIM")
-ALWAYS_ENDS = ()
-
-
-@dataclass(frozen=True)
-class Run:
-    """A server whose interleavings are gone through."""
-
-    name: str
-    sizes: dict[str, int]
-    how: tuple[str, ...] = ENDS
-    is_small: bool = False
-
-
-ALONE = {"READER": 0, "PIECES": 2}
-RUNS = (
-    Run("pair", {"WORKERS": 2, "SLOTS": 2, "JOBS": 2}),
-    Run("held back", {"WORKERS": 1, "SLOTS": 1, "PIECES": 2, "JOBS": 3, "AT_ONCE": 3, "SCRAPS": 1}, is_small=True),
-    Run("cancels", {"WORKERS": 1, "SLOTS": 1, "JOBS": 2, "CALLS": 1, "CANCELS": 1}),
-    Run("faults", {"WORKERS": 2, "SLOTS": 1, "JOBS": 1, "AT_ONCE": 1, "CALLS": 1, "FAULTS": 1}),
-    Run("gate", {"WORKERS": 2, "SLOTS": 2, "JOBS": 2, "GATE": 2}),
-    Run("waves at the gate", {"WORKERS": 2, "SLOTS": 2, "JOBS": 4, "GATE": 2, **ALONE}, is_small=True),
-    Run("three at the gate", {"WORKERS": 3, "SLOTS": 2, "JOBS": 2, "GATE": 2, **ALONE}),
-    Run("three of each", {"WORKERS": 3, "SLOTS": 3, "JOBS": 3, "GATE": 3, **ALONE}),
-    Run("step by step", {"WORKERS": 2, "SLOTS": 2, "JOBS": 2, "FINE": 1, **ALONE}),
-    Run("step by step, with a reader", {"WORKERS": 1, "SLOTS": 1, "JOBS": 1, "AT_ONCE": 1, "FINE": 1}, is_small=True),
-    Run("pair, fairly", {"WORKERS": 2, "SLOTS": 1, "JOBS": 1, "AT_ONCE": 1}, ALWAYS_ENDS),
-    Run("broken", {"WORKERS": 1, "SLOTS": 1, "JOBS": 2, "SCRAPS": 1, "BROKEN": 1, "FAULTS": 1}, ALWAYS_ENDS),
-)
-
-
-@dataclass(frozen=True)
-class Bug:
-    """A change of the model, and the run that has to find it."""
-
-    name: str
-    by: str
-    edits: list[dict[str, str]]
-
-
-@dataclass(frozen=True)
-class Found:
-    """What a run found: an error, or none in so many states; or why it didn't come to its end."""
-
-    error: str
-    states: int
-    unfinished: str
-    seconds: float
-
-
-def bugs() -> Iterator[Bug]:
-    with open(os.path.join(MODEL, "planted.toml"), "rb") as it:
-        for bug in tomllib.load(it)["bug"]:
-            yield Bug(bug["name"], bug["by"], bug["edit"])
-
-
-def read(file: str) -> str:
-    with open(file, encoding="utf-8") as it:
-        return it.read()
-
-
-def with_bug(bug: Bug, name: str, text: str) -> str:
-    """The text of a file of the model, with what the bug changes there."""
-    for edit in bug.edits:
-        if edit["file"] == name:
-            if text.count(edit["old"]) != 1:
-                raise ValueError(f"{bug.name}: {text.count(edit['old'])} places in {name} have {edit['old']}")
-            text = text.replace(edit["old"], edit["new"])
-    return text
-
-
-def copied_to(room: str, bug: Optional[Bug]) -> str:
-    """A copy of the model, with the bug: the model's first file there."""
-    for file in glob.glob(os.path.join(MODEL, "*.pml")):
-        text = read(file)
-        name = os.path.basename(file)
-        if bug:
-            text = with_bug(bug, name, text)
-        with open(os.path.join(room, name), "w", encoding="utf-8") as it:
-            it.write(text)
-    return "server.pml"
-
-
-def told(words: list[str], room: str, seconds: int) -> str:
-    """What a command of spin's says; that it fails is an error."""
-    ended = subprocess.run(words, cwd=room, stdin=subprocess.DEVNULL, capture_output=True, timeout=seconds, check=False)
-    text = (ended.stdout + ended.stderr).decode(errors="replace")
-    if ended.returncode:
-        raise ValueError(f"{' '.join(words)}: status {ended.returncode}: {text[-900:]}")
-    return text
-
-
-def judged(text: str, seconds: float) -> Found:
-    """What spin's verifier tells. One that hasn't gone through all of it has found out nothing but an error."""
-    errors = re.search(r"errors: (\d+)", text)
-    states = re.search(r"([\d.e+]+) states, stored", text)
-    first = re.search(r"^pan:1: (.*?)(?: \(at depth.*)?$", text, re.M)
-    cut = re.search(r"not completed|too small|memory bound|MEMLIM|out of memory|VECTORSZ", text)
-    if errors is None or states is None:
-        return Found("", 0, text[-900:], seconds)
-    error = (first[1] if first else "an error") if int(errors[1]) else ""
-    return Found(error, int(float(states[1])), cut[0] if cut and not error else "", seconds)
-
-
-def tried(run: Run, bug: Optional[Bug] = None) -> Found:
-    """Compiles the model in this size, with the bug, and goes through all of its states, or up to the first error."""
-    begun = time.monotonic()
-    with tempfile.TemporaryDirectory(prefix="progress-") as room:
-        try:
-            sizes = [f"-D{name}={size}" for name, size in run.sizes.items()]
-            told(["spin", *sizes, "-a", copied_to(room, bug)], room, SECONDS)
-            # (where few states are gone through, to optimise takes longest)
-            speed = "-O0" if bug or run.is_small else "-O2"
-            told(["cc", speed, "-w", "-DCOLLAPSE", f"-DMEMLIM={MEMORY}", *run.how, "-o", "pan", "pan.c"], room, SECONDS)
-            text = told(["./pan", "-m200000", *([] if run.how else ["-a", "-f"])], room, SECONDS)
-        except (subprocess.TimeoutExpired, ValueError) as fault:
-            return Found("", 0, str(fault), time.monotonic() - begun)
-        return judged(text, time.monotonic() - begun)
 
 
 @dataclass(frozen=True)
@@ -164,13 +65,52 @@ def table_of_page() -> list[Source]:
     return [Source(file, same, other) for (file,), same, other in names if file.endswith(".rt")]
 
 
-def bodies_of(source: Source) -> dict[str, str]:
-    """The bodies of a source's functions, without comments, by name. A file that isn't here is one of the kit."""
+def texts_of(source: Source) -> list[tuple[str, str]]:
+    """The functions of a source: their names, and their bodies without comments. A file that isn't here is one of the
+    kit."""
     crate, _, file = source.file.partition("/")
     ours = os.path.join(ran.TOP, "crates", source.file)
     text = read(ours if os.path.isfile(ours) else os.path.join(kit.folder(), "rattle", source.file))
     functions = functions_of(crate, file, text)
-    return {it.name.split("::")[-1]: re.sub(r"//.*", "", text[it.opening or it.start : it.end]) for it in functions}
+    return [(it.name.split("::")[-1], re.sub(r"//.*", "", text[it.opening or it.start : it.end])) for it in functions]
+
+
+def bodies_of(source: Source) -> dict[str, str]:
+    """The bodies of a source's functions by name."""
+    return dict(texts_of(source))
+
+
+def is_here(source: Source) -> bool:
+    """Whether there is a source: one of the kit's is where the kit is."""
+    return os.path.isdir(os.path.join(ran.TOP, "crates", source.file.split("/")[0])) or shutil.which("rt") is not None
+
+
+def lines_of(source: Source) -> list[str]:
+    """For each function that a step of the model is, a sum of its text, however that is laid out. (In a file a name may
+    stand for several.)"""
+    texts = texts_of(source)
+    found = {name: [body.split() for it, body in texts if it == name] for name in (*source.same, *source.other)}
+    return [
+        f"{hashlib.sha256(repr(them).encode()).hexdigest()[:16]} {source.file} {name}" for name, them in found.items()
+    ]
+
+
+def check_texts(count: ran.Count) -> None:
+    """Each step of the page's table was held beside the text that its function has."""
+    known = {it.partition(" ")[2]: it for it in read(TEXTS).splitlines() if not it.startswith("#")}
+    for source in filter(is_here, table_of_page()):
+        for line in lines_of(source):
+            what = line.partition(" ")[2]
+            why = "hold its step in checks/progress beside it, and then run python3 checks/progress.py --looked"
+            count.check(f"{what} has the text that the model was held beside", known.get(what) == line, why)
+    named = {line.partition(" ")[2] for source in filter(is_here, table_of_page()) for line in lines_of(source)}
+    gone = {it for it in known if is_here(Source(it.split(" ")[0], [], []))} - named
+    count.check("texts.txt has no more than the page's table", not gone, f"{sorted(gone)}")
+
+
+def write_texts() -> None:
+    with open(TEXTS, "w", encoding="utf-8") as it:
+        it.write(HEAD + "".join(f"{line}\n" for source in table_of_page() for line in lines_of(source)))
 
 
 def steps_of_model() -> dict[str, str]:
@@ -202,11 +142,11 @@ def check_steps(count: ran.Count) -> None:
     same order; and each function of a file with such steps is one, or makes something."""
     table, steps = table_of_page(), steps_of_model()
     names = {name for source in table for name in (*source.same, *source.other)}
-    has_kit = not ran.lacks("rt", "the steps of the kit's crates weren't looked at")
+    ran.lacks("rt", "the steps of the kit's crates weren't looked at")
     is_whole = len(table) > 15 and len(names) > 40
     count.check("the page ties the steps to functions", is_whole, f"{len(table)} files, {len(names)} functions")
     for source in table:
-        if not has_kit and not os.path.isdir(os.path.join(ran.TOP, "crates", source.file.split("/")[0])):
+        if not is_here(source):
             continue
         bodies = bodies_of(source)
         for name in (*source.same, *source.other):
@@ -219,26 +159,65 @@ def check_steps(count: ran.Count) -> None:
             count.same(f"the functions of {source.file}", {*bodies} - NO_STEPS, {*source.same, *source.other})
 
 
-def check_model(count: ran.Count, names: list[str]) -> None:
-    """The model as it stands has no error, and the model with a bug has one."""
+def planned(names: list[str]) -> list[tuple[Run, Optional[Bug]]]:
+    """The runs of these names, or all, and those that have to find a bug."""
     runs = {it.name: it for it in RUNS if not names or it.name in names}
-    planted = [it for it in bugs() if not names or it.by in names]
+    return [*((it, None) for it in runs.values()), *((runs[it.by], it) for it in bugs() if it.by in runs)]
+
+
+def is_as_wanted(bug: Optional[Bug], found: Found) -> bool:
+    """The model as it stands has no error, and the model with a bug has one."""
+    return bool(found.error) if bug else not found.error and not found.unfinished
+
+
+def check_model(count: ran.Count, options: argparse.Namespace) -> list[str]:
+    """Makes the runs that aren't recorded; gives the lines of all that are as they should be."""
+    plan = planned(options.names)
+    known = {} if options.anew or options.names else recorded()
+    if any(sum_of(*it) not in known for it in plan) and ran.lacks("spin", "some interleavings weren't gone through"):
+        return []
+    lines, made = list[str](), 0
     with ThreadPoolExecutor(SIDE_BY_SIDE) as pool:
-        sound = [(it, pool.submit(tried, it)) for it in runs.values()]
-        buggy = [(it, pool.submit(tried, runs[it.by], it)) for it in planted]
-        for run, found in sound:
-            it = found.result()
-            print(f"{run.name}: {it.states:,} states, {it.seconds:.0f} seconds", flush=True)
-            count.check(run.name, not it.error and not it.unfinished, it.error or it.unfinished)
-        for bug, found in buggy:
-            it = found.result()
-            print(f"{bug.name}: {it.error or 'not found'}, by {bug.by}, {it.seconds:.0f} seconds", flush=True)
-            count.check(f"found: {bug.name}", bool(it.error), f"{it}")
+        waits = [(it, None if sum_of(*it) in known else pool.submit(go_through, *it)) for it in plan]
+        for (run, bug), wait in waits:
+            if wait is None:
+                lines.append(known[sum_of(run, bug)])
+                continue
+            found, made = wait.result(), made + 1
+            is_well = is_as_wanted(bug, found)
+            lines += [line_of(run, bug, found)] if is_well else []
+            print(f"{line_of(run, bug, found)}, by {run.name}, {found.seconds:.0f} seconds", flush=True)
+            count.check(f"found: {bug.name}" if bug else run.name, is_well, f"{found}")
+    count.passed += len(plan) - made
+    print(f"{len(plan) - made} runs not made: checks/progress/tried.txt has them as they stand", flush=True)
+    return lines
+
+
+def words_of() -> argparse.Namespace:
+    parser = argparse.ArgumentParser(usage=__doc__.partition("usage: ")[2].partition("\n\n")[0])
+    parser.add_argument("names", nargs="*", metavar="NAME")
+    parser.add_argument("--anew", action="store_true")
+    parser.add_argument("--record", action="store_true")
+    parser.add_argument("--looked", action="store_true")
+    given = parser.parse_args()
+    if (given.record or given.looked) and given.names:
+        parser.error("--record and --looked take no names")
+    if given.looked and shutil.which("rt") is None:
+        parser.error("--looked needs the kit, some of whose functions are steps")
+    return given
+
+
+def main() -> None:
+    options, count = words_of(), ran.Count()
+    if options.looked:
+        write_texts()
+    check_steps(count)
+    check_texts(count)
+    lines = check_model(count, options)
+    if options.record and lines:
+        record(lines)
+    count.end()
 
 
 if __name__ == "__main__":
-    COUNT = ran.Count()
-    check_steps(COUNT)
-    if not ran.lacks("spin", "no interleaving was gone through"):
-        check_model(COUNT, sys.argv[1:])
-    COUNT.end()
+    main()

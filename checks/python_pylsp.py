@@ -15,7 +15,7 @@ from support.client import contents_in
 PYTHON = "/usr/bin/python3"
 PACKAGE = os.path.join(ran.TOP, "bindings", "python")
 OVER = os.path.join(ran.TOP, "checks", "support", "pylsp_over_package.py")
-SECONDS = 60
+SECONDS = 240
 TEXT = '''import os
 import  sys
 
@@ -99,14 +99,15 @@ class Session:
         self.answers[label] = alike(message)
 
     def diagnostics(self):
-        """The last that were published, once there are any."""
-        found = [it["params"] for it in self.notices if it["method"] == "textDocument/publishDiagnostics"]
-        while not found:
+        """The next that are published."""
+        while True:
+            for at, it in enumerate(self.notices):
+                if it["method"] == "textDocument/publishDiagnostics":
+                    return self.notices.pop(at)["params"]
             message = self.came.get(timeout=SECONDS)
+            if message is None:
+                raise EOFError("the server has ended")
             self.notices.append(message)
-            if message["method"] == "textDocument/publishDiagnostics":
-                found.append(message["params"])
-        return found[-1]
 
 
 class with_one_field:
@@ -136,6 +137,8 @@ def play(words, room):
         it.send(method="initialized", params={})
         opened = {"uri": URI, "languageId": "python", "version": 1, "text": TEXT}
         it.send(method="textDocument/didOpen", params={"textDocument": opened})
+        # (it looks at a text half a second after the last change: at both of them only where this one was looked at before)
+        it.answers["diagnostics"] = it.diagnostics()
         it.answer("completion", "textDocument/completion", place(18, 17))
         it.answer("hover", "textDocument/hover", place(18, 18))
         it.answer("definition", "textDocument/definition", place(18, 18))
@@ -153,7 +156,7 @@ def play(words, room):
         changes = {"textDocument": {"uri": URI, "version": 2}, "contentChanges": [{"range": change, "text": "spot"}]}
         it.send(method="textDocument/didChange", params=changes)
         it.answer("symbols after a change", "textDocument/documentSymbol", DOCUMENT)
-        it.answers["diagnostics"] = it.diagnostics()
+        it.answers["diagnostics after a change"] = it.diagnostics()
         cancelled(it)
         it.answer("shutdown", "shutdown", None)
         it.answer("hover after shutdown", "textDocument/hover", place(18, 18))

@@ -1,9 +1,10 @@
 """Plays random streams with the tables of the rows and of examples/, and compares what goes out with a plain model of
 the rules. What is proved of the program is that it writes one of the outputs that are allowed; that it is the one that
-`play`, `--lazy` and `--last` stand for is only tested, by the rows and here."""
+`play`, `--lazy` and `--last` stand for is only tested, by the rows and here. `--program FILE N` plays the
+first N of them by another program."""
 import json
 import random
-import tomllib
+import sys
 from typing import Iterator
 
 from support import fuzzing
@@ -13,25 +14,16 @@ from support import rows
 from support.grammar import Grammar
 from support.long_contents import BLANKS
 
-STREAMS = 3_000
+STREAMS = int(sys.argv[3]) if len(sys.argv) > 3 else 3_000
 WAYS: tuple[list[str], ...] = ([], [], ["--lazy"], ["--last"], ["--lazy", "--last"])
-
-
-def methods_of(table: str) -> dict[str, int]:
-    """The methods of a table with how many calls each makes, and one that it hasn't."""
-    return {
-        "nope": 0,
-        **{it["name"]: sum(map(fuzzing.calls_in, it.get("step", []))) for it in tomllib.loads(table).get("method", [])},
-    }
 
 
 def stream(chance: random.Random, table: str) -> Iterator[str]:
     """Lines, mostly of calls, replies that calls wait for, and cancels; now and then a batch, or what can't be read.
     Some are long."""
-    grammar = Grammar(chance, methods_of(table))
+    grammar = Grammar(chance, {"nope": 0, **fuzzing.methods_of(table)})
     for _ in range(chance.randint(2, 16)):
-        value = [grammar.entry() for _ in range(chance.randint(0, 4))] if chance.random() < 0.3 else grammar.entry()
-        text = "{" if chance.random() < 0.03 else json.dumps(value)
+        text = "{" if chance.random() < 0.03 else json.dumps(grammar.value())
         yield text + BLANKS if chance.random() < 0.1 else text
 
 

@@ -1,8 +1,10 @@
 """Refuses each request for memory in turn, one alone and then all from it on, until a run meets no refusal: what is
 written is then the row's bytes, or a prefix of them with `failed: Memory`; where the table found none, nothing is
 written. So it is for `play`, for `serve`, for `check` and for `judge`; and tests that the gate built, run so, pass or
-name want of memory, and nothing else. Why by a script:
+name want of memory, and nothing else. `--program FILE PART..` runs these parts of it with a program that has such a
+malloc in it. Why by a script:
 docs/decisions/tests_and_releases.md#refused-memory-and-devices-that-fail."""
+import sys
 from collections.abc import Callable
 
 from support import ran
@@ -21,7 +23,6 @@ NO_TABLE = b"table: Memory, method 0, step 0\n"
 GO_ON = (
     "a_piece_is_taken_again_after_memory",
     "a_content_is_read_again_after_memory",
-    "a_unit_is_read_again_after_memory",
     "a_refused_growth_is_a_failure_of_the_sink",
     "contents_are_taken_and_written_again_after_memory",
 )
@@ -40,6 +41,7 @@ NAMED = (
     "AllocFailed { .. }",
     "Refused",
     "Kind(OutOfMemory)",
+    "Error(out of memory)",
     '"a poll found no memory"',
     '"no table"',
     '"a table"',
@@ -240,8 +242,12 @@ def check_all(count: ran.Count) -> None:
     if ran.lacks("cc", refusals.WHY):
         return
     refused = Refused(count)
-    for it in (played, checked, judged, drawn, served, explained):
-        it(refused)
+    parts, named = (played, checked, judged, drawn, served, explained), sys.argv[3:]
+    for it in parts:
+        if not named or it.__name__ in named:
+            it(refused)
+    if named:
+        return
     for name in GO_ON:
         refused.test(name, lambda status, *_: status == 0, WAYS[:1])
     for name in END:

@@ -1,12 +1,16 @@
 """The crate in Rust over the C library, in bindings/rust: its declarations are those of the header; its tests and what
 its documentation shows pass, with the library that lies in release/; clippy, where it is there, finds nothing; the page
 shows the example that is built; and the examples answer. One test runs where requests for memory are refused. A player
-of scripts over the crate gives what the model of docs/connection.md does, for its rows and for random sessions. Nothing
-is fetched."""
+of scripts over the crate gives what the model of docs/connection.md does, for its rows and for random sessions. Then
+the crate with its features, where Debian's packages of crates are there: its tests, its examples with their sessions,
+the examiner on its servers, and Neovim and Eglot with one of them. Nothing is fetched."""
+import glob
+import json
 import os
 import re
 import shutil
 import subprocess
+import sys
 import tempfile
 from functools import partial
 from typing import Any
@@ -18,8 +22,20 @@ from support import hosts, playing_scripts, ran, refusals
 from support.c_programs import VALGRIND, said
 
 CRATE = os.path.join(ran.TOP, "bindings", "rust")
+WITH_FEATURES = os.path.join(CRATE, "features")
+FEATURES = ["--features", "lsp,tokio"]
+# Where Debian's packages leave their crates, and those that the features stand on.
+REGISTRY = "/usr/share/cargo/registry"
+CRATES = ["serde_derive-1", "serde_json-1", "serde_path_to_error-0", "tokio-1", "tower-service-0"]
+# The servers of the examples, and the rules by which each is examined.
+EXAMINED_PLAIN = {"goto_def": ["--rules", "lsp"], "echo": ["--rules", "jsonrpc", "--lines"]}
+EXAMINED = {
+    **dict.fromkeys(("hover_on_threads", "hover_on_tokio", "spelling_server"), ["--rules", "lsp"]),
+    "tool_server": ["--rules", "mcp"],
+}
 # So many tests there are at least, with those in the documentation.
-FEWEST = 50
+FEWEST = 80
+FEWEST_WITH_FEATURES = 30
 # The one that wants memory to be refused, and from which size on.
 WITHOUT_MEMORY, OVER = "memory_that_is_refused", 100_000
 # (what is reachable in the end is the standard library's)
@@ -45,24 +61,25 @@ def check_declarations(count: ran.Count) -> None:
         )
 
 
-def cargo(*words: str, **more: str) -> tuple[int, str]:
-    env = {**os.environ, "CARGO_TARGET_DIR": f"{CRATE}/target", **more}
+def cargo(*words: str, folder: str = CRATE, **more: str) -> tuple[int, str]:
+    env = {**os.environ, "CARGO_TARGET_DIR": f"{folder}/target", **more}
     ended = subprocess.run(
-        ["cargo", *words], cwd=CRATE, env=env, capture_output=True, text=True, timeout=900, check=False
+        ["cargo", *words], cwd=folder, env=env, capture_output=True, text=True, timeout=900, check=False
     )
     return ended.returncode, ended.stdout + ended.stderr
 
 
 def check_tests(count: ran.Count) -> None:
-    status, text = cargo("test", "--offline")
-    count.check("the crate's tests", status == 0, text[-1500:])
-    tests = re.findall(r"^test (.*?) \.\.\. (\w+)", text, re.M)
+    tests_pass(count, "the crate", FEWEST, *cargo("test", "--offline"))
+
+
+def tests_pass(count: ran.Count, whose: str, fewest: int, status: int, text: str) -> None:
+    count.check(f"the tests of {whose}", status == 0, text[-1500:])
+    tests = [it for it in re.findall(r"^test (.*?) \.\.\. (\w+)", text, re.M) if it[1] != "ignored"]
     for name, how in tests:
-        if how != "ignored":
-            count.check(f"the crate's test {name}", how == "ok")
-    done = sum(how != "ignored" for _, how in tests)
-    count.check(f"{FEWEST} tests at least", done >= FEWEST, f"{done}")
-    print(f"{done} tests of the crate", flush=True)
+        count.check(f"the test {name} of {whose}", how == "ok")
+    count.check(f"{fewest} tests of {whose} at least", len(tests) >= fewest, f"{len(tests)}")
+    print(f"{len(tests)} tests of {whose}", flush=True)
 
 
 def check_without_memory(count: ran.Count) -> None:
@@ -101,6 +118,7 @@ def check_examples(count: ran.Count) -> None:
         count.check(
             f"the language server in Rust: {name}", got == (it.status, hosts.framed(*it.answers), b""), f"{got}"
         )
+    check_examined(count, folder, EXAMINED_PLAIN)
 
 
 def check_memory(count: ran.Count) -> None:
@@ -144,6 +162,122 @@ def check_library(count: ran.Count) -> None:
         count.check("the host over the named library answers", got == (0, hosts.HOST[1], b""), f"{got}")
 
 
+def has_crates() -> bool:
+    missing = [it for it in CRATES if not glob.glob(f"{REGISTRY}/{it}*")]
+    if missing:
+        print(f"SKIPPED: the crate's features, without Debian's packages of {', '.join(missing)}", flush=True)
+    return not missing
+
+
+def check_features(count: ran.Count) -> None:
+    status, text = cargo("test", "--offline", "--tests", "--examples", *FEATURES, folder=WITH_FEATURES)
+    tests_pass(count, "the crate with features", FEWEST_WITH_FEATURES, status, text)
+    status, text = cargo("test", "--offline", "--doc", *FEATURES, "--", "tasks", "typed", folder=WITH_FEATURES)
+    tests_pass(count, "what the features' documentation shows", 3, status, text)
+    status, text = cargo("build", "--offline", "--examples", *FEATURES, folder=WITH_FEATURES)
+    count.check("the examples with features are built", status == 0 and "warning: " not in text, text[-1500:])
+    page = ran.text_of("docs", "rust.md")
+    for name in ("hover_on_threads", "hover_on_tokio"):
+        shown = f"```rust\n{ran.text_of('bindings/rust/features/examples', f'{name}.rs')}```"
+        count.check(f"docs/rust.md shows {name}.rs", shown in page)
+    folder = f"{WITH_FEATURES}/target/debug/examples"
+    check_hovers(count, folder)
+    check_tools(count, folder)
+    check_client(count, folder)
+    check_examined(count, folder, EXAMINED)
+    check_editors(count, f"{folder}/spelling_server")
+
+
+def check_hovers(count: ran.Count, folder: str) -> None:
+    for name in ("hover_on_threads", "hover_on_tokio"):
+        for what, it in hosts.WORDS.items():
+            got = said([f"{folder}/{name}"], hosts.framed(*it.says))
+            wanted = (it.status, hosts.framed(*it.answers), b"")
+            count.check(f"{name}: {what}", got == wanted, f"{got}")
+
+
+def check_tools(count: ran.Count, folder: str) -> None:
+    it = hosts.WRONG_PARAMS
+    got = said([f"{folder}/tool_server"], hosts.in_lines(*it.says))
+    wanted = (it.status, hosts.in_lines(*it.answers), b"")
+    count.check("the tool server in Rust names what is wrong with params", got == wanted, f"{got}")
+
+
+# What the client prints of a language server, and of a tool server.
+EDITED = r"""line 2: 'are' stands twice
+hover: .*
+progress: begin
+progress: report
+progress: end
+words: 11
+progress: begin
+progress: report
+(progress: end
+)?cancelled: .*\(-32800\)
+(progress: end
+)?exit status: 0
+"""
+USED = """tools: count, title
+asked: A title for: Roses are red. Violets are are blue, and roses are not.
+title: Flowers
+paint: error -32602
+exit status: 0
+"""
+
+
+def check_client(count: ran.Count, folder: str) -> None:
+    """It drives the servers in Python and in Node.js, which are given the packages of this repository."""
+    if ran.lacks("node", "the client in Rust isn't run"):
+        return
+    env = {**os.environ, "PYTHONPATH": f"{ran.TOP}/bindings/python"}
+    words = [f"{folder}/client", f"{ran.TOP}/examples"]
+    ended = subprocess.run(words, env=env, capture_output=True, text=True, timeout=120, check=False)
+    wanted = f"python3\n{EDITED}{re.escape(USED)}node\n{EDITED}{re.escape(USED)}"
+    count.check("the client in Rust", bool(re.fullmatch(wanted, ended.stdout)), ended.stdout + ended.stderr)
+
+
+def check_examined(count: ran.Count, folder: str, examined: dict[str, list[str]]) -> None:
+    """The examiner finds nothing at any level."""
+    env = {**os.environ, "PYTHONPATH": f"{ran.TOP}/bindings/python"}
+    for name, rules in examined.items():
+        words = [sys.executable, "-m", "bullmyrtle.examine", *rules, "--level", "note", "--seconds", "20", "--"]
+        ended = subprocess.run(
+            [*words, f"{folder}/{name}"], env=env, capture_output=True, text=True, timeout=600, check=False
+        )
+        count.check(f"the examiner finds nothing in {name}", ended.returncode == 0, ended.stdout[-3000:] + ended.stderr)
+
+
+SCRIPTS = f"{ran.TOP}/bindings/python/tests/editors"
+EDITORS = {
+    "nvim": ["--headless", "--clean", "-S", f"{SCRIPTS}/neovim_spelling.lua"],
+    "emacs": ["--batch", "-l", f"{SCRIPTS}/eglot_spelling.el"],
+}
+
+
+def check_editors(count: ran.Count, server: str) -> None:
+    """Whole sessions of editors' own clients: those of the spelling servers in Python and in Node.js."""
+    for editor, words in EDITORS.items():
+        if not ran.lacks(editor, "no session with the spelling server in Rust"):
+            check_editor(count, [editor, *words], server)
+
+
+def check_editor(count: ran.Count, words: list[str], server: str) -> None:
+    with tempfile.TemporaryDirectory() as room:
+        for name, text in hosts.SPELT.items():
+            with open(f"{room}/{name}", "w", encoding="utf-8") as it:
+                it.write(text)
+        env = {**os.environ, "SERVER": json.dumps([server]), "ROOM": room, "HOME": room, "XDG_STATE_HOME": room}
+        how: dict[str, Any] = {"stdin": subprocess.DEVNULL, "capture_output": True, "timeout": 120, "check": False}
+        asked = ["emacs", "--batch", "--eval", "(require 'eglot)"]
+        if words[0] == "emacs" and subprocess.run(asked, env=env, **how).returncode:
+            print("SKIPPED: emacs lacks Eglot: no session with the spelling server in Rust", flush=True)
+            return
+        ended = subprocess.run(words, cwd=room, env=env, **how)
+    told = (ended.stdout + ended.stderr).decode(errors="replace")
+    is_whole = ended.returncode == 0 and "a whole session" in told and "FAILED" not in told
+    count.check(f"{words[0]} with the spelling server in Rust", is_whole, told[-2000:])
+
+
 def main() -> None:
     count = ran.Count()
     check_declarations(count)
@@ -155,6 +289,8 @@ def main() -> None:
         check_scripts(count)
         check_memory(count)
         check_library(count)
+        if has_crates():
+            check_features(count)
     count.end()
 
 

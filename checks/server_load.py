@@ -63,6 +63,7 @@ class Load:
             content = self.client.receive()
             if content is None or not isinstance(content, str) or content.startswith("nothing for "):
                 count.check("the load's answers", False, f"{content} after {len(self.answers):,} answers of {wanted:,}")
+                self.client.process.kill()  # (who sends would wait for ever for one that stops)
                 break
             value = json.loads(content)
             entries = value if isinstance(value, list) else [value]

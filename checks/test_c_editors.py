@@ -40,8 +40,8 @@ def server(tmp_path_factory: pytest.TempPathFactory) -> str:
 
 
 def written(file: Path) -> str:
-    """What is in a file, once there is something; it has ten seconds."""
-    end = time.monotonic() + 10
+    """What is in a file, once there is something; it has a minute."""
+    end = time.monotonic() + 60
     while not (file.is_file() and file.stat().st_size) and time.monotonic() < end:
         time.sleep(0.02)
     return file.read_text(encoding="utf-8") if file.is_file() else "nothing"

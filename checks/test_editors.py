@@ -23,8 +23,8 @@ echo $? >'{status}'
 
 
 def status_in(file: Path) -> str:
-    """What the program ended with, once it has; it has ten seconds."""
-    end = time.monotonic() + 10
+    """What the program ended with, once it has; it has a minute."""
+    end = time.monotonic() + 60
     while not (file.is_file() and file.stat().st_size) and time.monotonic() < end:
         time.sleep(0.02)
     return file.read_text().strip() if file.is_file() else "it runs on"

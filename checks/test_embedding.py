@@ -13,7 +13,7 @@ from support.expecting import COUNT, check, same
 
 PAGE = ("docs", "embedding.md")
 # What a stranger needs of the repository.
-NEEDED = ("release", "examples/c", "bindings/rust")
+NEEDED = ("release", "include", "examples/c", "bindings/rust")
 LEFT_OUT = shutil.ignore_patterns("target", "Cargo.lock")
 BLOCKS = [it for it in pages.read_blocks(*PAGE) if it[0]]
 

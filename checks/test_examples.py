@@ -5,19 +5,15 @@ program's version."""
 import glob
 import os
 import re
-import subprocess
-from typing import Iterator, NamedTuple
 
 import pytest
 
-from support import pages, ran
+from support import commands, pages, ran
 from support.expecting import COUNT, check, same
 from support.naming import named
 
 FOLDER = os.path.join(ran.TOP, "examples")
 TABLE = os.path.join(FOLDER, "toolbox.toml")
-# The files that a page has its reader write.
-FILES = {"toml": "first.toml", "python": "first.py"}
 # The ways to play, and the endings of their outputs: where there is none of a way's own, it is as for the first.
 WAYS: list[tuple[list[str], str]] = [([], ".out"), (["--lazy"], ".lazy.out"), (["--last"], ".last.out")]
 
@@ -50,63 +46,35 @@ def test_each_output_is_compared() -> None:
 
 # Commands of pages
 
-
-class Command(NamedTuple):
-    """A command of a page, the files that the page has had its reader write, and what it prints."""
-
-    page: str
-    text: str
-    files: dict[str, str]
-    printed: str
-
-
 PAGES = (("examples", "README.md"), ("README.md",), ("docs", "commands.md"))
 
 
-def blocks_of(place: tuple[str, ...]) -> list[pages.Block]:
-    return [it for it in pages.read_blocks(*place) if it[0]]
-
-
-def commands_of(place: tuple[str, ...]) -> Iterator[Command]:
-    """The commands of a page. A block of one of the kinds of FILES is that file of the commands below."""
-    blocks, files = blocks_of(place), dict[str, str]()
-    for (mark, text), (_, printed) in zip(blocks, blocks[1:]):
-        if mark in FILES:
-            files = {**files, FILES[mark]: text}
-        elif mark == "sh":
-            yield Command("/".join(place), text, files, printed)
-
-
-COMMANDS = [it for place in PAGES for it in commands_of(place)]
+COMMANDS = [it for place in PAGES for it in commands.commands_of(place)]
 
 
 @pytest.mark.parametrize("place", named(PAGES, "/".join))
 def test_blocks_of_page(place: tuple[str, ...]) -> None:
     """Each is a command, or what it prints."""
     pages.check_fences(COUNT, *place)
-    kinds = [mark for mark, _ in blocks_of(place) if mark not in FILES]
+    kinds = [mark for mark, _ in commands.blocks_of(place) if mark not in commands.FILES]
     check(kinds and kinds == ["sh", "out"] * (len(kinds) // 2), f"{kinds}")
 
 
 @pytest.mark.parametrize("command", named(COMMANDS, lambda it: f"{it.page} {it.text[:60]}"))
-def test_command(command: Command) -> None:
+def test_command(command: commands.Command) -> None:
     ran.built()  # (which bin/rpc_tool would do too)
-    files = {name: ran.file_of(name, text) for name, text in command.files.items()}
-    text = re.sub("|".join(FILES.values()), lambda it: files[it[0]], command.text)
-    ended = subprocess.run(["sh", "-c", text], cwd=ran.TOP, capture_output=True, timeout=120, check=False)
-    # (a block ends with an LF, and frames need none)
-    output = ended.stdout.decode() + ("" if ended.stdout.endswith(b"\n") else "\n")
-    same((ended.returncode, output), (0, command.printed), f"{text!r}; it said {ended.stderr!r}")
+    status, output, said = commands.run(command)
+    same((status, output), (0, command.printed), f"{command.text!r}; it said {said!r}")
 
 
-# The page on connections shows the smallest host, what it reads and what it writes, just as the gate has them.
+# The page on connections shows what the smallest host reads and what it writes, just as the gate has them.
 
 
 def test_fences_of_page_on_connections() -> None:
     pages.check_fences(COUNT, "docs", "connection.md")
 
 
-@pytest.mark.parametrize("mark, file", (("rust", "src/main.rt"), ("in", "stdin"), ("out", "stdout")))
+@pytest.mark.parametrize("mark, file", (("in", "stdin"), ("out", "stdout")))
 def test_host_on_page_on_connections(mark: str, file: str) -> None:
     shown = dict(pages.read_blocks("docs", "connection.md"))
     same(shown.get(mark), ran.text_of("crates", "connection_example", file))

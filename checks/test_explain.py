@@ -469,13 +469,39 @@ def test_help_tells_of_each_end(row: tuple[str, str]) -> None:
 @pytest.mark.parametrize(
     "text",
     named(
-        ("must be blocking", "CR LF is a content", "as Long; serve --lines and frames have no such limit", "--explain"),
+        ("must be blocking", "CR LF is a message", "as Long; serve --lines and frames have no such limit", "--explain"),
         str,
     ),
 )
 def test_help_says(text: str) -> None:
     told = ran.run(["--help"])[1].decode()
     check(text in told, told)
+
+
+# What docs/commands.md shows of the examples of help.
+EXAMPLES = {
+    "play": (0, '{"id":1,"jsonrpc":"2.0","result":5}\n'),
+    "check": (0, "ok: 10 methods\n"),
+    "judge": (1, "judged: 2 must\n"),
+}
+
+
+def examples_of(told: str) -> list[str]:
+    """The command lines between what the program is and its usage. A line that goes on is indented further."""
+    found = re.match(r".+\n\nExamples:\n((?:  .+\n)+)\nUsage: ", told)
+    return re.findall(r"^  \S.*(?:\n    .*)*", found[1], re.M) if found else []
+
+
+def test_help_begins_with_examples_that_run() -> None:
+    """As they stand, at the top of the repository."""
+    seen = []
+    for it in examples_of(ran.run(["--help"])[1].decode()):
+        command = re.findall(r"bin/rpc_tool (\w+)", it)[0]
+        status, told = ran.told_by(["sh", "-c", it], 60, cwd=ran.TOP)
+        wanted, line = EXAMPLES[command]
+        check(status == wanted and line in told.decode(), f"{it}: {status}, {told!r}")
+        seen.append(command)
+    same(seen, [*EXAMPLES])
 
 
 @pytest.mark.parametrize("command", ("serve", "play", "check"))

@@ -1,6 +1,6 @@
 """Hostile streams, by a peer with methods: heads and contents at their limits, cut at each place; thousands of replies
-that nobody waits for; batches of 10,000 requests; values as deep as they may be; and cancels by ids of every kind. They
-are played, eagerly and lazily, and served by two workers."""
+that nobody waits for; batches of 10,000 requests, and one of 200,000; values as deep as they may be; ids of up to 1 MB;
+and cancels by ids of every kind. They are played, eagerly and lazily, and served by two workers."""
 import random
 import zlib
 from functools import partial
@@ -147,6 +147,21 @@ NUMBERS = range(1, MANY + 1)
 def test_batch_of_sums() -> None:
     sums = rows.frames(rows.batch(*(SUM % (it, it) for it in NUMBERS)))
     by_all(sums, rows.frames(rows.batch(*(rows.answered(str(it + 1), it) for it in NUMBERS))))
+
+
+def test_batch_of_200_000_sums() -> None:
+    numbers = range(1, 200_001)
+    given = rows.frames(rows.batch(*(SUM % (it, it) for it in numbers)))
+    output = rows.frames(rows.batch(*(rows.answered(str(it + 1), it) for it in numbers)))
+    expect(play(), given, output)
+    expect(serve(), given, output)
+
+
+@pytest.mark.parametrize("length", (1, 10_000, 1_000_000))
+def test_id_of_so_many_bytes(length: int) -> None:
+    id_ = '"%s"' % ("i" * length)
+    given = '{"jsonrpc":"2.0","method":"add","params":[2,3],"id":%s}' % id_
+    by_all(rows.frames(given), rows.frames('{"id":%s,"jsonrpc":"2.0","result":5}' % id_))
 
 
 def test_batch_of_entries_that_are_none() -> None:

@@ -132,14 +132,16 @@ TALKS: list[tuple[str, list[str], list[str], str, str]] = [
         "no must",
         [HEAD, wrote("client", ASK.replace('"id":7', '"id":null'))],
         [],
-        "should: client, message 1 at byte 0: id-null (JSON-RPC 4; MCP, messages)\nfound: 0 must, 1 should, 0 note\n",
+        "should: client, message 1 at byte 0: id-null (JSON-RPC 4; LSP, Request Message; MCP, messages)\n"
+        "found: 0 must, 1 should, 0 note\n",
         "",
     ),
     (
         "rules other than the recording's",
         [HEAD, wrote("client", ASK.replace('"id":7', '"id":null'))],
         ["--rules", "mcp"],
-        "must: client, message 1 at byte 0: id-null (JSON-RPC 4; MCP, messages)\nfound: 1 must, 0 should, 0 note\n",
+        "must: client, message 1 at byte 0: id-null (JSON-RPC 4; LSP, Request Message; MCP, messages)\n"
+        "found: 1 must, 0 should, 0 note\n",
         "judged: 1 must",
     ),
     ("a framing other than the recording's", ["judge 1 jsonrpc frames", wrote("client", ASK)], ["--lines"], NONE, ""),
@@ -259,18 +261,57 @@ def test_input_that_cannot_be_read() -> None:
 
 # The command of the Python package, over the C library
 
+ENVIRONMENT = {**os.environ, "PYTHONPATH": os.path.join(ran.TOP, "bindings", "python")}
+
 
 @pytest.mark.parametrize("file", sorted(os.path.basename(it) for it in glob.glob(f"{ran.TOP}/examples/judge/*.record")))
 def test_agrees_with_the_command_in_python(file: str) -> None:
     """It has more to say of a finding; and the rules of a session's life, which aren't the library's."""
     path = os.path.join(ran.TOP, "examples", "judge", file)
-    env = {**os.environ, "PYTHONPATH": os.path.join(ran.TOP, "bindings", "python")}
     words = [sys.executable, "-m", "bullmyrtle.judge", "--replay", path]
-    said = subprocess.run(words, capture_output=True, timeout=120, env=env, check=False).stderr.decode()
+    said = subprocess.run(words, capture_output=True, timeout=120, env=ENVIRONMENT, check=False).stderr.decode()
     lines = [it.removeprefix("judge: ") for it in said.splitlines()]
     with open(path, "rb") as recording:
         found = ran.run(["judge"], recording.read())[1].decode().splitlines()
     same([*places_of(found[:-1])], [*places_of(lines)])
+
+
+# Lines behind the first one, and whether they are a recording's.
+LINES = [
+    (b"# a remark\xff", False),
+    ("# a \N{LINE SEPARATOR} remark of two \N{SNOWMAN}".encode(), True),
+    (b"# \0", True),
+    (b" # a remark", False),
+    (b" \t ", True),
+    (b"> 7b \t\r", True),
+    (b"> 7b\xa0", False),
+    (b"> 7b\x0b", False),
+    (b">  7b", False),
+    (b"> 7b # 5 # 6", False),
+    (b"> 7b # \xc2\xb2", False),
+]
+
+
+# What the package says of recordings, one in a line.
+READS = """
+import ast, io, sys
+from bullmyrtle.judge import NoRecording, Recording
+for given in ast.literal_eval(sys.stdin.read()):
+    try:
+        print(len(list(Recording(io.BytesIO(given)))), "events")
+    except NoRecording as fault:
+        print(fault)
+"""
+
+
+def test_both_read_the_same_lines() -> None:
+    given = [b"\n".join([HEAD.encode(), line, wrote("client", ASK).encode()]) for line, _ in LINES]
+    words = [sys.executable, "-c", READS]
+    read = subprocess.run(words, input=repr(given), capture_output=True, text=True, env=ENVIRONMENT, check=True)
+    for (line, is_right), it, told in zip(LINES, given, read.stdout.splitlines(), strict=True):
+        same(told.endswith(" events"), is_right, repr(line))
+        check(is_right or told.startswith("line 2: "), told)
+        same(ran.run(["judge"], it)[0] == 2, not is_right, repr(line))
 
 
 def places_of(lines: list[str]) -> Iterator[str]:

@@ -1,6 +1,7 @@
 """The plain model of the judge finds what the rows of checks/judge_rows have, which are worked out by hand from
 docs/judge.md; also where what a side writes comes byte by byte. Each rule of that page has rows that keep it, that break
-it, and that break it at its border. The language of these rows refuses each line that it doesn't know."""
+it, and that break it at its border; together they find judges that are wrong in one thing. The language of these rows
+refuses each line that it doesn't know."""
 import re
 from collections import Counter
 from typing import Callable
@@ -14,6 +15,7 @@ from support.judge_model import Judge
 from support.judge_rules import CONNECTION, HOST, LEVELS_BY_RULE, NOT_JUDGED, RULES
 from support.naming import named
 from support.row_language import Unread
+from support.wrong_judges import WRONGS, Wrong, judge_of
 
 FEWEST = 3
 ALL = rows.all_rows()
@@ -77,6 +79,36 @@ def test_level_of_the_page(rule: str) -> None:
 
 def is_softened(row: rows.Row) -> bool:
     return any(it.rule in ("head", "not-json", NOT_JUDGED) for seen in row.seen for it in seen.found)
+
+
+# Judges that are wrong
+
+
+def finds(row: rows.Row, kind: type) -> bool:
+    """Whether a judge finds what the row has, but for its places."""
+    judge = kind(row.rules, row.framing, **row.limits)
+    for seen in row.seen:
+        before = len(judge.findings)
+        rows.show(judge, seen, [seen.data])
+        lines = [rows.found_of(it, False).line for it in judge.findings[before:]]
+        if lines != [it.line.partition(" at ")[0] for it in seen.found]:
+            return False
+    return True
+
+
+@pytest.mark.parametrize("wrong", named(WRONGS, lambda it: it.what))
+def test_wrong_judge(wrong: Wrong) -> None:
+    """Some row finds it; it may fail in any way."""
+    kind = judge_of(wrong)
+    try:
+        is_found = not all(finds(it, kind) for it in ALL)
+    except Exception:  # noqa: BLE001
+        is_found = True
+    check(is_found, "no row finds it")
+
+
+def test_right_judge() -> None:
+    check(all(finds(it, Judge) for it in ALL))
 
 
 # Lines that no row has

@@ -75,6 +75,228 @@ def test_table(table: Table) -> None:
             pages.check_play(COUNT, "played", ["--table", file, *words, "--piece", piece], given, output)
 
 
+# What is looked for first, and each kind of fault: name, table, what is printed
+SMALL = [
+    (
+        "a float, deep inside a template",
+        """version = 1
+
+[[method]]
+name = "half"
+[[method.step]]
+kind = "set"
+to = "all"
+value = { list = [1, [2, 0.5]] }
+""",
+        "table: Field, method 1, step 1\n",
+    ),
+    (
+        "a count out of range comes before a wrong reference",
+        """version = 1
+
+[[method]]
+name = "first"
+
+[[method]]
+name = "second"
+[[method.step]]
+kind = "skip"
+left = "$nothing"
+right = 1
+count = 65
+""",
+        "table: Limit, method 2, step 1\n",
+    ),
+    (
+        "a name that is taken, and a step that is wrong after it",
+        """version = 1
+
+[[method]]
+name = "twice"
+
+[[method]]
+name = "twice"
+step = [{ kind = "go" }]
+""",
+        "table: Name, method 2, step 0\n",
+    ),
+    (
+        "a reserved code",
+        """version = 1
+
+[[method]]
+name = "refuse"
+[[method.step]]
+kind = "fail"
+code = -32100
+message = "no"
+""",
+        "table: Code, method 1, step 1\n",
+    ),
+    (
+        "a register of the opening in a method",
+        """version = 2
+
+[[opening]]
+kind = "call"
+to = "name"
+method = "hello"
+
+[[method]]
+name = "who"
+[[method.step]]
+kind = "answer"
+value = "$name"
+""",
+        "table: Register, method 1, step 1\n",
+    ),
+    (
+        "a wrong step of the opening comes before a wrong name",
+        """version = 2
+
+[[opening]]
+kind = "notify"
+
+[[method]]
+name = "rpc.a"
+""",
+        "table: Field, method 0, step 1\n",
+    ),
+    (
+        "an opening in version 1",
+        """version = 1
+opening = []
+""",
+        "table: Field, method 0, step 0\n",
+    ),
+    (
+        "each in version 1",
+        """version = 1
+
+[[method]]
+name = "all"
+[[method.step]]
+kind = "each"
+to = "r"
+over = "$params"
+method = "f"
+""",
+        "table: Step, method 1, step 1\n",
+    ),
+    (
+        "an unknown kind",
+        """version = 1
+
+[[method]]
+name = "loop"
+[[method.step]]
+kind = "repeat"
+""",
+        "table: Step, method 1, step 1\n",
+    ),
+    (
+        "an unknown version",
+        """version = 3
+""",
+        "table: Version, method 0, step 0\n",
+    ),
+    (
+        "no TOML",
+        """version = 1
+[[method]
+""",
+        "table: NotToml, method 0, step 0\n",
+    ),
+    (
+        "no methods",
+        """version = 1
+""",
+        "ok: 0 methods\n",
+    ),
+]
+
+
+@pytest.mark.parametrize("row", named(SMALL))
+def test_small_table(row: tuple[str, str, str]) -> None:
+    judge(ran.file_of("table.toml", row[1]), row[2])
+
+
+# Rows: what is said of a table, and its text, in which `;` ends a line. In a group of steps the words leave out their
+# method, and how many methods there are.
+
+# Where the rows of a group stand: what is before and behind each, and the number of its method.
+HOMES = {
+    "alone": ("", "", ""),
+    "version-1": ("version = 1\n", "", ""),
+    "version-2": ("version = 2\n", "", ""),
+    "method-1": ('version = 1\n[[method]]\nname = "m"\nstep = [', "]", "1"),
+    "method-2": ('version = 2\n[[method]]\nname = "m"\nstep = [', "]", "1"),
+    "opening": ("version = 2\nopening = [", "]", "0"),
+}
+FIRST = HOMES["method-1"][0]
+
+
+def groups() -> list[tuple[str, str, list[str]]]:
+    """The name of each group and home, the home, and the rows."""
+    found = []
+    for group in ran.text_of("checks", "table_rows", "refused.txt").removesuffix("\n").split("\n\n"):
+        head, *rows = group.split("\n")
+        name, _, homes = head.rpartition(": ")
+        found += [(f"{name} {home}", home, rows) for home in homes.split(" ")]
+    return found
+
+
+def printed_for(words: str, method: str) -> str:
+    """What `check` prints for a table of which a row has these words."""
+    kind, *places = words.split(" ")
+    if kind.startswith("ok"):
+        return f"ok: {places[0] if places else method} methods\n"
+    number, step = places if len(places) == 2 else (method, *places)
+    return f"table: {kind}, method {number}, step {step}\n"
+
+
+@pytest.mark.parametrize("group", named(groups()))
+def test_rows_of_tables(group: tuple[str, str, list[str]]) -> None:
+    _, home, rows = group
+    before, behind, method = HOMES[home]
+    check(rows != [] and all(" <-" in it for it in rows))
+    for row in rows:
+        words, _, text = row.partition(" <-")
+        judge(ran.file_of("table.toml", before + text.replace(";", "\n") + behind + "\n"), printed_for(words, method))
+
+
+# Numbers, lengths and depths at their limits
+
+STEP, NOTICE, NAME = '{kind="answer",value=1},', '{kind="notify",method="%s"}', 'version = 1\n[[method]]\nname = "%s"'
+LIST, SET = FIRST + '{kind="calls",to="r",list=[%s]}]', FIRST + '{kind="set",value=1,to="%s"}]'
+VALUE = 'version = 1\n[[method]]\nname = "m"\n[[method.step]]\nkind = "answer"\nvalue = '
+SIZES = [
+    ("64 steps of a method", FIRST + STEP * 64 + "]", "ok: 1"),
+    ("65 steps of a method", FIRST + STEP * 65 + "]", "Limit 1 0"),
+    ("64 steps of the opening", HOMES["opening"][0] + STEP * 64 + "]", "ok: 0"),
+    ("65 steps of the opening", HOMES["opening"][0] + STEP * 65 + "]", "Limit 0 0"),
+    ("16 calls of a step", LIST % ('{method="f"},' * 16), "ok: 1"),
+    ("17 calls of a step", LIST % ('{method="f"},' * 17), "Limit 1 1"),
+    ("a method's name of 128 letters", NAME % ("n" * 128), "ok: 1"),
+    ("a method's name of 129 letters", NAME % ("n" * 129), "Name 1 0"),
+    ("a called method's name of 128 letters", FIRST + NOTICE % ("n" * 128) + "]", "ok: 1"),
+    ("a called method's name of 129 letters", FIRST + NOTICE % ("n" * 129) + "]", "Limit 1 1"),
+    ("a register's name of 32 letters", SET % ("n" * 32), "ok: 1"),
+    ("a register's name of 33 letters", SET % ("n" * 33), "Register 1 1"),
+    ("arrays 16 deep in a template", VALUE + "[" * 16 + "]" * 16, "ok: 1"),
+    ("arrays 17 deep in a template", VALUE + "[" * 17 + "]" * 17, "Limit 1 1"),
+    ("arrays 80 deep in a template", VALUE + "[" * 80 + "]" * 80, "Limit 1 1"),
+    ("arrays 81 deep in a template", VALUE + "[" * 81 + "]" * 81, "NotToml 0 0"),
+    ("256 methods", "version = 1\n" + "".join(f'[[method]]\nname = "m{it}"\n' for it in range(256)), "ok: 256"),
+    ("257 methods", "version = 1\n" + "".join(f'[[method]]\nname = "m{it}"\n' for it in range(257)), "Limit 0 0"),
+]
+
+
+@pytest.mark.parametrize("row", named(SIZES))
+def test_sizes(row: tuple[str, str, str]) -> None:
+    judge(ran.file_of("table.toml", row[1] + "\n"), printed_for(row[2], ""))
+
+
 # Large tables, and what the file itself may do
 
 
@@ -95,6 +317,17 @@ LARGE = [
 @pytest.mark.parametrize("row", named(LARGE))
 def test_large_table(row: tuple[str, str, str]) -> None:
     judge(ran.file_of("table.toml", full_table(row[1])), row[2])
+
+
+def test_largest_table_is_kept_whole() -> None:
+    """Each of 256 methods adds 1 to its own number by each of its steps but the first and the last."""
+    add, answer = '{kind="add",to="r",left="$r",right=1}', '{kind="answer",value="$r"}'
+    steps = [",".join(['{kind="set",to="r",value=%d}' % it, *[add] * 62, answer]) for it in range(256)]
+    table = "version = 1\n" + "".join(f'[[method]]\nname = "m{at}"\nstep = [{it}]\n' for at, it in enumerate(steps))
+    asked = "".join('{"jsonrpc":"2.0","method":"m%d","id":%d}\n' % (it, it) for it in range(256))
+    answers = "".join('{"id":%d,"jsonrpc":"2.0","result":%d}\n' % (it, it + 62) for it in range(256))
+    words = ["play", "--lines", "--table", ran.file_of("table.toml", table)]
+    same(ran.run(words, asked.encode()), (0, answers.encode(), b""))
 
 
 CANT_READ = "table: cannot be read\n"

@@ -3,6 +3,7 @@ that a page names is there, and each picture shows what is."""
 import os
 import re
 import tomllib
+from pathlib import Path
 from typing import NamedTuple
 
 import pytest
@@ -11,7 +12,8 @@ import wings
 from support import bodies, connection_rows, connection_script, pages, ran
 from support import connection_fuzzing as fuzzing
 from support.expecting import check, same
-from tools import repository, sources, tidying  # (they stand in bin/)
+from tools import findings, repository, sources, tidying  # (they stand in bin/)
+from tools import words as wording
 
 PAGES = [it for it in tidying.files(".md") if "/node_modules/" not in it]
 FENCED = re.compile(r"^```.*?^```$\n?", re.M | re.S)
@@ -49,6 +51,22 @@ def test_link_that_leads_nowhere(link: str) -> None:
     check(not is_there("README.md", link))
 
 
+def links_of(page: str) -> set[str]:
+    """The pages to which a page leads."""
+    places = re.findall(r"\]\((?!http)([^)\s#]+\.md)", prose_of(page))
+    return {os.path.normpath(os.path.join(os.path.dirname(page), it)) for it in places} & {*PAGES}
+
+
+def test_each_page_of_docs_is_reached() -> None:
+    """From README, by links."""
+    reached, waiting = set[str](), ["README.md"]
+    while waiting:
+        page = waiting.pop()
+        reached.add(page)
+        waiting += links_of(page) - reached
+    same(sorted(it for it in PAGES if it.startswith("docs/") and it not in reached), [])
+
+
 def test_pages_that_code_names() -> None:
     """What code says stands on a page leads to one, and to a heading where it names one."""
     for file in [it for it in tidying.files("") if not it.endswith(".md") and not it.startswith("release/")]:
@@ -77,14 +95,49 @@ def test_sections_stand_once(page: str) -> None:
     same([it for it in {*found} if found.count(it) > 1], [])
 
 
+# Words. (bin/tidy looks at each page and message)
+
+WRONG = ("The event is told.", "a call of ours", "It is\none of more.", "4 if you don't say", "None is a whole number")
+RIGHT = (
+    "There are none.",
+    "None is left out.",
+    "`is told`",
+    "    is told",
+    "[it](#is-told)",
+    "```text\nis told\n```\n",
+)
+
+
+@pytest.mark.parametrize("text", (*WRONG, *RIGHT))
+def test_words_that_must_not_stand(text: str) -> None:
+    same(bool([*wording.found_in(text)]), text in WRONG)
+
+
+def test_texts_that_are_looked_at(tmp_path: Path) -> None:
+    """Messages, and the docstrings of what is public."""
+    file = tmp_path / "some.py"
+    public, private = '"""It is told."""', 'def _it():\n    """It is told."""\n'
+    for text, lines in ((public, [1]), (private, []), (f"{private}    raise ValueError('it is told')", [3])):
+        file.write_text(text)
+        found = wording.texts_of(os.path.relpath(file, ran.TOP))
+        same([line for line, it in found if [*wording.found_in(it)]], lines)
+
+
 # A reader goes through these in one sitting.
-MOST_LINES = {"README.md": 180, "docs/proofs.md": 150}
+MOST_LINES = {"README.md": 150, "docs/proofs.md": 185}
+MOST_WORDS = {"README.md": 1_100, "docs/servers.md": 5_000}
 
 
 @pytest.mark.parametrize("page", MOST_LINES)
 def test_page_is_short(page: str) -> None:
     lines = len(ran.text_of(page).splitlines())
     check(lines <= MOST_LINES[page], f"{lines} lines")
+
+
+@pytest.mark.parametrize("page", MOST_WORDS)
+def test_page_has_few_words(page: str) -> None:
+    words = len(ran.text_of(page).split())
+    check(words <= MOST_WORDS[page], f"{words} words")
 
 
 @pytest.mark.parametrize("page", [it for it in PAGES if it.startswith("docs/decisions/")])
@@ -94,31 +147,163 @@ def test_decisions_have_dates(page: str) -> None:
     check(len(decisions) >= 5, f"{len(decisions)} decisions")
 
 
+# What the examiner found. (bin/servers reads the page and writes it anew, without running what isn't installed)
+
+FOUND = "docs/servers.md"
+DEPTH = findings.Rule("a reader may limit the depth", "RFC 8259 9")
+ONE = findings.Rule("each request has one response", "JSON-RPC 5")
+SMALL = [
+    findings.Part(
+        "first | C",
+        ["1.0; a server.", "3 must, 1 should, 1 note."],
+        [
+            findings.Finding("must", 1, DEPTH, "100 deep"),
+            findings.Finding("must", 2, ONE, "the id (a|b), c"),
+            findings.Finding("should", 1, ONE, "100 deep"),
+            findings.Finding("note", 1, DEPTH, "1,000 deep"),
+        ],
+        ["It is its limit.", "", "| Level | Times |", "|---|---|", "| must | 14 |"],
+    ),
+    findings.Part("second", ["1.1; a client.", "1 must."], [findings.Finding("must", 1, DEPTH, "1,000 deep")]),
+    findings.Part("third", ["1.2; a client."], [], ["It couldn't be examined.", "", "Nothing is wrong."]),
+    findings.Part(
+        "fourth | C",
+        [
+            "this repository, 1.3; a server, by the rules lsp, in frames; 2026-11-29.",
+            "0 must, 0 should, 0 note, 0 slow, 21 not tried, 255 ok of 276 cases.",
+        ],
+    ),
+]
+SMALL_PAGE = """## The rules
+
+| Name | What is asked | Section | First case |
+|---|---|---|---|
+| `depth` | a reader may limit the depth | RFC 8259 9 | 1,000 deep |
+| `the-id-a-b-c` | each request has one response | JSON-RPC 5 | the id (a\\|b), c |
+
+## first | C
+
+1.0; a server.
+3 must, 1 should, 1 note.
+
+- must: `depth` 1 (100 deep), `the-id-a-b-c` 2
+- should: `the-id-a-b-c` 1 (100 deep)
+- note: `depth` 1
+
+It is its limit.
+
+| Level | Times |
+|---|---|
+| must | 14 |
+
+## second
+
+1.1; a client.
+1 must.
+
+- must: `depth` 1
+
+## third
+
+1.2; a client.
+
+It couldn't be examined.
+
+Nothing is wrong.
+
+## Nothing was found
+
+| Of this repository | Side, rules, framing | Version, date | Cases that are well |
+|---|---|---|---|
+| fourth \\| C | server, lsp, frames | 1.3, 2026-11-29 | 255 of 276 |
+"""
+
+
+def test_servers_are_read_as_they_were_written() -> None:
+    same(findings.written(SMALL, {DEPTH: "depth", findings.Rule("gone", "JSON-RPC 4"): "gone"}), SMALL_PAGE)
+    parts, names = findings.read("# Servers\n\nSome.\n\n" + SMALL_PAGE)
+    same([repr(it) for it in parts], [repr(it) for it in SMALL])
+    same(repr(names), repr({DEPTH: "depth", ONE: "the-id-a-b-c"}))
+    same(findings.read(""), ([], {}))
+
+
+def test_new_rules_of_servers_have_names_of_their_own() -> None:
+    found = [findings.Finding("must", 1, findings.Rule(text, "JSON-RPC 5"), "The id 5.") for text in "abc"]
+    known = {found[2].rule: "the-id-5"}
+    names = findings.all_names(found, known)
+    same([names[it.rule] for it in found], ["the-id-5-2", "the-id-5-3", "the-id-5"])
+
+
+@pytest.mark.parametrize(
+    "old, new, why",
+    [
+        ("`depth` 1 (", "`width` 1 (", KeyError),
+        ("`depth` 1 (", "`depth` one (", ValueError),
+        ("`the-id-a-b-c` 2", "and 2 more", ValueError),
+        ("## The rules", "## zeroth", ValueError),
+    ],
+)
+def test_servers_that_can_not_be_read(old: str, new: str, why: type[Exception]) -> None:
+    with pytest.raises(why):
+        findings.read(SMALL_PAGE.replace(old, new))
+
+
+def wrong_counts(page: str) -> list[str]:
+    """The servers whose findings aren't as many, by level, as the line above them says."""
+    parts, _ = findings.read(page)
+    assert parts, "a page without servers"
+    found = []
+    for part in parts:
+        said = {level: int(number) for number, level in re.findall(r"(\d+) (must|should|note)\b", part.before[-1])}
+        if any(sum(it.cases for it in part.findings if it.level == level) != said[level] for level in said):
+            found.append(part.name)
+    return found
+
+
+def test_servers_of_the_page() -> None:
+    """It is what its parts are written as, and each finding that is counted is there."""
+    page = ran.text_of(FOUND)
+    parts, names = findings.read(page)
+    same(page[: page.index("## ")] + findings.written(parts, names), page)
+    same(wrong_counts(page), [])
+
+
+def test_finding_that_servers_lack() -> None:
+    same(wrong_counts(SMALL_PAGE), [])
+    same(wrong_counts(SMALL_PAGE.replace("`depth` 1 (100 deep), ", "")), ["first | C"])
+    same(wrong_counts(SMALL_PAGE.replace("- should: `the-id-a-b-c` 1 (100 deep)\n", "")), ["first | C"])
+
+
 # Blocks. What runs or reads those of a page, by the words behind their fences.
 
 EXAMPLES, SERVERS = "checks/test_examples.py", "bindings/python/tests/test_docs.py"
 NODE, HERE = "bindings/node/tests/docs.test.js", "checks/test_pages.py"
 JUDGING = "bindings/python/tests/test_judge_docs.py"
+EXAMINING = "bindings/python/tests/test_examine_docs.py"
+EDITORS = "checks/test_pages_of_editors.py"
+HTTP = "bindings/python/tests/test_tool_http_docs.py"
 READ_BY = {
     "CONTRIBUTING.md": dict.fromkeys(("rust", "console", "toml"), HERE),
-    "README.md": {"": HERE, **dict.fromkeys(("sh", "out", "python", "toml"), EXAMPLES)},
+    "README.md": dict.fromkeys(("sh", "out", "python"), EXAMPLES),
     "bindings/node/README.md": dict.fromkeys(("js", "sh", "out"), NODE),
     "bindings/python/README.md": {"python": SERVERS},
     "bindings/rust/README.md": {"rust": "checks/rust_crate.py"},
-    "docs/answer_desk.md": {"text": HERE},
-    "docs/architecture.md": {"": HERE},
+    "docs/architecture.md": dict.fromkeys(("", "text"), HERE),
     "docs/commands.md": dict.fromkeys(("sh", "out", "toml"), EXAMPLES),
     "docs/connection.md": {
+        "": HERE,
         "conversation": "checks/support/connection_pictures.py",
-        **dict.fromkeys(("rust", "in", "out"), EXAMPLES),
+        **dict.fromkeys(("in", "out"), EXAMPLES),
     },
-    "docs/editors.md": dict.fromkeys(("text", "lua", "elisp"), "checks/test_pages_of_editors.py"),
+    "docs/editors.md": dict.fromkeys(("text", "lua", "elisp", "json", "js", "toml", "rust", "kak"), EDITORS),
+    "docs/hosts.md": {"json": EDITORS},
     "docs/embedding.md": dict.fromkeys(("sh", "out", "c"), "checks/test_embedding.py"),
+    "docs/examining.md": dict.fromkeys(("python", "sh", "out", "yaml", "text"), EXAMINING),
     "docs/job_slots.md": {"text": HERE},
-    "docs/judging.md": dict.fromkeys(("python", "sh", "out", "lua", "elisp", "json", "text"), JUDGING),
+    "docs/judge.md": dict.fromkeys(("python", "sh", "out", "lua", "elisp", "json", "text"), JUDGING),
     "docs/language_servers.md": {
         **dict.fromkeys(("python", "sh", "out", "lua", "text"), SERVERS),
-        "elisp": "checks/test_pages_of_editors.py",
+        "elisp": EDITORS,
     },
     "docs/methods.md": {
         **dict.fromkeys(("toml", "in", "in --lazy", "out"), "checks/test_methods.py"),
@@ -128,7 +313,9 @@ READ_BY = {
     "docs/proofs.md": {"antt": HERE},
     "docs/protocol.md": {"": HERE, **dict.fromkeys(("picture", "toml"), "checks/test_pictures.py")},
     "docs/python.md": dict.fromkeys(("python", "sh", "out", "text"), SERVERS),
+    "docs/rust.md": {"rust": "checks/rust_crate.py", "text": HERE},
     "docs/server.md": {"text": HERE},
+    "docs/tools_over_http.md": dict.fromkeys(("python", "sh", "out", "text"), HTTP),
     "examples/README.md": dict.fromkeys(("sh", "out"), EXAMPLES),
 }
 
@@ -148,7 +335,7 @@ def test_blocks_have_a_check(page: str) -> None:
 FROM_FILES = [
     ("docs/testing.md", "a call back and its reply: eager lazy served", "checks/played_rows/calls.txt"),
     ("docs/testing.md", "a call back, and the answer with its reply: frames", "checks/connection_rows/calls.txt"),
-    ("docs/wrong_bodies.md", "[[wrong]]", "crates/rpc_messages/wrong-bodies/read/their_call.toml"),
+    ("docs/testing.md", "[[wrong]]", "crates/rpc_messages/wrong-bodies/read/their_call.toml"),
 ]
 
 
@@ -175,6 +362,8 @@ def knows(script: str, option: str) -> bool:
     """Whether a script's text, or that of what it stands on, has the option; or the help of the program."""
     folder, name = os.path.split(script)
     below = {"bin": "bin/tools", "bench": "bench/measures", "checks": "checks/support"}[folder]
+    if name in ("examine", "judge"):  # (each runs a part of the Python package)
+        below = f"bindings/python/bullmyrtle/{name}"
     texts = [ran.text_of(it) for it in (script, *tidying.files(".py", below=below))]
     if name == sources.PROGRAM:
         texts += [ran.run([it, "--help"])[1].decode() for it in ("play", "serve", "check")]
@@ -198,6 +387,25 @@ def test_option_that_a_command_does_not_know() -> None:
 # Pictures and figures
 
 
+def pictures_in(page: str) -> list[str]:
+    """The files of the images that a page shows."""
+    return re.findall(r'\b(?:src|srcset)="([^"]+)"', prose_of(page))
+
+
+@pytest.mark.parametrize("page", PAGES)
+def test_images_are_there(page: str) -> None:
+    for it in pictures_in(page):
+        file = os.path.normpath(os.path.join(ran.TOP, os.path.dirname(page), it))
+        check(os.path.isfile(file), f"{it} isn't there")
+        with open(file, "rb") as image:
+            same(image.read(8), b"\x89PNG\r\n\x1a\n", it)
+
+
+def test_images_show_the_report() -> None:
+    same(len(pictures_in("README.md")), 2)
+    same(ran.told_by([f"{ran.TOP}/bin/pictures", "--check"], 60), (0, b""))
+
+
 def pictures_of(page: str, mark: str = "") -> list[str]:
     return [text for it, text in pages.read_blocks(page) if it == mark]
 
@@ -205,7 +413,7 @@ def pictures_of(page: str, mark: str = "") -> list[str]:
 # Words of a picture that are names of the code.
 NAMES = re.compile(r"\b(?:[a-z]+(?:_[a-z]+)+|[A-Z]\w*(?:::\w+)?)\b")
 OF_CODE = [
-    ("docs/answer_desk.md", "text"),
+    ("docs/architecture.md", "text"),
     ("docs/architecture.md", ""),
     ("docs/job_slots.md", "text"),
     ("docs/server.md", "text"),
@@ -275,7 +483,7 @@ def conversation(text: str) -> list[Message]:
 
 
 def row_of(messages: list[Message]) -> str:
-    """The picture of README as a row of a connection: what comes and goes, and what the host does between."""
+    """The picture of docs/connection.md as a row of a connection: what comes and goes, and what the host does between."""
     request, call, reply, answer = messages
     params = f'["{request.second}"]'
     lines = [
@@ -292,9 +500,9 @@ def row_of(messages: list[Message]) -> str:
     return "\n".join(lines)
 
 
-def test_picture_of_readme() -> None:
+def test_picture_of_a_host() -> None:
     """It is what a connection does, by the plain model of its page."""
-    found = conversation(pictures_of("README.md")[0])
+    found = conversation(pictures_of("docs/connection.md")[0])
     same(
         [(it.is_ours, it.kind) for it in found],
         [(False, "request"), (True, "call"), (False, "reply to"), (True, "answer to")],

@@ -13,8 +13,7 @@ from support.expecting import check
 from tools.repository import read_text  # (it stands in bin/)
 
 TESTS = f"{ran.TOP}/bindings/python/tests"
-LIBRARY = f"{ran.TOP}/release/libbullmyrtle.so.1"
-MARKED = re.compile(r"^(?:class (\w+)|    @by_the_clock\n    def (\w+))", re.M)
+MARKED = re.compile(r"^(?:class (\w+)|    @by_the_clock\n    (?:async )?def (\w+))", re.M)
 
 
 def marked() -> Iterator[str]:
@@ -31,7 +30,7 @@ def marked() -> Iterator[str]:
 @pytest.mark.alone
 @pytest.mark.parametrize("name", marked())
 def test_in_time(name: str) -> None:
-    env = {**os.environ, "BULLMYRTLE_LIBRARY": LIBRARY, "PYTHONDONTWRITEBYTECODE": "1"}
+    env = {**os.environ, "PYTHONDONTWRITEBYTECODE": "1"}
     ended = subprocess.run(
         [sys.executable, "-m", "unittest", "-v", name],
         cwd=TESTS,

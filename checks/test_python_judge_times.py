@@ -1,5 +1,6 @@
-"""What the judge of the Python package costs: a ping through its driver takes at most three times its time without, and
-the report of 10,000 messages is open in Chromium within two seconds. While nothing else runs."""
+"""What the judge of the Python package costs: a ping through its driver takes at most 60 microseconds more than without,
+or, where the machine is slow, at most three times its time; and the report of 10,000 messages is open in Chromium within
+two seconds. While nothing else runs."""
 import json
 import os
 import random
@@ -15,7 +16,7 @@ import pytest
 from support import judged, needing
 from support.expecting import check
 
-PINGS, RUNS, TIMES = 1_000, 3, 3
+PINGS, RUNS, MORE, TIMES = 1_000, 10, 60, 3
 SERVER = """
 import sys
 from bullmyrtle import Server
@@ -31,9 +32,8 @@ TOLD = """<script>addEventListener("load", () => { document.body.offsetHeight; r
 
 @pytest.fixture(autouse=True)
 def needs_judge() -> None:
-    why = judged.why_not()
-    if why:
-        pytest.skip(f"what the judge costs, which needs {why}")
+    if judged.lacks_judge():
+        pytest.skip(f"what the judge costs, which needs {judged.EXTENSION}")
 
 
 def ping(words: list[str]) -> float:
@@ -63,9 +63,14 @@ def ping(words: list[str]) -> float:
 def test_ping() -> None:
     server = [sys.executable, "-c", SERVER]
     driven = [*judged.JUDGE, "--rules", "jsonrpc", "--lines", "--", *server]
-    without, through = (min(ping(it) for _ in range(RUNS)) for it in (server, driven))
-    print(f"a ping takes {without:.0f} microseconds, and {through:.0f} through the driver")
-    check(through <= TIMES * without, f"{without:.0f} and {through:.0f} microseconds")
+    # (A ping without the driver takes 7 to 20 microseconds, by the machine, and what the driver adds doesn't shrink with it:
+    # a factor alone would refuse the fastest machine.
+    # By turns. What else the machine does slows some, so through the driver the best counts; where both processes happen to
+    # share a processor, a ping without it takes half its time, so there the median does)
+    without, through = zip(*((ping(server), ping(driven)) for _ in range(RUNS)))
+    usual, best = statistics.median(without), min(through)
+    print(f"a ping takes {usual:.0f} microseconds, and {best:.0f} through the driver")
+    check(best <= max(usual + MORE, TIMES * usual), f"{usual:.0f} and {best:.0f} microseconds")
 
 
 def recording(file: Path) -> None:

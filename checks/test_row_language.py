@@ -1,10 +1,9 @@
 """The language of rows gives the bytes that a line stands for, and refuses each line that it doesn't know, so that no
-row passes because it was mistyped: of both peers, and of hosts."""
+row passes because it was mistyped: of both peers."""
 from typing import Callable
 
 import pytest
 
-import test_connection_host as hosted
 from support import connection_rows, row_files
 from support.expecting import check, same
 from support.naming import named
@@ -109,11 +108,6 @@ REFUSED_ROWS = (
 @pytest.mark.parametrize("text", named(REFUSED_ROWS, str))
 def test_refused_row_of_a_connection(text: str) -> None:
     check(is_refused(lambda: connection_rows.row_in(text)))
-
-
-@pytest.mark.parametrize("line", named(("<2 []", "<< []", "<+ []", "end", "next => none"), str))
-def test_refused_line_of_a_host(line: str) -> None:
-    check(is_refused(lambda: hosted.message_of(line)))
 
 
 @pytest.mark.parametrize("text", named(("a: eager\n< []\n! Clear", "a: eagre\n< []", "a: eager\nnext => none"), str))

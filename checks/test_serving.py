@@ -1,16 +1,21 @@
 """Runs the server as its clients do: rows by 1 to 64 workers, messages that go back and forth while the input is open,
-devices that fail at each byte, a client that doesn't read, and nothing to do."""
+devices that fail at each byte, a client that doesn't read, and nothing to do. Reads and writes are counted, so that a
+program which goes byte by byte is seen."""
 import os
+import select
+import shutil
 import signal
 import subprocess
 import time
+from typing import Callable
 
 import pytest
 
 from support import ran, rows
-from support.client import Client, call, cancel, ended, error, notification, request, result
+from support.client import PATIENCE, Client, call, cancel, ended, error, notification, request, result
 from support.expecting import check, same
 from support.naming import named
+from support.written import contents_of
 
 ASK, ASKED = request(7, "ask", ["x"]), call("1.1", "confirm", ["x"])
 REPLY, YES = result("1.1", True), result(7, True)
@@ -116,6 +121,52 @@ def test_single_bytes_and_an_end_inside_a_frame() -> None:
         it.send_bytes(b"Content-Length: 40\r\n\r\n{")
         it.close_input()
         same(it.end(), ([NO_REPLY], 1, b"input ended: Truncated\n"), "an input that ends inside a frame")
+
+
+def line_of_errors(process: "subprocess.Popen[bytes]") -> bytes:
+    """What a server tells on standard error, up to the end of a line. (One that told it only once its input is closed
+    would tell nothing here.)"""
+    file = ran.pipe(process.stderr).fileno()
+    end, line = time.monotonic() + PATIENCE, b""
+    while not line.endswith(b"\n") and select.select([file], [], [], max(0.0, end - time.monotonic()))[0]:
+        line += os.read(file, 1)
+    return line
+
+
+# name, options, what the client sends behind a first request, and the line that it is told
+ENDS = [
+    ("a broken header", [], b"Content-Length 2\r\n\r\n{}", b"input ended: BadHead\n"),
+    ("a length that is none", [], b"Content-Length: x\r\n\r\n", b"input ended: BadLength\n"),
+    ("a content over the limit", ["--content", "100"], b"Content-Length: 101\r\n\r\n", b"input ended: TooLarge\n"),
+    ("a call over the limit", ["--calls", "1"], rows.frames(UNKNOWN), b"input ended: Full\n"),
+]
+
+
+@pytest.mark.parametrize("workers", ("1", "4"))
+@pytest.mark.parametrize("row", named(ENDS))
+def test_end_is_told_while_the_input_is_open(row: tuple[str, list[str], bytes, bytes], workers: str) -> None:
+    """A client that goes on reads the line, and has its answers before; the server ends as it closes."""
+    _, options, given, line = row
+    with Client(["--workers", workers, *options]) as it:
+        it.send(UNKNOWN)
+        it.send_bytes(given)
+        same(line_of_errors(it.process), line, "the line")
+        same(it.receive(), rows.NOT_FOUND, "the answer to what came before")
+        same(it.process.poll(), None, "it waits for its reader while the input is open")
+        it.close_input()
+        same(it.end(), ([], 1, b""), "and tells no more")
+
+
+def test_output_that_is_closed_is_told_before_a_broken_header() -> None:
+    with subprocess.Popen(
+        [ran.BUILT, "serve"], stdin=subprocess.PIPE, stdout=subprocess.PIPE, stderr=subprocess.PIPE
+    ) as process:
+        ran.pipe(process.stdout).close()
+        ran.pipe(process.stdin).write(rows.frames(UNKNOWN) + b"Content-Length 2\r\n\r\n{}")
+        ran.pipe(process.stdin).flush()
+        same(line_of_errors(process), WRITE, "while the input is open")
+        ran.pipe(process.stdin).close()
+        same(ended(process), (1, b""))
 
 
 # Refused before anything is read
@@ -232,10 +283,75 @@ def test_finished_requests_leave_no_memory_behind() -> None:
     check(many - few < 4_000_000, f"{few:,} and {many:,} bytes")
 
 
-IDLE, PINGS = 3, 200
+TRACE = "strace -f -qq -e trace=read,write -e signal=none -o".split()
+
+
+def is_traced() -> bool:
+    """Whether system calls can be counted here."""
+    is_there = shutil.which("strace") is not None
+    return (
+        is_there
+        and subprocess.run(["strace", "-o", os.devnull, "true"], check=False, capture_output=True).returncode == 0
+    )
+
+
+@pytest.mark.parametrize("words, piece", ((["play"], 65_536), (["serve"], 16_384)), ids=("play", "serve"))
+def test_bytes_go_in_large_pieces(words: list[str], piece: int) -> None:
+    """A call of read for each piece of a file and one for its end, and at most one of write for each content."""
+    if not is_traced():
+        pytest.skip("what needs strace, which isn't there or may not trace: it counts system calls")
+    texts = [str(it) * 1_000_000 for it in range(1, 5)]
+    given = rows.frames(*(request(it, "ask", [text]) for it, text in enumerate(texts, 1)))
+    sent = [call(f"{it}.1", "confirm", [text]) for it, text in enumerate(texts, 1)]
+    calls = ran.file_of("calls", b"")
+    with open(ran.file_of("given", given), "rb") as file:
+        traced = [*TRACE, calls, ran.BUILT, *words, *table()]
+        ended_so = subprocess.run(traced, stdin=file, capture_output=True, timeout=120, check=False)
+    same(ended_so.returncode, 0)
+    found = sorted(contents_of(ended_so.stdout))
+    same(found, sorted([*sent, *(error(it, -32000, "No reply") for it in range(1, 5))]), "all calls go out")
+    told = ran.text_of(calls)
+    reads, writes = told.count("read(0,"), told.count("write(1,")
+    print(f"{words[0]}: {reads} reads and {writes} writes for {len(given):,} bytes")
+    check(reads <= len(given) // piece + 2 and writes <= len(found), f"{reads} reads, {writes} writes")
+
+
+MANY, ROUND = 20_000, 20
+
+
+@pytest.mark.parametrize("workers", ("1", "3", "64"))
+def test_many_requests_go_in_a_round(workers: str) -> None:
+    """What is sent at once is taken, worked on and answered in rounds of many requests, and not one by one: a write has
+    20 answers or more."""
+    if not is_traced():
+        pytest.skip("what needs strace, which isn't there or may not trace: it counts system calls")
+    given = rows.frames(*(request(it, "add", [it, 1]) for it in range(1, MANY + 1)))
+    calls = ran.file_of("calls", b"")
+    with open(ran.file_of("given", given), "rb") as file:
+        traced = [*TRACE, calls, ran.BUILT, "serve", *table(), "--workers", workers]
+        ended_so = subprocess.run(traced, stdin=file, capture_output=True, timeout=120, check=False)
+    same(ended_so.returncode, 0)
+    same(ended_so.stdout, rows.frames(*(result(it, it + 1) for it in range(1, MANY + 1))), "all answers, in order")
+    writes = ran.text_of(calls).count("write(1,")
+    print(f"{workers} workers: {writes} writes for {MANY:,} requests")
+    check(writes <= MANY // ROUND, f"{writes} writes")
+
+
+IDLE, PINGS, TURNS = 3, 200, 3
 # The most processor time of a request behind a pause, in seconds: a thread that has slept looks only a few times before the
 # next sleep.
 BEHIND_A_PAUSE = 350e-6
+
+
+def least(measure: Callable[[], float], bound: float) -> float:
+    """The least of some turns, up to one that is within the bound: a machine whose processors are taken away for a while
+    makes a turn longer, and a server that does too much takes too long in each."""
+    found = measure()
+    for _ in range(TURNS - 1):
+        if found < bound:
+            break
+        found = min(found, measure())
+    return found
 
 
 @pytest.mark.alone
@@ -243,25 +359,34 @@ BEHIND_A_PAUSE = 350e-6
 def test_nothing_to_do_costs_nothing(workers: str) -> None:
     """And a request after a pause is answered at once."""
     with Client([*table(), "--workers", workers]) as it:
+        pauses: list[float] = []
+
+        def idle() -> float:
+            """The part of a processor that it takes with nothing to do."""
+            time.sleep(0.3)
+            before = it.seconds_used()
+            time.sleep(IDLE)
+            return (it.seconds_used() - before) / IDLE
+
+        def pinged() -> float:
+            """The processor seconds of each request behind a pause."""
+            pauses.clear()
+            before = it.seconds_used()
+            for number in range(PINGS):
+                time.sleep(0.005)
+                start = time.monotonic()
+                it.send(request(number, "add", [number, 1]))
+                same(it.receive(), result(number, number + 1), f"ping {number}")
+                pauses.append((time.monotonic() - start) * 1000)
+            return (it.seconds_used() - before) / PINGS
+
         it.send(UNKNOWN)
         it.receive()
-        time.sleep(0.3)
-        before = it.seconds_used()
-        time.sleep(IDLE)
-        used = (it.seconds_used() - before) / IDLE
+        used = least(idle, 0.01)
         check(used < 0.01, f"{used:.1%} of a processor")
-        pauses: list[float] = []
-        before = it.seconds_used()
-        for number in range(PINGS):
-            time.sleep(0.005)
-            start = time.monotonic()
-            it.send(request(number, "add", [number, 1]))
-            same(it.receive(), result(number, number + 1), f"ping {number}")
-            pauses.append((time.monotonic() - start) * 1000)
-        each = (it.seconds_used() - before) / PINGS
-        check(
-            workers == "64" or each < BEHIND_A_PAUSE, f"{each * 1e6:.0f} us of a processor for a request behind a pause"
-        )
+        bound = BEHIND_A_PAUSE if workers != "64" else float("inf")
+        each = least(pinged, bound)
+        check(each < bound, f"{each * 1e6:.0f} us of a processor for a request behind a pause")
         pauses.sort()
         median, late = pauses[PINGS // 2], pauses[PINGS * 99 // 100]
         print(

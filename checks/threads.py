@@ -7,6 +7,9 @@ from support import ran
 TURNS = 50
 THREADED = ("two_workers_turn_each_job_at_most_once", "all_jobs_are_turned_before_the_stop")
 JOBS, ROUNDS = 10_000, 20_000
+# How many seconds the rounds may take: each waits for two threads to be woken, which other processes hold up; and one that
+# isn't woken waits for ever.
+PATIENCE = 900
 
 count = ran.Count()
 
@@ -37,7 +40,7 @@ def check_wake_ups(bench: str) -> None:
             words = ["lockstep", "--rounds", str(ROUNDS), "--workers", workers, "--yields", yields]
             count.same(
                 f"peer_bench {' '.join(words)}",
-                ran.told_by([bench, *words], 120),
+                ran.told_by([bench, *words], PATIENCE),
                 (0, b"%d requests answered\n" % ROUNDS),
             )
 

@@ -1,44 +1,43 @@
 #!/usr/bin/env python3
-"""Looks whether the record of wrong bodies holds for just those crates of which nothing has changed, in a copy of the
-tree: after an edit of a source, of a definition, of a body, of the scripts that judge, of the list of crates or of the
-record itself; and by another kit. What is written is whole, whoever writes beside it, and nothing is written of a crate
-that has changed meanwhile.
+"""Looks whether the record of wrong bodies holds for just those bodies whose verdicts an edit leaves as they are, in a
+copy of the tree: after edits of what crates above see, of what other functions see, and of the rest; of bodies, of the
+scripts that judge, of the list of crates and of the record itself; and by another kit. What is written is whole,
+anyone who writes beside it, and nothing is written of a crate that has changed meanwhile.
 
-It proves nothing. The last line is 'N passed, M failed'; the status is 0 only where M is."""
+That crates above see no more of a crate than the record's sums go by is tried on a small library, which the kit proves
+and builds three times: unless checks/shown.txt has that this was found with this logic, or with --anew. --record writes
+that file. No wrong body is tried. The last line is 'N passed, M failed'; the status is 0 only where M is."""
+import inspect
 import json
 import os
+import re
 import shutil
 import subprocess
 import sys
 from concurrent.futures import ThreadPoolExecutor
-from typing import Callable, Iterable, Optional
+from typing import Callable, Iterable, Iterator, Optional
 
-from support import ran
-from support.record import FILE
+from support import ran, toy_library
+from support.bodies import Body, Sources, read_bodies
+from support.record import FILE, Record, sum_of
+from support.rounds import Judged
+from support.seen import own, seen
 from tools import kit
 from tools.repository import TOP, listing
 
-# Says of which crates the record of the tree holds. With words it first writes the lines of those that they name: `all`
-# of them, or some behind an edit that comes once the run has begun.
-ASKED = """
-import json, sys
-sys.path.insert(0, "checks")
-import wrong_bodies
-from support.record import Record
-record = Record(wrong_bodies.TOP)
-crates, _ = wrong_bodies.read_crates([])
-named, edited = sys.argv[1:2], sys.argv[2:]
-for file in edited:
-    with open(file, "a") as it:
-        it.write("\\n")
-kept = [it.name for it in crates if named and named[0] in ("all", it.name) and record.keep(it)]
-after = Record(wrong_bodies.TOP)
-print(json.dumps({"held": [it.name for it in crates if after.has(it)], "kept": kept}))
-"""
+Change = Callable[[bytes], Optional[bytes]]
+# The crate whose edits are looked at, and lemmas of it that others cite.
+EDITED, LEMMA = "json_texts", "proofs/Placed.antt"
+SHOWN = "checks/shown.txt"
+
+
+def judged(bodies: Iterable[Body]) -> list[Judged]:
+    """What would be recorded of bodies, had they been tried."""
+    return [Judged(it, True, "proved" if it.is_right else "refused", "`returns`") for it in bodies]
 
 
 class Copy:
-    """A copy of what the record rests on."""
+    """A copy of what the record rests on, and its bodies."""
 
     def __init__(self, at: str) -> None:
         self.at = at
@@ -46,159 +45,334 @@ class Copy:
         for part in ("bin", "checks", "crates", "docs"):
             shutil.copytree(f"{TOP}/{part}", f"{at}/{part}", ignore=hidden)
         shutil.copyfile(f"{TOP}/crates.txt", f"{at}/crates.txt")
+        self.bodies = {it: self.read(it) for it in listing().lines}
+        self.every = {it.label for bodies in self.bodies.values() for it in bodies}
 
-    def ask(self, *words: str, path: str = "") -> dict:
-        """What the record says, with commands in the folder `path` before all others."""
-        seen = {
-            **os.environ,
-            "PATH": f"{path}:{os.environ['PATH']}" if path else os.environ["PATH"],
-            "PYTHONDONTWRITEBYTECODE": "1",
-        }
-        told = subprocess.run(
-            [sys.executable, "-c", ASKED, *words], cwd=self.at, env=seen, capture_output=True, text=True, check=False
+    def read(self, crate: str) -> list[Body]:
+        return read_bodies(Sources(f"{self.at}/crates/{crate}"))[0]
+
+    def of(self, crates: Iterable[str]) -> set[str]:
+        return {it.label for crate in crates for it in self.bodies[crate]}
+
+    def lost(self, again: str = "") -> set[str]:
+        """The bodies that the record doesn't have as they stand; those of one crate may have to be read again."""
+        record = Record(self.at)
+        bodies = {**self.bodies, again: self.read(again)} if again else self.bodies
+        return {it.label for found in bodies.values() for it in found if not record.has(it)}
+
+    def keep(self, crate: str, record: Optional[Record] = None) -> bool:
+        """Records all bodies of a crate as refused or proved."""
+        return (record or Record(self.at)).keep(crate, self.bodies[crate], judged(self.bodies[crate]))
+
+    def edited(self, file: str, change: Change, ask: Callable[[], set[str]]) -> set[str]:
+        """What is told while a file is changed; with None for its new bytes it is gone."""
+        at = f"{self.at}/{file}"
+        with open(at, "rb") as it:
+            before = it.read()
+        after = change(before)
+        assert after != before, file
+        os.remove(at)
+        if after is not None:
+            put(at, after)
+        told = ask()
+        put(at, before)
+        return told
+
+
+def put(file: str, text: bytes) -> None:
+    os.makedirs(os.path.dirname(file), exist_ok=True)
+    with open(file, "wb") as it:
+        it.write(text)
+
+
+def longer(text: bytes) -> bytes:
+    return text + b"\n"
+
+
+def first(folder: str, ending: str) -> str:
+    """The first file below a folder with this ending."""
+    found = sorted(f"{at}/{name}" for at, _, names in os.walk(folder) for name in names if name.endswith(ending))
+    return os.path.relpath(found[0], folder)
+
+
+def check_lost(count: ran.Count, name: str, lost: set[str], wanted: Iterable[str]) -> None:
+    count.same(name, sorted(lost), sorted(wanted))
+
+
+def edits_below(copy: Copy) -> Iterator[tuple[str, str, Change, Iterable[str]]]:
+    """Edits of a crate on which others stand, and the bodies that these cost."""
+    folder, mine, all_above = f"crates/{EDITED}", copy.of([EDITED]), copy.of(listing().above([EDITED]))
+    found = own(f"{copy.at}/{folder}")
+    function, answer = next(
+        (fn, files[0])
+        for body in copy.bodies[EDITED]
+        for fn in body.functions
+        for name, files in found.answers.items()
+        if fn.printed.fullmatch(name) and not fn.is_hidden
+    )
+    its = {it.label for it in copy.bodies[EDITED] if function in it.functions}
+    source, shared = f"{folder}/{function.file}", next(it for it, _ in found.shared if it.endswith("/Answers.antt"))
+
+    def does_more(text: bytes) -> bytes:
+        return (
+            text.decode()[: function.opening].encode() + b"\n    loop {}" + text.decode()[function.opening :].encode()
         )
-        return json.loads(told.stdout) if told.returncode == 0 else {"held": told.stderr, "kept": told.stderr}
 
-    def first(self, folder: str, ending: str) -> str:
-        """The first file of a folder with this ending."""
-        found = sorted(
-            f"{at}/{name}" for at, _, names in os.walk(f"{self.at}/{folder}") for name in names if name.endswith(ending)
-        )
-        return os.path.relpath(found[0], self.at)
-
-
-def edited(
-    copy: Copy, file: str, change: Callable[[bytes], Optional[bytes]], ask: Optional[Callable[[], dict]] = None
-) -> dict:
-    """What the record says while a file is changed, or what is asked else; with None for its new bytes the file is
-    gone."""
-    at = f"{copy.at}/{file}"
-    with open(at, "rb") as it:
-        before = it.read()
-    after = change(before)
-    assert after != before, file
-    os.remove(at)
-    if after is not None:
-        with open(at, "wb") as it:
-            it.write(after)
-    told = ask() if ask else copy.ask()
-    with open(at, "wb") as it:
-        it.write(before)
-    return told
+    yield "what a function does", source, does_more, its
+    yield "its answer", f"{folder}/{answer}", longer, its
+    yield "an answer of a cycle of calls", f"{folder}/{shared}", longer, mine
+    yield "a private function", source, lambda it: it + b"\nfn more() {\n    loop {}\n}\n", mine
+    yield "an import", source, lambda it: b"use std::cmp;\n" + it, mine
+    yield "a comment", source, lambda it: b"// More.\n" + it, ()
+    yield "a clause", source, lambda it: re.sub(
+        rb"(?s)(\npub fn .*?)ensures", rb"\1ensures m { 0 } ensures", it, 1
+    ), all_above
+    yield "a definition", f"{folder}/specs/Texts.antt", longer, all_above
+    yield "a lemma that other crates cite", f"{folder}/{LEMMA}", longer, all_above
+    yield "a type", source, lambda it: it + b"\npub struct More;\n", all_above
 
 
-def check_held(count: ran.Count, name: str, told: dict, wanted: Iterable[str]) -> None:
-    count.same(name, told["held"], [*wanted])
+def check_below(count: ran.Count, copy: Copy) -> None:
+    """What nothing else sees of a function costs its own bodies alone; what the crate sees those of the crate; what
+    crates above see costs each of them all."""
+    for name, file, change, wanted in edits_below(copy):
+        check_lost(count, f"{name} below", copy.edited(file, change, lambda: copy.lost(EDITED)), wanted)
+    change = lambda it: it.replace(b"\njob_slots: ", b"\njob_slots: itoa ")
+    lost = copy.edited("crates.txt", change, copy.lost)
+    check_lost(count, "another library below job_slots", lost, copy.of(listing().above(["job_slots"])))
 
 
-def check_edits(count: ran.Count, copy: Copy, every: list[str]) -> None:
-    """After each edit the record holds for the crates that it doesn't reach."""
+def check_bodies(count: ran.Count, copy: Copy) -> None:
+    """A body that is new or another costs itself alone, and one that goes nothing."""
+    crate = "rpc_messages"
+    folder = f"crates/{crate}/wrong-bodies"
+    file = f"{folder}/{first(f'{copy.at}/{folder}', '.toml')}"
+    name = next(it.name for it in copy.bodies[crate] if f'name = "{it.name}"' in ran.text_of(f"{copy.at}/{file}"))
 
-    def without(*touched: str) -> list[str]:
-        return [it for it in every if it not in touched]
+    def lost() -> set[str]:
+        return copy.lost(crate)
 
-    def longer(text: bytes) -> bytes:
-        return text + b"\n"
+    def without(text: bytes) -> bytes:
+        return b"[[" + b"[[".join(text.split(b"[[")[2:])
 
-    for crate in (every[0], "answer_desk", "peer_events"):
-        for part, ending in (("src", ".rt"), ("specs", ".antt")):
-            told = edited(copy, copy.first(f"crates/{crate}/{part}", ending), longer)
-            check_held(count, f"an edit of {part} in {crate}", told, without(*listing().above([crate])))
-    told = edited(copy, copy.first("crates/rpc_messages/wrong-bodies", ".toml"), longer)
-    check_held(count, "an edit of a body", told, without("rpc_messages"))
+    def again(text: bytes) -> bytes:
+        return text + b"\n[[" + text.split(b"[[")[1].replace(name.encode(), b"one_more")
+
+    for what, change, wanted in (
+        ("a body more", again, {f"{crate}/one_more"}),
+        ("a body less", without, set()),
+        ("a body of another name", lambda it: it.replace(name.encode(), b"another"), {f"{crate}/another"}),
+        ("a body's sentence", lambda it: it.replace(b"\nwhat = ", b'\nwhat = "It is so."\n#', 1), set()),
+        (
+            "what a body puts in",
+            lambda it: re.sub(rb"\nnew = (['\"]+)", rb"\nnew = \1/* */ ", it, count=1),
+            {f"{crate}/{name}"},
+        ),
+        ("how it is tried", lambda it: it.replace(b"\nname = ", b"\nalone = true\nname = ", 1), {f"{crate}/{name}"}),
+    ):
+        check_lost(count, what, copy.edited(file, change, lost), wanted)
+
+
+def check_scripts(count: ran.Count, copy: Copy) -> None:
+    """What judges is part of each sum, and what runs the checks of none."""
     for it in ("bodies", "functions", "rounds", "verdicts"):
-        check_held(count, f"an edit of what judges, {it}.py", edited(copy, f"checks/support/{it}.py", longer), [])
-    for it in (
-        "checks/wrong_bodies.py",
-        "checks/support/trial.py",
-        "checks/support/record.py",
-        "checks/fuzz.py",
-        "bin/test",
-    ):
-        check_held(count, f"an edit of {it}", edited(copy, it, longer), every)
-    told = edited(copy, "crates.txt", lambda it: it.replace(b"\njob_slots: ", b"\njob_slots: itoa "))
-    check_held(count, "another library below job_slots", told, without(*listing().above(["job_slots"])))
-    with open(f"{copy.at}/{FILE}", "rb") as it:
-        lines = [line for line in it if not line.startswith(b"#")]
-    for name, change, held in (
-        ("a line that is missing", lambda it: it.replace(lines[0], b""), every[1:]),
-        ("one line alone", lambda it: lines[0].rstrip(), every[:1]),
-        ("a line of more bodies", lambda it: it.replace(lines[0], lines[0].replace(b" ", b" 1", 1)), every[1:]),
-        ("a record that is gone", lambda it: None, []),
-        ("a record that is no text", lambda it: b"\xff" + it, []),
-    ):
-        check_held(count, name, edited(copy, FILE, change), held)
-    check_held(count, "no edit at last", copy.ask(), every)
+        lost = copy.edited(f"checks/support/{it}.py", longer, copy.lost)
+        check_lost(count, f"an edit of what judges, {it}.py", lost, copy.every)
+    for it in ("checks/wrong_bodies.py", "checks/support/trial.py", "checks/support/record.py", "bin/test"):
+        check_lost(count, f"an edit of {it}", copy.edited(it, longer, copy.lost), ())
 
 
-def check_kits(count: ran.Count, copy: Copy, every: list[str]) -> None:
+def check_lines(count: ran.Count, copy: Copy) -> None:
+    """A line that is missing or wrong costs what it stands for."""
+    crate = next(it for it, bodies in copy.bodies.items() if bodies)
+    label = copy.bodies[crate][0].label
+    for name, change, wanted in (
+        ("a body's line that is missing", lambda it: re.sub(rb"\n    .*", b"", it, count=1), {label}),
+        ("a body's line with another sum", lambda it: re.sub(rb"\n    \w", b"\n    x", it, count=1), {label}),
+        (
+            "a crate's line with another sum",
+            lambda it: re.sub(rb"\n(\w+) \w", rb"\n\1 x", it, count=1),
+            copy.of([crate]),
+        ),
+        ("a crate's line that is cut", lambda it: re.sub(rb"\n(\w+) \w+\n", rb"\n\1\n", it, count=1), copy.of([crate])),
+        ("a record that is gone", lambda it: None, copy.every),
+        ("a record that is no text", lambda it: b"\xff" + it, copy.every),
+    ):
+        check_lost(count, name, copy.edited(FILE, change, copy.lost), wanted)
+    check_lost(count, "no edit at last", copy.lost(), ())
+
+
+def check_kits(count: ran.Count, copy: Copy) -> None:
     """Of a kit only the logic counts, and not its name or where it lies."""
-    room = f"{ran.ROOM.name}/kit"
+    room, path = f"{ran.ROOM.name}/kit", os.environ["PATH"]
     os.makedirs(f"{room}/bin")
     os.symlink(f"{kit.folder()}/bin/rattle", f"{room}/bin/rattle")
-    for name, logic, held in (
-        ("another kit of this logic", kit.logic(kit.version()), every),
-        ("another logic", "another", []),
+    for name, logic, wanted in (
+        ("another kit of this logic", kit.logic(kit.version() or ""), set()),
+        ("another logic", "another", copy.every),
     ):
-        with open(f"{room}/bin/rt", "w", encoding="utf-8") as it:
-            it.write(f"#!/bin/sh\necho 'a-kit logic {logic}'\n")
-        os.chmod(it.name, 0o755)
-        check_held(count, name, copy.ask(path=f"{room}/bin"), held)
+        put(f"{room}/bin/rt", f"#!/bin/sh\necho 'a-kit logic {logic}'\n".encode())
+        os.chmod(f"{room}/bin/rt", 0o755)
+        os.environ["PATH"] = f"{room}/bin:{path}"
+        check_lost(count, name, copy.lost(), wanted)
+        os.environ["PATH"] = path
 
 
-def tried(copy: Copy, *words: str) -> str:
+def tried(copy: Copy, *words: str) -> list[str]:
     """What the script says that tries wrong bodies."""
     words = (sys.executable, "checks/wrong_bodies.py", *words)
-    return subprocess.run(words, cwd=copy.at, capture_output=True, text=True, check=False).stdout
+    return subprocess.run(words, cwd=copy.at, capture_output=True, text=True, check=False).stdout.splitlines()
 
 
-def check_left_out(count: ran.Count, copy: Copy, every: list[str]) -> None:
-    """The crates whose lines hold aren't tried, and each counts as one that passed; one that is named is."""
-    for words, held in (((), every), (("--record",), every), (("--record", every[0]), every[:1])):
-        told = tried(copy, *words).splitlines()
-        found = [it for it in held if f"== {it}: not tried: checks/tried.txt has it as it stands" in told]
-        count.check(
-            f"none is tried {words}", found == held and told[-1:] == [f"{len(held)} passed, 0 failed"], "\n".join(told)
-        )
-    count.check("--record takes crates alone", tried(copy, "--record", "no_crate") == "", "it takes another word")
+def check_left_out(count: ran.Count, copy: Copy) -> None:
+    """Bodies whose lines hold aren't tried, and each crate counts as one that passed."""
+    crates = [it for it, bodies in copy.bodies.items() if bodies]
+    for words, left_out in (((), crates), (("--record", crates[0]), crates[:1])):
+        told = tried(copy, *words)
+        wanted = [
+            f"== {it}: {len(copy.bodies[it])} bodies not tried: checks/tried.txt has them as they stand"
+            for it in left_out
+        ]
+        found = [it for it in told if "not tried" in it]
+        count.same(f"none is tried {words}", (found, told[-1:]), (wanted, [f"{len(left_out)} passed, 0 failed"]))
 
 
-def check_writing(count: ran.Count, copy: Copy, every: list[str]) -> None:
-    """Lines are written one by one, and by several at once."""
-    told = edited(copy, FILE, lambda it: None, lambda: copy.ask(every[1]))
-    check_held(count, "one line in a new record", told, every[1:2])
-    told = edited(
-        copy,
-        FILE,
-        lambda it: it.replace(f"{every[0]} ".encode(), b"gone 1 ").replace(
-            b"\n" + f"{every[1]} ".encode(), b"\ngone 2 "
-        ),
-        lambda: copy.ask(every[1]),
+def check_writing(count: ran.Count, copy: Copy) -> None:
+    """Lines are written crate by crate, and by several at once."""
+    crates = [it for it, bodies in copy.bodies.items() if bodies]
+
+    def one() -> set[str]:
+        copy.keep(crates[1])
+        return copy.lost()
+
+    check_lost(
+        count, "one crate in a new record", copy.edited(FILE, lambda it: None, one), copy.every - copy.of(crates[1:2])
     )
-    check_held(count, "one line more", told, every[1:])
-    first = copy.first(f"crates/{every[0]}/src", ".rt")
-    told = edited(
-        copy, FILE, lambda it: None, lambda: edited(copy, first, lambda it: it + b"\n", lambda: copy.ask("all", first))
-    )
-    above = listing().above([every[0]])
-    count.check(
-        "nothing of what has changed meanwhile", told["kept"] == [it for it in every if it not in above], f"{told}"
-    )
+    gone = lambda it: it.replace(f"\n{crates[0]} ".encode(), b"\ngone 1\n    2 3\nmore ")
+    check_lost(count, "one crate more", copy.edited(FILE, gone, one), copy.of(crates[:1]))
 
-    def at_once() -> dict:
-        with ThreadPoolExecutor(len(every)) as pool:
-            [*pool.map(copy.ask, every)]
-        return copy.ask()
+    def a_part() -> set[str]:
+        bodies = copy.bodies[crates[0]]
+        for some in (bodies[:1], bodies[2:]):
+            Record(copy.at).keep(crates[0], bodies, judged(some))
+        return copy.lost()
 
-    check_held(count, "all at once", edited(copy, FILE, lambda it: None, at_once), every)
+    lost = copy.edited(FILE, lambda it: None, a_part)
+    check_lost(count, "some bodies, and then more", lost & copy.of(crates[:1]), {copy.bodies[crates[0]][1].label})
+
+    def meanwhile() -> set[str]:
+        record = Record(copy.at)
+        source = f"crates/{EDITED}/specs/Texts.antt"
+        kept = copy.edited(source, longer, lambda: {it for it in crates if copy.keep(it, record)})
+        return kept
+
+    kept = copy.edited(FILE, lambda it: None, meanwhile)
+    above = listing().above([EDITED])
+    count.same("nothing of what has changed meanwhile", kept, {it for it in crates if it not in above})
+
+    def at_once() -> set[str]:
+        with ThreadPoolExecutor(8) as pool:
+            [*pool.map(copy.keep, crates[:8])]
+        return copy.lost()
+
+    lost = copy.edited(FILE, lambda it: None, at_once)
+    check_lost(count, "several at once", lost, copy.every - copy.of(crates[:8]))
     left = [it for it in os.listdir(f"{copy.at}/checks") if it.startswith("tmp")]
-    count.check("nothing is left beside it", not left, f"{left}")
+    count.same("nothing is left beside it", left, [])
 
 
-count = ran.Count()
-tree = Copy(f"{ran.ROOM.name}/tree")
-all_held = tree.ask("all")["held"]
-count.check("a record of all crates", isinstance(all_held, list) and len(all_held) > 5, f"{all_held}")
-for check in (check_edits, check_left_out, check_writing, check_kits) if not count.failed else ():
-    check(count, tree, all_held)
-count.end()
+def put_library(top: str, edits: list[toy_library.Edit], files: dict[str, str]) -> str:
+    """Writes the small library with these edits, and gives its folder."""
+    folder = f"{top}/crates/toy"
+    put(f"{top}/crates.txt", b"toy:\n")
+    for part in ("src", "specs", "proofs"):
+        shutil.rmtree(f"{folder}/{part}", ignore_errors=True)
+    for path, text in toy_library.edited(files, edits).items():
+        put(f"{folder}/{path}", text.encode())
+    return folder
+
+
+def check_seen(count: ran.Count, room: str) -> None:
+    """Of each edit of the small library whether its text shows it to crates above."""
+    files = {**toy_library.FILES, **toy_library.TEXTS}
+    plain = seen(put_library(room, [], files))
+    for is_seen, edits in ((False, toy_library.UNSEEN), (True, toy_library.SEEN)):
+        for it in edits:
+            count.same(
+                f"{it.what} is {'' if is_seen else 'not '}seen", seen(put_library(room, [it], files)) != plain, is_seen
+            )
+
+
+def shown(top: str, edits: list[toy_library.Edit]) -> dict[str, str]:
+    """What the kit shows to crates above of the small library with these edits: its interface, its definitions, the
+    modules that can be named from outside, and what its format says beside its sums."""
+    folder = put_library(top, edits, toy_library.FILES)
+    ended = subprocess.run(["rt", "lib"], cwd=folder, capture_output=True, text=True, check=False)
+    if ended.returncode:
+        return {"not built": ended.stdout + ended.stderr}
+    library = f"{folder}/out/rlib/toy.rlib"
+    # (how a function is compiled is no statement)
+    told = {"format": re.sub(r"^(checked|sum|cold|inline\S*) .*\n", "", ran.text_of(f"{library}/format"), flags=re.M)}
+    for part in ("interface", "lang/antt/specs"):
+        for at, _, names in os.walk(f"{library}/{part}"):
+            told |= {os.path.relpath(f"{at}/{it}", library): ran.text_of(f"{at}/{it}") for it in names}
+    lines = ran.text_of(f"{library}/lang/antt/made.json").split("\n")
+    made = {json.loads(key): text for key, text in zip(lines, lines[1:]) if key.startswith('"')}
+    named = {it.removeprefix("facade/") for it in made if it.startswith("facade/")}
+    return told | {it: text for it, text in made.items() if it in named or it.startswith("facade")}
+
+
+def check_library(count: ran.Count, room: str) -> None:
+    """The kit shows the same of the small library with all edits that aren't to be seen, and more with one that is."""
+    plain = shown(room, [])
+    count.check("the small library is built", "interface/lang/src/lib.rt" in plain and len(plain) > 40, f"{[*plain]}")
+    unseen = [it for it in toy_library.UNSEEN if it.file in toy_library.FILES]
+    found = shown(room, unseen)
+    count.same("what crates above see", [it for it in {**plain, **found} if plain.get(it) != found.get(it)], [])
+    other = shown(room, toy_library.SEEN[:1])
+    count.same(
+        "a clause is seen",
+        [it for it in plain if plain[it] != other.get(it)],
+        ["proofs/echo/Reads", "specs/contracts/echo"],
+    )
+
+
+def sum_of_library() -> str:
+    """A sum of what the look at the small library rests on: the logic, the library with its edits, and how it is looked
+    at."""
+    return sum_of(
+        kit.logic(kit.version() or ""),
+        ran.text_of("checks", "support", "toy_library.py"),
+        *map(inspect.getsource, (put_library, shown, check_library)),
+    )
+
+
+def check_library_once(count: ran.Count, words: list[str]) -> None:
+    """The same, unless checks/shown.txt has that it was found so; --record writes that file."""
+    recorded = ran.text_of(SHOWN) if os.path.isfile(f"{ran.TOP}/{SHOWN}") else ""
+    if recorded == f"{sum_of_library()}\n" and "--anew" not in words:
+        count.check(f"{SHOWN} has the small library as it stands", True)
+        return
+    failed = count.failed
+    check_library(count, f"{ran.ROOM.name}/library")
+    if "--record" in words and count.failed == failed:
+        put(f"{ran.TOP}/{SHOWN}", f"{sum_of_library()}\n".encode())
+
+
+def main(words: list[str]) -> None:
+    count = ran.Count()
+    check_seen(count, f"{ran.ROOM.name}/texts")
+    check_library_once(count, words)
+    copy = Copy(f"{ran.ROOM.name}/tree")
+    record = Record(copy.at)
+    for crate in copy.bodies:
+        if copy.bodies[crate]:
+            copy.keep(crate, record)
+    count.check("a record of all bodies", not copy.lost() and len(copy.every) > 100)
+    for check in (check_below, check_bodies, check_scripts, check_lines, check_left_out, check_writing, check_kits):
+        check(count, copy)
+    count.end()
+
+
+if __name__ == "__main__":
+    main(sys.argv[1:])

@@ -1,7 +1,8 @@
 #!/usr/bin/env python3
 """The groups of crates.txt keep to their rule: the floor (values, streams, messages) stands on itself alone, and of the three wings on it, the
 table peer, the connection and the judge, none names a crate of another. So an edit in one wing proves nothing of the other again.
-And no crate has a module or a type with the name of a library that it stands on, which the gate refuses."""
+And no crate has a module or a type with the name of a library that it stands on, which the gate refuses. None that
+another one names has a test: the gate would prove it a second time with it."""
 import os
 import re
 import sys
@@ -69,6 +70,12 @@ def taken(listing: Listing, sources: dict[str, str]) -> list[str]:
     return [f"{name} declares {it}" for name in sources for it in sorted(names_in(sources[name]) & below[name])]
 
 
+def twice_proved(listing: Listing, sources: dict[str, str]) -> list[str]:
+    """The crates that others name and that have tests."""
+    named = {it for libraries in listing.libraries.values() for it in libraries}
+    return [it for it in sources if it in named and re.search(r"^\s*#\[test\]", sources[it], re.M)]
+
+
 def main() -> None:
     count = ran.Count()
     text = read_text(f"{ran.TOP}/crates.txt")
@@ -89,9 +96,12 @@ def main() -> None:
     count.same("crates with the name of a library below them", taken(Listing(text), sources), [])
     count.same(
         "a module with the name of a library below it",
-        taken(Listing(text), {"bench_reading": "mod value_reading;", "rpc_messages": "pub mod bench_reading;"}),
-        ["bench_reading declares value_reading"],
+        taken(Listing(text), {"peer_bench": "mod value_reading;", "rpc_messages": "pub mod peer_bench;"}),
+        ["peer_bench declares value_reading"],
     )
+    count.same("libraries with tests", twice_proved(Listing(text), sources), [])
+    tested = {"message_ids": "    #[test]\n    fn it() {}", "library_rows": "#[test]\nfn it() {}"}
+    count.same("a library with a test", twice_proved(Listing(text), tested), ["message_ids"])
     count.end()
 
 

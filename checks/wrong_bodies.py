@@ -6,8 +6,8 @@ function. The wrong bodies of different functions are tried at once, in rounds, 
 the functions that it changes and at what these call: each changed function must fall for a reason of its own, and every
 other is proved, or falls only because it calls one of those. What hurts more than that is tried singly, and what isn't
 refused on the whole crate. Control: right bodies, which are written differently, and a comment in each other function
-that has bodies must be proved, and the rounds stand on what that proof kept. checks/tried.txt tells of which crates all
-bodies were tried as they stand, on whatever machine: these aren't tried again, unless they are named, or with --anew.
+that has bodies must be proved, and the rounds stand on what that proof kept. checks/tried.txt tells which bodies were tried as
+they stand, on whatever machine: these aren't tried again, unless they are named, or with --anew.
 
 For each wrong body a line says how it was refused: by which clauses or goals, or only because an answer by hand no
 longer fits (which says less: a right body could be refused so too). One that is proved is a failure, and so is one that
@@ -42,7 +42,7 @@ def arguments() -> argparse.Namespace:
         "names",
         nargs="*",
         metavar="NAME",
-        help="a crate, a body, or CRATE/BODY; none: the crates that checks/tried.txt doesn't have as they stand",
+        help="a crate, a body, or CRATE/BODY; none: the bodies that checks/tried.txt doesn't have as they stand",
     )
     parser.add_argument(
         "--stands",
@@ -60,12 +60,12 @@ def arguments() -> argparse.Namespace:
         help="try them over the libraries that the gate has just built in crates/*/out, as bin/test does; where one is missing, as with --kept",
     )
     parser.add_argument(
-        "--anew", action="store_true", help="try all, also the crates that checks/tried.txt has as they stand"
+        "--anew", action="store_true", help="try all, also the bodies that checks/tried.txt has as they stand"
     )
     parser.add_argument(
         "--record",
         action="store_true",
-        help="write checks/tried.txt, the line of each crate as soon as all of its bodies are tried; of those that are named it tries the ones that the file doesn't have as they stand",
+        help="write checks/tried.txt, the line of each body as soon as it is judged; of those that are named it tries the ones that the file doesn't have as they stand",
     )
     parser.add_argument(
         "--jobs",
@@ -83,8 +83,6 @@ def arguments() -> argparse.Namespace:
     )
     parser.add_argument("--logs", metavar="FOLDER", help="keep the output of each check there")
     given = parser.parse_args()
-    if given.record and not {*given.names} <= {*listing().lines}:
-        parser.error("--record takes whole crates")
     if given.record and given.gate:
         parser.error("--record wants libraries that are known to be of these sources: leave out --gate")
     return given
@@ -107,8 +105,8 @@ def read_crates(names: list[str]) -> tuple[list[Crate], list[str]]:
         bodies, unfit = read_bodies(sources)
         found |= {name, *(it.name for it in bodies), *(it.label for it in bodies)}
         asked = not names or name in names
-        crate = Crate(name, sources, bodies if asked else [it for it in bodies if {it.name, it.label} & {*names}])
-        crate.is_whole = not unfit and len(crate.bodies) == len(bodies)
+        tried = bodies if asked else [it for it in bodies if {it.name, it.label} & {*names}]
+        crate = Crate(name, sources, tried, bodies)
         problems += [it for it in unfit if asked or any(f": {word.rpartition('/')[2]}: " in it for word in names)]
         if crate.bodies:
             crates.append(crate)
@@ -133,11 +131,11 @@ def report(crates: list[Crate], names: list[str]) -> tuple[int, list[str]]:
             else:
                 failures.append(f"{it.body.label}: {'PROVED' if it.word == 'proved' else it.word}: {it.why}")
         judged = [it.body for it in crate.judged]
-        lost = [it.name for it in crate.bodies if judged.count(it) != 1 and not crate.is_recorded]
+        lost = [it.name for it in crate.bodies if judged.count(it) != 1]
         failures += [f"{crate.name}: {len(lost)} bodies were not judged: {', '.join(lost)}"] if lost else []
         failures += crate.failures
-        passed += crate.comments == "proved" or crate.is_recorded
-    if not names and not any(it.wrong for it in crates):
+        passed += crate.comments == "proved" or not crate.bodies
+    if not names and not any(it.wrong or it.recorded for it in crates):
         failures.append("no crate has a wrong body")
     return passed, failures
 
@@ -145,8 +143,9 @@ def report(crates: list[Crate], names: list[str]) -> tuple[int, list[str]]:
 def summary(crates: list[Crate], seconds: float, wall: float) -> None:
     """How many were refused and how, by crate, and what it took."""
     for crate in crates:
-        if crate.is_recorded:
-            say(f"== {crate.name}: not tried: checks/tried.txt has it as it stands")
+        if crate.recorded:
+            say(f"== {crate.name}: {crate.recorded} bodies not tried: checks/tried.txt has them as they stand")
+        if not crate.bodies:
             continue
         counts = Counter(it.word for it in crate.judged if it.is_well)
         say(
@@ -190,13 +189,19 @@ def attempt(crates: list[Crate], given: argparse.Namespace, record: Record) -> f
             say(f"== kept work of: {', '.join(kept) or 'no crate'}")
 
         def is_done(crate: Crate) -> None:
-            if given.record and crate.is_whole and crate.is_well:
-                is_kept = record.keep(crate)
+            if given.record:
+                is_kept = record.keep(crate.name, crate.every, crate.judged)
                 say(f"== {crate.name}: {'recorded' if is_kept else 'NOT recorded: a file has changed meanwhile'}")
 
         trial = Trial(crates, trees, max(1, given.jobs), given.logs or "", is_done)
         trial.run()
         return trial.seconds
+
+
+def leave_out_recorded(crates: list[Crate], record: Record) -> None:
+    for it in crates:
+        asked, it.bodies = it.bodies, [body for body in it.bodies if not record.has(body)]
+        it.recorded = len(asked) - len(it.bodies)
 
 
 def looked_at(names: list[str]) -> tuple[list[Crate], list[str]]:
@@ -214,10 +219,9 @@ def main() -> int:
     crates, problems = looked_at(given.names)
     if not shutil.which("rt"):
         problems, crates = ["the command rt of the Rattle kit isn't on the PATH"], []
-    for it in crates:
-        is_left_out = not given.anew and (given.record or not given.names)
-        it.is_recorded = is_left_out and it.is_whole and record.has(it)
-    left = [it for it in crates if not it.is_recorded]
+    if not given.anew and (given.record or not given.names):
+        leave_out_recorded(crates, record)
+    left = [it for it in crates if it.bodies]
     if left:
         seconds = attempt(left, given, record)
     passed, failures = report(crates, given.names)

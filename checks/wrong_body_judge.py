@@ -10,7 +10,8 @@ from typing import Any, Optional
 
 from support import ran
 from support.bodies import Body, Sources, read_bodies
-from support.rounds import hurt_beside, judge_right, judge_wrong
+from support.functions import functions_of
+from support.rounds import hurt_beside, judge_right, judge_wrong, rounds_of
 from support.trees import Ran, Trees
 from support.trial import Crate, Trial, Turn
 from support.verdicts import Output, read_output
@@ -36,6 +37,22 @@ function = "outer"
 what = "It adds nothing."
 old = 'inner(n)'
 new = 'n'
+"""
+
+OF_SPECIAL = """[[wrong]]
+name = "nothing_is_taken"
+function = "Window::take"
+what = "It takes nothing."
+old = 'fn take() {'
+new = 'fn take() { return'
+"""
+OF_DEFINITION = """[[wrong]]
+name = "sum_is_one_more"
+function = "outer"
+what = "A sum is one more."
+file = "specs/Sums.antt"
+old = 'n + 1'
+new = 'n + 2'
 """
 
 PROVED = "fn toy::{0}: proved"
@@ -293,6 +310,59 @@ def check_control(count: ran.Count, room: str) -> None:
         count.same(f"{name}: the control", (crate.comments, labels(trial), bool(crate.failures)), wanted)
 
 
+SHAPES = """fn plain() {
+}
+
+impl Pair {
+    pub fn first() {
+    }
+}
+
+impl PartialEq for Pair {
+    fn eq() {
+    }
+}
+
+impl Window<Option<T>> {
+    fn take() {
+    }
+}
+"""
+
+
+def check_endings(count: ran.Count, room: str) -> None:
+    """What the control's check is told to look at: functions by how their names end, or all where one's isn't known."""
+    found = [*functions_of("toy", "src/read/call.rt", SHAPES)]
+    wanted = ["toy::read::call::plain", "Pair::first", "PairPartialEq::eq", ""]
+    count.same("how names end", [it.ending for it in found], wanted)
+    for it in found[:3]:
+        count.check(
+            f"{it.ending} is of its name", it.printed.fullmatch(f"toy::read::call::{it.ending.split('call::')[-1]}")
+        )
+    crate = toy(room)
+    count.same("the control's functions", crate.endings, ["toy::inner", "toy::outer"])
+    with open(f"{room}/toy/src/lib.rt", "a", encoding="utf-8") as file:
+        file.write(f"\n{SHAPES.partition('impl Window')[1]}{SHAPES.partition('impl Window')[2]}")
+    put(f"{room}/toy/wrong-bodies/lib.toml", f"{BODIES}\n{OF_SPECIAL}")
+    sources = Sources(f"{room}/toy")
+    count.same("where one's isn't known", Crate("toy", sources, read_bodies(sources)[0]).endings, [])
+
+
+def check_definition(count: ran.Count, room: str) -> None:
+    """A wrong definition is tried alone, on the functions that must be refused with it."""
+    crate = toy(room)
+    put(f"{room}/toy/specs/Sums.antt", "sum n = n + 1\n")
+    put(f"{room}/toy/wrong-bodies/lib.toml", f"{BODIES}\n{OF_DEFINITION}")
+    sources = Sources(f"{room}/toy")
+    bodies, unfit = read_bodies(sources)
+    crate = Crate("toy", sources, bodies)
+    crate.names = {fn: [f"toy::{fn.name}"] for fn in crate.functions}
+    count.same("a wrong definition can be tried", unfit, [])
+    count.same("its round", [[it.name for it in one] for one in rounds_of(bodies)][-1], ["sum_is_one_more"])
+    count.same("what its round looks at", Turn(crate, bodies[2:], "round-2").only, ["toy::outer"])
+    count.same("what is changed", crate.with_bodies(bodies[2:]), {"specs/Sums.antt": "sum n = n + 2\n"})
+
+
 def check_beside(count: ran.Count, crate: Crate) -> None:
     """A function that no body of a round touches is hurt by it only where it falls for a reason of its own."""
     inner = crate.bodies[:1]
@@ -311,6 +381,8 @@ def main() -> None:
         check_rounds(count, room)
         check_control(count, room)
         check_last_lines(count)
+        check_endings(count, f"{room}/endings")
+        check_definition(count, f"{room}/definition")
         check_static(count, room)
     with tempfile.TemporaryDirectory(prefix="judge-") as room:
         check_over_gate(count, room)

@@ -1,37 +1,37 @@
-/* One end of a JSON-RPC 2.0 conversation whose methods are your own code: a connection. And a judge of conversations,
- * which is told what two sides wrote, and tells which of them broke which rule (bm_judge_new and its neighbours).
+/* JSON-RPC 2.0 connections, and a judge of conversations.
  *
- * A connection does no input and no output, starts no thread and reads no clock. You feed it the bytes that you have
- * read, ask it for events, answer and call, and take the bytes that are to be written, in whatever order you like. What
- * it does with them is told in docs/connection.md.
+ * A connection (bm_new, bm_open) is one end of a JSON-RPC 2.0 conversation; its methods are your own code. It does no
+ * input or output, starts no threads and reads no clock. In any order, you feed it the bytes that you have read, ask it
+ * for events, answer requests, send requests and notifications, and take the bytes to be written. docs/connection.md
+ * defines what it does.
  *
- * Rules for all calls
+ * A judge (bm_judge_new) is given what two sides wrote, and reports which of them broke which rule of the protocol.
  *
- * Memory. All bytes are copied within the call: the library keeps no pointer of yours, and lends you none of its own.
- *   It takes memory by malloc, realloc and free of the C library.
- * Pointers. None is NULL, with one exception: in the calls of BM_HAS_TOGETHER and of BM_HAS_JUDGE (below) a pointer to
- *   bytes, sayings or findings may be NULL where their length or count is 0. A pointer to a struct or a number is
- *   aligned as C aligns it. What a call writes to (an event, a room, a key, a count) overlaps with nothing else that is
- *   passed to it.
- * Lengths. They count bytes, unless it is said otherwise. A text that you pass needs no zero byte at its end.
- * Threads. Make one call at a time on one connection, or on one judge. Which thread makes it doesn't matter, as long as
- *   something orders the calls, such as a lock. Hold it until you have noted the key of a call of yours, so that no
- *   other thread is told of its reply before. Calls on different ones may be made at the same time. Make no call in a
- *   signal handler, nor in the child of fork() where the process has other threads.
- * Answers. A call that gives an int32_t gives one of the codes below. If it isn't BM_OK, the call has told you nothing,
- *   has said nothing for you, and has written nothing to what you passed, unless it is said otherwise. A call may give
- *   BM_NO_MEMORY whatever else is wrong with it, and may then be made again, but for those of a judge. If several other
- *   codes apply, the first of these is given: BM_SETTINGS, BM_NOT_OPEN, BM_NOT_WAITING, BM_NOT_TEXT, BM_NOT_JSON,
- *   BM_OVER, BM_EMPTY, BM_FULL. In a batch a method that isn't text comes before params that aren't JSON, whichever
- *   call has them.
+ * Rules for all functions
  *
- * JSON is one JSON value in UTF-8, at most 120 levels deep. It is told and written compactly: without blanks, with the
- * members in their order, and with numbers digit for digit. Half of a surrogate pair, as in "\ud800", isn't JSON, be it
- * in what comes or in what you pass.
- *
- * Additions. bm_interface() stays 1 while calls are only added. What was added is told by bm_has(), and in the shared
- * library the new symbols have the version BULLMYRTLE_2, so that a program that needs them isn't started with a library
- * that lacks them.
+ * Memory. The functions copy the bytes that you pass. The library keeps no pointer of yours, and gives you none to its
+ *   own buffers. It uses malloc, realloc and free of the C library.
+ * Pointers. No pointer may be NULL, with one exception: in the functions of BM_HAS_TOGETHER and BM_HAS_JUDGE (below) a
+ *   pointer to bytes, sayings or findings may be NULL if its length or count is 0. A pointer to a struct or an integer
+ *   must have the alignment that C requires for its type. Memory that a function writes to (an event, a buffer, a key,
+ *   a count) must not overlap with anything else that is passed to it.
+ * Lengths. They are in bytes, unless stated otherwise. Text that you pass needs no terminating zero byte.
+ * Threads. On one connection, or on one judge, make one call at a time. It may come from any thread, as long as
+ *   something, such as a lock, orders the calls. Hold the lock until you have stored the key of an outgoing request, so
+ *   that no other thread gets the response before that. Calls on different connections and judges may be made at the
+ *   same time. Make no call in a signal handler, nor in the child of a fork() if the process has other threads.
+ * Codes. A function with the result int32_t returns one of the codes below. If it isn't BM_OK, the function has
+ *   reported nothing, sent nothing and written nothing to what you passed, unless stated otherwise. If several codes
+ *   apply, the first of these is returned: BM_SETTINGS, BM_NOT_OPEN, BM_NOT_WAITING, BM_NOT_TEXT, BM_NOT_JSON, BM_OVER,
+ *   BM_EMPTY, BM_FULL. BM_NO_MEMORY may be returned in place of the last five, and never in place of the first three;
+ *   the same call may then be made again, except on a judge. In a batch, a method that isn't UTF-8 comes before params
+ *   that aren't JSON, whichever request has them.
+ * JSON. A JSON text is one value in UTF-8. One that you pass may be nested at most 120 levels deep. It is reported and
+ *   sent in compact form: without whitespace between its parts, with its members in their order, and with all digits of
+ *   its numbers. Half of a surrogate pair, as in "\ud800", isn't valid, whether it is received or passed.
+ * Versions. bm_interface() stays 1 as long as functions are only added; bm_has() reports which were. In the shared
+ *   library the added symbols have the version BULLMYRTLE_2, so that a program that needs them isn't started with a
+ *   library that lacks them.
  */
 #ifndef BULLMYRTLE_H
 #define BULLMYRTLE_H
@@ -44,97 +44,97 @@
 extern "C" {
 #endif
 
-/* The version of this header. bm_interface() gives the library's. */
+/* The version of this header. bm_interface() returns the library's. */
 #define BM_INTERFACE 1
 
-/* What a call gives. */
+/* The codes that functions return. */
 enum {
     BM_OK,
-    BM_NO_MEMORY,   /* memory was refused; the call may be made again */
-    BM_NOT_OPEN,    /* the number is no call that came, or it is answered already */
-    BM_NOT_WAITING, /* the key is no call of yours that waits, or it is withdrawn already, or there are no cancels */
-    BM_OVER,        /* the input is over */
-    BM_NOT_JSON,    /* bytes that aren't JSON, or params that are neither an array nor an object */
-    BM_NOT_TEXT,    /* a method's name or an error's message that isn't UTF-8 */
-    BM_SMALL,       /* the room is too small for the next event, which waits */
-    BM_SETTINGS,    /* a setting, a way to end, a kind of saying or a list of lengths that there can't be */
-    BM_EMPTY,       /* a batch of no calls */
-    BM_FULL         /* the keys would go over 2^53 - 1 */
+    BM_NO_MEMORY,   /* out of memory; the call may be made again */
+    BM_NOT_OPEN,    /* no request or notification with this number was received, or it is answered already */
+    BM_NOT_WAITING, /* no outgoing request with this key is pending, or it is cancelled already, or cancels are off */
+    BM_OVER,        /* the input has ended */
+    BM_NOT_JSON,    /* not a JSON text, or params that are neither an array nor an object */
+    BM_NOT_TEXT,    /* a method or an error message that isn't UTF-8 */
+    BM_SMALL,       /* the buffer is too small for the next event or output, which is kept */
+    BM_SETTINGS,    /* an invalid setting, end of the input, side, kind of saying or list of lengths */
+    BM_EMPTY,       /* a batch without requests */
+    BM_FULL         /* the keys would exceed 2^53 - 1 */
 };
 
-/* How contents are framed. */
+/* How messages are framed. A message may be a batch. */
 enum {
-    BM_FRAMES,  /* behind a head with its Content-Length, as in the Language Server Protocol */
-    BM_LINES,   /* one content a line, as in the standard streams of MCP */
-    BM_CONTENTS /* each bm_feed gives one content, and each bm_take takes one, as with WebSocket */
+    BM_FRAMES,  /* after a header with the Content-Length, as in the Language Server Protocol */
+    BM_LINES,   /* one message per line, as in MCP's stdio transport */
+    BM_CONTENTS /* one message per call of bm_feed and of bm_take, as with WebSocket */
 };
 
-/* When answers go out. */
+/* When responses are sent. */
 enum {
-    BM_AS_ANSWERED, /* as soon as all requests of their content are answered */
-    BM_AS_CAME      /* not before the answers of the contents that came before */
+    BM_AS_ANSWERED, /* as soon as all requests of their message are answered */
+    BM_AS_CAME      /* in the order received: then, but not before the responses to earlier messages */
 };
 
-/* Whose cancels the protocol has: which notification is read as a cancel, and which one withdraws a call of yours. */
+/* Which notification cancels a request, both when it is received and when you cancel an outgoing request. */
 enum {
-    BM_CANCELS_NONE, /* none: each notification is a call, and no call of yours can be withdrawn */
+    BM_CANCELS_NONE, /* none: every notification is a BM_CALL, and no outgoing request can be cancelled */
     BM_CANCELS_LSP,  /* $/cancelRequest, whose params name a request by "id" */
     BM_CANCELS_MCP   /* notifications/cancelled, whose params name a request by "requestId". A cancelled request gets
-                      * no answer where you cancel it, and a call that you withdraw waits no longer */
+                      * no response if you call bm_cancel, and a request that you cancel is no longer pending */
 };
 
-/* How the input ended, as you tell it. */
+/* How the input ended, for bm_end and bm_judge_ended. */
 enum { BM_CLOSED, BM_READ_FAILED };
 
 /* The kinds of events. */
 enum {
     BM_NONE,       /* there is no event now */
-    BM_CALL,       /* the other side calls: a request or a notification */
-    BM_CANCELLED,  /* the other side cancels one of its requests, which was open when the cancel came */
-    BM_REPLIED,    /* the reply to a call of yours */
-    BM_UNANSWERED, /* the input is over, and a call of yours has no reply */
-    BM_INPUT_OVER, /* the input is over; the last event */
-    BM_BROKEN      /* a content is broken, and is answered all the same; told only where bm_options say so */
+    BM_CALL,       /* a request or a notification was received */
+    BM_CANCELLED,  /* a cancel was received for a request that was open at that time */
+    BM_REPLIED,    /* the response to an outgoing request was received */
+    BM_UNANSWERED, /* the input has ended, and an outgoing request has no response */
+    BM_INPUT_OVER, /* the input has ended; the last event */
+    BM_BROKEN      /* an invalid message was received, and is answered anyway; reported only if bm_options say so */
 };
 
 /* Flags of an event: of BM_CALL, of BM_REPLIED, of BM_BROKEN. */
 enum { BM_REQUEST = 1 };
 enum { BM_ERROR = 1 };
 enum {
-    BM_UNREADABLE, /* the content isn't JSON in UTF-8, or nests over 127 deep, or is in another charset */
-    BM_INVALID     /* it has entries that are neither a call nor a reply */
+    BM_UNREADABLE, /* the message isn't JSON in UTF-8, is nested more than 127 levels deep, or has another charset */
+    BM_INVALID     /* it, or an entry of a batch, isn't a request, a notification or a response */
 };
 
-/* Flags of BM_INPUT_OVER: why the input is over. */
+/* Flags of BM_INPUT_OVER: why the input has ended. */
 enum {
-    BM_OVER_CLEAN,         /* bm_end said BM_CLOSED */
-    BM_OVER_BAD_HEAD,      /* a line of a head that isn't a field (BM_FRAMES) */
-    BM_OVER_BAD_LENGTH,    /* a Content-Length that isn't a number (BM_FRAMES) */
-    BM_OVER_TWO_LENGTHS,   /* a head with two of them (BM_FRAMES) */
-    BM_OVER_TOO_LARGE,     /* a content is longer than the setting allows */
-    BM_OVER_NO_LENGTH,     /* a head without Content-Length (BM_FRAMES) */
-    BM_OVER_HEAD_TOO_LONG, /* a head of more than 4,096 bytes (BM_FRAMES) */
+    BM_OVER_CLEAN,         /* bm_end was passed BM_CLOSED */
+    BM_OVER_BAD_HEAD,      /* a header line isn't a field (BM_FRAMES) */
+    BM_OVER_BAD_LENGTH,    /* a Content-Length isn't a number (BM_FRAMES) */
+    BM_OVER_TWO_LENGTHS,   /* a header has two Content-Lengths (BM_FRAMES) */
+    BM_OVER_TOO_LARGE,     /* a message is longer than the setting allows */
+    BM_OVER_NO_LENGTH,     /* a header has no Content-Length (BM_FRAMES) */
+    BM_OVER_HEAD_TOO_LONG, /* a header has more than 4,096 bytes (BM_FRAMES) */
     BM_OVER_TRUNCATED,     /* the input was closed inside a frame (BM_FRAMES) */
-    BM_OVER_READ,          /* bm_end said BM_READ_FAILED */
-    BM_OVER_CALLS          /* more calls came than the setting allows */
+    BM_OVER_READ,          /* bm_end was passed BM_READ_FAILED */
+    BM_OVER_CALLS          /* more requests and notifications were received than the setting allows */
 };
 
-/* What bm_has() tells of. */
+/* The additions that bm_has() knows. */
 enum {
     BM_HAS_TOGETHER = 1, /* bm_tell, bm_fed, bm_say_all, bm_taken and bm_close_call */
-    BM_HAS_OPEN,         /* bm_open, bm_fault_at, BM_BROKEN and the cancels of MCP */
+    BM_HAS_OPEN,         /* bm_open, bm_fault_at, BM_BROKEN and BM_CANCELS_MCP */
     BM_HAS_JUDGE         /* bm_judge_new, bm_judge_saw, bm_judge_ended, bm_judge_next and bm_judge_free */
 };
 
-/* Why bm_tell or bm_fed tells no more events. */
+/* Why bm_tell or bm_fed reports no more events. */
 enum {
-    BM_STOP_NONE,     /* there is no event now */
-    BM_STOP_ROOM,     /* the next event doesn't fit what is left of the room */
-    BM_STOP_MOST,     /* so many were asked for */
-    BM_STOP_NO_MEMORY /* memory was refused; nothing is lost, and the call may be made again */
+    BM_STOP_NONE,     /* there is no other event now */
+    BM_STOP_ROOM,     /* the next event doesn't fit in the rest of the buffer */
+    BM_STOP_MOST,     /* as many were reported as you asked for */
+    BM_STOP_NO_MEMORY /* out of memory; nothing is lost, and the call may be made again */
 };
 
-/* The kinds of sayings: what bm_say_all says, and for each what the field `number`, the name and the text are. */
+/* The kinds of sayings: for each the function that does the same, and its fields, name and text. */
 enum {
     BM_SAY_ANSWER = 1, /* bm_answer: number; text: the result */
     BM_SAY_FAIL,       /* bm_fail: number, code; name: the message; text: the data, or none */
@@ -146,7 +146,7 @@ enum {
     BM_SAY_CANCEL      /* bm_cancel: number */
 };
 
-/* The judge: whose rules a conversation is held against. */
+/* The judge: the rules that a conversation is checked against. */
 enum {
     BM_RULES_JSONRPC,       /* JSON-RPC 2.0 alone */
     BM_RULES_LSP,           /* the Language Server Protocol */
@@ -154,24 +154,24 @@ enum {
     BM_RULES_MCP_2025_03_26 /* that of 2025-03-26, which has batches */
 };
 
-/* The two that talk: the one that started the other, and the other. */
+/* The two sides: the client is the one that started the other. */
 enum { BM_CLIENT, BM_SERVER };
 
-/* How bad a finding is. */
+/* The level of a finding. */
 enum {
     BM_MUST,   /* the standard forbids it */
     BM_SHOULD, /* the standard advises against it */
-    BM_NOTE    /* allowed, but worth a look; or the judge can't know who is wrong */
+    BM_NOTE    /* allowed, but worth a look; or the judge can't know which side is wrong */
 };
 
-/* Who keeps a rule. */
+/* Who is responsible for keeping a rule. */
 enum {
     BM_WHOSE_CONNECTION, /* a connection of this library, whatever its host does */
-    BM_WHOSE_HOST,       /* its host */
-    BM_WHOSE_NOBODY      /* it is no rule: BM_RULE_NOT_JUDGED */
+    BM_WHOSE_HOST,       /* its host: the program that uses it */
+    BM_WHOSE_NOBODY      /* nobody: BM_RULE_NOT_JUDGED isn't a rule */
 };
 
-/* The rules: docs/judge.md tells of each what breaks it. */
+/* The rules: docs/judge.md describes what breaks each of them. */
 enum {
     BM_RULE_HEAD,
     BM_RULE_NOT_JSON,
@@ -201,31 +201,34 @@ enum {
     BM_RULE_CANCEL_INITIALIZE,
     BM_RULE_AFTER_CANCEL,
     BM_RULE_UNANSWERED,
-    BM_RULE_NOT_JUDGED /* no rule: the judge can't tell, or can't go on */
+    BM_RULE_NOT_JUDGED, /* not a rule: the judge can't decide, or can't go on */
+    BM_RULE_BOTH_KINDS,
+    BM_RULE_TWICE
 };
 
-/* What a connection is made with. All zero is a good start: frames, answers as soon as they can go out, no cancels, and
- * the greatest limits. */
+/* The settings of bm_new. All zero is a good start: frames, responses as soon as possible, no cancels, and the maximum
+ * limits. */
 typedef struct {
     uint32_t framing;       /* BM_FRAMES, BM_LINES or BM_CONTENTS */
     uint32_t order;         /* BM_AS_ANSWERED or BM_AS_CAME */
-    uint32_t takes_cancels; /* 1 where the protocol has $/cancelRequest, else 0 */
-    uint32_t content;       /* how many bytes a content may have, at most 16,777,216; 0 is this greatest value */
-    uint64_t calls;         /* how many calls may come; 0 is the greatest value, 2^64 - 1 */
+    uint32_t takes_cancels; /* 1 if $/cancelRequest is a cancel (BM_CANCELS_LSP), else 0 */
+    uint32_t content;       /* maximum message size in bytes, at most 16,777,216; 0 means this maximum */
+    uint64_t calls;         /* maximum number of requests and notifications received; 0 means 2^64 - 1 */
 } bm_settings;
 
-/* What bm_open makes a connection with. All zero but the size is a good start, as with bm_settings. */
+/* The options of bm_open. All zero except the size is a good start, as with bm_settings. */
 typedef struct {
     uint32_t size;    /* sizeof(bm_options): it tells the library which fields there are */
     uint32_t framing; /* BM_FRAMES, BM_LINES or BM_CONTENTS */
     uint32_t order;   /* BM_AS_ANSWERED or BM_AS_CAME */
-    uint32_t cancels; /* BM_CANCELS_NONE or one of its neighbours */
-    uint32_t broken;  /* 1 where BM_BROKEN is to be told, else 0 */
-    uint32_t content; /* how many bytes a content may have, at most 2,147,483,647; 0 is 16,777,216 */
+    uint32_t cancels; /* BM_CANCELS_NONE, BM_CANCELS_LSP or BM_CANCELS_MCP */
+    uint32_t broken;  /* 1 to report BM_BROKEN, else 0 */
+    uint32_t content; /* maximum message size in bytes, at most 2,147,483,647; 0 means 16,777,216 */
     uint64_t calls;   /* as in bm_settings */
-    uint32_t entries; /* how many entries a batch may have; 0 is 100,000, and UINT32_MAX any number. One of more is a
-                       * single invalid entry: it is answered once, none of its calls is told, its replies are lost */
-    uint32_t null_params; /* 1 where params that are null are told as the text null, else 0: they are none then */
+    uint32_t entries; /* maximum batch size; 0 means 100,000, and UINT32_MAX unlimited. A longer batch is treated as one
+                       * invalid entry: it gets one response, none of its requests and notifications is reported, and
+                       * the responses in it are lost */
+    uint32_t null_params; /* 1 to report params that are null as the text null, else 0: they count as absent then */
 } bm_options;
 
 /* A connection. A copy of this struct is the same connection. */
@@ -233,31 +236,31 @@ typedef struct {
     void *at;
 } bm_connection;
 
-/* An event. Its texts lie in the room that was passed with it, one behind the other: the name, a zero byte, the text, a
- * zero byte, the id and a zero byte. So the text begins at room + name_len + 1, the id at room + name_len + text_len +
- * 2, and all three need name_len + text_len + id_len + 3 bytes. The zero bytes aren't counted, and are there for
- * lengths of 0 too. What isn't named for a kind is 0.
+/* An event. Its name, text and id are written to the buffer that was passed with it, one after the other, each followed
+ * by a zero byte. So the text begins at room + name_len + 1, the id at room + name_len + text_len + 2, and all three
+ * need name_len + text_len + id_len + 3 bytes. The lengths don't count the zero bytes, which are there for lengths of 0
+ * too. What isn't listed for a kind is 0.
  *
- *   BM_CALL        number; flags: BM_REQUEST or 0; name: the method; text: the params as JSON, of length 0 where there
- *                  are none, or where they are null and bm_options don't say that such are told; id: as JSON, of length
- *                  0 where it is a notification
- *   BM_CANCELLED   number: that of the request, which you may have answered since it came
- *   BM_REPLIED     key: that of your call; flags: BM_ERROR or 0; text: the result as JSON. Where it is an error: code;
- *                  name: its message; text: its data as JSON, of length 0 where there are none. An error that is null
- *                  beside a result is none
- *   BM_UNANSWERED  key: that of your call
- *   BM_INPUT_OVER  flags: why, by one of the names above
- *   BM_BROKEN      number: how many bytes were fed before the content's first; flags: BM_UNREADABLE or BM_INVALID;
- *                  text: the content's first bytes, at most 64, which may be any bytes, zeros too. For BM_INVALID
- *                  key: which entry is the first such, from 0, or 0 where the content is a single one; code: how many
- *                  there are
+ *   BM_CALL        number; flags: BM_REQUEST, or 0 for a notification; name: the method; text: the params as JSON, of
+ *                  length 0 if they are absent, or if they are null and bm_options don't ask for null params; id: as
+ *                  JSON, of length 0 for a notification
+ *   BM_CANCELLED   number: that of the request, which you may have answered since the cancel was received
+ *   BM_REPLIED     key: that of the outgoing request; flags: BM_ERROR or 0; text: the result as JSON. For an error:
+ *                  code; name: its message; text: its data as JSON, of length 0 if it has none. An error that is null
+ *                  beside a result isn't an error
+ *   BM_UNANSWERED  key: that of the outgoing request
+ *   BM_INPUT_OVER  flags: why, BM_OVER_CLEAN or one of the values after it
+ *   BM_BROKEN      number: how many bytes were fed before the first byte of the message; flags: BM_UNREADABLE or
+ *                  BM_INVALID; text: the first bytes of the message, at most 64, which may be any bytes, zeros too. For
+ *                  BM_INVALID key: the index of the first invalid entry, from 0, or 0 if the message isn't a batch;
+ *                  code: how many invalid entries there are
  */
 typedef struct {
     uint32_t kind;
     uint32_t flags;
-    uint64_t number; /* counts the calls that came, from 1; for BM_BROKEN a place in the input */
-    uint64_t key;    /* counts your calls, from 1; for BM_BROKEN the place of an entry, from 0 */
-    int64_t code;    /* that of an error; for BM_BROKEN a count */
+    uint64_t number; /* of a received request or notification: they are counted from 1; for BM_BROKEN an offset */
+    uint64_t key;    /* of an outgoing request: they are counted from 1; for BM_BROKEN the index of an entry */
+    int64_t code;    /* of an error; for BM_BROKEN a count */
     size_t name_len;
     size_t text_len;
     size_t id_len;
@@ -265,54 +268,55 @@ typedef struct {
 
 /* What has happened so far. */
 typedef struct {
-    uint64_t calls;           /* calls that came, requests and notifications */
+    uint64_t calls;           /* requests and notifications received */
     uint64_t requests;        /* of these, the requests */
-    uint64_t open;            /* calls that came and aren't answered */
-    uint64_t waiting;         /* your calls that wait for a reply */
-    uint64_t own_calls;       /* your calls, each of a batch */
-    uint64_t answers_written; /* answers that have gone out, whether taken or not; an array is one */
-    uint64_t unreadable;      /* contents that couldn't be read */
-    uint64_t invalid;         /* entries that were neither a call nor a reply */
-    uint64_t ignored;         /* replies that nobody waited for, and cancels that reached no request */
+    uint64_t open;            /* requests and notifications received that aren't answered yet */
+    uint64_t waiting;         /* outgoing requests that are pending */
+    uint64_t own_calls;       /* outgoing requests, each one of a batch counted */
+    uint64_t answers_written; /* responses sent, whether taken or not; an array counts as one */
+    uint64_t unreadable;      /* messages that couldn't be read (BM_UNREADABLE) */
+    uint64_t invalid;         /* invalid messages; in a batch, each invalid entry (BM_INVALID) */
+    uint64_t ignored;         /* responses that no request waited for, and cancels that reached no request */
 } bm_report;
 
-/* What bm_tell and bm_fed told. */
+/* What bm_tell and bm_fed reported. */
 typedef struct {
-    uint32_t count;   /* how many events lie in the room */
-    uint32_t stopped; /* why no more: BM_STOP_NONE and its neighbours */
-    size_t used;      /* how many bytes of the room they take, up to the last zero byte of the last one */
-    size_t needed;    /* at BM_STOP_ROOM, how much room the next event needs by itself; else 0 */
-    size_t pending;   /* what bm_pending gives then */
+    uint32_t count;   /* how many events are in the buffer */
+    uint32_t stopped; /* why there are no more: BM_STOP_NONE or one of the values after it */
+    size_t used;      /* how many bytes of the buffer they take, up to the last zero byte of the last one */
+    size_t needed;    /* with BM_STOP_ROOM, the buffer size that the next event needs by itself; else 0 */
+    size_t pending;   /* what bm_pending returns then */
 } bm_told;
 
-/* One thing to say. Its name and its text lie in the bytes that are passed with it, behind those of the sayings before
- * it: first the name, then the text, with nothing between. A length of 0 for a text is none, as in the calls. */
+/* One saying of bm_say_all: a response, an outgoing request or batch, a notification or a cancel. Its name and its text
+ * are in the bytes that are passed with it, after those of the sayings before it: first the name, then the text, with
+ * nothing between. A text of length 0 is an absent one, as in the functions. */
 typedef struct {
-    uint32_t kind;   /* BM_SAY_ANSWER or one of its neighbours */
-    int32_t said;    /* written: its code, BM_OK where it is said */
-    uint64_t number; /* a call that came; for BM_SAY_CALL and BM_SAY_BATCH, the one on whose behalf, or 0 */
-    uint64_t key;    /* for BM_SAY_WITHDRAW a call of yours. Written at BM_OK: for BM_SAY_CALL its key, for BM_SAY_BATCH
-                      * the first key */
+    uint32_t kind;   /* BM_SAY_ANSWER or one of the values after it */
+    int32_t said;    /* written: its code, BM_OK if it succeeded */
+    uint64_t number; /* of a received request or notification; for BM_SAY_CALL and BM_SAY_BATCH, as in bm_call */
+    uint64_t key;    /* for BM_SAY_WITHDRAW, of an outgoing request. Written with BM_OK: for BM_SAY_CALL its key, for
+                      * BM_SAY_BATCH the first key */
     int64_t code;    /* of the error, for BM_SAY_FAIL */
-    size_t name_len; /* how many bytes its name has */
-    size_t text_len; /* how many bytes its text has */
-    size_t calls;    /* for BM_SAY_BATCH, how many of the sayings right behind it are its calls */
+    size_t name_len; /* the length of its name */
+    size_t text_len; /* the length of its text */
+    size_t calls;    /* for BM_SAY_BATCH, how many of the sayings right after it are its requests */
 } bm_saying;
 
-/* What came of all that was to be said. */
+/* The result of bm_say_all. */
 typedef struct {
-    size_t refused; /* how many got another code than BM_OK */
-    size_t taken;   /* how many bytes were moved to the room */
-    size_t pending; /* what bm_pending gives then */
+    size_t refused; /* how many sayings got a code other than BM_OK */
+    size_t taken;   /* how many bytes were moved to the buffer */
+    size_t pending; /* what bm_pending returns then */
 } bm_said;
 
-/* What bm_judge_new makes a judge with. All zero but the size is a good start: JSON-RPC, frames, and usual limits. */
+/* The options of bm_judge_new. All zero except the size is a good start: JSON-RPC, frames, and the default limits. */
 typedef struct {
     uint32_t size;    /* sizeof(bm_judge_options) */
-    uint32_t rules;   /* BM_RULES_JSONRPC or one of its neighbours */
+    uint32_t rules;   /* BM_RULES_JSONRPC or one of the values after it */
     uint32_t framing; /* BM_FRAMES, BM_LINES or BM_CONTENTS, for both sides */
-    uint32_t content; /* how many bytes a content may have, at most 16,777,216; 0 is this greatest value */
-    uint32_t ids;     /* how many used ids of a side are kept, a run of whole numbers counted once; 0 is 1,000,000 */
+    uint32_t content; /* maximum message size in bytes, at most 16,777,216; 0 means this maximum */
+    uint32_t ids;     /* how many used ids of a side are kept, consecutive integers counted as one; 0 means 1,000,000 */
 } bm_judge_options;
 
 /* A judge. A copy of this struct is the same judge. */
@@ -320,191 +324,196 @@ typedef struct {
     void *at;
 } bm_judge;
 
-/* That a side broke a rule, and in which message. The message is one of that side's, but for BM_RULE_UNANSWERED, where
- * it is the request of the other side. The words at fault aren't in it, since the judge keeps none of what has passed:
- * you have them at the offset. */
+/* A finding: which side broke which rule, and in which message. That side wrote the message, except for
+ * BM_RULE_UNANSWERED: there it is the request of the other side. A finding doesn't quote the message, since the judge
+ * doesn't keep what it was passed: you have the text, at the offset. */
 typedef struct {
-    uint32_t side;   /* BM_CLIENT or BM_SERVER: who broke it */
-    uint32_t rule;   /* BM_RULE_HEAD or one of its neighbours */
-    uint32_t level;  /* BM_MUST or one of its neighbours */
-    uint32_t whose;  /* BM_WHOSE_CONNECTION or one of its neighbours */
-    uint64_t number; /* the how-manieth content of its side's stream, from 1 */
-    uint64_t offset; /* of the content's first byte in that stream, from 0; of a fault, of its frame or line */
-    uint64_t entry;  /* the entry's place in its array, from 1; 0 where it is no array, or all of it is meant */
+    uint32_t side;   /* BM_CLIENT or BM_SERVER: which one broke the rule */
+    uint32_t rule;   /* BM_RULE_HEAD or one of the values after it */
+    uint32_t level;  /* BM_MUST, BM_SHOULD or BM_NOTE */
+    uint32_t whose;  /* BM_WHOSE_CONNECTION or one of the values after it */
+    uint64_t number; /* the message's index in the stream of the side that wrote it, from 1 */
+    uint64_t offset; /* of the message's first byte in that stream, from 0; for a framing fault, of its frame or line */
+    uint64_t entry;  /* the entry's index in its batch, from 1; 0 if the message isn't a batch, or all of it is meant */
 } bm_finding;
 
-/* The version of the library's calls: compare it with BM_INTERFACE before any other call. */
+/* Returns the version of the library's functions. Compare it with BM_INTERFACE before any other call. */
 uint32_t bm_interface(void);
 
-/* Whether the library has an addition: BM_HAS_TOGETHER or one of its neighbours. Of a number that it doesn't know
- * it has none. */
+/* Returns whether the library has an addition: BM_HAS_TOGETHER or one of the values after it. The result for a
+ * number that it doesn't know is false. */
 bool bm_has(uint32_t addition);
 
-/* Makes a connection and writes it to *at, as in
+/* Creates a connection and writes it to *at, as in
  *     bm_connection connection;
  *     int32_t code = bm_new(&settings, &connection.at);
- * *at needn't hold anything before, and is written where the code is BM_OK. Give the connection back by bm_free.
- * BM_SETTINGS: there are no such settings. BM_NO_MEMORY. */
+ * *at needn't be initialized, and is written only if the code is BM_OK. Free the connection by bm_free.
+ * BM_SETTINGS: the settings aren't valid. BM_NO_MEMORY. */
 int32_t bm_new(const bm_settings *settings, void **at);
 
-/* The same, with what bm_settings can't say, as in
+/* Creates a connection as bm_new does, with settings that bm_settings lacks, as in
  *     bm_options options = {.size = sizeof options, .framing = BM_LINES, .cancels = BM_CANCELS_MCP, .broken = 1};
  *     int32_t code = bm_open(&options, &connection.at);
- * bm_new is bm_open with the same numbers, BM_CANCELS_LSP or none, batches with any number of entries, and without
- * BM_BROKEN and params that are null.
- * BM_SETTINGS: there are no such options, or none of this size. BM_NO_MEMORY. */
+ * bm_new is bm_open with the same values, BM_CANCELS_LSP or BM_CANCELS_NONE, batches of any size, and without BM_BROKEN
+ * and null params.
+ * BM_SETTINGS: the options aren't valid, or the library doesn't know their size. BM_NO_MEMORY. */
 int32_t bm_open(const bm_options *options, void **at);
 
-/* Frees the connection with all that it holds. No call on it may follow, nor one on a copy of the struct. */
+/* Frees the connection and all that it holds. Make no call on it afterwards, nor on a copy of the struct. */
 void bm_free(bm_connection connection);
 
-/* Gives bytes of the input, cut as they were read. With BM_CONTENTS each call gives one content; else a length of 0
- * changes nothing. After a fault of the input, bytes are accepted and ignored.
- * BM_OVER: the input was ended by bm_end. BM_NO_MEMORY: none of the bytes was taken. */
+/* Passes bytes of the input, in pieces of any size. With BM_CONTENTS each call passes one message; otherwise a length
+ * of 0 has no effect. After a fault of the input, bytes are accepted and ignored.
+ * BM_OVER: bm_end was called. BM_NO_MEMORY: none of the bytes was accepted. */
 int32_t bm_feed(bm_connection *connection, const uint8_t *bytes, size_t length);
 
-/* Says how the input ended: BM_CLOSED or BM_READ_FAILED. Once all that came before has been told, the calls that wait
- * are told as BM_UNANSWERED, and then comes BM_INPUT_OVER. It needs no memory.
- * BM_OVER: it was ended before. BM_SETTINGS: there is no such way to end. */
+/* Ends the input, and says how it ended: BM_CLOSED or BM_READ_FAILED. Once everything received before is reported, each
+ * pending outgoing request is reported as BM_UNANSWERED, and then the end as BM_INPUT_OVER. It needs no memory.
+ * BM_OVER: bm_end was called before. BM_SETTINGS: `how` is another value. */
 int32_t bm_end(bm_connection *connection, uint32_t how);
 
-/* Whether the bytes that were fed are at fault: once what came before has been told, BM_INPUT_OVER says which fault it
- * is, from BM_OVER_BAD_HEAD to BM_OVER_TRUNCATED. Writes to *offset how many bytes were fed before the frame or line at
- * fault; in BM_CONTENTS, before the content that is too long. Where nothing is at fault *offset is left as it is. A
- * number of 2^64 or more, here and in BM_BROKEN, is told as 2^64 - 1. */
+/* Returns whether the bytes that were fed have a fault. After the events of the messages before it, BM_INPUT_OVER
+ * reports which fault it is, from BM_OVER_BAD_HEAD to BM_OVER_TRUNCATED. Writes to *offset how many bytes were fed
+ * before the frame or line with the fault; with BM_CONTENTS, before the message that is too long. If there is no
+ * fault, *offset is left unchanged. An offset of 2^64 or more, here and in BM_BROKEN, is reported as 2^64 - 1. */
 bool bm_fault_at(bm_connection *connection, uint64_t *offset);
 
-/* Tells the next event: it is moved to *event and the room. Call it until the kind is BM_NONE: an answer to broken
- * input goes out only as it is gone past. BM_NONE needs no room.
- * BM_SMALL: the event doesn't fit the room. *event is written, so its lengths say how much room it needs. The event
- * isn't told, and comes again. BM_NO_MEMORY. */
+/* Reports the next event: moves it to *event and to the buffer `room`. Call it until the kind is BM_NONE, since an
+ * invalid message is answered only by the call that goes past it. BM_NONE needs no space in the buffer.
+ * BM_SMALL: the event doesn't fit in the buffer. *event is written, so its lengths say how much space it needs. The
+ * event isn't reported yet, and the next call returns it again. BM_NO_MEMORY. */
 int32_t bm_next(bm_connection *connection, bm_event *event, uint8_t *room, size_t length);
 
-/* Tells as many of the next events as fit the room: each a bm_event and, right behind it, its texts; each at the next
- * multiple of 8 from the room's start, which has to lie at a multiple of 8 itself. Writes to *count how many there are
- * (0 where there is no event), and to *used how many bytes of the room they take, up to the last zero byte of the last
- * one: it isn't rounded up to a multiple of 8. It asks for one event more than it tells, so contents may have come of
- * which nothing is told yet. What doesn't fit comes first the next time, be it by this call or by bm_next. Where memory
- * is refused behind the first event it stops early, and doesn't tell that: make it until the count is 0. (bm_tell says
- * why it stopped.)
- * BM_SMALL: not even the first event fits. *count is 0, and *used is how much room it needs. BM_NO_MEMORY: not even the
- * first event could be had. */
+/* Reports as many of the next events as fit in the buffer `room`: each as a bm_event, directly followed by its name,
+ * text and id, and each at the next multiple of 8 bytes from the buffer's start. The buffer itself must be aligned to 8
+ * bytes. Writes to *count how many events there are, 0 if there is none now, and to *used how many bytes of the buffer
+ * they take, up to the last zero byte of the last one: this isn't rounded up to a multiple of 8.
+ * The function looks for one event more than it reports, so messages may have been read of which nothing is reported
+ * yet. An event that doesn't fit is the first one of the next call, of this function or of bm_next. If memory runs out
+ * after the first event, the function stops early and doesn't say so: call it until the count is 0, or use bm_tell,
+ * which says why it stopped.
+ * BM_SMALL: the first event doesn't fit. *count is 0, and *used is the buffer size that it needs. BM_NO_MEMORY:
+ * there is no memory for the first event. */
 int32_t bm_next_all(bm_connection *connection, uint8_t *room, size_t length, size_t *used, uint32_t *count);
 
-/* Tells as many of the next events as fit the room, at most `most`, where 0 is no bound. They lie in the room as those
- * of bm_next_all. Writes to *told how many there are, and why no more. At BM_STOP_NONE it has gone past all input that
- * came. At BM_STOP_ROOM with a count of 0 the room has to grow to *told's `needed`. */
+/* Reports as many of the next events as fit in the buffer `room`, at most `most`; 0 means no maximum. The buffer has
+ * the alignment and the layout of bm_next_all. Writes to *told how many events there are, and why there are no more.
+ * With BM_STOP_NONE all input that was fed has been read. With BM_STOP_ROOM and a count of 0, the buffer must grow
+ * to the field `needed` of *told. */
 void bm_tell(bm_connection *connection, uint8_t *room, size_t length, uint32_t most, bm_told *told);
 
-/* bm_feed and then bm_tell. If the code isn't BM_OK, nothing was fed and nothing was told, and *told isn't written.
+/* Does bm_feed and then bm_tell. If the code isn't BM_OK, nothing was fed or reported, and *told isn't written.
  * BM_OVER, BM_NO_MEMORY. */
 int32_t bm_fed(bm_connection *connection, const uint8_t *bytes, size_t length, uint8_t *room, size_t room_length,
                uint32_t most, bm_told *told);
 
-/* Says all these things, one after the other, each as the call of its kind does by itself: one that is refused changes
- * nothing, and those behind it are said all the same. Its code is written to `said`. Then takes bytes as bm_take does,
- * also with a room of length 0, and writes to *said how it went.
+/* Carries out all sayings in their order, each as the function of its kind does: one that is refused changes nothing,
+ * and the ones after it are carried out all the same. Writes the code of each to its field `said`. Then takes bytes as
+ * bm_take does, also with a room_length of 0, and writes the result to *said.
  *
- * BM_SAY_BATCH is followed by its calls, as many sayings as `calls` says. Of these only the two lengths are read, and
- * nothing is written to them. If there aren't so many behind it, its code is BM_SETTINGS, and none of them is said.
- * The code of a saying of no such kind is BM_SETTINGS too. Bytes of a saying whose kind has no use for them are passed
- * over.
+ * BM_SAY_BATCH is followed by its requests, as many sayings as its field `calls` says. Only their two lengths are read,
+ * and nothing is written to them. If fewer sayings follow, the code of the batch is BM_SETTINGS, and none of them is
+ * sent. The code of a saying of an unknown kind is BM_SETTINGS too. Bytes of a saying that its kind doesn't use are
+ * skipped.
  *
- * BM_SETTINGS: the lengths of all names and texts don't add up to `length`. Then nothing is said, taken or written. */
+ * BM_SETTINGS: the lengths of all names and texts don't add up to `length`. Then nothing is sent, taken or written. */
 int32_t bm_say_all(bm_connection *connection, bm_saying *sayings, size_t count, const uint8_t *bytes, size_t length,
                    uint8_t *room, size_t room_length, bm_said *said);
 
-/* Calls the other side, on behalf of the open call `number`, or of nobody where it is 0. Writes to *key the key under
- * which the reply is told. A length of 0 for params is none. Replies to calls of an answered number are ignored.
+/* Sends a request on behalf of the open request or notification `number`, or of none if it is 0. Writes to *key the key
+ * with which the response is reported. A params_length of 0 means no params. Once `number` is answered, responses to
+ * its outgoing requests are ignored.
  * BM_NOT_OPEN, BM_NOT_TEXT, BM_NOT_JSON, BM_OVER, BM_FULL, BM_NO_MEMORY. */
 int32_t bm_call(bm_connection *connection, uint64_t number, const uint8_t *method, size_t method_length,
                 const uint8_t *params, size_t params_length, uint64_t *key);
 
-/* Calls the other side several times in one batch, all or nothing. The bytes hold each call's method and params, one
- * behind the other; `lengths` has two numbers a call, the method's length and that of the params (0: none), and
- * `lengths_count` is twice the number of calls. Writes the first key to *first; the others follow it.
- * BM_SETTINGS: the count is odd, or the lengths don't add up to that of the bytes. BM_NOT_OPEN, BM_NOT_TEXT,
+/* Sends several requests in one batch, all or nothing, on behalf of `number` as with bm_call. `bytes` has the method
+ * and the params of each request, one after the other. `lengths` has two lengths per request, of its method and of its
+ * params (0: no params), so `lengths_count` is twice the number of requests. Writes the first key to *first; the other
+ * keys follow it in order.
+ * BM_SETTINGS: `lengths_count` is odd, or the lengths don't add up to `length`. BM_NOT_OPEN, BM_NOT_TEXT,
  * BM_NOT_JSON, BM_OVER, BM_EMPTY, BM_FULL, BM_NO_MEMORY. */
 int32_t bm_call_batch(bm_connection *connection, uint64_t number, const uint8_t *bytes, size_t length,
                       const size_t *lengths, size_t lengths_count, uint64_t *first);
 
-/* Sends a notification, also after the input is over. A length of 0 for params is none.
+/* Sends a notification, also after the input has ended. A params_length of 0 means no params.
  * BM_NOT_TEXT, BM_NOT_JSON, BM_NO_MEMORY. */
 int32_t bm_notify(bm_connection *connection, const uint8_t *method, size_t method_length, const uint8_t *params,
                   size_t params_length);
 
-/* Tells the other side that this call of yours isn't wanted any more. It still waits for its reply, which is told. With
- * BM_CANCELS_MCP it waits no longer: its key is over, and a reply that comes is ignored.
+/* Cancels an outgoing request: sends the cancel notification. The request stays pending, and its response is reported.
+ * With BM_CANCELS_MCP it is no longer pending: the key is no longer valid, and a late response is ignored.
  * BM_NOT_WAITING, BM_NO_MEMORY. */
 int32_t bm_withdraw(bm_connection *connection, uint64_t key);
 
-/* Answers a request with a result, or closes a notification: pass a length of 0 for one, since nothing is written; a
- * result is checked all the same. For a request a length of 0 is no result. Each call that came is held until it is
- * answered, notifications too, also one that has the name of a cancel and isn't one.
+/* Answers a request with a result, or closes a notification. For a notification pass a length of 0, since nothing is
+ * sent; a result is checked all the same. For a request a length of 0 isn't a result. Each received request and
+ * notification is held until it is answered, including a notification that has the name of a cancel and isn't one.
  * BM_NOT_OPEN, BM_NOT_JSON, BM_NO_MEMORY. */
 int32_t bm_answer(bm_connection *connection, uint64_t number, const uint8_t *result, size_t length);
 
-/* Closes a notification: bm_answer with a length of 0. A request isn't closed so: it is BM_NOT_JSON, and stays open.
+/* Closes a notification: bm_answer with a length of 0. A request can't be closed so: it is BM_NOT_JSON, and stays open.
  * BM_NOT_OPEN, BM_NOT_JSON, BM_NO_MEMORY. */
 int32_t bm_close_call(bm_connection *connection, uint64_t number);
 
-/* Answers a request with an error, or closes a notification. A length of 0 for data is none.
+/* Answers a request with an error, or closes a notification. A data_length of 0 means no data.
  * BM_NOT_OPEN, BM_NOT_TEXT, BM_NOT_JSON, BM_NO_MEMORY. */
 int32_t bm_fail(bm_connection *connection, uint64_t number, int64_t code, const uint8_t *message, size_t message_length,
                 const uint8_t *data, size_t data_length);
 
-/* Answers a request as cancelled (-32800), and first withdraws your calls on its behalf that wait. With BM_CANCELS_MCP
- * a request whose BM_CANCELLED has come is closed without an answer: nothing is written for it. In a batch its entry is
- * left out, and a batch without entries writes nothing.
+/* Answers a request as cancelled (-32800), or closes a notification. Before that it cancels the pending outgoing
+ * requests made on its behalf. With BM_CANCELS_MCP a request for which a cancel was received is closed without a
+ * response: nothing is sent for it. In a batch its response is left out, and a batch without responses sends nothing.
  * BM_NOT_OPEN, BM_NO_MEMORY. */
 int32_t bm_cancel(bm_connection *connection, uint64_t number);
 
-/* How many bytes are to be written; with BM_CONTENTS, the length of the next text. It isn't limited: stop feeding while
- * it is large, such as more than a mebibyte, or more than the longest answer that you give. */
+/* Returns how many bytes are to be written; with BM_CONTENTS, the length of the next message. It isn't limited: stop
+ * feeding while it is large, such as more than a mebibyte, or more than the longest response that you send. */
 size_t bm_pending(bm_connection *connection);
 
-/* Moves the first bytes that are to be written to the room, as many as it has room for, and gives how many they are.
- * With BM_CONTENTS it moves one whole text, or gives 0 where the room is too small for it; bm_pending tells that from
- * there being none. It may give memory back, by realloc. */
+/* Moves the first bytes that are to be written to the buffer `room`, as many as fit, and returns how many. With
+ * BM_CONTENTS it moves one whole message, or returns 0 if the buffer is too small for it or there is none;
+ * bm_pending tells which. It may give memory back, by realloc. */
 size_t bm_take(bm_connection *connection, uint8_t *room, size_t length);
 
-/* Takes as bm_take does, and tells where nothing fits. Writes to *count how many bytes were moved: 0 where there are
+/* Takes bytes as bm_take does, and reports if nothing fits. Writes to *count how many bytes were moved: 0 if there are
  * none to be written.
- * BM_SMALL: there are some, and none was moved, since the room is too small. *count is what bm_pending gives. */
+ * BM_SMALL: there are bytes, and none was moved, since the buffer is too small. *count is what bm_pending returns. */
 int32_t bm_taken(bm_connection *connection, uint8_t *room, size_t length, size_t *count);
 
-/* Whether all is done: the input is over, every event is told, every call that came is answered, every byte taken. */
+/* Returns whether all is done: the input has ended, every event is reported, every received request and notification
+ * is answered, and every byte is taken. */
 bool bm_is_done(bm_connection *connection);
 
-/* Writes what has happened so far. */
+/* Writes to *report what has happened so far. */
 void bm_counts(bm_connection *connection, bm_report *report);
 
-/* Makes a judge, which has seen nothing, and writes it to *at, as in
+/* Creates a judge, which has seen nothing yet, and writes it to *at, as in
  *     bm_judge_options options = {.size = sizeof options, .rules = BM_RULES_LSP};
  *     int32_t code = bm_judge_new(&options, &judge.at);
- * *at needn't hold anything before, and is written where the code is BM_OK. Give the judge back by bm_judge_free.
- * BM_SETTINGS: there are no such options, or none of this size. BM_NO_MEMORY. */
+ * *at needn't be initialized, and is written only if the code is BM_OK. Free the judge by bm_judge_free.
+ * BM_SETTINGS: the options aren't valid, or the library doesn't know their size. BM_NO_MEMORY. */
 int32_t bm_judge_new(const bm_judge_options *options, void **at);
 
-/* Frees the judge with all that it holds. No call on it may follow, nor one on a copy of the struct. */
+/* Frees the judge and all that it holds. Make no call on it afterwards, nor on a copy of the struct. */
 void bm_judge_free(bm_judge judge);
 
-/* Says that a side wrote these bytes, cut as they were seen; with BM_CONTENTS each call is one content. Say what is
- * seen in the order in which it came, and before the other side can have read it: an answer is judged by what was asked
- * before it. Behind the end of its side it counts nothing.
- * BM_SETTINGS: there is no such side. BM_NO_MEMORY: it is as if the bytes hadn't been seen, and nothing more is: from
- * then on this call and bm_judge_ended give BM_NO_MEMORY. What was found before is still told. */
+/* Passes bytes that a side wrote, in pieces of any size; with BM_CONTENTS each call passes one message. Pass them in
+ * the order in which they were written, and before the other side can have read them: a response is judged by the
+ * requests before it. Bytes after the end of their side are ignored.
+ * BM_SETTINGS: there is no such side. BM_NO_MEMORY: these bytes are ignored, and so is all later input: from then on
+ * this function and bm_judge_ended return BM_NO_MEMORY. What was found before is still reported. */
 int32_t bm_judge_saw(bm_judge *judge, uint32_t side, const uint8_t *bytes, size_t length);
 
-/* Says that a side's stream ended: BM_CLOSED or BM_READ_FAILED. A second end of a side counts nothing.
- * BM_SETTINGS: there is no such side, or no such end. BM_NO_MEMORY, as in bm_judge_saw. */
+/* Ends a side's stream, and says how it ended: BM_CLOSED or BM_READ_FAILED. A second end of a side is ignored.
+ * BM_SETTINGS: there is no such side, or `how` is another value. BM_NO_MEMORY, as in bm_judge_saw. */
 int32_t bm_judge_ended(bm_judge *judge, uint32_t side, uint32_t how);
 
-/* Moves the first findings that weren't told to the room, which has room for `most`, and gives how many they are. The
- * others come the next time, in their order: make it until it gives less than `most`. It takes no memory. */
+/* Moves the first findings that aren't reported yet to `findings`, an array of `most`, and returns how many. The
+ * others follow with the next call, in their order: call it until it returns less than `most`. It needs no memory. */
 size_t bm_judge_next(bm_judge *judge, bm_finding *findings, size_t most);
 
-/* What a code says, in English. */
+/* Returns what a code means, in English. */
 static inline const char *bm_code_text(int32_t code)
 {
     static const char *const texts[] = {
@@ -523,17 +532,17 @@ static inline const char *bm_code_text(int32_t code)
     return code >= 0 && (size_t)code < sizeof texts / sizeof *texts ? texts[code] : "another code";
 }
 
-/* Why the input is over, in English, by the flags of BM_INPUT_OVER. */
+/* Returns why the input has ended, in English, by the flags of BM_INPUT_OVER. */
 static inline const char *bm_over_text(uint32_t flags)
 {
     static const char *const texts[] = {
         "the input was closed",
-        "a line of a head isn't a field",
+        "a header line isn't a field",
         "a Content-Length isn't a number",
-        "a head has two Content-Lengths",
+        "a header has two Content-Lengths",
         "a content is longer than the setting allows",
-        "a head has no Content-Length",
-        "a head has more than 4,096 bytes",
+        "a header has no Content-Length",
+        "a header has more than 4,096 bytes",
         "the input was closed inside a frame",
         "a read failed",
         "more calls came than the setting allows",
@@ -541,7 +550,7 @@ static inline const char *bm_over_text(uint32_t flags)
     return flags < sizeof texts / sizeof *texts ? texts[flags] : "another end";
 }
 
-/* A rule's name, by which docs/judge.md tells of it. */
+/* Returns a rule's name, by which docs/judge.md lists it. */
 static inline const char *bm_rule_name(uint32_t rule)
 {
     static const char *const names[] = {
@@ -559,12 +568,13 @@ static inline const char *bm_rule_name(uint32_t rule)
         "cancelled-code", "cancel-params",
         "cancel-unknown", "cancel-initialize",
         "after-cancel",   "unanswered",
-        "not-judged",
+        "not-judged",     "both-kinds",
+        "twice",
     };
     return rule < sizeof names / sizeof *names ? names[rule] : "another rule";
 }
 
-/* Where a rule stands: in which sections of which standards. */
+/* Returns the sections of the standards that a rule is from. */
 static inline const char *bm_rule_section(uint32_t rule)
 {
     static const char *const sections[] = {
@@ -584,8 +594,8 @@ static inline const char *bm_rule_section(uint32_t rule)
         "LSP has no word on them; MCP 2025-06-18, changes",
         "JSON-RPC 4.1, 5",
         "JSON-RPC 6",
-        "JSON-RPC 4; MCP, messages",
-        "JSON-RPC 4; MCP, messages",
+        "JSON-RPC 4; LSP, Request Message; MCP, messages",
+        "JSON-RPC 4; LSP, Request Message; MCP, messages",
         "JSON-RPC 4",
         "JSON-RPC 6; MCP, messages",
         "JSON-RPC 4",
@@ -597,11 +607,13 @@ static inline const char *bm_rule_section(uint32_t rule)
         "MCP, cancellation",
         "JSON-RPC 5; LSP, Cancellation Support",
         "",
+        "JSON-RPC 4, 5",
+        "JSON-RPC 4, 5; RFC 8259, 4",
     };
     return rule < sizeof sections / sizeof *sections ? sections[rule] : "";
 }
 
-/* What a level says, in English. */
+/* Returns what a level means, in English. */
 static inline const char *bm_level_text(uint32_t level)
 {
     static const char *const texts[] = {"must", "should", "note"};

@@ -1,5 +1,5 @@
-"""What is measured: the baseline, the limit, our program, a second one of ours where it is named, and the program that
-reads and writes alone; and how they are built, or where they lie."""
+"""What is measured: the baseline, the limit, our program, and a second one of ours where it is named; and how they are
+built, or where they lie."""
 import glob
 import os
 import shutil
@@ -25,10 +25,6 @@ V3 = {"avx2", "bmi1", "bmi2", "fma", "movbe", "abm", "f16c"}
 RELEASED = os.path.join(TOP, "release", "rpc_tool")
 # The table of the methods that are built into the baseline.
 METHODS = ("--table", os.path.join(FOLDER, "methods.toml"))
-# By `host` it hosts over a connection.
-HOSTING = os.path.join(TOP, "crates", "script_host", "out", "script_host")
-# By `answer` it reads and writes, and does nothing else.
-READING = os.path.join(TOP, "crates", "peer_bench", "out", "peer_bench")
 
 
 class Contender(NamedTuple):
@@ -53,10 +49,9 @@ def has_v3() -> bool:
 
 
 class Programs(NamedTuple):
-    """Our program, what reads and writes alone, if there is such a one, and another rpc_tool to compare with, if any."""
+    """Our program, and another rpc_tool to compare with, if any."""
 
     ours: str
-    reading: Optional[str]
     before: Optional[str] = None
 
     def named(self) -> Iterator[Tuple[str, str]]:
@@ -69,11 +64,6 @@ class Programs(NamedTuple):
         words = ("play", *(METHODS if has_methods else ()))
         ours = (Contender(name, (it, *words)) for name, it in self.named())
         return [Contender("baseline", (BASELINE,)), *([] if has_calls else limits()), *ours]
-
-    def readers(self) -> List[Contender]:
-        """What answers an input without methods, and keeps nothing of it, beside the baseline, which is first."""
-        reading = [Contender("reading", (self.reading, "answer"))] if self.reading else []
-        return [Contender("baseline", (BASELINE,)), *limits(), *reading]
 
     def servers(self, numbers_of_workers: Tuple[int, ...], has_calls: bool = True) -> List[Contender]:
         """What serves, the baseline first, and the limit where the other side isn't called."""
@@ -110,29 +100,22 @@ def want(counts: bool) -> None:
         sys.exit(f"bench/run: first apt-get install -y {' '.join(wanted)}")
 
 
-def built(before: Optional[str], reading: Optional[str], counts: bool) -> Programs:
-    """The programs, built where they aren't yet. A `peer_bench` that is named is taken as it is."""
+def built(before: Optional[str], counts: bool) -> Programs:
+    """The programs, built where they aren't yet."""
     want(counts)
     subprocess.run([os.path.join(TOP, "bin", "rpc_tool"), "--version"], check=True, stdout=subprocess.DEVNULL)
     build_others()
     ours = program.current(sources.stamp())
     if ours is None:
         sys.exit("bench/run: the program's sources changed while it was built")
-    return Programs(ours, reading or proved(READING), before)
+    return Programs(ours, before)
 
 
 def released(before: Optional[str], counts: bool) -> Programs:
-    """The released program, and nothing that reads alone."""
+    """The released program."""
     want(counts)
     build_others()
-    return Programs(RELEASED, None, before)
-
-
-def built_host(hosting: Optional[str], counts: bool) -> str:
-    """The program that hosts, which is taken as it is where it is named; and what it is measured beside."""
-    want(counts)
-    build_others()
-    return hosting or proved(HOSTING)
+    return Programs(RELEASED, before)
 
 
 def build_others() -> None:
@@ -142,14 +125,3 @@ def build_others() -> None:
     for label, target in TARGETS.items():
         words = ["cc", "-std=c11", "-O3", f"-march={target}", LIMIT, "-o", file_of_limit(label)]
         subprocess.run(words, check=True)
-
-
-def proved(program_file: str) -> str:
-    """A program of the repository, proved and built over what earlier checks kept."""
-    words = ["rt", "run", "--", "--version"]
-    ended = subprocess.run(
-        words, cwd=os.path.dirname(os.path.dirname(program_file)), capture_output=True, text=True, check=False
-    )
-    if ended.returncode:
-        sys.exit(f"bench/run: {os.path.basename(program_file)} isn't proved or doesn't build:\n{ended.stderr[-2000:]}")
-    return program_file

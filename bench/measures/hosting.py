@@ -1,16 +1,13 @@
-"""The tables of a host, whose methods are its own code: loads in bulk and round trips, by `script_host host`, by the
-baseline's host and by the limit, each on one thread; inputs that stand there whole; and how often each asks for memory
-for one small request."""
+"""What hosts are measured by, whose methods are their own code: loads in bulk and round trips, and how often each asks
+for memory for one small request."""
 import os
 import sys
 from typing import List
 
-from measures.behind import Behind
-from measures.contenders import BASELINE, TOP, Contender, limits
+from measures.contenders import TOP, Contender, limits
 from measures.inputs import KEPT, TEXTS, add, add_with_blanks, cancel, frame, frames, request
 from measures.loads import FIRST, Load, Round, added, batches, bulk, cancelled, load, numbers, result, text_of
-from measures.playing import hosts_table
-from measures.serving import LONG_MESSAGES, Row, show_bulks, show_trips_of
+from measures.serving import LONG_MESSAGES, Row
 
 sys.path.insert(0, os.path.join(TOP, "checks"))
 
@@ -100,10 +97,6 @@ SMALL = {
 }
 
 
-def hosts(program: str) -> List[Contender]:
-    return [Contender("baseline", (BASELINE, "host")), *limits(), Contender("ours", (program, "host"))]
-
-
 def requests_for_memory(host: Contender, entry: bytes) -> float:
     """How often a host asks for memory for an entry, once it has taken many of them."""
     made = []
@@ -121,14 +114,3 @@ def memory_table(contenders: List[Contender]) -> None:
     for name, entry in SMALL.items():
         for host in (it for it in contenders if it not in limits()):
             print(f"{name:20} {host.label:17} {requests_for_memory(host, entry):>10.2f}", flush=True)
-
-
-def table(program: str, small: int, runs: int, counts: bool, behind: Behind) -> None:
-    contenders = hosts(program)
-    show_bulks(BULKS, "sent at once", lambda _: contenders, small, runs, behind)
-    print()
-    show_trips_of(TRIPS, "there and back", lambda _: contenders, small, runs, behind)
-    print()
-    hosts_table("played (host)", contenders, small, runs, counts, behind)
-    print()
-    memory_table(contenders)

@@ -165,8 +165,6 @@ INPUTS: Tuple[Input, ...] = (
     Input("the same in batches", batches_of_calls_back, 100_000, STEPS, has_methods=True, has_calls=True),
     CANCELS,
 )
-# What is read and answered alone.
-READ: Tuple[Input, ...] = tuple(it for it in INPUTS if not it.has_methods)
 # What hosts answer too, as a `play` does: there the ids of calls are keys.
 HOSTED: Tuple[Input, ...] = tuple(
     it._replace(why=TEXTS if it.length else KEPT) for it in (*HOVERS, *LONG, *ADDS, ADDS_IN_BATCHES, CANCELS)

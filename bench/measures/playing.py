@@ -1,4 +1,4 @@
-"""The tables of `play` and of reading and writing alone: each input read from a file, whole, and answered into
+"""The table of `play`: each input read from a file, whole, and answered into
 nothing."""
 import os
 import re
@@ -9,7 +9,7 @@ from typing import Dict, List, NamedTuple
 
 from measures.behind import Behind
 from measures.contenders import Contender, Programs
-from measures.inputs import EACH_METHOD, HOSTED, INPUTS, READ, Input
+from measures.inputs import EACH_METHOD, HOSTED, INPUTS, Input
 
 # Instructions are counted at this part of the size.
 COUNTED = 10
@@ -144,10 +144,3 @@ def hosts_table(title: str, hosts: List[Contender], small: int, runs: int, count
     show_head(title)
     for row in HOSTED:
         show_row(row, hosts, small, runs, counts, behind)
-
-
-def reading_table(programs: Programs, small: int, runs: int, counts: bool, behind: Behind) -> None:
-    """What reading and writing take alone, with no desk and no session."""
-    show_head("read and answered")
-    for row in READ:
-        show_row(row, programs.readers(), small, runs, counts, behind)

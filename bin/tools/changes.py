@@ -1,4 +1,4 @@
-"""Which crates a change touches."""
+"""Which crates and files a change touches."""
 from __future__ import annotations
 
 import subprocess
@@ -30,6 +30,17 @@ def files_since(base: str) -> list[str]:
     """The files that differ from a commit, those that aren't committed too."""
     changed = git("diff", "--name-only", "--no-renames", base).splitlines()
     return changed + git("ls-files", "--others", "--exclude-standard").splitlines()
+
+
+def is_as_landed(folder: str) -> bool:
+    """Whether what lies in a folder is what the last landing has there; on its branch, what the one before had. Where
+    no landing is known it isn't."""
+    try:
+        base, head = git("merge-base", last_landing(), "HEAD").strip(), git("rev-parse", "HEAD").strip()
+        changed = files_since(f"{head}^" if base == head else base)
+    except Fault:
+        return False
+    return not any(it.startswith(f"{folder}/") for it in changed)
 
 
 def crates_since(reference: str) -> tuple[list[str], str]:

@@ -2,8 +2,8 @@
 release/.
 
 Both libraries hold the same compiled code: that of the crate, for any x86-64, and the few lines of C by which it takes
-memory. They are made by the kit's own linker, from the kit's own C library, so they are the same byte for byte wherever
-they are made, and need no kit to be used. Why so: docs/decisions/tests_and_releases.md#building."""
+memory. They are made by the kit's own linker, so they are the same byte for byte wherever they are made, and need no
+kit to be used. Why so: docs/decisions/tests_and_releases.md#building."""
 from __future__ import annotations
 
 import hashlib
@@ -28,19 +28,12 @@ def say(text: str) -> None:
     print(f"bin/build-library: {text}", file=sys.stderr, flush=True)
 
 
-def shared(prover: Prover, made: str) -> list[str]:
-    """The words that make the shared library: of what it has only the calls can be seen, and it needs libc.so.6
-    alone."""
-    words = [
-        f"{prover.kit}/toolchain/bin/ld.lld",
-        "-shared",
-        "-soname",
-        SHARED,
-        f"--version-script={prover.room}/include/bullmyrtle.map",
-    ]
-    words += sources.LINKED[sources.LIBRARY]
-    words += ["--whole-archive", f"{prover.made}.a", "--no-whole-archive", f"{prover.kit}/c/liblibc_c.a"]
-    return [*words, f"{prover.kit}/toolchain/lib/libc.so.6", "-o", made]
+def shared(linker: str, listed: str, static_library: str, made: str) -> list[str]:
+    """The words that make the shared library of the static one: of what it has only the calls that are listed can be
+    seen. It names no C library: what loads it has one already, glibc's or musl's, and its six functions are the same in
+    both. (Linked with libc.so.6 it would ask for versions of symbols that musl hasn't.)"""
+    words = [linker, "-shared", "-soname", SHARED, f"--version-script={listed}", *sources.LINKED[sources.LIBRARY]]
+    return [*words, "--whole-archive", static_library, "--no-whole-archive", "-o", made]
 
 
 def static(prover: Prover, made: str) -> str:
@@ -59,8 +52,9 @@ def link(prover: Prover) -> str:
     """Makes the three files of what was built of the crate, and gives the folder where they lie."""
     folder = f"{prover.room}/made"
     os.makedirs(folder)
-    run(shared(prover, f"{folder}/{SHARED}"))
     run([f"{prover.kit}/toolchain/bin/llvm-ar", "-M"], static(prover, f"{folder}/{STATIC}"))
+    linker, listed = f"{prover.kit}/toolchain/bin/ld.lld", f"{prover.room}/include/bullmyrtle.map"
+    run(shared(linker, listed, f"{folder}/{STATIC}", f"{folder}/{SHARED}"))
     program.write(f"{folder}/{HEADER}", read_bytes(f"{prover.room}/include/{HEADER}"))
     return folder
 

@@ -2,9 +2,9 @@
 with a tally."""
 from __future__ import annotations
 
+import ast
 import glob
 import os
-import re
 from typing import Iterable
 
 from tools.repository import TOP, read_text
@@ -12,8 +12,9 @@ from tools.repository import TOP, read_text
 PARTS = ("pages", "rows", "python", "rust", "c", "node", "proofs")
 # The part of a file whose name doesn't begin with that of its part. What stands nowhere is of the rows.
 OF = {
-    **dict.fromkeys(("examples", "methods", "pictures", "embedding", "promises"), "pages"),
-    **dict.fromkeys(("wrong_bodies", "wrong_body_judge", "tried", "planted", "wings", "progress"), "proofs"),
+    **dict.fromkeys(("examples", "methods", "pictures", "embedding", "promises", "quick", "site", "figures"), "pages"),
+    "ports": "c",
+    **dict.fromkeys(("wrong_bodies", "wrong_body_judge", "tried", "wings", "progress"), "proofs"),
 }
 
 
@@ -32,6 +33,18 @@ def files_of(parts: Iterable[str]) -> tuple[list[str], list[str]]:
     return tests, [it for it in found if it not in tests]
 
 
+def marked(test: str) -> set[bool]:
+    """Of the tests of a file, whether they have the mark `alone`: whether there are such, and others."""
+    functions = [it for it in ast.walk(ast.parse(read_text(test))) if isinstance(it, ast.FunctionDef)]
+    tests = [it for it in functions if it.name.startswith("test_")]
+    return {"pytest.mark.alone" in map(ast.unparse, it.decorator_list) for it in tests}
+
+
 def measures(test: str) -> bool:
     """Whether a file has tests that measure, and so run while nothing else does."""
-    return re.search(r"^@pytest\.mark\.alone$", read_text(test), re.M) is not None
+    return True in marked(test)
+
+
+def has_others(test: str) -> bool:
+    """Whether a file has tests that don't. (A file without any is run too, so that this is seen.)"""
+    return marked(test) != {True}

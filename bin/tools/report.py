@@ -15,6 +15,9 @@ from tools.repository import TOP
 TALLY = re.compile(r"(\d+) passed, (\d+) failed\s*")
 SKIPPED = "SKIPPED: "
 SHOWN = 10
+# How a line begins, or what it has in it, that tells a failure; and how many of them the end has of a part.
+TELLS_FAILURE = re.compile(r"(FAILED|ERROR|FAIL|BAD)\b|E   ")
+REPEATED, INDENT = 12, " " * 4
 
 
 class Part(NamedTuple):
@@ -40,11 +43,18 @@ def tally(part: Part, status: int, lines: list[str]) -> tuple[int, int]:
     return passed, failed or int(status != 0 or passed < part.least)
 
 
+def told_last(lines: list[str]) -> list[str]:
+    """The lines of a part that failed that tell a failure, or its last ones, as the end repeats them."""
+    telling = [it for it in lines if TELLS_FAILURE.match(it) and not TALLY.fullmatch(it)]
+    return [f"{INDENT}{it.rstrip()[:300]}" for it in (telling or lines)[-REPEATED:]]
+
+
 class Report:
     def __init__(self, has_table: bool = True) -> None:
         self.has_table = has_table
         self.passed, self.failed = 0, 0
         self.skipped: list[str] = []
+        self.fallen: list[str] = []
         self.seconds: dict[str, float] = {}
         self.printing, self.begun = threading.Lock(), time.monotonic()
 
@@ -55,6 +65,7 @@ class Report:
     def check(self, name: str, is_well: bool, text: str) -> None:
         """Counts what this script itself looked at."""
         self.passed, self.failed = self.passed + is_well, self.failed + (not is_well)
+        self.fallen += [] if is_well else [f"{name}: {text}"]
         self.say(f"{name}: {'' if is_well else 'FAILED: '}{text}")
 
     def skip(self, text: str) -> None:
@@ -62,8 +73,8 @@ class Report:
         self.say(f"{SKIPPED}{text}")
 
     def run(self, part: Part, is_shown_at_once: bool = True) -> bool:
-        """Runs a part, and gives whether all of it passed. What it prints is shown line by line, or whole once it has
-        ended."""
+        """Runs a part, and gives whether all of it passed. What it prints is shown line by line; or, once it has ended,
+        whole where it failed and else what it skipped alone, so that a failure isn't lost among what passed."""
         begun, lines = time.monotonic(), list[str]()
         if is_shown_at_once:
             self.say(part.name)
@@ -79,21 +90,26 @@ class Report:
 
     def ended(self, part: Part, status: int, lines: list[str], seconds: float, was_shown: bool) -> bool:
         passed, failed = tally(part, status, lines)
+        told = f"{part.name}: {passed} passed, {failed} failed, {seconds:.0f} seconds"
+        skipped = [it for it in lines if it.startswith(SKIPPED)]
         with self.printing:
-            if not was_shown:
-                print(f"== {part.name}\n{''.join(lines)}", end="")
-            print(f"== {part.name}: {passed} passed, {failed} failed, {seconds:.0f} seconds", flush=True)
+            if not was_shown and (failed or skipped):
+                print(f"== {part.name}\n{''.join(lines if failed else skipped)}", end="")
+            print(f"== {told}", flush=True)
             self.passed, self.failed = self.passed + passed, self.failed + failed
-            self.skipped += [it[len(SKIPPED) :].rstrip() for it in lines if it.startswith(SKIPPED)]
+            self.skipped += [it[len(SKIPPED) :].rstrip() for it in skipped]
+            self.fallen += [told, *told_last(lines)] if failed else []
             self.seconds[part.name] = seconds
         return failed == 0
 
     def end(self) -> int:
-        """Prints the slowest parts and what was skipped, and then the last line; gives the status."""
+        """Prints the slowest parts, what was skipped and what failed, and then the last line; gives the status."""
         if self.seconds and self.has_table:
             self.print_slowest()
         for it in self.skipped:
             print(f"{SKIPPED}{it}")
+        for it in self.fallen:
+            print(it if it.startswith(INDENT) else f"FAILED: {it}")
         print(f"{self.passed} passed, {self.failed} failed", flush=True)
         return 1 if self.failed else 0
 

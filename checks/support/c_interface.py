@@ -76,7 +76,7 @@ IN_RUST = {
 STRUCTS = {
     "bm_settings": ("bullmyrtle/src/settings.rt", "Settings"),
     "bm_options": ("bullmyrtle/src/settings.rt", "Options"),
-    "bm_event": ("event_rooms/src/head.rt", "EventHead"),
+    "bm_event": ("host_calls/src/head.rt", "EventHead"),
     "bm_report": ("bullmyrtle/src/report.rt", "Report"),
     "bm_told": ("host_calls/src/telling.rt", "Told"),
     "bm_saying": ("host_calls/src/sayings.rt", "Saying"),
@@ -138,6 +138,8 @@ FIRST_NAMES = (
 )
 # What the static library defines beside the calls, by which it takes memory (docs/embedding.md names them).
 OF_THE_HEAP = {"rattle_alloc", "rattle_dealloc", "rattle_realloc"}
+# What the library takes of the C library of the program that loads it.
+OF_C = ("free", "malloc", "memcpy", "memmove", "memset", "realloc")
 WIDTHS = {
     "int32_t": ctypes.c_int32,
     "uint32_t": ctypes.c_uint32,

@@ -1,5 +1,6 @@
 """Programs in C over the library: which library is tried, how a program is built with it, and how it is run."""
 import os
+import re
 import shutil
 import subprocess
 from typing import Any, Iterable, Optional
@@ -25,15 +26,6 @@ def default_library() -> str:
 
 def is_whole(library: str) -> bool:
     return all(os.path.isfile(f"{library}/{it}") for it in ("libbullmyrtle.so.1", "libbullmyrtle.a", "bullmyrtle.h"))
-
-
-def lacks_open(library: str) -> bool:
-    """Whether a library is of before `bm_open`, by which scripts are played; what is skipped for want of it is told."""
-    with open(f"{library}/bullmyrtle.h", encoding="utf-8") as it:
-        is_missing = "bm_open" not in it.read()
-    if is_missing:
-        print(f"SKIPPED: scripts, since the library in {library} has no bm_open", flush=True)
-    return is_missing
 
 
 def said(words: list[str], given: bytes = b"", **more: Any) -> tuple[int, bytes, bytes]:
@@ -72,6 +64,24 @@ def build(
     got = said([*(words or C99), f"-I{library}", file, *linked(library, way), *more, "-o", made])
     count.check(f"{os.path.basename(file)} is built without a warning, {way}", got[0] == 0, f"{got}")
     return made
+
+
+def built_alone(file: str, room: str, more: Iterable[str] = ()) -> Optional[str]:
+    """The same with the library that is tried, where nothing else is; None, and a line that says so, where there is no
+    library or no compiler."""
+    library = default_library()
+    if not is_whole(library) or shutil.which("cc") is None:
+        print(f"SKIPPED: what needs {os.path.basename(file)}, since there is no C compiler or no library", flush=True)
+        return None
+    made = f"{room}/{os.path.basename(file).removesuffix('.c')}"
+    subprocess.run([*C99, f"-I{library}", file, *linked(library, "static"), *more, "-o", made], check=True)
+    return made
+
+
+def wrapped(file: str) -> list[str]:
+    """The words by which a program's calls go to those that this file in C puts around them."""
+    with open(file, encoding="ascii") as it:
+        return [f"-Wl,--wrap={name}" for name in sorted({*re.findall(r"__wrap_(\w+)\(", it.read())})]
 
 
 def has_cjson() -> bool:

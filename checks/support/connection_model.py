@@ -4,7 +4,8 @@ from dataclasses import dataclass, field
 from typing import Any, Callable, NamedTuple, Optional
 
 from support import connection_reading as reading
-from support.connection_reading import SAID_DEPTH, Content, Entry, Error, Input, Members, Unit
+from support.connection_reading import SAID_DEPTH, Entry, Error, Input, Members, Unit
+from support.framings import Content
 from support.reading import ABSENT
 
 PARSE_ERROR = Error(-32700, "Parse error")

@@ -1,4 +1,4 @@
-"""What a connection is fed: the contents of its three framings, and the units and entries of a content, by the rules of
+"""What a connection is fed: the contents that wait, and the units and entries of a content, by the rules of
 docs/connection.md."""
 import json
 import re
@@ -6,6 +6,7 @@ from dataclasses import dataclass, field
 from typing import Any, Optional
 
 from support import reading
+from support.framings import Content, Cutter
 from support.reading import ABSENT, SIGNED, WHOLE
 
 INTEGER = re.compile(r"-?(0|[1-9][0-9]*)")
@@ -41,6 +42,10 @@ def value_of(data: bytes, depth: int = reading.DEPTH) -> Any:
     text = data.decode("utf-8")
     if reading.depth_of(text) > depth or reading.has_half_a_pair(text):
         raise ValueError("no JSON")
+    return loaded(text)
+
+
+def loaded(text: str) -> Any:
     return json.loads(
         text, parse_int=Number, parse_float=Number, parse_constant=reading.refuse, object_pairs_hook=Members
     )
@@ -159,9 +164,7 @@ def entry_of(value: Any, cancels: Optional[str], null_params: bool = False) -> E
     return Entry("reply", key=key, said=said_by(value)) if key is not None and key > 0 else Entry("stray")
 
 
-def unit_of(
-    content: "Content", cancels: Optional[str], entries: Optional[int] = None, null_params: bool = False
-) -> Unit:
+def unit_of(content: Content, cancels: Optional[str], entries: Optional[int] = None, null_params: bool = False) -> Unit:
     """What a content is, where these are the conversation's cancels, if it has any, and how many entries a batch may have,
     if that is limited."""
     try:
@@ -180,77 +183,31 @@ def unit_of(
 # Framings
 
 
-@dataclass(frozen=True)
-class Content:
-    data: bytes
-    is_foreign: bool
-    place: int  # of its first byte, counted from the first byte that was fed, from 0
-
-
 class Input:
-    """The bytes that were fed, as contents that wait, and how the input ends once it does."""
+    """The contents that wait, of the bytes that were fed, and how the input ends once it does."""
 
     def __init__(self, framing: str, limit: int) -> None:
-        self.framing, self.limit = framing, limit
-        self.rest, self.waiting = b"", list[Content]()
-        self.place = 0  # of the first byte that is in no content yet
+        self.cutter, self.waiting = Cutter(framing, limit), list[Content]()
         self.end = ""
         self.fault_place: Optional[int] = None
 
     def feed(self, piece: bytes) -> None:
-        if self.end:
-            return
-        if self.framing == "contents":
-            self.take(piece, self.place)
-            self.place += len(piece)
-        else:
-            self.rest += piece
-            while self.rest and not self.end and (self.take_line() if self.framing == "lines" else self.take_frame()):
-                pass
+        if not self.end:
+            self.waiting += self.cutter.feed(piece)
+            self.fail(self.cutter.fault)
 
     def finish(self, is_failed: bool) -> None:
         """The input ends; a fault that came before is what ends it."""
         if self.end:
             return
-        if self.framing == "lines" and not is_failed:
-            self.take_content_of(self.rest)
-        if self.framing == "frames" and self.rest != b"" and not is_failed:
+        last = None if is_failed else self.cutter.last()
+        if last and self.cutter.framing == "frames":
             self.fail("Truncated")
+        elif last:
+            self.waiting.append(last)
         self.end = self.end or ("Read" if is_failed else "Clean")
 
     def fail(self, fault: str) -> None:
-        """The frame, the line or the content that begins here is at fault."""
-        self.end, self.fault_place = fault, self.place
-
-    def take(self, content: bytes, place: int, is_foreign: bool = False) -> None:
-        if len(content) > self.limit:
-            self.fail("TooLarge")
-        else:
-            self.waiting.append(Content(content, is_foreign, place))
-
-    def take_frame(self) -> bool:
-        """Takes a frame off the front, and says whether there was one."""
-        frame, fault = reading.frame_at(self.rest, 0, self.limit)
-        if frame is None:
-            if fault != "Truncated":
-                self.fail(fault)
-            return False
-        self.take(frame.content, self.place + frame.end - len(frame.content), frame.is_foreign)
-        self.rest, self.place = self.rest[frame.end :], self.place + frame.end
-        return True
-
-    def take_line(self) -> bool:
-        """Takes a line off the front, and says whether there was one."""
-        line, end, rest = self.rest.partition(b"\n")
-        if not end:
-            if len(line.removesuffix(b"\r")) > self.limit:
-                self.fail("TooLarge")
-            return False
-        self.take_content_of(line)
-        self.rest, self.place = rest, self.place + len(line) + 1
-        return True
-
-    def take_content_of(self, line: bytes) -> None:
-        content = line.removesuffix(b"\r")
-        if content.strip(b" \t") or len(content) > self.limit:
-            self.take(content, self.place)
+        """The frame, the line or the content that begins here is at fault, if there is a fault."""
+        if fault:
+            self.end, self.fault_place = fault, self.cutter.place

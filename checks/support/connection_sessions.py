@@ -309,7 +309,7 @@ def places_of(actions: tuple[Action, ...], stream: bytes) -> list[tuple[int, boo
     counts = [(0, False, False)]
     for at in range(len(stream)):
         came.feed(stream[at : at + 1])
-        counts.append((len(came.waiting), came.end != "", framing == "frames" and came.rest != b""))
+        counts.append((len(came.waiting), came.end != "", framing == "frames" and came.cutter.rest != b""))
     return counts
 
 

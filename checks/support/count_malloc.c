@@ -2,7 +2,7 @@
    five numbers of 64 bits: the most bytes that were held so far, the bytes that were held behind the last request,
    those that are held now, how many requests were made, and a word that the reader may set: before the next request all
    memory that is free is then given back to the system. (The file is mapped, since a program may end without a word to
-   its libraries.) With HELD_LOSE a block of 24 bytes is lost behind each so many requests, so that whoever looks for
+   its libraries.) With HELD_LOSE a block of 24 bytes is lost behind each so many requests, so that anyone who looks for
    losses can be seen to find one. */
 #include <malloc.h>
 #include <stddef.h>

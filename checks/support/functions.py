@@ -5,7 +5,9 @@ import re
 from dataclasses import dataclass
 from typing import Iterator, Optional
 
-FN = re.compile(r'(?P<indent> *)(?:pub(?:\([^)]*\))? )?(?:const )?(?:unsafe )?(?:extern "C" )?fn (?P<name>\w+)')
+FN = re.compile(
+    r'(?P<indent> *)(?P<pub>pub(?:\([^)]*\))? )?(?P<const>const )?(?:unsafe )?(?:extern "C" )?fn (?P<name>\w+)'
+)
 IMPL = re.compile(r"(?:unsafe )?impl\b")
 
 
@@ -16,10 +18,13 @@ class Function:
     file: str
     name: str  # as a reader says it: `put_head`, `Text::eq`
     printed: "re.Pattern[str]"  # what its name in the check's output fits
+    ending: str  # how that name ends, or all of it; nothing where only a pattern tells
     start: int
     end: int
     opening: int  # the offset behind the brace that opens its body; 0 where it has none
     cycle: str  # the cycle of calls that it is in, as its attribute names it
+    is_const: bool
+    is_hidden: bool  # whether no other crate can call it: it isn't `pub`, and no trait's
 
     def holds(self, start: int, end: int) -> bool:
         return self.start <= start and end <= self.end
@@ -128,8 +133,21 @@ def functions_of(crate: str, file: str, text: str) -> Iterator[Function]:
         if found["indent"]:
             owner, shown = owner_of(header) if header else ("", r"\w+")
             printed = rf"{path}(?:\S+::)?{shown}::{name}"
+            ending = f"{shown}::{name}" if shown.isidentifier() else ""
             name = f"{owner}::{name}" if owner else name
         else:
-            printed = f"{path}{module_of(file)}{name}"
+            ending = f"{crate}::{module_of(file)}{name}"
+            printed = re.escape(ending)
         opened = starts[opening + 1] - 1 if opening is not None else 0
-        yield Function(file, name, re.compile(printed), starts[at], starts[past + 1] - 1, opened, cycle_of(lines, at))
+        yield Function(
+            file,
+            name,
+            re.compile(printed),
+            ending,
+            starts[at],
+            starts[past + 1] - 1,
+            opened,
+            cycle_of(lines, at),
+            found["const"] is not None,
+            found["pub"] != "pub " and not re.search(r"\btrait\b| for\b", header),
+        )

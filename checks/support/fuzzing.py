@@ -38,6 +38,11 @@ def calls_in(step: dict[str, Any]) -> int:
     return {"call": 1, "calls": len(step.get("list", [])), "each": 3}.get(step["kind"], 0)
 
 
+def methods_of(table: str) -> dict[str, int]:
+    """The methods of a table, with how many calls each may make."""
+    return {it["name"]: sum(map(calls_in, it.get("step", []))) for it in tomllib.loads(table).get("method", [])}
+
+
 class Tables:
     """The tables that streams are run with: their files, and what the laws know of them."""
 
@@ -50,7 +55,7 @@ class Tables:
         self.methods: dict[str, dict[str, int]] = {}  # with how many calls each may make
         for name, text in texts.items():
             table = tomllib.loads(text)
-            self.methods[name] = {it["name"]: sum(map(calls_in, it.get("step", []))) for it in table["method"]}
+            self.methods[name] = methods_of(text)
             tellers = TELLERS if name in ("traced", "opened") else {}
             self.known[name] = laws.Table(frozenset(self.methods[name]), bool(table.get("opening")), tellers)
 

@@ -173,10 +173,12 @@ class Grammar:
             self.due += [(self.calls, turn) for turn in range(1, most + 1)]
         return made
 
+    def value(self) -> Any:
+        """A message, and now and then a batch."""
+        return [self.entry() for _ in range(self.chance.randint(0, 5))] if self.chance.random() < 0.25 else self.entry()
+
     def content(self) -> bytes:
-        value = (
-            [self.entry() for _ in range(self.chance.randint(0, 5))] if self.chance.random() < 0.25 else self.entry()
-        )
+        value = self.value()
         spaced = self.chance.random() < 0.1
         return json.dumps(value, ensure_ascii=self.chance.random() < 0.5, indent=1 if spaced else None).encode()
 

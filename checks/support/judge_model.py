@@ -1,11 +1,12 @@
 """A plain model of the judge, by the rules of docs/judge.md: what is found in what was seen of two sides."""
 from collections import Counter
 from dataclasses import dataclass, field
-from typing import Any, Callable, Iterable, Iterator, NamedTuple, Optional
+from typing import Any, Callable, Iterator, NamedTuple, Optional
 
 from support import judge_reading as reading
 from support.connection_reading import Members
-from support.judge_reading import Content, Decimal, Entry, Id, Stream, Unit, Unreadable
+from support.framings import Content
+from support.judge_reading import Decimal, Entry, Id, Stream, Unit, Unreadable
 from support.judge_rules import MUST, NOT_JUDGED, NOTE, RULES, SHOULD, Rules
 from support.reading import ABSENT, WHOLE
 
@@ -20,7 +21,7 @@ PARSE_ERROR, INVALID_REQUEST, CANCELLED = -32700, -32600, -32800
 
 
 class Place(NamedTuple):
-    """A message: the how-manieth of a side's stream, from 1, and the offset of its first byte; and the entry's place in
+    """A message: its index in a side's stream, from 1, and the offset of its first byte; and the entry's place in
     an array, from 1, or 0."""
 
     side: str
@@ -67,6 +68,8 @@ class Due:
 def owed_by(entry: Entry, place: Place, rules: Rules, words: str) -> Optional[Owed]:
     """What an entry is owed, if it may be answered at all."""
     own = () if entry.id is ABSENT else (entry.id,)
+    if entry.first is not None:
+        return owed_by_either(entry, place, own, words)
     if entry.kind == "request":
         if entry.is_odd:
             return Owed(place, False, None, (None, *own), words=words)
@@ -79,6 +82,17 @@ def owed_by(entry: Entry, place: Place, rules: Rules, words: str) -> Optional[Ow
     if entry.kind == "broken answer":
         return Owed(place, False, ABSENT, (None, *own), words=words)
     return None
+
+
+def owed_by_either(entry: Entry, place: Place, own: tuple[Id, ...], words: str) -> Owed:
+    """A member stands twice in it: it may be left, refused, or answered by the last id or the first."""
+    assert entry.first is not None
+    if entry.kind == "notification":
+        return Owed(place, False, ABSENT, (None,), words=words)
+    may = (None, *own, *(() if entry.first.id is ABSENT else (entry.first.id,)))
+    is_null = entry.kind == "invalid" and not (entry.faults == ("params",) and entry.params is None)
+    expected = None if is_null or entry.is_odd else entry.id
+    return Owed(place, False, ABSENT if entry.is_answer else expected, may, words=words)
 
 
 # Ids that were used
@@ -160,7 +174,7 @@ class Judge:
         for content in its.stream.saw(data):
             self.take(side, content)
         if its.stream.is_over and not was_over:
-            place = Place(side, its.count + 1, its.stream.offset)
+            place = Place(side, its.count + 1, its.stream.place)
             self.find(side, its.stream.fault, NOTE if its.stream.fault == NOT_JUDGED else MUST, place)
 
     def end(self, side: str, how: str) -> None:
@@ -197,7 +211,7 @@ class Judge:
         """A close inside a frame, or behind a line that has no LF."""
         its = self.sides[side]
         place = self.next_place(side, content)
-        if its.stream.framing == "frames":
+        if its.stream.cutter.framing == "frames":
             self.find(side, "cut-off", MUST, place)
             return
         try:
@@ -219,7 +233,7 @@ class Judge:
 
     def next_place(self, side: str, content: Content) -> Place:
         self.sides[side].count += 1
-        return Place(side, self.sides[side].count, content.offset)
+        return Place(side, self.sides[side].count, content.place)
 
     def take_unit(self, side: str, unit: Unit, place: Place) -> None:
         if unit.is_array and not unit.entries:
@@ -254,11 +268,17 @@ class Judge:
         its = self.sides[side]
         for fault in entry.faults:
             self.find(side, fault, MUST, place, words)
+        if entry.is_both:
+            self.find(side, "both-kinds", MUST, place, words)
+        if entry.first is not None:
+            self.find(side, "twice", SHOULD, place, words)
         self.take_code(side, entry, place, words)
         if entry.kind in ("request", "notification") and entry.method.startswith("rpc."):
             self.find(side, "rpc-name", NOTE, place, words)
         if entry.kind == "notification":
             self.take_notification(side, entry, place, words)
+        if entry.first is not None:
+            self.take_first(side, entry.first)
         if entry.kind == "request":
             self.take_id(side, entry, place, words, due.is_batch)
         if not entry.is_answer and entry.id is not ABSENT and entry.id is not None:
@@ -301,6 +321,13 @@ class Judge:
         if self.rules.cancel and entry.method == self.rules.cancel:
             self.take_cancel(side, entry, place, words)
 
+    def take_first(self, side: str, first: reading.First) -> None:
+        """By the members that stand first, it may be `exit` or a cancel."""
+        if self.rules.name == "lsp" and first.method == "exit":
+            self.sides[side].has_exited = True
+        if self.rules.cancel and first.method == self.rules.cancel:
+            self.cancel_all(side, self.target_of(first.params))
+
     def take_cancel(self, side: str, entry: Entry, place: Place, words: str) -> None:
         its, target = self.sides[side], self.target_of(entry.params)
         if target is ABSENT:
@@ -311,6 +338,9 @@ class Judge:
             self.find(side, "cancel-unknown", MUST if is_must else NOTE, place, words)
         if self.rules.ids_once and target in its.initialize:
             self.find(side, "cancel-initialize", MUST, place, words)
+        self.cancel_all(side, target)
+
+    def cancel_all(self, side: str, target: Any) -> None:
         for owed in self.owed_with(OTHER[side], target):
             owed.is_cancelled = True
             owed.must = owed.must and not self.rules.cancel_settles
@@ -416,24 +446,32 @@ class Judge:
         )
 
     def owed_to_null(self, side: str, entry: Entry, in_array: bool) -> Optional[tuple[Due, Optional[Owed]]]:
-        dues, code = self.sides[side].dues, entry.code.within(WHOLE) if entry.code is not None else None
+        code = entry.code.within(WHOLE) if entry.code is not None else None
         if code == PARSE_ERROR and not in_array:
-            wholes: Iterable[Optional[Due]] = (
-                next((it for it in dues if it.is_unreadable), None),
-                next((it for it in dues if it.has_huge), None),
-            )
-            unreadable, huge = wholes
-            if unreadable is not None:
-                return unreadable, None
-            if (asked := self.first(side, (False, is_null_request), (True, is_null_request))) is not None:
-                return asked
-            return (huge, None) if huge is not None else self.refused_batch(side, entry)
+            return self.owed_to_parse_error(side, entry)
         order = (is_null_invalid, is_null_request) if code == INVALID_REQUEST else (is_null_request, is_null_invalid)
         ways = [(in_batch, it) for in_batch in (False, True) for it in (*order, may_be_null)]
         if in_array or (found := self.first(side, *ways[:3])) is None:
             found = None if in_array else self.refused_batch(side, entry)
             return found if found is not None else self.first(side, *ways)
         return found
+
+    def owed_to_parse_error(self, side: str, entry: Entry) -> Optional[tuple[Due, Optional[Owed]]]:
+        """What a single -32700 under null is for: what stands in no batch, first what has to be answered, and last what
+        may be left; then a batch, or a member of one."""
+        dues = self.sides[side].dues
+        unreadable = next((it for it in dues if it.is_unreadable), None)
+        if unreadable is not None:
+            return unreadable, None
+        if (asked := self.first(side, (False, is_null_request))) is not None:
+            return asked
+        huge = next((it for it in dues if it.has_huge), None)
+        if huge is not None:
+            return huge, None
+        if (invalid := self.first(side, (False, is_unnamed))) is not None:
+            return invalid
+        refused = self.refused_batch(side, entry)
+        return refused if refused is not None else self.first(side, (True, is_null_request))
 
     def refused_batch(self, side: str, entry: Entry) -> Optional[tuple[Due, Optional[Owed]]]:
         """Where the rules have no batches, an error may refuse a whole one."""
@@ -494,13 +532,17 @@ class Judge:
     def take_end(self, side: str, how: str) -> None:
         """What a side still owes when it ends."""
         its, asker = self.sides[side], self.sides[OTHER[side]]
-        is_excused = asker.ended != "" or asker.has_exited
+        is_excused = asker.ended != "" or asker.has_exited or self.ends_session(side)
         for due in its.dues:
             level = NOTE if how == "failed" or due.may_be_answered else self.or_note(MUST)
             for owed in due.entries:
                 if owed.must and not is_excused:
                     self.find(side, "unanswered", level, owed.place, owed.words)
         its.dues.clear()
+
+    def ends_session(self, side: str) -> bool:
+        """The client does, in LSP by `exit`, and in MCP by its end."""
+        return side == "client" and (self.sides[side].has_exited or self.rules.ends_by_close)
 
 
 # Ways in which something owed fits an answer
@@ -516,6 +558,11 @@ def is_null_request(owed: Owed) -> bool:
 
 def is_null_invalid(owed: Owed) -> bool:
     return not owed.is_request and owed.expected is None
+
+
+def is_unnamed(owed: Owed) -> bool:
+    """It is invalid, and has no id that could be given back, but null."""
+    return is_null_invalid(owed) and all(it is None for it in owed.may)
 
 
 def may_be_null(owed: Owed) -> bool:

@@ -127,6 +127,33 @@ def odd_id(rule: str, id_: str, level: str = "") -> Callable[[str, str], list[St
     return steps
 
 
+def both_kinds(side: str, rules: str) -> list[Step]:
+    """A request with a result, and its answer."""
+    return [
+        *alone(side, text_of({**request(FIRST), "result": {}}), "both-kinds"),
+        Step(OTHER[side], text_of(result(FIRST))),
+    ]
+
+
+def members_twice(side: str, rules: str) -> list[Step]:
+    """A request with two ids, which is answered by the first one."""
+    ask = b'{"jsonrpc":"2.0","id":%d,"method":"a","id":%d}' % (FIRST, FIRST + 1)
+    return [*alone(side, ask, "twice", SHOULD), Step(OTHER[side], text_of(result(FIRST)))]
+
+
+def method_twice(side: str, rules: str) -> list[Step]:
+    """A notification with two methods, which is refused."""
+    refusal = {"jsonrpc": "2.0", "id": None, "error": {"code": -32700, "message": "m"}}
+    note = b'{"jsonrpc":"2.0","method":"a","method":"b"}'
+    return [*alone(side, note, "twice", SHOULD), Step(OTHER[side], text_of(refusal))]
+
+
+def answer_twice(side: str, rules: str) -> list[Step]:
+    """An answer with two results, which is one all the same."""
+    answer = b'{"jsonrpc":"2.0","id":%d,"result":1,"result":2}' % FIRST
+    return [Step(OTHER[side], text_of(request(FIRST))), *alone(side, answer, "twice", SHOULD)]
+
+
 def again(side: str, rules: str) -> list[Step]:
     ask, answer = Step(side, text_of(request(FIRST))), Step(OTHER[side], text_of(result(FIRST)))
     level = MUST if RULES[rules].ids_once else NOTE
@@ -163,7 +190,9 @@ def twice(side: str, rules: str) -> list[Step]:
 
 
 def never(side: str, rules: str) -> list[Step]:
-    return [Step(OTHER[side], text_of(request(FIRST)), leaves=MUST)]
+    """Not told of a client that ends the session by it."""
+    is_excused = side == "client" and RULES[rules].ends_by_close
+    return [Step(OTHER[side], text_of(request(FIRST)), leaves="" if is_excused else MUST)]
 
 
 def unknown_cancel(side: str, rules: str) -> list[Step]:
@@ -221,6 +250,10 @@ PLANTS = (
     Plant("id", value("id", request([FIRST]))),
     Plant("outcome", asked("outcome", ASK, BOTH)),
     Plant("error", asked("error", ASK, {"jsonrpc": "2.0", "id": FIRST, "error": "no"})),
+    Plant("both-kinds", both_kinds),
+    Plant("twice", members_twice),
+    Plant("twice", method_twice),
+    Plant("twice", answer_twice),
     Plant("empty-array", value("empty-array", [])),
     Plant("batch", batch, rules=("lsp", "mcp")),
     Plant("not-owed", value("not-owed", result(FIRST))),

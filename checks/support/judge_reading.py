@@ -1,6 +1,5 @@
 """What the judge reads: the contents of a side's stream with their places, and of each content its entries, strictly by
 the standards, as docs/judge.md has it."""
-import json
 import math
 import re
 from dataclasses import dataclass
@@ -8,6 +7,7 @@ from typing import Any, Iterator, NamedTuple, Optional
 
 from support import connection_reading, reading
 from support.connection_reading import Members, Number
+from support.framings import Content, Cutter
 from support.reading import ABSENT, DEPTH, WHOLE
 
 NUMBER = re.compile(r"(-?)([0-9]+)(?:\.([0-9]+))?(?:[eE]([+-]?[0-9]+))?")
@@ -17,20 +17,22 @@ BRACKETS = {"[": "]", "{": "}"}
 # Contents
 
 
-class Content(NamedTuple):
-    data: bytes
-    offset: int  # of its first byte in the side's stream
-    is_foreign: bool = False
-    is_unfinished: bool = False  # a last line without its LF
-
-
 class Stream:
     """The bytes of one side, as contents and a fault."""
 
     def __init__(self, framing: str, limit: int) -> None:
-        self.framing, self.limit = framing, limit
-        self.rest, self.offset = b"", 0  # what isn't cut off yet, and where it begins
-        self.fault = ""  # "head", or "not-judged" where the judge can't go on
+        self.cutter = Cutter(framing, limit)
+
+    @property
+    def fault(self) -> str:
+        """Nothing, "head", or "not-judged" where it is a limit of the judge's, or may be one: a length of more than 10
+        digits isn't told from one that is no number."""
+        fault = self.cutter.fault
+        return "not-judged" if fault in ("BadLength", "TooLarge", "HeadTooLong") else "head" if fault else ""
+
+    @property
+    def place(self) -> int:
+        return self.cutter.place
 
     @property
     def is_over(self) -> bool:
@@ -38,61 +40,12 @@ class Stream:
 
     def saw(self, data: bytes) -> Iterator[Content]:
         """The contents whose last byte is now seen."""
-        if self.framing == "contents":
-            yield from self.piece(data)
-            return
-        self.rest += data
-        while not self.is_over and self.rest:
-            content, length = self.line() if self.framing == "lines" else self.frame()
-            if length == 0:
-                return
-            self.cut(length)
-            if content is not None:
-                yield content
-
-    def cut(self, length: int) -> None:
-        self.rest, self.offset = self.rest[length:], self.offset + length
-
-    def piece(self, data: bytes) -> Iterator[Content]:
-        if self.is_over:
-            return
-        if len(data) > self.limit:
-            self.fault = "not-judged"
-            return
-        yield Content(data, self.offset)
-        self.offset += len(data)
-
-    def line(self) -> tuple[Optional[Content], int]:
-        """The line at the front, where it isn't blank, and its length with its LF, or 0 where there is none."""
-        line, end, _ = self.rest.partition(b"\n")
-        content = line.removesuffix(b"\r")
-        if len(content) > self.limit:
-            self.fault = "not-judged"
-            return None, 0
-        if not end:
-            return None, 0
-        return (Content(content, self.offset) if content.strip(b" \t") else None), len(line) + 1
-
-    def frame(self) -> tuple[Optional[Content], int]:
-        frame, fault = reading.frame_at(self.rest, 0, self.limit)
-        if frame is not None:
-            return Content(frame.content, self.offset + frame.end - len(frame.content), frame.is_foreign), frame.end
-        if fault != "Truncated":
-            self.fault = "not-judged" if self.is_beyond(fault) else "head"
-        return None, 0
-
-    def is_beyond(self, fault: str) -> bool:
-        """Whether a fault is a limit of the judge's, or may be one: a length of more than 10 digits isn't told from one
-        that is no number."""
-        return fault in ("BadLength", "TooLarge", "HeadTooLong")
+        if not self.is_over:
+            yield from self.cutter.feed(data)
 
     def closed(self) -> Optional[Content]:
         """What the close leaves: a line without its LF, or a frame that isn't whole."""
-        if self.is_over or not self.rest or self.framing == "contents":
-            return None
-        data = self.rest.removesuffix(b"\r") if self.framing == "lines" else self.rest
-        is_blank = self.framing == "lines" and not data.strip(b" \t")
-        return None if is_blank else Content(data, self.offset, is_unfinished=True)
+        return self.cutter.last()
 
 
 # JSON
@@ -127,9 +80,7 @@ def too_deep_front(text: str) -> Optional[str]:
 
 def loaded(text: str) -> Any:
     try:
-        return json.loads(
-            text, parse_int=Number, parse_float=Number, parse_constant=reading.refuse, object_pairs_hook=Members
-        )
+        return connection_reading.loaded(text)
     except ValueError:
         raise Unreadable("not-json", "it isn't JSON") from None
 
@@ -211,6 +162,17 @@ def is_plain(value: Any) -> bool:
 
 # Entries
 
+# The members of a message (JSON-RPC 4, 5). Where one stands twice, its reader may take either, or refuse it all (RFC 8259, 4).
+MEMBERS = ("jsonrpc", "id", "method", "params", "result", "error")
+
+
+class First(NamedTuple):
+    """What an entry says by the first of each of its members."""
+
+    id: Any  # the readable id, or ABSENT
+    method: Any
+    params: Any
+
 
 @dataclass(frozen=True)
 class Entry:
@@ -221,6 +183,8 @@ class Entry:
     method: str = ""
     params: Any = ABSENT
     error: Any = ABSENT  # (of an answer)
+    is_both: bool = False  # it has a method and an id, and a result or an error too
+    first: Optional[First] = None  # where a member of it stands twice
 
     @property
     def is_answer(self) -> bool:
@@ -274,10 +238,20 @@ def answer_faults(value: dict[str, Any], id_: Any) -> Iterator[str]:
         yield "error"
 
 
+def first_of(value: Members) -> Optional[First]:
+    names = [name for name, _ in value]
+    if all(names.count(it) < 2 for it in MEMBERS):
+        return None
+    members = dict(reversed(value))
+    id_, method, params = (members.get(it, ABSENT) for it in ("id", "method", "params"))
+    return First(id_of(id_), method, params)
+
+
 def entry_of(value: Any) -> Entry:
     if not isinstance(value, Members):
         return Entry("invalid", ("object",))
     members = dict(value)  # (of a name that stands twice the last counts)
+    first = first_of(value)
     name = members.get("id", ABSENT)
     id_ = id_of(name)
     is_odd = isinstance(name, Number) and not is_plain(name)
@@ -286,12 +260,20 @@ def entry_of(value: Any) -> Entry:
         kind = "invalid" if faults else "request" if "id" in members else "notification"
         method = members.get("method")
         return Entry(
-            kind, faults, id_, is_odd, method if isinstance(method, str) else "", members.get("params", ABSENT)
+            kind,
+            faults,
+            id_,
+            is_odd,
+            method if isinstance(method, str) else "",
+            members.get("params", ABSENT),
+            is_both="id" in members and ("result" in members or "error" in members),
+            first=first,
         )
     faults = tuple(answer_faults(members, id_))
     is_like = "result" in members or "error" in members
-    kind = "invalid" if not is_like else "broken answer" if faults else "answer"
-    return Entry(kind, faults, id_, is_odd, error=members.get("error", ABSENT))
+    is_broken = bool(faults) or first is not None
+    kind = "invalid" if not is_like else "broken answer" if is_broken else "answer"
+    return Entry(kind, faults, id_, is_odd, error=members.get("error", ABSENT), first=first)
 
 
 class Unit(NamedTuple):
@@ -300,7 +282,7 @@ class Unit(NamedTuple):
     is_array: bool
     entries: tuple[Entry, ...]
     texts: tuple[str, ...]  # the words of each entry, compact
-    has_huge: bool
+    has_huge: bool  # or a member of it stands twice: a reader may refuse it whole
 
 
 def unit_of(content: Content) -> Unit:
@@ -308,4 +290,6 @@ def unit_of(content: Content) -> Unit:
     is_array = isinstance(value, list) and not isinstance(value, Members)
     values = value if is_array else [value]
     texts = tuple(connection_reading.text_of(it) for it in values)
-    return Unit(is_array, tuple(map(entry_of, values)), texts, has_huge(value))
+    entries = tuple(map(entry_of, values))
+    may_be_refused = has_huge(value) or any(it.first is not None for it in entries)
+    return Unit(is_array, entries, texts, may_be_refused)

@@ -17,6 +17,8 @@ CONNECTION = (
     "id",
     "outcome",
     "error",
+    "both-kinds",
+    "twice",
     "empty-array",
     "not-owed",
     "not-as-array",
@@ -42,6 +44,7 @@ NOT_JUDGED = "not-judged"
 # The levels that a rule may have; each one that isn't listed is a must.
 OTHER_LEVELS = {
     "line-end": (NOTE,),
+    "twice": (SHOULD,),
     "batch": (NOTE, MUST),
     "not-as-array": (SHOULD,),
     "id-fraction": (SHOULD, MUST),
@@ -68,11 +71,22 @@ class Rules(NamedTuple):
     target: str = ""  # the member of its params that names a request
     cancel_settles: bool = False  # a request whose cancel was seen is owed no longer
     ids_once: bool = False  # an id may never be used again
+    ends_by_close: bool = False  # a client ends the session by its end
     defined: frozenset[int] = frozenset(DEFINED)
     reserved: tuple[range, ...] = (RESERVED,)
 
 
-MCP = Rules("mcp", MUST, MUST, True, "notifications/cancelled", "requestId", cancel_settles=True, ids_once=True)
+MCP = Rules(
+    "mcp",
+    MUST,
+    MUST,
+    may_leave_null=True,
+    cancel="notifications/cancelled",
+    target="requestId",
+    cancel_settles=True,
+    ids_once=True,
+    ends_by_close=True,
+)
 RULES = {
     it.name: it
     for it in (
@@ -80,6 +94,7 @@ RULES = {
         Rules(
             "lsp",
             NOTE,
+            MUST,
             may_leave_null=True,
             cancel="$/cancelRequest",
             target="id",

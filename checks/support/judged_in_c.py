@@ -1,9 +1,13 @@
 """Conversations before the judge of the C library: the lines that `judge_talks.c` reads, and what it has to write, by the
 plain model of the rules."""
 import random
+import re
 from typing import NamedTuple, Optional
 
+from support import judge_conversations as conversations
+from support import judge_planted as plants
 from support import judge_rows as rows
+from support import ran
 from support.connection_script import FRAMINGS
 from support.judge_conversations import Conversation, Seen, show
 from support.judge_model import MOST_CONTENT, MOST_IDS, SIDES, Finding, Judge
@@ -13,6 +17,9 @@ from support.judge_rules import CONNECTION, HOST, MUST, NOT_JUDGED, NOTE, RULES,
 PROTOCOLS, ENDS, LEVELS = [*RULES], ("closed", "failed"), (MUST, SHOULD, NOTE)
 OK, NO_MEMORY = 0, 1
 ALL = 1_000_000  # more than any conversation here has findings
+# The rules as the page has them.
+PAGE = ran.text_of("docs/judge.md")
+PAGES_ROW = re.compile(r"^\| `([a-z-]+)` \| .* \| .*? \| (connection|host) \| (.*) \|$", re.M)
 
 
 class Names(NamedTuple):
@@ -26,6 +33,12 @@ class Names(NamedTuple):
         assert whose or it.rule in CONNECTION
         numbers = (SIDES.index(it.side), self.rules.index(it.rule), LEVELS.index(it.level), whose)
         return " ".join(map(str, ("found", *numbers, it.place.number, it.place.offset, it.place.entry)))
+
+
+# In the header, what isn't judged stands behind the rules that there were first: later ones came behind it.
+FIRST = 28
+ROWS = PAGES_ROW.findall(PAGE)
+NAMES = Names([*(it[0] for it in ROWS[:FIRST]), NOT_JUDGED, *(it[0] for it in ROWS[FIRST:])])
 
 
 def action(seen: Seen) -> str:
@@ -91,3 +104,21 @@ def of_rows() -> list[Talk]:
         )
         for it in rows.all_rows()
     ]
+
+
+def planted(name: str) -> Conversation:
+    chance = random.Random(name)
+    return plants.planted(name, chance.choice((*plants.PLANTS, *plants.CUT))).conversation
+
+
+KINDS = {"with a peer": conversations.with_a_peer, "joined": conversations.joined, "planted": planted}
+
+
+def talks(kind: str, cases: int) -> list[Talk]:
+    """Conversations of a kind, each cut at random and by one set of rules."""
+    trials = []
+    for number in range(cases):
+        chance = random.Random(f"{kind} in C {number}")
+        conversation = conversations.cut_otherwise(chance, KINDS[kind](f"{kind} in C {number}"))
+        trials.append(made(chance, conversation, [*RULES][number % len(RULES)]))
+    return trials

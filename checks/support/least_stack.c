@@ -1,15 +1,20 @@
 /* usage: least_stack LEVELS
  *
  * How much of a stack the library takes: its calls are made on a thread whose stack is filled with a pattern before,
- * and what of that is gone afterwards is what they took, with the thread's own beginning. It prints the bytes.
+ * and what of that is gone afterwards is what they took, with the thread's own beginning. It prints the bytes. In
+ * WebAssembly it is the module's own stack, with what main takes of it; what the engine takes beside can't be seen.
  *
  * What comes nests up to so many levels, and is of all kinds otherwise: numbers and texts, batches, cancels, replies,
  * what is broken, and an input that is at fault. */
+#ifndef _GNU_SOURCE
 #define _GNU_SOURCE
+#endif
 
 #include "bullmyrtle.h"
 
+#ifndef __wasm__
 #include <pthread.h>
+#endif
 #include <stdio.h>
 #include <stdlib.h>
 #include <string.h>
@@ -23,18 +28,24 @@ static int deepest;
 static void must(int32_t code)
 {
     if (code != BM_OK && code != BM_NOT_OPEN && code != BM_NOT_WAITING && code != BM_NOT_JSON) {
-        abort();
+        exit(3);
     }
+}
+
+static size_t added(size_t length, const char *more)
+{
+    memcpy(text + length, more, strlen(more));
+    return length + strlen(more);
 }
 
 /* A message whose params nest so deep. */
 static size_t deep_message(int levels)
 {
-    size_t length = (size_t)sprintf(text, "{\"jsonrpc\":\"2.0\",\"id\":\"d\\u00e9\",\"method\":\"deep\",\"params\":");
+    size_t length = added(0, "{\"jsonrpc\":\"2.0\",\"id\":\"d\\u00e9\",\"method\":\"deep\",\"params\":");
     for (int i = 0; i < levels; i++) {
-        length += (size_t)sprintf(text + length, "%s", i % 2 ? "{\"a\":" : "[1e-7,");
+        length = added(length, i % 2 ? "{\"a\":" : "[1e-7,");
     }
-    length += (size_t)sprintf(text + length, "\"\\ud83d\\ude00\"");
+    length = added(length, "\"\\ud83d\\ude00\"");
     for (int i = levels; i-- > 0;) {
         text[length++] = i % 2 ? '}' : ']';
     }
@@ -104,26 +115,50 @@ static void *make_calls(void *unused)
     return unused;
 }
 
-int main(int count, char **words)
+#ifdef __wasm__
+/* The stack, as the linker lays it out: it lies in front of all else, and grows down. */
+extern uint8_t __stack_low[], __stack_high[];
+
+static size_t taken(void)
 {
-    if (count != 2) {
-        return 2;
+    /* (the address 0 is in it, where nothing may be read: the first bytes aren't looked at) */
+    volatile uint8_t *from = __stack_low + 16, *to = (uint8_t *)__builtin_frame_address(0) - 256;
+    for (volatile uint8_t *at = from; at < to; at++) {
+        *at = PATTERN;
     }
-    deepest = atoi(words[1]);
+    make_calls(NULL);
+    while (from < to && *from == PATTERN) {
+        from++;
+    }
+    return (size_t)(__stack_high - from);
+}
+#else
+static size_t taken(void)
+{
     pthread_t thread;
     pthread_attr_t how;
     uint8_t *stack = aligned_alloc(4096, STACK);
     if (stack == NULL || pthread_attr_init(&how) || pthread_attr_setstack(&how, stack, STACK)) {
-        return 2;
+        exit(2);
     }
     memset(stack, PATTERN, STACK);
     if (pthread_create(&thread, &how, make_calls, NULL) || pthread_join(thread, NULL)) {
-        return 2;
+        exit(2);
     }
     size_t left = 0;
     while (left < STACK && stack[left] == PATTERN) {
         left++;
     }
-    printf("%zu\n", STACK - left);
+    return STACK - left;
+}
+#endif
+
+int main(int count, char **words)
+{
+    if (count != 2) {
+        return 2;
+    }
+    deepest = (int)strtoul(words[1], NULL, 10);
+    printf("%zu\n", taken());
     return 0;
 }

@@ -8,7 +8,7 @@ from support import refusals
 
 WHY = "it compiles what narrows the standard streams"
 # How long the program may take to end, in seconds.
-PATIENCE = 20
+PATIENCE = 120
 
 
 class Narrowed:

@@ -25,6 +25,8 @@ Ended = tuple[int, bytes, bytes]  # (a status, and what was written to the two o
 
 # Where a script's files lie, as long as it runs.
 ROOM: "tempfile.TemporaryDirectory[str]" = tempfile.TemporaryDirectory(prefix="check-")
+# The program that is tested in place of that of the sources that lie here, where one is named.
+NAMED: str | None = None
 # The program of the sources that lie here: `ran.BUILT`. It is looked for, and built where that has to be, as it is
 # first asked for, so that what needs none waits for none.
 BUILT: str
@@ -63,7 +65,11 @@ class Count:
 
 
 def script(*checks: Callable[[Count], None]) -> NoReturn:
-    """Builds the program where it isn't built yet, runs a script's checks, each of which counts, and ends."""
+    """Builds the program where it isn't built yet, runs a script's checks, each of which counts, and ends. With
+    `--program FILE` it is that program."""
+    global NAMED
+    if sys.argv[1:2] == ["--program"]:
+        NAMED = sys.argv[2]
     built()
     count = Count()
     for it in checks:
@@ -175,6 +181,8 @@ def unbuilt(why: str) -> NoReturn:
 def sought() -> tuple[str | None, str]:
     """The program of the sources that lie here, or why there is none. It is proved and built where that has to be, but
     not in a run without the gate."""
+    if NAMED is not None:
+        return NAMED, ""
     found = programs.current(sources.stamp())
     if found is None and is_without_gate():
         return None, "release/ and out/ have no program of these sources: bin/rpc_tool --version proves and builds it"

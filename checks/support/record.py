@@ -1,37 +1,73 @@
-"""The record that lands with the sources: of which crates all bodies were tried, exactly as they stand, and became what
-they should.
+"""The record that lands with the sources: which bodies were tried, and became what they should.
 
-A line is a crate, how many bodies it has, and the sum of all that their verdicts rest on: the logic, the scripts that
-judge, the bodies' files, and the sources of the crate and of those below it. The prover's verdict on the same text is
-the same, so a crate whose line holds needn't be tried again. A line is written as soon as its crate is done, so that a
-run that is interrupted keeps what it has. Why it is kept so: docs/decisions/tests_and_releases.md#wrong-bodies."""
+A crate has a line with a sum of what all verdicts on its bodies rest on: the logic, the scripts that judge, what other
+functions see of its sources, and what it sees of the crates below. Below it each body has a line: a sum of what it
+changes and of what it stands in, its name, and how it was judged. The prover's verdict on the same text is the same, so
+a body with a line needn't be tried again. Lines are written as soon as bodies are judged, so that a run that is
+interrupted keeps what it has. Why it is kept so: docs/decisions/tests_and_releases.md#wrong-bodies."""
 import contextlib
 import fcntl
 import hashlib
 import os
 import tempfile
+from dataclasses import dataclass, field
+from itertools import chain
+from textwrap import shorten
 from typing import Iterable, Iterator
 
-from support.trees import PARTS
-from support.trial import Crate
+from support.bodies import Body, Change
+from support.rounds import Judged
+from support.seen import Own, own, seen
 from tools import kit  # (it stands in bin/)
 from tools.repository import listing
 from tools.sources import line_of
 
 FILE = "checks/tried.txt"
-HEAD = """# The crates of which all wrong bodies were refused and all right ones proved, as they stand: each with the number of its bodies
-# and the sum of all that this rests on. Written by python3 checks/wrong_bodies.py --record
+HEAD = """# The wrong bodies that were refused and the right ones that were proved, by their crates: a sum of what a body changes
+# and stands in, its name, and what refused it, where that is known. A crate has a sum of what all of its bodies rest on.
+# Written by python3 checks/wrong_bodies.py --record
 """
 # The scripts that decide a verdict. (What runs the checks, and in which order, decides none.)
 JUDGES = [f"checks/support/{it}.py" for it in ("bodies", "functions", "rounds", "verdicts")]
 
 
 def sum_of(*parts: object) -> str:
-    return hashlib.sha256(repr(parts).encode()).hexdigest()
+    return hashlib.sha256(repr(parts).encode(errors="surrogateescape")).hexdigest()
+
+
+def change_in(body: Body, change: Change, own: Own) -> tuple[object, ...]:
+    """A change by where it is in its function, or by the text that it is of."""
+    for it in body.functions:
+        if it.file == change.file and it.holds(change.start, change.end):
+            return it.name, change.start - it.start, change.end - it.start, change.new
+    return change.file, own.texts[change.file][change.start : change.end], change.new
+
+
+def line_of_body(judged: Judged, told: str) -> str:
+    how = {"refused": "clause", "by hand answer": "hand answer"}.get(judged.word)
+    why = f"{how}: {shorten(judged.why, 120)}" if how else judged.word
+    return f"    {told} {judged.body.name} {why}"
+
+
+@dataclass
+class Lines:
+    """What the record has of a crate: the sum that its bodies' lines rest on, and these by the sums of the bodies."""
+
+    rests_on: str
+    bodies: dict[str, str] = field(default_factory=dict)
+
+
+@dataclass
+class Today:
+    """What a crate is now: a sum of what all of its bodies rest on, one of what any does, and its files."""
+
+    shared: str
+    whole: str
+    own: Own
 
 
 class Record:
-    """The lines that there are, and what those of today would be: taken as it is made, before any source is read
+    """The lines that there are, and what each crate's sum is today: taken as it is made, before any source is read
     otherwise."""
 
     def __init__(self, root: str) -> None:
@@ -39,47 +75,50 @@ class Record:
         self.listed = listing(root)
         # (two kits of one logic judge alike)
         self.basis = sum_of(kit.logic(kit.version() or ""), [line_of(f"{root}/{it}", root) for it in JUDGES])
-        self.sums = self.of_today(self.listed.lines)
+        self.today = self.of_today(self.listed.lines)
         self.lines = self.read()
 
-    def of_folder(self, folder: str) -> list[bytes]:
-        return [
-            line_of(it, self.root)
-            for it in sorted(f"{at}/{name}" for at, _, names in os.walk(folder) for name in names)
-        ]
+    def of_today(self, names: Iterable[str]) -> dict[str, Today]:
+        """What those of these crates that have wrong bodies are now."""
+        folders = {it: f"{self.root}/crates/{it}" for it in self.listed.lines}
+        with_bodies = [it for it in names if os.path.isdir(f"{folders[it]}/wrong-bodies")]
+        below = {it: self.listed.below(it)[:-1] for it in with_bodies}
+        shown = {it: sum_of(seen(folders[it])) for it in {*chain(*below.values())}}
 
-    def of_crate(self, name: str, known: dict[str, str]) -> str:
-        """A sum of the sources of a crate and of those below it, and of the libraries that it names; each crate is read
-        once."""
-        if name not in known:
-            libraries = self.listed.libraries[name]
-            below = [self.of_crate(it, known) for it in libraries if it in self.listed.lines]
-            own = [self.of_folder(f"{self.root}/crates/{name}/{part}") for part in PARTS]
-            known[name] = sum_of(name, libraries, own, below)
-        return known[name]
+        def of_crate(name: str) -> Today:
+            found = own(folders[name])
+            others = [(it, self.listed.libraries[it], shown[it]) for it in below[name]]
+            rest = sum_of(self.basis, name, self.listed.libraries[name], others)
+            return Today(sum_of(rest, found.shared)[:16], sum_of(rest, found.texts), found)
 
-    def of_today(self, names: Iterable[str]) -> dict[str, str]:
-        """The sum of each of these crates that has bodies, as its files are now."""
-        known: dict[str, str] = {}
-        bodies = {it: self.of_folder(f"{self.root}/crates/{it}/wrong-bodies") for it in names}
-        return {name: sum_of(self.basis, self.of_crate(name, known), found) for name, found in bodies.items() if found}
+        return {it: of_crate(it) for it in with_bodies}
 
-    def read(self) -> dict[str, str]:
-        """The line of each crate; a file that can't be read has none."""
-        try:
-            with open(self.at, encoding="utf-8") as it:
-                found = [line for line in it.read().split("\n") if line and not line.startswith("#")]
-        except (OSError, ValueError):
-            return {}
-        return {line.split()[0]: line for line in found}
+    def sum_of(self, body: Body) -> str:
+        """A sum of what a body changes, and of what it stands in. How it is told plays no part."""
+        found = self.today[body.crate].own
+        changes = [change_in(body, it, found) for it in body.changes]
+        functions = [(it.name, found.of(it)) for it in (*body.functions, *body.mates)]
+        return sum_of(body.name, body.is_right, body.is_apart, changes, functions)[:8]
 
-    def line(self, crate: Crate) -> str:
-        """What the line of a crate is, which has all of its bodies."""
-        return f"{crate.name} {len(crate.bodies)} {self.sums[crate.name]}"
+    def read(self) -> dict[str, Lines]:
+        """The lines of each crate; a file that can't be read has none, and a line that can't be is none."""
+        found: dict[str, Lines] = {}
+        with contextlib.suppress(OSError, ValueError), open(self.at, encoding="utf-8") as it:
+            last = Lines("")
+            for line in it.read().split("\n"):
+                words = line.split(maxsplit=2)
+                if line.startswith("    ") and len(words) > 1:
+                    last.bodies[words[0]] = line
+                elif len(words) == 2 and not line.startswith("#"):
+                    last = found[words[0]] = Lines(words[1])
+        return found
 
-    def has(self, crate: Crate) -> bool:
-        """Whether all bodies of a crate were tried as they stand."""
-        return self.lines.get(crate.name) == self.line(crate)
+    def has(self, body: Body) -> bool:
+        """Whether a body was tried as it stands, in what it stands in."""
+        lines = self.lines.get(body.crate)
+        return (
+            lines is not None and lines.rests_on == self.today[body.crate].shared and self.sum_of(body) in lines.bodies
+        )
 
     @contextlib.contextmanager
     def locked(self) -> Iterator[None]:
@@ -91,15 +130,32 @@ class Record:
         finally:
             os.close(folder)
 
-    def keep(self, crate: Crate) -> bool:
-        """Writes the line of a crate of which all is as it should be, beside the others that there are; says whether it
-        has. It has not where a file has changed since this run began."""
-        if self.of_today([crate.name]).get(crate.name) != self.sums[crate.name]:
+    def keep(self, crate: str, bodies: list[Body], judged: list[Judged]) -> bool:
+        """Writes the lines of those bodies of a crate that became what they should, beside the others that there are;
+        leaves out those of bodies that the crate no longer has. Says whether it has: it has not where a file has
+        changed since this run began."""
+        today = self.today[crate]
+        if self.of_today([crate])[crate].whole != today.whole:
             return False
         with self.locked():
-            self.lines = {**self.read(), crate.name: self.line(crate)}
-            with tempfile.NamedTemporaryFile("w", dir=os.path.dirname(self.at), delete=False, encoding="utf-8") as it:
-                it.write(HEAD + "".join(f"{self.lines[name]}\n" for name in self.sums if name in self.lines))
-            os.chmod(it.name, 0o644)
-            os.replace(it.name, self.at)
+            self.lines = self.read()
+            held = self.lines.get(crate)
+            known = held.bodies if held and held.rests_on == today.shared else {}
+            for it in judged:
+                if it.is_well:
+                    told = self.sum_of(it.body)
+                    known[told] = line_of_body(it, told)
+            kept = {it: known[it] for it in map(self.sum_of, bodies) if it in known}
+            self.lines[crate] = Lines(today.shared, kept)
+            self.write()
         return True
+
+    def write(self) -> None:
+        """Puts the file in the place of the one that is there, in one step."""
+        with tempfile.NamedTemporaryFile("w", dir=os.path.dirname(self.at), delete=False, encoding="utf-8") as it:
+            it.write(HEAD)
+            for name in self.today:
+                if lines := self.lines.get(name):
+                    it.writelines(f"{line}\n" for line in (f"{name} {lines.rests_on}", *lines.bodies.values()))
+        os.chmod(it.name, 0o644)
+        os.replace(it.name, self.at)

@@ -1,5 +1,7 @@
 /* Linked around the static library by --wrap, refuses the library's requests for memory: the one with the number
- * REFUSE_NTH, counted from 1, or with REFUSE_FROM that one and those behind it, until a call gives BM_NO_MEMORY.
+ * REFUSE_NTH, counted from 1, or with REFUSE_FROM that one and those behind it, until a call gives BM_NO_MEMORY; with
+ * REFUSE_EACH each request of each call in turn, in one run: the first of a call, and as the call is made again its
+ * second, until it meets no refusal. (One run goes through all where a process takes long to begin, as in an emulator.)
  * That call has to have changed nothing. It is made again, and then has to go on as if no memory had been refused.
  * A call that needs no memory may ask for none. The descriptor REFUSE_TELL gets a line for each refusal,
  * `refused`, and one for each call that gives BM_NO_MEMORY, its name. */
@@ -38,9 +40,13 @@ bool __real_bm_is_done(bm_connection *);
 void __real_bm_counts(bm_connection *, bm_report *);
 
 static unsigned long nth, from, requests;
-static int tell = -1;
-/* Whether a call of the library is under way, and may be refused memory. */
-static bool is_inside, may_refuse;
+/* Where each is refused in turn: how many requests there were before this call. */
+static unsigned long earlier;
+static int told_to = -1;
+/* Whether a call of the library is under way, may be refused memory, and was. */
+static bool is_inside, may_refuse, was_refused;
+/* Whether a call that was refused may be refused another request as it is made again. */
+static bool is_each;
 
 static void check(bool is_so, const char *call, const char *what)
 {
@@ -60,13 +66,14 @@ __attribute__((constructor)) static void begin(void)
 {
     nth = number("REFUSE_NTH");
     from = number("REFUSE_FROM");
+    is_each = number("REFUSE_EACH");
     if (getenv("REFUSE_TELL"))
-        tell = (int)number("REFUSE_TELL");
+        told_to = (int)number("REFUSE_TELL");
 }
 
 static void say(const char *line)
 {
-    if (tell >= 0 && write(tell, line, strlen(line)) != (ssize_t)strlen(line))
+    if (told_to >= 0 && write(told_to, line, strlen(line)) != (ssize_t)strlen(line))
         exit(5);
 }
 
@@ -74,10 +81,11 @@ static bool is_refused(void)
 {
     if (!is_inside)
         return false;
-    requests++;
-    if (!may_refuse || (requests != nth && (!from || requests < from)))
+    unsigned long it = ++requests - earlier;
+    if (!may_refuse || (it != nth && (!from || it < from)))
         return false;
     say("refused\n");
+    was_refused = true;
     return true;
 }
 
@@ -115,34 +123,53 @@ static bool has_changed(const state *before, bm_connection *connection)
            before->is_done != after.is_done;
 }
 
-static int32_t ran(bool may, int32_t code)
+static void enter(bool may)
 {
-    (void)may;
+    is_inside = true;
+    may_refuse = may;
+    was_refused = false;
+    if (is_each)
+        earlier = requests;
+}
+
+/* A call that wasn't refused anything yet. */
+static void enter_first(void)
+{
+    if (is_each)
+        nth = 1;
+    enter(true);
+}
+
+static int32_t ran(int32_t code)
+{
     is_inside = false;
     return code;
 }
 
-/* No more is refused from here on, but the request with its number. */
+/* No more is refused from here on, but the request with its number; of each the next. */
 static void refused_call(const char *line)
 {
+    check(was_refused, line, "gave BM_NO_MEMORY, and no memory was refused");
     say(line);
     from = 0;
+    nth += is_each;
 }
 
-/* Evaluates a call with `is_inside` set. */
-#define INSIDE(may, call) (is_inside = true, may_refuse = (may), ran(may, (call)))
+/* Evaluates a call with `is_inside` set: the first time, and again. */
+#define INSIDE(call) (enter_first(), ran(call))
+#define INSIDE_AGAIN(call) (enter(is_each), ran(call))
 
 /* Makes a call on a connection, and makes it again where it is refused memory; `kept` says whether what was passed to
  * it to be written is as it was. */
 #define AGAIN(name, call, kept)                                                                                        \
     state before = seen(connection);                                                                                   \
-    int32_t code = INSIDE(true, call);                                                                                 \
-    if (code == BM_NO_MEMORY) {                                                                                        \
+    int32_t code = INSIDE(call);                                                                                       \
+    while (code == BM_NO_MEMORY) {                                                                                     \
         check(!has_changed(&before, connection), name, "was refused memory, and has changed something");               \
         check(kept, name, "was refused memory, and has written something");                                            \
         refused_call(name "\n");                                                                                       \
-        code = INSIDE(false, call);                                                                                    \
-        check(code != BM_NO_MEMORY, name, "is still refused memory");                                                  \
+        code = INSIDE_AGAIN(call);                                                                                     \
+        check(is_each || code != BM_NO_MEMORY, name, "is still refused memory");                                       \
     }                                                                                                                  \
     return code
 
@@ -150,12 +177,12 @@ static void refused_call(const char *line)
 #define MADE(name, call)                                                                                               \
     static char untouched;                                                                                             \
     void *made = &untouched;                                                                                           \
-    int32_t code = INSIDE(true, call);                                                                                 \
-    if (code == BM_NO_MEMORY) {                                                                                        \
+    int32_t code = INSIDE(call);                                                                                       \
+    while (code == BM_NO_MEMORY) {                                                                                     \
         check(made == &untouched, name, "was refused memory, and has written something");                              \
         refused_call(name "\n");                                                                                       \
-        code = INSIDE(false, call);                                                                                    \
-        check(code != BM_NO_MEMORY, name, "is still refused memory");                                                  \
+        code = INSIDE_AGAIN(call);                                                                                     \
+        check(is_each || code != BM_NO_MEMORY, name, "is still refused memory");                                       \
     }                                                                                                                  \
     if (code == BM_OK)                                                                                                 \
         *at = made;                                                                                                    \
@@ -250,13 +277,13 @@ int32_t __wrap_bm_next(bm_connection *connection, bm_event *event, uint8_t *room
     state before = seen(connection);
     bm_event event_before = *event;
     uint8_t *room_before = copied(room, length);
-    int32_t code = INSIDE(true, __real_bm_next(connection, event, room, length));
-    if (code == BM_NO_MEMORY) {
+    int32_t code = INSIDE(__real_bm_next(connection, event, room, length));
+    while (code == BM_NO_MEMORY) {
         check_told("bm_next", &before, connection, room, room_before, length);
         check(!memcmp(event, &event_before, sizeof *event), "bm_next", "was refused memory, and has written an event");
         refused_call("bm_next\n");
-        code = INSIDE(false, __real_bm_next(connection, event, room, length));
-        check(code != BM_NO_MEMORY, "bm_next", "is still refused memory");
+        code = INSIDE_AGAIN(__real_bm_next(connection, event, room, length));
+        check(is_each || code != BM_NO_MEMORY, "bm_next", "is still refused memory");
     }
     free(room_before);
     return code;
@@ -269,13 +296,13 @@ int32_t __wrap_bm_next_all(bm_connection *connection, uint8_t *room, size_t leng
     size_t used_before = *used;
     uint32_t count_before = *count;
     uint8_t *room_before = copied(room, length);
-    int32_t code = INSIDE(true, __real_bm_next_all(connection, room, length, used, count));
-    if (code == BM_NO_MEMORY) {
+    int32_t code = INSIDE(__real_bm_next_all(connection, room, length, used, count));
+    while (code == BM_NO_MEMORY) {
         check_told("bm_next_all", &before, connection, room, room_before, length);
         check(*used == used_before && *count == count_before, "bm_next_all", "was refused memory, and has counted");
         refused_call("bm_next_all\n");
-        code = INSIDE(false, __real_bm_next_all(connection, room, length, used, count));
-        check(code != BM_NO_MEMORY, "bm_next_all", "is still refused memory");
+        code = INSIDE_AGAIN(__real_bm_next_all(connection, room, length, used, count));
+        check(is_each || code != BM_NO_MEMORY, "bm_next_all", "is still refused memory");
     }
     free(room_before);
     return code;
@@ -285,16 +312,15 @@ int32_t __wrap_bm_next_all(bm_connection *connection, uint8_t *room, size_t leng
 static void tell_again(const char *line, bm_connection *connection, uint8_t *room, size_t length, uint32_t most,
                        bm_told *told)
 {
-    if (told->stopped != BM_STOP_NO_MEMORY)
-        return;
-    refused_call(line);
-    if (told->count)
-        return;
-    is_inside = true;
-    may_refuse = false;
-    __real_bm_tell(connection, room, length, most, told);
-    is_inside = false;
-    check(told->stopped != BM_STOP_NO_MEMORY, "bm_tell", "is still refused memory");
+    while (told->stopped == BM_STOP_NO_MEMORY) {
+        refused_call(line);
+        if (told->count)
+            return;
+        enter(is_each);
+        __real_bm_tell(connection, room, length, most, told);
+        is_inside = false;
+        check(is_each || told->stopped != BM_STOP_NO_MEMORY, "bm_tell", "is still refused memory");
+    }
 }
 
 void __wrap_bm_tell(bm_connection *connection, uint8_t *room, size_t length, uint32_t most, bm_told *told)
@@ -303,7 +329,7 @@ void __wrap_bm_tell(bm_connection *connection, uint8_t *room, size_t length, uin
     if (length)
         memset(room, 0xa5, length);
     uint8_t *room_before = copied(room, length);
-    is_inside = may_refuse = true;
+    enter_first();
     __real_bm_tell(connection, room, length, most, told);
     is_inside = false;
     if (told->stopped == BM_STOP_NO_MEMORY && !told->count)
@@ -321,15 +347,16 @@ int32_t __wrap_bm_fed(bm_connection *connection, const uint8_t *bytes, size_t le
         memset(room, 0xa5, room_length);
     bm_told told_before = *told;
     uint8_t *room_before = copied(room, room_length);
-    int32_t code = INSIDE(true, __real_bm_fed(connection, bytes, length, room, room_length, most, told));
-    if (code == BM_NO_MEMORY) {
+    int32_t code = INSIDE(__real_bm_fed(connection, bytes, length, room, room_length, most, told));
+    while (code == BM_NO_MEMORY) {
         check(!has_changed(&before, connection), "bm_fed", "was refused memory, and has changed something");
         check(!memcmp(told, &told_before, sizeof *told), "bm_fed", "was refused memory, and has told something");
         check(!room_length || !memcmp(room, room_before, room_length), "bm_fed", "has written to the room");
         refused_call("bm_fed\n");
-        code = INSIDE(false, __real_bm_fed(connection, bytes, length, room, room_length, most, told));
-        check(code != BM_NO_MEMORY, "bm_fed", "is still refused memory");
-    } else if (code == BM_OK)
+        code = INSIDE_AGAIN(__real_bm_fed(connection, bytes, length, room, room_length, most, told));
+        check(is_each || code != BM_NO_MEMORY, "bm_fed", "is still refused memory");
+    }
+    if (code == BM_OK)
         tell_again("bm_fed\n", connection, room, room_length, most, told);
     free(room_before);
     return code;
@@ -341,16 +368,16 @@ static void say_one(bm_connection *connection, bm_saying *it, size_t count, cons
     state before = seen(connection);
     bm_saying saying_before = *it;
     bm_said said;
-    int32_t code = INSIDE(true, __real_bm_say_all(connection, it, count, bytes, length, NULL, 0, &said));
+    int32_t code = INSIDE(__real_bm_say_all(connection, it, count, bytes, length, NULL, 0, &said));
     check(code == BM_OK && said.refused == (it->said != BM_OK), "bm_say_all", "counts wrongly");
-    if (it->said != BM_NO_MEMORY)
-        return;
-    check(!has_changed(&before, connection), "bm_say_all", "was refused memory, and has changed something");
-    saying_before.said = it->said;
-    check(!memcmp(it, &saying_before, sizeof *it), "bm_say_all", "was refused memory, and has written a key");
-    refused_call("bm_say_all\n");
-    code = INSIDE(false, __real_bm_say_all(connection, it, count, bytes, length, NULL, 0, &said));
-    check(code == BM_OK && it->said != BM_NO_MEMORY, "bm_say_all", "is still refused memory");
+    while (it->said == BM_NO_MEMORY) {
+        check(!has_changed(&before, connection), "bm_say_all", "was refused memory, and has changed something");
+        saying_before.said = it->said;
+        check(!memcmp(it, &saying_before, sizeof *it), "bm_say_all", "was refused memory, and has written a key");
+        refused_call("bm_say_all\n");
+        code = INSIDE_AGAIN(__real_bm_say_all(connection, it, count, bytes, length, NULL, 0, &said));
+        check(code == BM_OK && (is_each || it->said != BM_NO_MEMORY), "bm_say_all", "is still refused memory");
+    }
 }
 
 /* (each by itself, since what is said again would come behind the others) */
@@ -371,7 +398,7 @@ int32_t __wrap_bm_say_all(bm_connection *connection, bm_saying *sayings, size_t 
         i += together;
     }
     unsigned long before = requests;
-    int32_t code = INSIDE(true, __real_bm_say_all(connection, NULL, 0, NULL, 0, room, room_length, said));
+    int32_t code = INSIDE(__real_bm_say_all(connection, NULL, 0, NULL, 0, room, room_length, said));
     check(requests == before, "bm_say_all", "has asked for memory to take what is to be written");
     said->refused = refused;
     return code;

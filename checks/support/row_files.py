@@ -14,7 +14,7 @@ from dataclasses import dataclass, field
 from support.row_language import Block, Unread, Wire, read_file, wire_of
 
 FOLDER = os.path.join(os.path.dirname(os.path.dirname(os.path.abspath(__file__))), "played_rows")
-TABLES = ("none", "methods", "opening", "each")
+TABLES = ("none", "methods", "opening", "each", "every")
 # What the words of a row's first line stand for. A number is one of workers.
 WAYS = {
     "eager": ["play eager first"],

@@ -56,6 +56,9 @@ kind = "answer"
 value = "$r"
 """
 
+# Methods with every kind of step.
+EVERY = ran.text_of("checks", "played_rows", "every.toml")
+
 
 @cache
 def file_of(table: str) -> str:
@@ -108,7 +111,7 @@ TWO_CALLS = batch('{"id":"1.1","jsonrpc":"2.0","method":"a"}', '{"id":"1.2","jso
 HELLO = '{"id":"0.1","jsonrpc":"2.0","method":"hello"}'
 
 # The tables by which rows are played.
-TABLES = {"none": None, "methods": METHODS, "opening": OPENING, "each": EACH}
+TABLES = {"none": None, "methods": METHODS, "opening": OPENING, "each": EACH, "every": EVERY}
 OPTIONS: dict[str, list[str]] = {"eager": [], "lazy": ["--lazy"], "last": ["--last"]}
 # Of a peer without methods: name, input, output, how the input ends ("" where it ends clean). (Long streams are for
 # test_played_rows.py alone.)

@@ -1,25 +1,37 @@
-"""The same host as that of talk.c, in Python over the package's Connection: support/talking.py says what it reads and
-writes."""
-import sys
-from typing import Callable, NoReturn, Optional
+"""A host over the package's Connection that keeps the rules, and draws what it does from a seed: it calls, notifies, makes
+batches, answers in any order, fails, cancels and withdraws. What is to be written it gives in the pieces that it took."""
+import random
+from typing import NamedTuple, Optional
 
 # (of bindings/python, which stands on the path where this runs)
 from bullmyrtle import events  # type: ignore[import]
 from bullmyrtle.connection import Connection  # type: ignore[import]
 
-FRAMINGS, ORDERS, CANCELS = ("frames", "lines", "contents"), ("as-answered", "as-came"), (None, "lsp", "mcp")
 METHODS = ("a", "add", "$/progress", "", '\u00e9\\n\n"', "notifications/x")
 PARAMS = (None, None, b"[]", b"{}", b'[ "x", 1.50 ]', b'{ "k" : "\\u001f\\/" }', b"[[[1e-7,-0]]]")
 RESULTS = (b"null", b"true", b"5", b' [ 1.50 , {"a":"\\/"} ] ', b'"\\u00e9\\n"', b"{}", b"1e400")
 CODES = (-32601, -32000, -32803, 0, 5, -(1 << 63), (1 << 63) - 1)
 # Isn't defined (JSON-RPC 5.1).
 WRONG_CODE = -32500
-MASK = (1 << 64) - 1
+# What is counted.
 COUNTED = ("calls", "batches", "notifications", "answers", "failures", "cancelled", "withdrawn", "heard", "replied")
+DID = (*COUNTED, "unanswered", "wrong")
 
 
-def give_up(why: str) -> NoReturn:
-    sys.exit(f"talk.py: {why}")
+class Failed(Exception):
+    """A host did what no host does, or a connection what none does."""
+
+
+class Ways(NamedTuple):
+    """How a host goes about it."""
+
+    framing: str
+    order: str
+    cancels: Optional[str]
+    has_batches: bool
+    cancels_freely: bool  # it answers requests as cancelled that nobody cancelled
+    is_wrong: bool  # it breaks a rule once, by an error with a code that isn't defined
+    seed: int
 
 
 class Came:
@@ -37,27 +49,20 @@ class Ours:
 
 
 class Host:
-    def __init__(self, *words: str) -> None:
-        framing, order, cancels, batches, freely, wrong, seed = map(int, words)
-        self.connection = Connection(FRAMINGS[framing], ORDERS[order], CANCELS[cancels])
-        self.framing, self.cancels = FRAMINGS[framing], CANCELS[cancels]
-        self.has_batches, self.cancels_freely, self.is_wrong = bool(batches), bool(freely), bool(wrong)
-        self.drawn, self.is_over = seed, False
+    def __init__(self, ways: Ways) -> None:
+        self.connection = Connection(ways.framing, ways.order, ways.cancels)
+        self.ways, self.chance, self.is_over = ways, random.Random(ways.seed), False
         self.open, self.waiting = list[Came](), list[Ours]()
-        self.did = dict.fromkeys((*COUNTED, "unanswered", "wrong"), 0)
+        self.did = dict.fromkeys(DID, 0)
 
     def draw(self, bound: int) -> int:
-        """A number below a bound (splitmix64)."""
-        self.drawn = it = (self.drawn + 0x9E3779B97F4A7C15) & MASK
-        it = ((it ^ it >> 30) * 0xBF58476D1CE4E5B9) & MASK
-        it = ((it ^ it >> 27) * 0x94D049BB133111EB) & MASK
-        return (it ^ it >> 31) % bound
+        return self.chance.randrange(bound)
 
     # What it hears
 
-    def feed(self, pieces: list[str]) -> None:
+    def feed(self, pieces: list[bytes]) -> None:
         for it in pieces:
-            self.hear(self.connection.fed(bytes.fromhex(it)))
+            self.hear(self.connection.fed(it))
 
     def hear(self, told: list[events.Event]) -> None:
         for event in told:
@@ -76,11 +81,11 @@ class Host:
             elif isinstance(event, events.Over) and event.how in ("Clean", "Read"):
                 self.is_over = True
             else:
-                give_up(f"an event that it doesn't know: {event}")
+                raise Failed(f"an event that it doesn't know: {event}")
 
     def answered(self, key: int) -> None:
         if not any(it.key == key for it in self.waiting):
-            give_up("a reply to what doesn't wait")
+            raise Failed("a reply to what doesn't wait")
         self.waiting = [it for it in self.waiting if it.key != key]
 
     # What it says
@@ -113,7 +118,7 @@ class Host:
             return
         self.connection.withdraw(it.key)
         it.is_withdrawn = True
-        if self.cancels == "mcp":
+        if self.ways.cancels == "mcp":
             self.waiting.remove(it)
         self.did["withdrawn"] += 1
 
@@ -123,11 +128,11 @@ class Host:
 
     def answer(self, it: Came) -> None:
         """Answers a request: one that was cancelled may be answered as such, and in MCP has no answer."""
-        is_left = it.is_cancelled and (self.cancels == "mcp" or self.draw(2))
-        if is_left or (self.cancels_freely and self.draw(8) == 0):
+        is_left = it.is_cancelled and (self.ways.cancels == "mcp" or self.draw(2))
+        if is_left or (self.ways.cancels_freely and self.draw(8) == 0):
             self.connection.cancel(it.number)
             self.did["cancelled"] += 1
-        elif self.is_wrong and not self.did["wrong"]:
+        elif self.ways.is_wrong and not self.did["wrong"]:
             self.fail(it, WRONG_CODE)
             self.did["wrong"] += 1
         elif self.draw(5) == 0:
@@ -152,72 +157,54 @@ class Host:
         what = self.draw(20)
         if what < 8 and self.open:
             self.close_one()
-        elif what < 11 and self.waiting and self.cancels:
+        elif what < 11 and self.waiting and self.ways.cancels:
             self.withdraw()
         elif what < 14:
             self.notify()
         elif not self.is_over:
-            self.batch() if what < 16 and self.has_batches else self.call()
+            self.batch() if what < 16 and self.ways.has_batches else self.call()
 
-    # What it is told
+    # What it is told to do
 
-    def take(self, is_all: bool) -> list[str]:
+    def take(self, is_all: bool) -> list[bytes]:
         """All that is to be written, or some of it, in pieces."""
-        pieces = list[str]()
+        pieces = list[bytes]()
         while (pending := self.connection.pending) and (is_all or self.draw(3)):
-            size = pending if self.framing == "contents" or self.draw(2) else 1 + self.draw(pending)
-            pieces.append(self.connection.take(size).hex())
+            size = pending if self.ways.framing == "contents" or self.draw(2) else 1 + self.draw(pending)
+            pieces.append(self.connection.take(size))
         return pieces
 
-    def talk(self, *pieces: str, is_all: bool = False) -> list[str]:
-        self.feed([*pieces])
+    def talk(self, pieces: list[bytes], is_all: bool = False) -> list[bytes]:
+        """It hears all, does up to three things, and writes some of what there is."""
+        self.feed(pieces)
         for _ in range(self.draw(4)):
             self.act()
         return self.take(is_all)
 
-    def step(self, *pieces: str) -> list[str]:
-        return self.talk(*pieces, is_all=True)
+    def step(self, pieces: list[bytes]) -> list[bytes]:
+        """The same, and it writes all."""
+        return self.talk(pieces, is_all=True)
 
-    def wind(self, *pieces: str) -> list[str]:
-        self.feed([*pieces])
+    def wind(self, pieces: list[bytes]) -> list[bytes]:
+        """It hears all, calls nobody, answers all that is open, and writes all."""
+        self.feed(pieces)
         while self.open:
             self.close_one()
         return self.take(True)
 
-    def wait(self, *pieces: str) -> list[str]:
-        self.feed([*pieces])
+    def wait(self, pieces: list[bytes]) -> list[bytes]:
+        """It hears all and writes all, but says nothing."""
+        self.feed(pieces)
         return self.take(True)
 
-    def end(self, how: str) -> list[str]:
+    def end(self, how: str) -> list[bytes]:
+        """The other side's stream is over, closed or failed."""
         self.connection.end(how == "failed")
         self.hear(self.connection.events())
         return self.take(True)
 
-    def done(self) -> list[str]:
-        is_done = self.connection.is_done
+    def done(self) -> bool:
+        """Frees the connection, and says whether it was done."""
+        is_done = bool(self.connection.is_done)
         self.connection.close()
-        return [*map(str, (int(is_done), *self.did.values()))]
-
-    def does(self, name: str) -> Callable[..., list[str]]:
-        known: list[Callable[..., list[str]]] = [self.talk, self.step, self.wind, self.wait, self.end, self.done]
-        for it in known:
-            if it.__name__ == name:
-                return it
-        give_up(f"a line that it can't read: {name}")
-
-
-def main() -> None:
-    host: Optional[Host] = None
-    for line in sys.stdin:
-        name, *words = line.split()
-        told = list[str]()
-        if name == "begin":
-            host = Host(*words)
-        elif host is None:
-            give_up("it hasn't begun")
-        else:
-            told = host.does(name)(*words)
-        print("+", *told, flush=True)
-
-
-main()
+        return is_done

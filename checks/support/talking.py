@@ -1,83 +1,21 @@
-"""Conversations between two hosts of this library that keep the rules, each a program of its own, with the judge
-between them.
-
-A host (talk.c, talk.py, and talk.rs in bindings/rust) draws what it does from a seed: it calls, notifies, makes batches,
-answers in any order, fails, cancels and withdraws. It reads lines, and writes one for each, which is `+` and then the
-pieces that it wrote, in hexadecimal, a blank before each:
-
-    begin FRAMING ORDER CANCELS BATCHES FREELY WRONG SEED    a new connection, the first three as bullmyrtle.h counts them
-        BATCHES: it makes some; FREELY: it answers requests as cancelled that nobody cancelled; WRONG: it breaks a rule
-        once, by an error with a code that isn't defined
-    talk HEX ..     it is fed these pieces, hears all, does up to three things, and writes some of what there is
-    step HEX ..     the same, and writes all
-    wind HEX ..     it is fed, hears all, calls nobody, answers all that is open, and writes all
-    wait HEX ..     it is fed, hears all, and writes all that there is, but says nothing
-    end closed      the other side's stream is over; or `failed`. It hears all, and writes all that there is
-    done            the connection is freed. What comes is whether it was done, and how often it did each of DID"""
+"""Conversations between two hosts of this library that keep the rules (support/talk.py), with the judge between them."""
 import random
 import re
-import subprocess
 from dataclasses import dataclass
 from typing import Any, Iterator, Optional
 
 from support.connection_script import FRAMINGS
 from support.judge_rules import RULES
+from support.talk import DID, Failed, Host, Ways
 
-DID = (
-    *("calls", "batches", "notifications", "answers", "failures", "cancelled", "withdrawn", "heard", "replied"),
-    *("unanswered", "wrong"),
-)
 SIDES = ("client", "server")
-CANCELS = ("none", "lsp", "mcp")
+ORDERS = ("as-answered", "as-came")
 # How a host breaks the rules, where it is meant to, and the rule that it breaks.
 WRONGS = {"a code": "code", "an answer twice": "not-owed", "an early end": "unanswered"}
 # The code that isn't defined, as it is written.
 WRONG_CODE = b'"code":-32500,'
 # Behind so many rounds in which a conversation winds up, it goes on for ever.
 MOST_ROUNDS = 100
-
-
-class Failed(Exception):
-    """A host gave up, or it did what no host does."""
-
-
-class Host:
-    """A program that hosts, one conversation after the other."""
-
-    def __init__(self, words: list[str], env: Optional[dict[str, str]] = None) -> None:
-        pipe = subprocess.PIPE
-        self.words = words
-        self.process = subprocess.Popen(words, stdin=pipe, stdout=pipe, stderr=pipe, env=env, bufsize=0)
-        assert self.process.stdout is not None and self.process.stdin is not None
-        self.lines = open(self.process.stdout.fileno(), "rb", closefd=False)
-        self.to = self.process.stdin
-
-    def says(self, *words: str) -> list[str]:
-        try:
-            self.to.write(" ".join(words).encode() + b"\n")
-            line = self.lines.readline().decode()
-        except BrokenPipeError:
-            line = ""
-        if not line.startswith("+"):
-            assert self.process.stderr is not None
-            self.process.kill()
-            raise Failed(f"{self.words[-1]}: {line or self.process.stderr.read().decode(errors='replace')[-500:]}")
-        return line[1:].split()
-
-    def close(self) -> None:
-        self.to.close()
-        self.lines.close()
-        status = self.process.wait(60)
-        if status:
-            raise Failed(f"{self.words[-1]} ended with the status {status}")
-
-    def kill(self) -> None:
-        """Ends it, where it runs still."""
-        self.process.kill()
-        self.process.wait()
-        for it in (self.to, self.process.stdout, self.process.stderr):
-            if it is not None:
-                it.close()
 
 
 @dataclass
@@ -88,17 +26,23 @@ class Plan:
     rules: str
     framing: str
     orders: tuple[int, int]
-    cancels: tuple[str, str]
+    cancels: tuple[Optional[str], Optional[str]]
     has_batches: bool
     in_step: bool  # each side hears all that the other one wrote before it goes on
     wrong: str  # how a side breaks a rule, of WRONGS, or nothing
     wrong_side: int
     seeds: tuple[int, int]
 
-    def begun(self, at: int) -> list[str]:
-        numbers = (FRAMINGS.index(self.framing), self.orders[at], CANCELS.index(self.cancels[at]), self.has_batches)
-        more = (self.rules != "lsp", (self.wrong, self.wrong_side) == ("a code", at), self.seeds[at])
-        return [str(int(it)) for it in (*numbers, *more)]
+    @property
+    def ends_the_session(self) -> bool:
+        """Whether the early end is a client's that may end so: then nothing is broken, whatever is open."""
+        return self.wrong == "an early end" and self.wrong_side == 0 and RULES[self.rules].ends_by_close
+
+    def begun(self, at: int) -> Host:
+        """The host of a side."""
+        is_wrong = (self.wrong, self.wrong_side) == ("a code", at)
+        order, cancels, freely = ORDERS[self.orders[at]], self.cancels[at], self.rules != "lsp"
+        return Host(Ways(self.framing, order, cancels, self.has_batches, freely, is_wrong, self.seeds[at]))
 
 
 def planned(name: str, wrong: str = "") -> Plan:
@@ -108,9 +52,9 @@ def planned(name: str, wrong: str = "") -> Plan:
     rules = chance.choice([*RULES])
     in_step = chance.random() < 0.5
     if rules.startswith("mcp"):
-        cancels = "mcp", "mcp"
+        cancels: tuple[Optional[str], Optional[str]] = ("mcp", "mcp")
     else:
-        one, other = (chance.choice(("lsp", "lsp", "lsp", "none")) for _ in SIDES)
+        one, other = (chance.choice(("lsp", "lsp", "lsp", None)) for _ in SIDES)
         cancels = one, other
     has_batches = rules == "jsonrpc" or (rules == "mcp:2025-03-26" and not in_step)
     orders = (0, 0) if in_step else (chance.randint(0, 1), chance.randint(0, 1))
@@ -143,7 +87,7 @@ class Talked:
     def is_well(self) -> bool:
         """Whether just that is found which there is: nothing, or the one rule that the one side broke."""
         told = [(it.side, it.rule, it.level) for it in self.accused]
-        if not self.plan.wrong:
+        if not self.plan.wrong or self.plan.ends_the_session:
             return told == []
         wanted = (SIDES[self.plan.wrong_side], WRONGS[self.plan.wrong], "must")
         if self.plan.wrong == "an early end":
@@ -156,17 +100,17 @@ class Talk:
     """A conversation: two hosts, what each wrote that the other one wasn't fed, and the judge, to which each byte is
     shown before it is fed."""
 
-    def __init__(self, plan: Plan, hosts: tuple[Host, Host], judge: Any) -> None:
-        self.plan, self.hosts, self.judge = plan, hosts, judge
+    def __init__(self, plan: Plan, judge: Any) -> None:
+        self.plan, self.judge = plan, judge
+        self.hosts = plan.begun(0), plan.begun(1)
         self.chance = random.Random(f"{plan.name} between")
         self.unfed: tuple[list[bytes], list[bytes]] = ([], [])  # for each side
         self.streams = (bytearray(), bytearray())  # of each side
         self.found = list[Any]()
         self.repeats = 0
 
-    def says(self, at: int, *words: str) -> bool:
-        """Tells a side something, and says whether it wrote anything."""
-        pieces = [*map(bytes.fromhex, self.hosts[at].says(*words))]
+    def writes(self, at: int, pieces: list[bytes]) -> bool:
+        """Shows the judge what a side wrote, and says whether it wrote anything."""
         for it in pieces:
             self.judge.saw(SIDES[at], it)
             self.streams[at].extend(it)
@@ -177,7 +121,7 @@ class Talk:
     def turn(self, at: int, how: str, is_whole: bool) -> bool:
         """Feeds a side what came, or some of it, and says whether anything moved."""
         pieces = self.fed(at, is_whole)
-        return self.says(at, how, *(it.hex() for it in pieces)) or pieces != []
+        return self.writes(at, getattr(self.hosts[at], how)(pieces)) or pieces != []
 
     def fed(self, at: int, is_whole: bool) -> list[bytes]:
         unfed, count = self.unfed[at], len(self.unfed[at])
@@ -202,12 +146,10 @@ class Talk:
         """A side's stream ends, and the other one is told."""
         self.judge.ended(SIDES[at], how)
         self.found += self.judge.findings()
-        self.says(1 - at, "end", how)
+        self.writes(1 - at, self.hosts[1 - at].end(how))
 
     def talk(self) -> Talked:
         chance, in_step = self.chance, self.plan.in_step
-        for at in (0, 1):
-            self.says(at, "begin", *self.plan.begun(at))
         for _ in range(chance.randint(10, 50)):
             self.turn(chance.randint(0, 1), "step" if in_step else "talk", in_step)
         return self.ended()
@@ -239,19 +181,16 @@ class Talk:
             self.repeats += 1
 
     def done(self, leaves: bool) -> Talked:
-        each = list[dict[str, int]]()
-        for host in self.hosts:
-            is_done, *counts = map(int, host.says("done"))
-            if not is_done and not leaves:
-                raise Failed(f"{self.plan.name}: {host.words[-1]} isn't done")
-            each.append(dict(zip(DID, counts, strict=True)))
+        each = [it.did for it in self.hosts]
+        if not all([it.done() for it in self.hosts]) and not leaves:
+            raise Failed(f"{self.plan.name}: a host isn't done")
         plan, (one, other) = self.plan, map(bytes, self.streams)
         asked = each[1 - plan.wrong_side]
         breaks = {
             # (it may have waited for an answer before it that wasn't given, and then it wasn't written)
             "a code": WRONG_CODE in (one, other)[plan.wrong_side],
             "an answer twice": self.repeats,
-            "an early end": asked["unanswered"],
+            "an early end": 0 if plan.ends_the_session else asked["unanswered"],
         }
         did = {name: each[0][name] + each[1][name] for name in DID}
         return Talked(plan, self.found, did, (one, other), int(breaks.get(plan.wrong, 0)))

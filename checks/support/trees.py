@@ -154,16 +154,18 @@ class Trees:
         """Whether a crate below is not proved, so that this one never can be."""
         return any(it in self.unproved and it not in self.libraries for it in self.below[name])
 
-    def prove(self, name: str, jobs: int) -> Ran:
-        """Proves a crate, and builds it where others stand on it. It must be ready."""
-        home = f"{self.home(name)}/crates/{name}"
-        if self.is_over_gate:
-            ran = run(self.words(name, home, jobs), home, self.limit)
+    def prove(self, name: str, jobs: int, only: Iterable[str] = ()) -> Ran:
+        """Proves a crate, and builds it where others stand on it; else only some of its functions and what these call,
+        where any are named. It must be ready."""
+        home, above = f"{self.home(name)}/crates/{name}", self.above(name)
+        if self.is_over_gate or not above:
+            ran = run(self.words(name, home, jobs, only), home, self.limit)
+            if only and ran.status == 2:
+                # (several functions may have names that end so)
+                ran = run(self.words(name, home, jobs), home, self.limit)
             self.unproved |= {name} if ran.status else set()
             return ran
-        above = self.above(name)
-        is_library = above or os.path.isfile(f"{home}/out/rlib/stamp")
-        ran = run(["rt", "lib" if is_library else "check", "--jobs", str(jobs)], home, self.limit)
+        ran = run(["rt", "lib", "--jobs", str(jobs)], home, self.limit)
         if ran.status:
             self.unproved.add(name)
         else:

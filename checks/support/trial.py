@@ -40,18 +40,18 @@ def no_line(crate: "Crate", output: Output) -> Optional[str]:
 
 @dataclass
 class Crate:
-    """A crate, its bodies, and what was found."""
+    """A crate, the bodies of it that are tried, and what was found."""
 
     name: str
     sources: Sources
     bodies: list[Body]
+    every: list[Body] = field(default_factory=list)  # all that it has
     known: set[str] = field(default_factory=set)  # the functions that the unchanged crate has
     names: dict[Function, list[str]] = field(default_factory=dict)  # what the check calls those that bodies change
     judged: list[Judged] = field(default_factory=list)
     failures: list[str] = field(default_factory=list)
     comments: str = "NOT proved"  # what became of the comments: that, or proved
-    is_whole: bool = True  # whether it has all of its bodies, and each can be tried
-    is_recorded: bool = False  # whether it isn't tried, since the record says that all was as it should be
+    recorded: int = 0  # how many bodies aren't tried, since the record has them
     checks: int = 0
     seconds: float = 0.0
 
@@ -79,6 +79,12 @@ class Crate:
         return self.sources.with_changes([change for it in bodies for change in it.changes])
 
     @property
+    def endings(self) -> list[str]:
+        """The names of these functions, as far as a check has to be told them; none where one isn't known."""
+        found = [it.ending for it in self.functions]
+        return found if all(found) else []
+
+    @property
     def control(self) -> dict[str, str]:
         """The texts with the right bodies, and a comment more in each other function that has bodies."""
         rewritten = {fn for it in self.right for fn in it.functions}
@@ -100,7 +106,7 @@ class Turn:
     @property
     def only(self) -> list[str]:
         """The functions that it looks at; none where that is the whole crate."""
-        if self.is_whole or any(it.is_outside for it in self.bodies):
+        if self.is_whole:
             return []
         return [name for it in self.bodies for fn in it.functions for name in self.crate.names[fn]]
 
@@ -109,8 +115,8 @@ class Trial:
     """One run over the crates: the proof of each, which is its control too, and then its rounds, up to `jobs` side by
     side.
 
-    Threads only run checks; what these say is judged as they end, in one place. Each crate of which all is as it
-    should be is told to `done`."""
+    Threads only run checks; what these say is judged as they end, in one place. A crate of which bodies have been judged
+    is told to `done`, once its comments are proved."""
 
     def __init__(
         self,
@@ -123,7 +129,6 @@ class Trial:
         self.crates = {it.name: it for it in crates}
         self.trees, self.jobs, self.logs, self.done = trees, jobs, logs, done
         self.unproved = list(trees.needed)
-        self.untold = [*crates]  # those that aren't done, or not told so
         self.waiting: list[Turn] = []
         self.running: dict["Future[Ran]", tuple[int, Callable[[Ran], None]]] = {}
         self.seconds = 0.0
@@ -136,9 +141,6 @@ class Trial:
                         ran = it.result()
                         self.seconds += ran.seconds
                         self.running.pop(it)[1](ran)
-                    for crate in [it for it in self.untold if it.is_well]:
-                        self.untold.remove(crate)
-                        self.done(crate)
             finally:
                 stop_all()
 
@@ -157,13 +159,14 @@ class Trial:
             if self.idle() > 0:
                 jobs = max(1, self.idle() // (len(ready) - at))
                 self.unproved.remove(name)
-                future = pool.submit(self.trees.prove, name, jobs)
+                crate = self.crates.get(name)
+                future = pool.submit(self.trees.prove, name, jobs, crate.endings if crate else [])
                 self.running[future] = jobs, partial(self.after_proof, name)
         # (one crate is ended after another, so that a run that is interrupted has recorded as many as can be)
         left = Counter(it.crate.name for it in self.waiting)
         self.waiting.sort(key=lambda it: (left[it.crate.name], it.crate.name, -len(it.bodies)))
         # (as long as proofs are to come that others wait for, they find a processor free)
-        kept_free = 1 if self.unproved and self.jobs > 1 else 0
+        kept_free = 1 if self.unproved and self.jobs > 1 and not self.trees.is_over_gate else 0
         while self.waiting and self.idle() > kept_free:
             # (at the end the long ones share the processors that nothing else waits for)
             jobs = 1 if self.unproved else min(MOST_JOBS, max(1, self.idle() // len(self.waiting)))
@@ -193,6 +196,7 @@ class Trial:
         if crate:
             crate.checks, crate.seconds = crate.checks + 1, crate.seconds + ran.seconds
             self.judge_proof(crate, ran)
+            self.tell(crate)
         if ran.status:
             errors = [it for it in ran.output.split("\n") if it.startswith(("error", "rt:")) or "not proved" in it]
             self.lose(name, f"the crate itself{what} is not proved: {' | '.join(errors[:3])[:400]}")
@@ -217,6 +221,11 @@ class Trial:
         self.log(f"{turn.crate.name}-{turn.label}", ran, f"{len(turn.bodies)} wrong bodies")
         output = read_output(ran.output)
         self.judge_round(turn, output, no_verdict(ran, output), ran.is_late)
+        self.tell(turn.crate)
+
+    def tell(self, crate: Crate) -> None:
+        if crate.judged and crate.comments == "proved":
+            self.done(crate)
 
     def judge_round(self, turn: Turn, output: Output, why: Optional[str], is_late: bool) -> None:
         crate, bodies = turn.crate, turn.bodies

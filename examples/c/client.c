@@ -1,9 +1,11 @@
-/* A client: it starts a server, calls it over the server's standard streams, prints the reply, and ends. Each content
- * is a line. It waits by poll(2) for the one descriptor to be readable and for the other to be writable, and for
- * nothing else.
+/* A client: it starts a server, calls it over the server's standard streams, prints the reply, and ends. It waits by
+ * poll(2) for the one descriptor to be readable and for the other to be writable, and no longer than it is told to.
  *
- *     ./client METHOD PARAMS SERVER [WORD]..          as in: ./client echo '["a",1.50]' ./host
- */
+ *     ./client [-f] [-s SECONDS] METHOD PARAMS SERVER [WORD]..          as in: ./client echo '["a",1.50]' ./host
+ *
+ * Each message is a line, or with -f a frame: a header with its Content-Length, and a content. All has to be done
+ * within the seconds, 30 if there are none: then the server is killed. The status is 0 for a result, 1 for an error as
+ * the reply, and 2 without a reply. */
 #include "bullmyrtle.h"
 
 #include <errno.h>
@@ -15,15 +17,29 @@
 #include <stdlib.h>
 #include <string.h>
 #include <sys/wait.h>
+#include <time.h>
 #include <unistd.h>
 
 extern char **environ;
 
+enum { SECONDS = 30, MOST_SECONDS = 86400 };
+
+/* What the command line asks for. */
+typedef struct {
+    bool frames;
+    long seconds;
+    const char *method, *params;
+    char **server; /* its words */
+} request;
+
 typedef struct {
     bm_connection connection;
-    int in, out; /* -1 where it is closed */
+    long seconds;
+    struct timespec end; /* when they are over */
+    int in, out;         /* -1 where it is closed */
     uint64_t key;
-    int status; /* -1 until there is a reply */
+    int status; /* -1 until there is a reply, or can be none */
+    bool is_unanswered;
     uint8_t bytes[4096];
     size_t first, last; /* what was taken and isn't written yet */
     uint8_t *room;      /* for an event's texts */
@@ -38,10 +54,8 @@ static void fail(const char *why)
 
 static void check(int32_t code)
 {
-    if (code != BM_OK) {
-        fprintf(stderr, "client: the library gave the code %d\n", code);
-        exit(2);
-    }
+    if (code != BM_OK)
+        fail(bm_code_text(code));
 }
 
 static void make_room(client *it, size_t size)
@@ -60,6 +74,27 @@ static void print(const bm_event *event, const uint8_t *room)
         printf("%s\n", text);
 }
 
+/* How many milliseconds are left: 0 where the time is over. */
+static int left(const client *it)
+{
+    struct timespec now;
+    clock_gettime(CLOCK_MONOTONIC, &now);
+    long long all = (long long)(it->end.tv_sec - now.tv_sec) * 1000 + (it->end.tv_nsec - now.tv_nsec) / 1000000;
+    return all > 0 ? (int)all : 0;
+}
+
+/* Says why there will be no reply. */
+static void explain(client *it, uint32_t over)
+{
+    uint64_t offset;
+    if (bm_fault_at(&it->connection, &offset))
+        fprintf(stderr, "client: byte %llu of the server's output: %s\n", (unsigned long long)offset,
+                bm_over_text(over));
+    else
+        fprintf(stderr, "client: the server ended without a reply\n");
+    it->status = 2;
+}
+
 static void handle(client *it, const bm_event *event, const uint8_t *room)
 {
     static const uint8_t message[] = "Method not found";
@@ -72,8 +107,11 @@ static void handle(client *it, const bm_event *event, const uint8_t *room)
         it->status = event->flags & BM_ERROR ? 1 : 0;
         break;
     case BM_UNANSWERED:
-        fprintf(stderr, "client: the server ended without a reply\n");
-        it->status = 2;
+        it->is_unanswered = true;
+        break;
+    case BM_INPUT_OVER:
+        if (it->is_unanswered)
+            explain(it, event->flags);
         break;
     }
 }
@@ -136,12 +174,12 @@ static void write_some(client *it)
 /* Once the reply is there and all is written, the server's input is closed; then its output is read to its end. */
 static void serve(client *it)
 {
-    while (it->in >= 0) {
+    while (it->in >= 0 && left(it) > 0) {
         bool writes = it->out >= 0 && has_output(it);
         if (it->out >= 0 && !writes && it->status >= 0)
             close_output(it);
         struct pollfd ready[2] = {{.fd = it->in, .events = POLLIN}, {.fd = writes ? it->out : -1, .events = POLLOUT}};
-        if (poll(ready, 2, -1) < 0 && errno != EINTR)
+        if (poll(ready, 2, left(it)) < 0 && errno != EINTR)
             fail("poll");
         if (ready[0].revents)
             read_some(it);
@@ -176,23 +214,70 @@ static pid_t start(client *it, char **words)
     return server;
 }
 
+/* Waits until the server has ended, and kills it where it hasn't in time. */
+static void end(client *it, pid_t server)
+{
+    const struct timespec pause = {.tv_nsec = 10000000};
+    bool is_late = it->status < 0;
+    if (is_late) {
+        fprintf(stderr, "client: no reply within %ld s\n", it->seconds);
+        it->status = 2;
+    }
+    while (waitpid(server, NULL, WNOHANG) == 0) {
+        if (left(it) > 0) {
+            nanosleep(&pause, NULL);
+            continue;
+        }
+        if (!is_late)
+            fprintf(stderr, "client: the server didn't end within %ld s\n", it->seconds);
+        kill(server, SIGKILL);
+        waitpid(server, NULL, 0);
+        return;
+    }
+}
+
+static long seconds_in(const char *word)
+{
+    char *rest;
+    long seconds = strtol(word, &rest, 10);
+    return *word == '\0' || *rest != '\0' || seconds > MOST_SECONDS ? 0 : seconds;
+}
+
+static request read_words(int count, char **words)
+{
+    request it = {.seconds = SECONDS};
+    bool is_well = true;
+    for (int option; (option = getopt(count, words, "+:fs:")) != -1;) {
+        if (option == 'f')
+            it.frames = true;
+        else if (option == 's')
+            it.seconds = seconds_in(optarg);
+        else
+            is_well = false;
+    }
+    if (!is_well || it.seconds < 1 || count - optind < 3)
+        fail("usage: client [-f] [-s SECONDS] METHOD PARAMS SERVER [WORD]..");
+    it.method = words[optind];
+    it.params = words[optind + 1];
+    it.server = words + optind + 2;
+    return it;
+}
+
 int main(int count, char **words)
 {
-    bm_settings settings = {.framing = BM_LINES};
-    client it = {.status = -1};
-    if (count < 4) {
-        fprintf(stderr, "usage: client METHOD PARAMS SERVER [WORD]..\n");
-        return 2;
-    }
-    const char *method = words[1], *params = words[2];
+    request asked = read_words(count, words);
+    bm_settings settings = {.framing = asked.frames ? BM_FRAMES : BM_LINES};
+    client it = {.seconds = asked.seconds, .status = -1};
+    clock_gettime(CLOCK_MONOTONIC, &it.end);
+    it.end.tv_sec += it.seconds;
     check(bm_new(&settings, &it.connection.at));
-    check(bm_call(&it.connection, 0, (const uint8_t *)method, strlen(method), (const uint8_t *)params, strlen(params),
-                  &it.key));
+    check(bm_call(&it.connection, 0, (const uint8_t *)asked.method, strlen(asked.method), (const uint8_t *)asked.params,
+                  strlen(asked.params), &it.key));
     make_room(&it, 4096);
     signal(SIGPIPE, SIG_IGN); /* a write to a server that is gone fails, and doesn't end the client */
-    pid_t server = start(&it, words + 3);
+    pid_t server = start(&it, asked.server);
     serve(&it);
-    waitpid(server, NULL, 0);
+    end(&it, server);
     free(it.room);
     bm_free(it.connection);
     return it.status;

@@ -5,6 +5,7 @@
 #include <ctype.h>
 #include <stdio.h>
 #include <stdlib.h>
+#include <string.h>
 #include <unistd.h>
 
 static bm_connection connection;
@@ -20,13 +21,15 @@ static void check(int32_t code)
 
 static void handle(const bm_event *event, const uint8_t *room)
 {
+    static const char message[] = "Method not found";
+    const char *name = (const char *)room;
     const uint8_t *params = room + event->name_len + 1;
     if (!(event->flags & BM_REQUEST))
         check(bm_close_call(&connection, event->number)); /* done with the notification */
-    else if (event->text_len)
+    else if (!strcmp(name, "echo") && event->text_len)
         check(bm_answer(&connection, event->number, params, event->text_len));
     else
-        check(bm_answer(&connection, event->number, (const uint8_t *)"null", 4));
+        check(bm_fail(&connection, event->number, -32601, (const uint8_t *)message, sizeof message - 1, params, 0));
 }
 
 static void explain(const bm_event *event, const uint8_t *start)

@@ -1,8 +1,9 @@
-/* The smallest host: it serves standard input, a content a line, and answers each request with its params. */
+/* The smallest host: it serves standard input, a content a line, and has one method, which gives its params back. */
 #include "bullmyrtle.h"
 
 #include <stdio.h>
 #include <stdlib.h>
+#include <string.h>
 #include <unistd.h>
 
 static bm_connection connection;
@@ -19,10 +20,11 @@ static void check(int32_t code)
 static void handle(const bm_event *event, const uint8_t *room)
 {
     static const char message[] = "Method not found";
+    const char *name = (const char *)room;
     const uint8_t *params = room + event->name_len + 1;
     if (!(event->flags & BM_REQUEST))
         check(bm_close_call(&connection, event->number)); /* done with the notification */
-    else if (event->text_len)
+    else if (!strcmp(name, "echo") && event->text_len)
         check(bm_answer(&connection, event->number, params, event->text_len));
     else
         check(bm_fail(&connection, event->number, -32601, (const uint8_t *)message, sizeof message - 1, params, 0));
@@ -30,7 +32,7 @@ static void handle(const bm_event *event, const uint8_t *room)
 
 static void hear(void)
 {
-    static uint8_t room[1 << 20]; /* a content has at most as many bytes, so each event fits */
+    static uint8_t room[1 << 24]; /* a content has at most as many bytes, so each event fits */
     bm_event event;
     for (;;) {
         check(bm_next(&connection, &event, room, sizeof room));
@@ -54,7 +56,7 @@ static void put(void)
 
 int main(void)
 {
-    bm_settings settings = {.framing = BM_LINES, .content = 100000};
+    bm_settings settings = {.framing = BM_LINES};
     uint8_t bytes[4096];
     check(bm_new(&settings, &connection.at));
     while (!bm_is_done(&connection)) {

@@ -88,6 +88,14 @@ static const char *string_in(const cJSON *value, const char *name)
     return cJSON_GetStringValue(member(value, name));
 }
 
+/* Whether a member is a whole number from 0 to 2^31 - 1, LSP's uinteger. */
+static bool has_count(const cJSON *value, const char *name)
+{
+    const cJSON *it = member(value, name);
+    return cJSON_IsNumber(it) && it->valuedouble >= 0 && it->valuedouble <= INT32_MAX &&
+           it->valuedouble == (int32_t)it->valuedouble;
+}
+
 /* ---- methods */
 
 static void initialize(uint64_t number)
@@ -98,6 +106,17 @@ static void initialize(uint64_t number)
     some(cJSON_AddNumberToObject(capabilities, "textDocumentSync", 1)); /* whole texts */
     is_initialized = true;
     answer(number, result);
+}
+
+/* What is wrong with the params of a hover, or NULL. */
+static const char *fault_of(const cJSON *params)
+{
+    const cJSON *place = member(params, "position");
+    if (!string_in(member(params, "textDocument"), "uri"))
+        return "params.textDocument.uri: expected a string";
+    if (!has_count(place, "line") || !has_count(place, "character"))
+        return "params.position: expected a line and a character";
+    return NULL;
 }
 
 /* Asks the editor for the setting, on behalf of the hover. */
@@ -171,17 +190,21 @@ static void diagnose(const char *uri, const char *text)
 
 static void request(uint64_t number, const char *method, const cJSON *params)
 {
-    if (!strcmp(method, "initialize") && !is_initialized)
-        initialize(number);
-    else if (!is_initialized)
+    if (!strcmp(method, "initialize") && !is_initialized) {
+        if (cJSON_IsObject(params))
+            initialize(number);
+        else
+            refuse(number, INVALID_PARAMS, "params: expected an object");
+    } else if (!is_initialized)
         refuse(number, NOT_INITIALIZED, "not initialized");
     else if (is_shut_down || !strcmp(method, "initialize"))
         refuse(number, INVALID_REQUEST, "not at this time");
     else if (!strcmp(method, "textDocument/hover")) {
-        if (string_in(member(params, "textDocument"), "uri"))
-            hover_at(number);
+        const char *fault = fault_of(params);
+        if (fault)
+            refuse(number, INVALID_PARAMS, fault);
         else
-            refuse(number, INVALID_PARAMS, "no document");
+            hover_at(number);
     } else if (!strcmp(method, "shutdown")) {
         is_shut_down = true;
         answer(number, cJSON_CreateNull());

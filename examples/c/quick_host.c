@@ -9,11 +9,11 @@
 #include <unistd.h>
 
 /* (what is told is open all at once, and few open calls take less time than many) */
-enum { MOST = 16, ROOM = 1 << 20 };
+enum { MOST = 16, ROOM = 1 << 24 };
 
 static bm_connection connection;
 
-/* Events lie at multiples of 8 bytes. A content has fewer bytes than the room, so each event fits. */
+/* Events lie at multiples of 8 bytes. A content has at most as many bytes as the room, so each event fits. */
 static uint64_t room[ROOM / sizeof(uint64_t)];
 
 /* What is to be said of so many events, with texts that came in the room, or with a message. */
@@ -40,11 +40,11 @@ static void say(bm_saying it, const void *name, const void *text)
     sayings[count++] = it;
 }
 
-static void handle(const bm_event *event, const uint8_t *params)
+static void handle(const bm_event *event, const char *name, const uint8_t *params)
 {
     if (!(event->flags & BM_REQUEST))
         say((bm_saying){.kind = BM_SAY_CLOSE, .number = event->number}, "", "");
-    else if (event->text_len)
+    else if (!strcmp(name, "echo") && event->text_len)
         say((bm_saying){.kind = BM_SAY_ANSWER, .number = event->number, .text_len = event->text_len}, "", params);
     else
         say((bm_saying){.kind = BM_SAY_FAIL, .number = event->number, .code = -32601, .name_len = sizeof message - 1},
@@ -59,7 +59,7 @@ static void hear(const bm_told *told)
         memcpy(&event, at, sizeof event);
         const uint8_t *name = at + sizeof event;
         if (event.kind == BM_CALL)
-            handle(&event, name + event.name_len + 1);
+            handle(&event, (const char *)name, name + event.name_len + 1);
         at += (sizeof event + event.name_len + event.text_len + event.id_len + 3 + 7) / 8 * 8;
     }
 }
@@ -81,7 +81,7 @@ static void put(void)
 
 int main(void)
 {
-    bm_settings settings = {.framing = BM_LINES, .content = 100000};
+    bm_settings settings = {.framing = BM_LINES};
     uint8_t bytes[4096];
     bm_told told;
     check(bm_new(&settings, &connection.at));

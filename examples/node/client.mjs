@@ -5,23 +5,23 @@ import { once } from 'node:events'
 import path from 'node:path'
 import { fileURLToPath } from 'node:url'
 import { CancellationTokenSource, createMessageConnection } from '../../bindings/node/lib/index.mjs'
+import { StdioClientTransport, ToolClient } from '../../bindings/node/lib/mcp/index.mjs'
 
 const URI = 'file:///notes.txt'
 const TEXT = 'Roses are red.\nViolets are are blue, and roses are not.'
 const isPython = process.argv[2] === 'python'
 const folder = fileURLToPath(new URL(isPython ? '../python' : '.', import.meta.url))
 
-/** A server's process, and the connection to it. */
-function start(name, options) {
-  const [program, ending] = isPython ? ['python3', '_by_hand.py'] : [process.execPath, '.mjs']
-  const server = spawn(program, [path.join(folder, `${name}${ending}`)], { stdio: ['pipe', 'pipe', 'inherit'] })
-  const connection = createMessageConnection(server.stdout, server.stdin, undefined, options)
-  return { connection, ended: once(server, 'close') }
-}
+/** The command of a server: the program, and its argument. */
+const commandOf = name => (
+  isPython ? ['python3', path.join(folder, `${name}_by_hand.py`)] : [process.execPath, path.join(folder, `${name}.mjs`)]
+)
 
 /** What an editor does with the language server. */
 async function edit() {
-  const { connection, ended } = start('language_server')
+  const [program, file] = commandOf('language_server')
+  const server = spawn(program, [file], { stdio: ['pipe', 'pipe', 'inherit'] })
+  const connection = createMessageConnection(server.stdout, server.stdin)
   const reached = new Map() // who waits for a kind of progress
   const reaching = kind => new Promise(resolve => reached.set(kind, resolve))
   connection.onRequest('workspace/configuration', ({ items }) => items.map(() => 'times'))
@@ -38,7 +38,7 @@ async function edit() {
   connection.listen()
 
   const textDocument = { uri: URI }
-  const capabilities = { window: { workDoneProgress: true } }
+  const capabilities = { window: { workDoneProgress: true }, workspace: { configuration: true } }
   await connection.sendRequest('initialize', { processId: process.pid, rootUri: null, capabilities })
   connection.sendNotification('initialized', {})
   const opened = { uri: URI, languageId: 'text', version: 1, text: TEXT }
@@ -62,39 +62,32 @@ async function edit() {
   })
   await connection.sendRequest('shutdown')
   connection.sendNotification('exit')
-  const [status] = await ended
+  const [status] = await once(server, 'close')
   console.log('status:', status)
 }
 
 /** What a tool host does with the tool server. */
 async function use() {
-  const { connection, ended } = start('tool_server', { protocol: 'mcp' })
-  connection.onRequest('sampling/createMessage', ({ messages: [{ content: { text } }] }) => {
-    console.log('asked:', text)
-    return { role: 'assistant', model: 'none', content: { type: 'text', text: 'Flowers' } }
-  })
-  connection.onNotification('notifications/progress', ({ progress, total }) => {
-    console.log(`progress: ${progress} of ${total}`)
-  })
-  connection.listen()
-
-  const clientInfo = { name: 'client', version: '1' }
-  const about = { protocolVersion: '2025-06-18', capabilities: { sampling: {} }, clientInfo }
-  console.log('server:', (await connection.sendRequest('initialize', about)).serverInfo.name)
-  connection.sendNotification('notifications/initialized')
-  const { tools } = await connection.sendRequest('tools/list')
+  /** @param {any} params */
+  const sampling = ({ messages: [{ content }] }) => {
+    console.log('asked:', content.text)
+    return 'Flowers'
+  }
+  const [command, file] = commandOf('tool_server')
+  const client = new ToolClient({ name: 'client', version: '1' }, { sampling })
+  await client.connect(new StdioClientTransport({ command, args: [file] }))
+  console.log('server:', client.getServerVersion().name)
+  const { tools } = await client.listTools()
   console.log('tools:', tools.map(({ name }) => name).join(', '))
+  const onprogress = ({ progress, total }) => console.log(`progress: ${progress} of ${total}`)
   for (const [name, text] of [['count', 'word '.repeat(150)], ['title', TEXT], ['paint', '']]) {
     try {
-      const params = { name, arguments: { text }, _meta: { progressToken: 1 } }
-      console.log(`${name}:`, (await connection.sendRequest('tools/call', params)).content[0].text)
+      console.log(`${name}:`, (await client.callTool({ name, arguments: { text } }, { onprogress })).content[0].text)
     } catch (error) {
-      console.log(`${name}: error ${error.code}, ${error.message}`)
+      console.log(`${name}: error ${error.code}`)
     }
   }
-  connection.end()
-  const [status] = await ended
-  console.log('status:', status)
+  await client.close()
 }
 
 await edit()

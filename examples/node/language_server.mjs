@@ -1,35 +1,28 @@
-// A language server for plain text: it finds words that stand twice in a row, and counts words. It is written as for
-// vscode-jsonrpc, but for `run` and `stop`.
+// A language server for plain text: it finds words that stand twice in a row, and counts words.
 import {
-  createMessageConnection, ErrorCodes, ProgressType, ResponseError, run
-} from '../../bindings/node/lib/index.mjs' // (in a project of your own: 'bullmyrtle')
+  CodeActionKind, createConnection, DiagnosticSeverity, ErrorCodes, LSPErrorCodes, Range, ResponseError, TextDocument,
+  TextDocuments, TextDocumentSyncKind, TextEdit
+} from '../../bindings/node/lib/lsp/index.mjs' // (in a project of your own: 'bullmyrtle/lsp')
 
-const REQUEST_CANCELLED = -32800 // (LSPErrorCodes.RequestCancelled)
 const WORD = /[\p{L}\p{N}_]+/gu
 const REPEATED = /(?<![\p{L}\p{N}_])([\p{L}\p{N}_]+)\s+\1(?![\p{L}\p{N}_])/giu
 
-const connection = createMessageConnection(process.stdin, process.stdout)
-const texts = new Map() // of the open documents, by their URIs
-let status = 1 // 0 once the server is shut down
-let counts = 0
-let hasProgress = false // whether the editor shows it
+const connection = createConnection()
+const documents = new TextDocuments(TextDocument)
+let hasSettings = false // whether the client gives them
 
-/** What matches in a document's lines, with its range. Columns are in UTF-16 in JavaScript, as in LSP. */
-function find(pattern, { uri }) {
-  if (!texts.has(uri)) throw new ResponseError(ErrorCodes.InvalidParams, `this document isn't open: ${uri}`)
-  return texts.get(uri).split('\n').flatMap((text, line) => Array.from(text.matchAll(pattern), found => {
-    const [start, end] = [found.index, found.index + found[0].length].map(character => ({ line, character }))
-    return { word: found[1] ?? found[0], range: { start, end } }
-  }))
+/** An open document. */
+function opened({ uri }) {
+  const document = documents.get(uri)
+  if (document === undefined) throw new ResponseError(ErrorCodes.InvalidParams, `this document isn't open: ${uri}`)
+  return document
 }
 
-function changed({ textDocument, contentChanges = [textDocument] }) {
-  texts.set(textDocument.uri, contentChanges.at(-1).text)
-  const diagnostics = find(REPEATED, textDocument).map(({ word, range }) => ({
-    range, severity: 2, message: `'${word}' stands twice`
-  }))
-  connection.sendNotification('textDocument/publishDiagnostics', { uri: textDocument.uri, diagnostics })
-}
+/** What matches in a document, with its range. */
+const find = (pattern, document) => Array.from(document.getText().matchAll(pattern), found => ({
+  word: found[1] ?? found[0],
+  range: Range.create(document.positionAt(found.index), document.positionAt(found.index + found[0].length))
+}))
 
 /** Waits, unless it is cancelled. */
 function pause(seconds, token) {
@@ -37,60 +30,61 @@ function pause(seconds, token) {
     const timer = setTimeout(resolve, seconds * 1000)
     token.onCancellationRequested(() => {
       clearTimeout(timer)
-      reject(new ResponseError(REQUEST_CANCELLED, 'Request cancelled'))
+      reject(new ResponseError(LSPErrorCodes.RequestCancelled, 'Request cancelled'))
     })
   })
 }
 
-connection.onRequest('initialize', params => {
-  hasProgress = params.capabilities?.window?.workDoneProgress === true
+connection.onInitialize(({ capabilities }) => {
+  hasSettings = capabilities.workspace?.configuration === true
   return {
     capabilities: {
-      textDocumentSync: 1, hoverProvider: true, codeActionProvider: true, executeCommandProvider: { commands: ['count'] }
-    }
+      textDocumentSync: TextDocumentSyncKind.Incremental, hoverProvider: true, codeActionProvider: true,
+      executeCommandProvider: { commands: ['count'] }
+    },
+    serverInfo: { name: 'words', version: '1.0' }
   }
 })
-connection.onNotification('textDocument/didOpen', changed)
-connection.onNotification('textDocument/didChange', changed)
 
-connection.onRequest('textDocument/hover', async ({ textDocument, position: { line, character } }, token) => {
-  const words = find(WORD, textDocument)
+documents.onDidChangeContent(({ document }) => {
+  const diagnostics = find(REPEATED, document).map(({ word, range }) => ({
+    range, severity: DiagnosticSeverity.Warning, message: `'${word}' stands twice`
+  }))
+  connection.sendDiagnostics({ uri: document.uri, diagnostics })
+})
+
+connection.onHover(async ({ textDocument, position: { line, character } }) => {
+  const words = find(WORD, opened(textDocument))
   const here = words.find(({ range: { start, end } }) => (
     start.line === line && start.character <= character && character <= end.character
   ))
   if (here === undefined) return null
-  const items = [{ section: 'words.label' }]
-  const [label] = await connection.sendRequest('workspace/configuration', { items }, token)
+  const label = hasSettings ? await connection.workspace.getConfiguration('words.label') : null
   return { contents: `${label ?? 'count'}: ${words.filter(it => it.word === here.word).length}` }
 })
 
-connection.onRequest('textDocument/codeAction', ({ textDocument, range: { start } }) => {
-  const here = find(REPEATED, textDocument).filter(({ range }) => range.start.line === start.line)
+connection.onCodeAction(({ textDocument, range: { start } }) => {
+  const here = find(REPEATED, opened(textDocument)).filter(({ range }) => range.start.line === start.line)
   return here.map(({ word, range }) => ({
-    title: `Remove the second '${word}'`, kind: 'quickfix',
-    edit: { changes: { [textDocument.uri]: [{ range, newText: word }] } }
+    title: `Remove the second '${word}'`, kind: CodeActionKind.QuickFix,
+    edit: { changes: { [textDocument.uri]: [TextEdit.replace(range, word)] } }
   }))
 })
 
-connection.onRequest('workspace/executeCommand', async ({ command, arguments: [seconds] = [0] }, cancellation) => {
+connection.onExecuteCommand(async ({ command, arguments: [seconds] = [0] }, token) => {
   if (command !== 'count') throw new ResponseError(ErrorCodes.InvalidParams, `unknown command: ${command}`)
-  const token = `count ${++counts}`
-  if (hasProgress) await connection.sendRequest('window/workDoneProgress/create', { token })
-  const tell = (kind, more) => {
-    if (hasProgress) connection.sendProgress(new ProgressType(), token, { kind, ...more })
-  }
-  tell('begin', { title: 'Counting', cancellable: true })
+  const progress = await connection.window.createWorkDoneProgress()
+  progress.begin('Counting', undefined, undefined, true)
   try {
-    for (const uri of [...texts.keys()]) {
-      tell('report', { message: uri })
-      await pause(seconds, cancellation)
+    for (const uri of documents.keys()) {
+      progress.report(uri)
+      await pause(seconds, token)
     }
-    return [...texts.keys()].reduce((sum, uri) => sum + find(WORD, { uri }).length, 0)
+    return documents.all().reduce((sum, it) => sum + find(WORD, it).length, 0)
   } finally {
-    tell('end')
+    progress.done()
   }
 })
 
-connection.onRequest('shutdown', () => { status = 0 })
-connection.onNotification('exit', () => connection.stop(status))
-run(connection, { grace: 0 })
+documents.listen(connection)
+connection.listen()

@@ -110,11 +110,11 @@ async def use():
         print("server:", client.server["serverInfo"]["name"], client.protocol_version)
         print("tools:", ", ".join(it["name"] for it in await client.list_tools()))
         for name, arguments in (("count", {"text": TEXT}), ("title", {"text": TEXT}), ("count", {"text": 7})):
-            try:
-                result = await client.call_tool(name, arguments)
+            result = await client.call_tool(name, arguments)
+            if result.is_error:
+                print(f"{name}: error, {result.text}")
+            else:
                 print(f"{name}:", result.text, result.structured)
-            except Error as error:
-                print(f"{name}: error {error.code}, {error.message}")
     print("status:", await client.close())
 
 

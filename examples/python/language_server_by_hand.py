@@ -3,13 +3,27 @@ import asyncio
 import re
 import sys
 
-from bullmyrtle import InvalidParams, Server
+from bullmyrtle import Error, InvalidParams, Server
 
 server = Server(protocol="lsp")
 texts = {}  # of the open documents, by their URIs
-ending = {"status": 1}  # 0 once the server is shut down
+life = {"is_begun": False, "is_shut": False}
 editor = {"has_progress": False}
 WORD, REPEATED = r"\w+", r"\b(\w+)\s+\1\b"
+
+
+@server.middleware
+def live(request, params):
+    """Refuses what comes before `initialize` or behind `shutdown`, and params that lack something."""
+    if request.method != "exit":
+        if not life["is_begun"] and request.method != "initialize":
+            raise Error(-32002, "initialize comes first")
+        if life["is_shut"] or life["is_begun"] and request.method == "initialize":
+            raise Error(-32600, "this comes too late")
+    try:
+        yield
+    except (KeyError, TypeError) as fault:
+        raise InvalidParams(f"{type(fault).__name__}: {fault}") from fault
 
 
 def find(pattern, document):
@@ -25,6 +39,7 @@ def find(pattern, document):
 
 @server.method("initialize")
 def initialize(params: dict):
+    life["is_begun"] = True
     window = params.get("capabilities", {}).get("window", {})
     editor["has_progress"] = window.get("workDoneProgress") is True
     capabilities = {"textDocumentSync": 1, "hoverProvider": True, "codeActionProvider": True}
@@ -84,6 +99,14 @@ async def count(params: dict, request):
         tell("end")
 
 
-server.method("shutdown")(lambda: ending.update(status=0))
-server.method("exit")(lambda: server.stop(ending["status"], grace=0))
+server.method("shutdown")(lambda: life.update(is_shut=True))
+
+
+@server.method("exit")
+def end(params, request):
+    if not request.is_notification:
+        raise Error(-32601, "exit is a notification")
+    server.stop(0 if life["is_shut"] else 1, grace=0)
+
+
 sys.exit(server.run())

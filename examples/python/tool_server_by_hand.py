@@ -1,25 +1,51 @@
 """A tool server, as MCP has it over lines: one tool counts words, the other asks the host's model for a title."""
 import asyncio
 import sys
+from typing import Optional
 
-from bullmyrtle import InvalidParams, Server
+from bullmyrtle import Error, InvalidParams, Server
 
 server = Server(framing="lines")
 TOOLS = {"count": "Counts the words of a text", "title": "Finds a title for a text"}
 SCHEMA = {"type": "object", "properties": {"text": {"type": "string"}}, "required": ["text"]}
+VERSIONS = ["2025-06-18", "2025-03-26", "2024-11-05"]  # of MCP that it speaks, the newest first
 LISTED = [{"name": name, "description": it, "inputSchema": SCHEMA} for name, it in TOOLS.items()]
 SERVER = {"capabilities": {"tools": {}}, "serverInfo": {"name": "words", "version": "1.0"}}
-server.method("initialize")(lambda params: {"protocolVersion": params["protocolVersion"], **SERVER})
+life = {"is_begun": False}
 server.method("ping")(lambda: {})
-server.method("tools/list")(lambda: {"tools": LISTED})
+
+
+@server.middleware
+def live(request, params):
+    """Refuses what comes before `initialize`, and a second one."""
+    if not life["is_begun"] and request.method not in ("initialize", "ping"):
+        raise Error(-32600, "initialize comes first")
+    if life["is_begun"] and request.method == "initialize":
+        raise Error(-32600, "initialize came before")
+    yield
+
+
+@server.method("initialize")
+def initialize(protocolVersion: str, capabilities: dict, clientInfo: dict, **more):
+    life["is_begun"] = True
+    # (with a version that it doesn't speak the client may end)
+    return {"protocolVersion": protocolVersion if protocolVersion in VERSIONS else VERSIONS[0], **SERVER}
+
+
+@server.method("tools/list")
+def listed(params: Optional[dict]):
+    if params and "cursor" in params:
+        raise InvalidParams("nobody gave a cursor: there is one page")
+    return {"tools": LISTED}
 
 
 @server.method("tools/call")
 async def call(params: dict, request):
-    name, text = params.get("name"), params.get("arguments", {}).get("text")
+    name, arguments = params.get("name"), params.get("arguments")
+    text = arguments.get("text") if isinstance(arguments, dict) else None
     if name not in TOOLS or not isinstance(text, str):
         raise InvalidParams(f"no such tool: {name}" if name not in TOOLS else "the text is missing")
-    token = params.get("_meta", {}).get("progressToken")
+    token = (params.get("_meta") or {}).get("progressToken")
     result = await (count(text, request, token) if name == "count" else title(text, request))
     return {"content": [{"type": "text", "text": result}]}
 

@@ -3,11 +3,14 @@ import hashlib
 import json
 from typing import Any, Iterator, Optional
 
-from tools import components, sources
+from tools import addon, components, extension, sources
 from tools.packages.parts import HEADER, PROGRAM, RELEASED, SHARED, STATIC, version
 from tools.repository import read_bytes, read_text
 
-OURS = {PROGRAM: sources.PROGRAM, SHARED: sources.LIBRARY, STATIC: sources.LIBRARY}
+# (each has the static library inside)
+HOSTED = {addon.ADDON: addon.STAMP, extension.EXTENSION: extension.STAMP}
+OURS = {PROGRAM: sources.PROGRAM, **{it: sources.LIBRARY for it in (SHARED, STATIC, *HOSTED)}}
+STAMPS = {PROGRAM: "stamp", **HOSTED}
 NONE = "NOASSERTION"
 Package = dict[str, Any]
 # (no clock is read, so that the same files give the same bill)
@@ -34,8 +37,9 @@ def package(reference: str, name: str, number: Optional[str], summed: str, comme
 
 
 def own(file: str) -> Package:
-    stamp = read_text(f"{RELEASED}/{'stamp' if file == PROGRAM else 'library.stamp'}").split("\n")
-    comment = f"Proved and built by {stamp[1]}, of the sources with the sum {stamp[0]}."
+    stamp = read_text(f"{RELEASED}/{STAMPS.get(file, 'library.stamp')}").split("\n")
+    how = "Built" if file in HOSTED else "Proved and built"
+    comment = f"{how} by {stamp[1]}, of the sources with the sum {stamp[0]}."
     return package(
         name_of("own", file), file, version(), hashlib.sha256(read_bytes(f"{RELEASED}/{file}")).hexdigest(), comment
     )

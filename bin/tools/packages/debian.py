@@ -3,8 +3,9 @@ import hashlib
 import tomllib
 from email.utils import formatdate
 
+from tools import extension
 from tools.archives import DATE, File, ar, packed, tar_gz, tar
-from tools.packages.parts import HEADER, PROGRAM, SHARED, STATIC, filled, released, version
+from tools.packages.parts import HEADER, PROGRAM, SHARED, STATIC, file_of, filled, released, tracked, version
 from tools.repository import TOP, read_bytes
 
 MULTIARCH = "usr/lib/x86_64-linux-gnu"
@@ -27,11 +28,24 @@ def contents() -> dict[str, list[File]]:
         "libbullmyrtle1": [File(f"{MULTIARCH}/{SHARED}", released(SHARED))],
         "libbullmyrtle-dev": [
             File(f"usr/include/{HEADER}", released(HEADER)),
+            File("usr/include/bullmyrtle.hpp", read_bytes(f"{TOP}/include/bullmyrtle.hpp")),
             File(f"{MULTIARCH}/{STATIC}", released(STATIC)),
             File(f"{MULTIARCH}/libbullmyrtle.so", link=SHARED, mode=0o777),
             File(f"{MULTIARCH}/pkgconfig/bullmyrtle.pc", filled("bullmyrtle.pc")),
         ],
+        "python3-bullmyrtle": python(),
     }
+
+
+def python() -> list[File]:
+    """Python's package, which has the extension beside its modules, and its commands."""
+    at, code = "usr/lib/python3/dist-packages/bullmyrtle", "bindings/python/bullmyrtle"
+    files = [file_of(f"{code}/{it}", f"{at}/{it}") for it in tracked(code)]
+    files.append(File(f"{at}/{extension.EXTENSION}", released(extension.EXTENSION)))
+    for name in ("examine", "judge", "mcp"):
+        script = f"#!/usr/bin/python3\nimport sys\n\nfrom bullmyrtle.{name}._command import run\n\nsys.exit(run())\n"
+        files.append(File(f"usr/bin/bullmyrtle-{name}", script.encode(), 0o755))
+    return files
 
 
 def documents(package: str) -> list[File]:

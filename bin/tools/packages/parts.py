@@ -1,6 +1,8 @@
 """What packages are made of: the version, and files of the repository as files of an archive."""
 import os
 import subprocess
+from types import MappingProxyType
+from typing import Mapping
 
 from tools.archives import File
 from tools.repository import TOP, Fault, read_bytes, read_text
@@ -18,9 +20,12 @@ def released(name: str) -> bytes:
     return read_bytes(f"{RELEASED}/{name}")
 
 
-def filled(file: str) -> bytes:
-    """A text of packaging/ with the version in it."""
-    return read_text(f"{TOP}/packaging/{file}").replace("@VERSION@", version()).encode()
+def filled(file: str, words: Mapping[str, str] = MappingProxyType({})) -> bytes:
+    """A text of packaging/ with the version in it, and these words in the places that have their names."""
+    text = read_text(f"{TOP}/packaging/{file}")
+    for name, word in {"VERSION": version(), **words}.items():
+        text = text.replace(f"@{name}@", word)
+    return text.encode()
 
 
 def tracked(folder: str) -> list[str]:

@@ -6,10 +6,6 @@
  *   say    answers, calls, notifications and withdrawals in, as numbers in an array and ONE string; bytes out
  * since a crossing costs little, and a string much. The other calls are those of the header, one by one.
  *
- * With TOGETHER, which bin/tools/addon.py says where the header has bm_say_all, the library goes through what is said
- * and told by itself; without, it is asked for each. With OPEN, which it says where the header has bm_open, a
- * connection may have MCP's cancels, tell broken input, and say where a fault lies.
- *
  * Nothing here is global: what connections share belongs to the thread of JavaScript that loaded the addon. No call of
  * JavaScript is made from here, so rooms are free again when a crossing is over. */
 #include "outside.h"
@@ -177,8 +173,6 @@ typedef struct {
     uint64_t calls;
 } ways;
 
-#ifdef OPEN
-
 static int32_t make(const ways *it, void **at)
 {
     bm_options options = {.size = sizeof options, .framing = it->framing, .order = it->order, .cancels = it->cancels};
@@ -189,19 +183,6 @@ static int32_t make(const ways *it, void **at)
     options.null_params = it->null_params;
     return bm_open(&options, at);
 }
-
-#else
-
-/* (JavaScript asks for neither MCP's cancels nor broken input here) */
-static int32_t make(const ways *it, void **at)
-{
-    bm_settings settings = {.framing = it->framing, .order = it->order, .takes_cancels = it->cancels};
-    settings.content = it->content;
-    settings.calls = it->calls;
-    return bm_new(&settings, at);
-}
-
-#endif
 
 /* open(framing, order, cancels, content, calls, broken, entries, nullParams): a handle, or a code */
 static napi_value open_one(napi_env env, napi_callback_info info)
@@ -246,8 +227,6 @@ static napi_value close_one(napi_env env, napi_callback_info info)
 
 /* Events */
 
-#ifdef TOGETHER
-
 /* Asks for as many events as fit the room, behind a piece of input where there is one. */
 static int32_t tell(bm_connection *at, const bytes *piece, bytes *room, size_t length, bm_told *told)
 {
@@ -278,47 +257,6 @@ static int32_t ask(bm_connection *at, const bytes *piece, shared *rooms, uint32_
     *has_more = told.stopped != BM_STOP_NONE;
     return told.count == 0 && told.stopped == BM_STOP_NO_MEMORY ? BM_NO_MEMORY : BM_OK;
 }
-
-#else
-
-/* Asks for as many events as fit the room, which grows for one that is too large. Gives a code, and writes how many
- * bytes and events there are, and whether there may be more. */
-static int32_t tell(bm_connection *at, shared *rooms, uint32_t *count, bool *has_more)
-{
-    bytes *room = &rooms->events;
-    size_t used = 0;
-    if (!grow(room, EVENTS_ROOM) || !grow(&rooms->texts, TOLD_ROOM)) /* (the second for what string_of_all puts) */
-        return BM_NO_MEMORY;
-    int32_t code = bm_next_all(at, room->at, EVENTS_ROOM, &used, count);
-    *has_more = true;
-    if (code == BM_SMALL) { /* just as much as is needed, so that one event alone is told */
-        size_t need = used;
-        return grow(room, need) ? bm_next_all(at, room->at, need, &used, count) : BM_NO_MEMORY;
-    }
-    if (code != BM_OK || *count == 0) {
-        *has_more = false;
-        return code;
-    }
-    /* what doesn't fit came behind the last that did, so it is enough to ask once whether something is there */
-    size_t from = (used + 7) / 8 * 8, rest = 0;
-    uint32_t further = 0;
-    *has_more = from >= EVENTS_ROOM || bm_next_all(at, room->at + from, EVENTS_ROOM - from, &rest, &further) != BM_OK;
-    if (further) {
-        *count += further;
-        *has_more = true;
-    }
-    return code;
-}
-
-/* The same behind a piece of input, where there is one. */
-static int32_t ask(bm_connection *at, const bytes *piece, shared *rooms, uint32_t *count, bool *has_more, bool *is_fed)
-{
-    int32_t code = piece ? bm_feed(at, piece->at, piece->length) : BM_OK;
-    *is_fed = code == BM_OK;
-    return *is_fed ? tell(at, rooms, count, has_more) : code;
-}
-
-#endif
 
 /* Writes an event's head. Its lengths are those of bytes. */
 static void put_head(const bm_event *event, double *head)
@@ -360,8 +298,6 @@ static double units(const uint8_t *at, size_t length)
     return (double)count;
 }
 
-#ifdef OPEN
-
 /* Room for what is told of broken input: an index of 20 digits at most, 64 letters of two bytes, and zero bytes. */
 enum { BROKEN_ROOM = 20 + 2 * 64 + 3 };
 
@@ -402,24 +338,6 @@ static bool is_broken(const bm_event *event)
 {
     return event->kind == BM_BROKEN;
 }
-
-#else
-
-enum { BROKEN_ROOM = 1 };
-
-static bool is_broken(const bm_event *event)
-{
-    (void)event;
-    return false;
-}
-
-static const uint8_t *texts_to_tell(bm_event *event, const uint8_t *texts, uint8_t room[BROKEN_ROOM])
-{
-    (void)event, (void)room;
-    return texts;
-}
-
-#endif
 
 /* The string of one event, whose head it writes: its texts as they lie, with the zero bytes between them. */
 static napi_value string_of_one(napi_env env, const uint8_t *given, bm_event event, double *head)
@@ -666,11 +584,7 @@ static napi_value end(napi_env env, napi_callback_info info)
 
 /* Saying */
 
-#ifdef TOGETHER
 enum { SAYING_SIZE = sizeof(bm_saying) };
-#else
-enum { SAYING_SIZE = 0 };
-#endif
 
 typedef struct {
     uint32_t kind;
@@ -726,8 +640,6 @@ static saying read_saying(const double *said, bytes *rest)
     return it;
 }
 
-#ifdef TOGETHER
-
 /* Writes a thing to say as bm_say_all takes it, and moves its texts to where those before end: there they lie without
  * line feeds. */
 static void put_saying(bm_saying *to, const saying *it, uint8_t **end)
@@ -773,31 +685,6 @@ static size_t say_all(crossing *to, uint32_t count, bytes texts, bytes out)
     says[0] = (double)all.refused;
     return all.taken;
 }
-
-#else
-
-/* Says all, in their order, each by itself. In the place of each kind comes its code, and in that of a call's number
- * its key; in the first place how many were refused. */
-static size_t say_all(crossing *to, uint32_t count, bytes texts, bytes out)
-{
-    bm_connection *at = &to->it->at;
-    double *says = to->shared->says;
-    uint32_t refused = 0;
-    for (uint32_t i = 0; i < count; i++) {
-        double *said = says + BEFORE_SAYINGS + i * SAYING;
-        saying it = read_saying(said, &texts);
-        uint64_t key = 0;
-        int32_t code = say_one(at, &it, &key);
-        said[0] = code;
-        if (it.kind == CALL)
-            said[1] = (double)key;
-        refused += code != BM_OK;
-    }
-    says[0] = refused;
-    return bm_take(at, out.at, out.length);
-}
-
-#endif
 
 /* The same where there is no memory for the texts. */
 static void refuse_all(double *says, uint32_t count)
@@ -953,7 +840,6 @@ static napi_value has(napi_env env, napi_callback_info info)
     return made;
 }
 
-#ifdef OPEN
 /* faultAt(handle): the offset of the frame or line at fault, or undefined */
 static napi_value fault_at(napi_env env, napi_callback_info info)
 {
@@ -963,7 +849,6 @@ static napi_value fault_at(napi_env env, napi_callback_info info)
         return NULL;
     return number(env, (double)offset);
 }
-#endif
 
 /* Loading */
 
@@ -1022,10 +907,7 @@ __attribute__((visibility("default"))) napi_value napi_register_module_v1(napi_e
                  {"fed", fed},         {"events", events},   {"next", next},        {"end", end},
                  {"say", say},         {"take", take},       {"sayOne", say_alone}, {"callBatch", call_batch},
                  {"counts", counts},   {"pending", pending}, {"isDone", is_done},   {"has", has},
-#ifdef OPEN
-                 {"faultAt", fault_at}
-#endif
-    };
+                 {"faultAt", fault_at}};
     if (bm_interface() != BM_INTERFACE)
         return thrown(env, "ERR_BULLMYRTLE_INTERFACE", "the library has another interface");
     shared *it = calloc(1, sizeof *it);

@@ -1,20 +1,41 @@
 #!/usr/bin/env python3
-"""usage: compare.py [--rounds N] [--count N] [--turns N] [--processor P] [--node NODE]
+"""usage: compare.py [--rounds N] [--count N] [--turns N] [--processor P] [--node NODE] [--beside PACKAGE]
 
-Measures a server over bullmyrtle beside the same over two connections in plain JavaScript (plain.js), in turn, driven by drive.c. Prints for
-each row the least of all rounds and turns: microseconds of the wall for each request, and in brackets of the server's processor. With a
-processor, the driver and the server have that one alone, and, where that is allowed, before all others. It needs cc."""
+Measures a server over bullmyrtle beside the same over two connections in plain JavaScript (plain.js), driven by drive.c, which makes each round
+with each of them in turn. Prints for each row the least of all rounds and turns: microseconds of the wall for each request, and in brackets of
+the server's processor; then how many times ours each other takes, the median of all rounds. These are to be trusted where the machine does
+other work: what slows it down for a while slows all of them. With a processor, the driver and the servers have that one alone, and, where that
+is allowed, before all others. With --beside, the package in another folder is measured too, such as an older one. It needs cc."""
 import argparse
 import os
 import shutil
+import statistics
 import subprocess
 import sys
 import tempfile
+from dataclasses import dataclass, field
 
 HERE = os.path.dirname(os.path.abspath(__file__))
-SERVERS = ["bullmyrtle", "lean", "layered"]
 ROWS = ["once", "async", "batches", "notifications", "ping", "back", "large"]
 NAMES = {"once": "at once", "back": "call back", "large": "a param of 4 MB"}
+# (what it is written after gives a batch no array, so that its figure would say nothing)
+NOT_MEASURED = ("layered", "batches")
+
+
+@dataclass
+class Figures:
+    """What a server took for a row: microseconds, of the wall and of its processor, the least so far; and times ours, by turns."""
+
+    wall: float = float("inf")
+    used: float = float("inf")
+    times: list[float] = field(default_factory=list)
+
+    def add(self, wall: float, used: float, times: float) -> None:
+        self.wall, self.used = min(self.wall, wall), min(self.used, used)
+        self.times.append(times)
+
+
+Found = dict[tuple[str, str], Figures]
 
 
 def pinned(processor: "int | None") -> list[str]:
@@ -28,14 +49,44 @@ def pinned(processor: "int | None") -> list[str]:
     return ["taskset", "-c", str(processor), *(first if may else [])]
 
 
-def measured(drive: str, server: str, options: argparse.Namespace) -> dict[str, tuple[float, float]]:
-    # (the layered one knows no batches)
-    rows = [it for it in ROWS if (server, it) != ("layered", "batches")]
-    words = [*pinned(options.processor), drive, str(options.rounds), str(options.count), *rows, "--"]
-    ended = subprocess.run(
-        [*words, options.node, f"{HERE}/server.js", server], capture_output=True, text=True, timeout=600, check=True
-    )
-    return {name: (float(wall), float(used)) for name, wall, used in (it.split() for it in ended.stdout.splitlines())}
+def commands(options: argparse.Namespace) -> dict[str, list[str]]:
+    """The servers, ours first."""
+    made = {it: [options.node, f"{HERE}/server.js", it] for it in ("bullmyrtle", "lean", "layered")}
+    if options.beside:
+        made["beside"] = [options.node, os.path.join(options.beside, "bench", "server.js"), "bullmyrtle"]
+    return made
+
+
+def measure(drive: str, servers: dict[str, list[str]], options: argparse.Namespace, found: Found) -> list[int]:
+    """A turn of all rows, which is added to what was found. Gives the servers' greatest resident memories in KiB."""
+    words = [*pinned(options.processor), drive, str(options.rounds), str(options.count), *ROWS]
+    for command in servers.values():
+        words += ["--", *command]
+    ended = subprocess.run(words, capture_output=True, text=True, timeout=600, check=True)
+    peaks = []
+    for row, *numbers in (it.split() for it in ended.stdout.splitlines()):
+        if row == "peak":
+            peaks.append(int(numbers[0]))
+            continue
+        for at, server in enumerate(servers):
+            found[row, server].add(*map(float, numbers[3 * at : 3 * at + 3]))
+    return peaks
+
+
+def print_rows(servers: list[str], found: Found) -> None:
+    print(f"{'':16}" + "".join(f"{it:>21}" for it in servers) + "".join(f"{'x ' + it:>13}" for it in servers[1:]))
+    for row in ROWS:
+        cells, times = [], []
+        for it in servers:
+            figures = found[row, it]
+            is_left = (it, row) == NOT_MEASURED
+            cells.append("-" if is_left else f"{figures.wall:.2f} ({figures.used:.2f})")
+            times.append("-" if is_left else f"{statistics.median(figures.times):.3f}")
+        print(
+            f"{NAMES.get(row, row):16}"
+            + "".join(f"{it:>21}" for it in cells)
+            + "".join(f"{it:>13}" for it in times[1:])
+        )
 
 
 def main() -> None:
@@ -45,26 +96,17 @@ def main() -> None:
     parser.add_argument("--turns", type=int, default=3)
     parser.add_argument("--processor", type=int)
     parser.add_argument("--node", default="node")
+    parser.add_argument("--beside")
     options = parser.parse_args()
-    best: dict[str, dict[str, tuple[float, float]]] = {it: {} for it in SERVERS}
+    servers = commands(options)
+    found: Found = {(row, it): Figures() for row in ROWS for it in servers}
     with tempfile.TemporaryDirectory() as room:
         drive = f"{room}/drive"
         subprocess.run(["cc", "-O2", "-Wall", "-Wextra", "-Werror", f"{HERE}/drive.c", "-o", drive], check=True)
-        for _ in range(options.turns):
-            for server in SERVERS:
-                for row, found in measured(drive, server, options).items():
-                    held = best[server].get(row, found)
-                    best[server][row] = (min(held[0], found[0]), min(held[1], found[1]))
-    print(f"{'':18}" + "".join(f"{it:>22}" for it in SERVERS) + f"{'times lean':>12}{'layered':>9}")
-    for row in ROWS:
-        ours = best["bullmyrtle"][row][0]
-        cells = [f"{best[it][row][0]:.2f} ({best[it][row][1]:.2f})" if row in best[it] else "-" for it in SERVERS]
-        ratios = [f"{best[it][row][0] / ours:.2f}" if row in best[it] else "-" for it in SERVERS[1:]]
-        print(
-            f"{NAMES.get(row, row):18}" + "".join(f"{it:>22}" for it in cells) + f"{ratios[0]:>12}{ratios[1]:>9}",
-            flush=True,
-        )
-    print("peak, KiB: " + ", ".join(f"{it} {best[it]['peak'][0]:,.0f}" for it in SERVERS))
+        peaks = [measure(drive, servers, options, found) for _ in range(options.turns)]
+    print_rows([*servers], found)
+    most = (f"{it} {max(some):,}" for it, some in zip(servers, zip(*peaks)))
+    print("peak, KiB: " + ", ".join(most))
 
 
 if __name__ == "__main__":

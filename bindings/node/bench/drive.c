@@ -1,6 +1,8 @@
-/* drive ROUNDS COUNT ROW .. -- COMMAND ..: starts a server over two pipes and drives it with as little as possible. For
- * each row it prints the least of the rounds: microseconds of the wall and of the server's processor for each request
- * (of one after the other: the median of a round). The last line is the server's greatest resident memory. */
+/* drive ROUNDS COUNT ROW .. -- COMMAND .. [-- COMMAND ..]: starts servers, each over two pipes, and drives them with as
+ * little as possible. Each round of a row is made with each server in turn, so that what slows a processor down for a
+ * while slows all of them. For each row and server it prints the least of the rounds, microseconds of the wall and of
+ * the server's processor for each request (of one after the other: the median of a round), and the median of how many
+ * times the first server's wall time in the same round it took. The last lines are the greatest resident memories. */
 #define _GNU_SOURCE
 #include <dirent.h>
 #include <fcntl.h>
@@ -16,10 +18,10 @@
 #define PLACE                                                                                                          \
     "{\"textDocument\":{\"uri\":\"file:///home/someone/project/src/main.py\"},\"position\":{\"line\":12,"              \
     "\"character\":4}}"
-enum { LARGE = 4000000, PIECE = 1 << 16, IN_BATCH = 100, LARGE_COUNT = 5, FEWER = 10 };
-
-static int to_server, from_server;
-static pid_t server;
+enum { LARGE = 4000000, PIECE = 1 << 16, IN_BATCH = 100, LARGE_COUNT = 5, FEWER = 10, MOST_SERVERS = 8 };
+/* Before a row is measured, a server answers so many times as many of its requests as a round of many has: a
+ * just-in-time compiler has compiled what they take by then. */
+enum { WARMING = 6 };
 
 /* Growing bytes. */
 typedef struct {
@@ -27,7 +29,17 @@ typedef struct {
     size_t length, room;
 } text;
 
-static text made, got;
+typedef struct {
+    int to, from; /* pipes */
+    pid_t process;
+    text got; /* what it wrote that isn't read yet */
+} server;
+
+static server servers[MOST_SERVERS];
+static int servers_count;
+static server *driven;
+
+static text made;
 
 static void need(text *it, size_t more)
 {
@@ -91,7 +103,7 @@ static double used(void)
 {
     char path[64], file[400];
     double all = 0;
-    sprintf(path, "/proc/%d/task", server);
+    sprintf(path, "/proc/%d/task", driven->process);
     DIR *tasks = opendir(path);
     for (struct dirent *it; tasks && (it = readdir(tasks));) {
         unsigned long long nanoseconds = 0;
@@ -137,15 +149,15 @@ static void flood(size_t wanted)
     static char room[PIECE];
     size_t written = 0, count = 0;
     while (count < wanted) {
-        struct pollfd ready[] = {{from_server, POLLIN, 0}, {written < made.length ? to_server : -1, POLLOUT, 0}};
+        struct pollfd ready[] = {{driven->from, POLLIN, 0}, {written < made.length ? driven->to : -1, POLLOUT, 0}};
         poll(ready, 2, -1);
         if (ready[1].revents) {
             size_t rest = made.length - written;
-            ssize_t length = write(to_server, made.at + written, rest > PIECE ? PIECE : rest);
+            ssize_t length = write(driven->to, made.at + written, rest > PIECE ? PIECE : rest);
             written += length > 0 ? (size_t)length : 0;
         }
         if (ready[0].revents) {
-            ssize_t length = read(from_server, room, sizeof room);
+            ssize_t length = read(driven->from, room, sizeof room);
             if (length <= 0)
                 ended();
             count += answers_in(room, length);
@@ -158,8 +170,8 @@ static void flood(size_t wanted)
 static void write_all(void)
 {
     for (size_t at = 0; at < made.length;) {
-        ssize_t length = write(to_server, made.at + at, made.length - at);
-        struct pollfd ready = {to_server, POLLOUT, 0};
+        ssize_t length = write(driven->to, made.at + at, made.length - at);
+        struct pollfd ready = {driven->to, POLLOUT, 0};
         if (length > 0)
             at += (size_t)length;
         else
@@ -171,26 +183,28 @@ static void write_all(void)
 /* Reads a frame, and gives its content and how long the frame is. */
 static char *read_frame(size_t *length)
 {
+    text *got = &driven->got;
     for (;;) {
-        char *head = got.length ? memmem(got.at, got.length, "\r\n\r\n", 4) : NULL;
+        char *head = got->length ? memmem(got->at, got->length, "\r\n\r\n", 4) : NULL;
         if (head) {
-            *length = (size_t)(head + 4 - got.at) + (size_t)atol(got.at + strlen("Content-Length: "));
-            if (got.length >= *length)
+            *length = (size_t)(head + 4 - got->at) + (size_t)atol(got->at + strlen("Content-Length: "));
+            if (got->length >= *length)
                 return head + 4;
         }
-        need(&got, PIECE);
-        ssize_t count = read(from_server, got.at + got.length, PIECE);
+        need(got, PIECE);
+        ssize_t count = read(driven->from, got->at + got->length, PIECE);
         if (count <= 0)
             ended();
-        got.length += (size_t)count;
-        got.at[got.length] = 0;
+        got->length += (size_t)count;
+        got->at[got->length] = 0;
     }
 }
 
 static void drop(size_t length)
 {
-    got.length -= length;
-    memmove(got.at, got.at + length, got.length);
+    text *got = &driven->got;
+    got->length -= length;
+    memmove(got->at, got->at + length, got->length);
 }
 
 static double trip(const char *method, const char *params, int id)
@@ -200,7 +214,7 @@ static double trip(const char *method, const char *params, int id)
     write_all();
     for (;;) {
         size_t length;
-        char *content = read_frame(&length), *end = got.at + length, reply[100];
+        char *content = read_frame(&length), *end = driven->got.at + length, reply[100];
         bool is_call = memmem(content, (size_t)(end - content), "\"method\":", 9) != NULL;
         if (is_call) {
             char *key = memmem(content, (size_t)(end - content), "\"id\":", 5);
@@ -220,15 +234,20 @@ static int order(const void *one, const void *other)
     return (a > b) - (a < b);
 }
 
+static double median(double *numbers, int count)
+{
+    qsort(numbers, (size_t)count, sizeof *numbers, order);
+    return numbers[count / 2];
+}
+
 static double trips(const char *method, const char *params, int count)
 {
     double *took = calloc((size_t)count, sizeof *took);
     for (int i = 0; i < count; i++)
         took[i] = trip(method, params, i + 1);
-    qsort(took, (size_t)count, sizeof *took, order);
-    double median = took[count / 2];
+    double middle = median(took, count);
     free(took);
-    return median;
+    return middle;
 }
 
 /* Rows */
@@ -252,38 +271,66 @@ static int flood_row(const char *row, int count)
     return count;
 }
 
-/* What a row takes for each request: the wall's time and, to *processor, the server's. */
+/* So many requests of a row make a round. */
+static int round_of(const char *row, int count)
+{
+    bool is_trip = !strcmp(row, "ping") || !strcmp(row, "back");
+    return !strcmp(row, "large") ? LARGE_COUNT : is_trip ? count / FEWER : count;
+}
+
+/* What a row takes for each of so many requests: the wall's time and, to *processor, the server's. */
 static double row_once(const char *row, int count, double *processor)
 {
     bool is_large = !strcmp(row, "large"), is_back = !strcmp(row, "back");
     bool is_trip = is_large || is_back || !strcmp(row, "ping");
-    int each = is_large ? LARGE_COUNT : is_trip ? count / FEWER : count;
     int answers = is_trip ? 0 : flood_row(row, count);
     double before = used(), begun = now(), wall;
     if (is_large)
-        wall = trips("size", large, each);
+        wall = trips("size", large, count);
     else if (is_trip)
-        wall = trips(is_back ? "back" : "hover", is_back ? "{\"n\":4}" : PLACE, each);
+        wall = trips(is_back ? "back" : "hover", is_back ? "{\"n\":4}" : PLACE, count);
     else {
         flood((size_t)answers);
-        wall = (now() - begun) / each;
+        wall = (now() - begun) / count;
         made.length = 0;
     }
-    *processor = (used() - before) / each;
+    *processor = (used() - before) / count;
     return wall;
+}
+
+static void warm_up(const char *row, int count)
+{
+    double ignored;
+    for (int i = 0; i < servers_count; i++) {
+        driven = &servers[i];
+        for (int j = 0; j < WARMING; j++)
+            row_once(row, !strcmp(row, "large") ? LARGE_COUNT : count, &ignored);
+    }
 }
 
 static void measure(const char *row, int rounds, int count)
 {
-    double wall = 1e18, processor = 1e18;
-    for (int i = 0; i <= rounds; i++) { /* (the first warms up) */
-        double processor_now, wall_now = row_once(row, count, &processor_now);
-        if (i && wall_now < wall)
-            wall = wall_now;
-        if (i && processor_now < processor)
-            processor = processor_now;
+    double wall[MOST_SERVERS], processor[MOST_SERVERS], *times[MOST_SERVERS], first = 0;
+    warm_up(row, count);
+    for (int i = 0; i < servers_count; i++) {
+        wall[i] = processor[i] = 1e18;
+        times[i] = calloc((size_t)rounds, sizeof **times);
     }
-    printf("%s %.3f %.3f\n", row, wall, processor);
+    for (int round = 0; round < rounds; round++)
+        for (int i = 0; i < servers_count; i++) {
+            driven = &servers[i];
+            double processor_now, wall_now = row_once(row, round_of(row, count), &processor_now);
+            first = i ? first : wall_now;
+            times[i][round] = wall_now / first;
+            wall[i] = wall_now < wall[i] ? wall_now : wall[i];
+            processor[i] = processor_now < processor[i] ? processor_now : processor[i];
+        }
+    printf("%s", row);
+    for (int i = 0; i < servers_count; i++) {
+        printf(" %.3f %.3f %.4f", wall[i], processor[i], median(times[i], rounds));
+        free(times[i]);
+    }
+    printf("\n");
     fflush(stdout);
 }
 
@@ -292,8 +339,9 @@ static void start(char **command)
     int in[2], out[2];
     if (pipe(in) || pipe(out))
         exit(3);
-    server = fork();
-    if (!server) {
+    driven = &servers[servers_count++];
+    driven->process = fork();
+    if (!driven->process) {
         dup2(in[0], 0);
         dup2(out[1], 1);
         for (int i = 0; i < 2; i++) {
@@ -305,21 +353,39 @@ static void start(char **command)
     }
     close(in[0]);
     close(out[1]);
-    to_server = in[1];
-    from_server = out[0];
-    fcntl(to_server, F_SETFL, O_NONBLOCK);
+    driven->to = in[1];
+    driven->from = out[0];
+    fcntl(driven->to, F_SETFL, O_NONBLOCK);
+    fcntl(driven->to, F_SETFD, FD_CLOEXEC); /* (another server would keep it open) */
+    fcntl(driven->from, F_SETFD, FD_CLOEXEC);
 }
 
-static void print_peak(void)
+static void print_peak(const server *it)
 {
     char path[64], line[256];
-    sprintf(path, "/proc/%d/status", server);
+    sprintf(path, "/proc/%d/status", it->process);
     FILE *status = fopen(path, "r");
     while (status && fgets(line, sizeof line, status))
         if (!strncmp(line, "VmHWM:", 6))
-            printf("peak %d 0\n", atoi(line + 6));
+            printf("peak %d\n", atoi(line + 6));
     if (status)
         fclose(status);
+}
+
+/* Starts the servers whose commands stand behind each "--". */
+static void start_all(char **words)
+{
+    for (char **end = words; *end;) {
+        char **command = end + 1;
+        for (end = command; *end && strcmp(*end, "--"); end++) {
+        }
+        char *behind = *end;
+        *end = NULL;
+        if (servers_count == MOST_SERVERS || !*command)
+            exit(2);
+        start(command);
+        *end = behind;
+    }
 }
 
 int main(int count, char **words)
@@ -332,11 +398,13 @@ int main(int count, char **words)
     memset(large, 'x', LARGE);
     memcpy(large, "{\"text\":\"", 9);
     strcpy(large + LARGE, "\"}");
-    start(words + command + 1);
+    start_all(words + command);
     for (int i = 3; i < command; i++)
         measure(words[i], atoi(words[1]), atoi(words[2]));
-    print_peak();
-    close(to_server);
-    waitpid(server, NULL, 0);
+    for (int i = 0; i < servers_count; i++) {
+        print_peak(&servers[i]);
+        close(servers[i].to);
+        waitpid(servers[i].process, NULL, 0);
+    }
     return 0;
 }

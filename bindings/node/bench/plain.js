@@ -123,6 +123,7 @@ class Connection {
   #calls = new Map()
   #tokens = new Map()
   #id = 0
+  listen = () => {} // (how it reads is not its matter)
 
   constructor(write) {
     this.#write = write

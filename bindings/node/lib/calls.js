@@ -3,6 +3,7 @@
 
 const { ResponseError, ErrorCodes, ConnectionError, ConnectionErrors, REQUEST_CANCELLED } = require('./errors')
 const { TEXTS } = require('./refused')
+const { print } = require('./thrown')
 
 const refusal = why => (why === 'InputOver'
   ? new ConnectionError(ConnectionErrors.Closed, 'Connection is closed.')
@@ -14,6 +15,7 @@ const rejected = why => new ResponseError(ErrorCodes.PendingResponseRejected, `P
 class Call {
   key = 0
   started = 0
+  json // its params, if it is traced
   #calls
   #resolve
   #reject
@@ -28,7 +30,8 @@ class Call {
     if (token !== undefined) this.#subscription = token.onCancellationRequested(() => this.#cancel())
   }
 
-  told(key) {
+  /** It has crossed. */
+  sent(key) {
     this.key = key
     this.#calls.sent(this)
     if (this.#isUnwanted) this.#cancel()
@@ -45,13 +48,21 @@ class Call {
   }
 
   resolve(result) {
-    this.#subscription?.dispose()
     this.#resolve(result)
+    this.#unsubscribe()
   }
 
   reject(error) {
-    this.#subscription?.dispose()
     this.#reject(error)
+    this.#unsubscribe()
+  }
+
+  #unsubscribe() {
+    try {
+      this.#subscription?.dispose()
+    } catch (error) { // (of a token that isn't ours)
+      print(error)
+    }
   }
 }
 
@@ -69,8 +80,9 @@ class Calls {
   }
 
   make(method, resolve, reject, token) {
+    const call = new Call(this, method, resolve, reject, token) // (whose token may throw)
     this.unsent++
-    return new Call(this, method, resolve, reject, token)
+    return call
   }
 
   sent(call) {

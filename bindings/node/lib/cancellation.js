@@ -9,6 +9,7 @@ function soon(listener, self) {
   return Disposable.create(() => clearTimeout(timer))
 }
 
+/** A token, and what cancels it. */
 class Token {
   isCancellationRequested = false
   #emitter
@@ -79,6 +80,6 @@ const RequestCancellationReceiverStrategy = {
 }
 
 module.exports = {
-  CancellationToken, CancellationTokenSource, CancellationReceiverStrategy, CancellationSenderStrategy,
+  Token, CancellationToken, CancellationTokenSource, CancellationReceiverStrategy, CancellationSenderStrategy,
   CancellationStrategy, IdCancellationReceiverStrategy, RequestCancellationReceiverStrategy
 }

@@ -3,8 +3,7 @@
 
 const { inspect, types: { isUint8Array } } = require('node:util')
 const {
-  native, checkOpen, HOWS, FRAMINGS, ORDERS, CANCELS, DEFECTS, TOLD, LARGE_CODE, SAY, BEFORE_HEADS, HEAD, borrowHeads,
-  returnHeads
+  native, HOWS, FRAMINGS, ORDERS, CANCELS, DEFECTS, TOLD, LARGE_CODE, SAY, BEFORE_HEADS, HEAD, borrowHeads, returnHeads
 } = require('./native')
 const { check } = require('./refused')
 
@@ -14,7 +13,7 @@ const NOT_UTF8 = Buffer.from([0xff])
 const KEY = 2 // where the key of a call stands in what is said
 const LARGEST = 2n ** 64n
 
-const isWellFormed = String.prototype.isWellFormed
+const isWellFormed = 'isWellFormed' in String.prototype
   ? text => text.isWellFormed()
   : text => !/[\ud800-\udbff](?![\udc00-\udfff])|(?<![\ud800-\udbff])[\udc00-\udfff]/.test(text)
 
@@ -53,9 +52,7 @@ function oneOf(names, value, name) {
 /** Whose cancels, as the addon takes it. A boolean says whether LSP's. */
 function cancelsOf(value) {
   if (typeof value === 'boolean') return value ? 1 : 0
-  const it = value === null ? 0 : 1 + oneOf(CANCELS.slice(1), value, 'cancels')
-  if (CANCELS[it] === 'mcp') checkOpen("cancels: 'mcp'")
-  return it
+  return value === null ? 0 : 1 + oneOf(CANCELS.slice(1), value, 'cancels')
 }
 
 /** The greatest number of entries, which stands for any. */
@@ -121,13 +118,11 @@ class Connection {
   #handle
   #framing
 
+  /** @param {import('../types').ConnectionSettings} settings */
   constructor({
     framing = 'frames', order = 'as-answered', cancels = 'lsp', content, calls, broken = false, entries,
     nullParams = false
   } = {}) {
-    if (broken) checkOpen('broken: true')
-    if (entries !== undefined) checkOpen('entries')
-    if (nullParams) checkOpen('nullParams: true')
     const made = native.open(
       oneOf(FRAMINGS, framing, 'framing'), oneOf(ORDERS, order, 'order'), cancelsOf(cancels),
       Number(limit(content, 'content', 2n ** 32n - 1n)), limit(calls, 'calls', LARGEST - 1n), !!broken,
@@ -189,6 +184,7 @@ class Connection {
 
   // Saying
 
+  /** @param {Uint8Array} first @param {Uint8Array} second */
   #say(kind, number, code, first = NOTHING, second = NOTHING) {
     check(native.sayOne(this.#handle, kind, number, code, first, second))
   }
@@ -249,7 +245,6 @@ class Connection {
 
   /** Where the frame or line at fault begins, counted from the first byte that was fed; undefined without a fault. */
   get faultOffset() {
-    checkOpen('faultOffset')
     return native.faultAt(this.#handle)
   }
 

@@ -1,6 +1,8 @@
 'use strict'
 // Disposable, Event and Emitter, as vscode-jsonrpc has them.
 
+const { print, watch } = require('./thrown')
+
 const Disposable = { create: dispose => ({ dispose }) }
 const NOTHING = Object.freeze({ dispose() {} })
 const Event = { None: () => NOTHING }
@@ -35,9 +37,9 @@ class Emitter {
   fire(value) {
     for (const it of this.#listeners) {
       try {
-        it(value)
+        watch(it(value))
       } catch (error) {
-        console.error(error)
+        print(error)
       }
     }
   }

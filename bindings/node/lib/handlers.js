@@ -5,7 +5,7 @@ const { ResponseError, ErrorCodes } = require('./errors')
 const { ParameterStructures, ProgressToken } = require('./signatures')
 
 class Handlers {
-  #named = new Map()
+  named = new Map()
   star
 
   /** Takes (handler), (method, handler) or (type, handler). */
@@ -18,12 +18,8 @@ class Handlers {
     const isName = typeof type === 'string'
     const method = isName ? type : type.method
     const one = { handler, type: isName ? undefined : type }
-    this.#named.set(method, one)
-    return { dispose: () => { if (this.#named.get(method) === one) this.#named.delete(method) } }
-  }
-
-  get(method) {
-    return this.#named.get(method)
+    this.named.set(method, one)
+    return { dispose: () => { if (this.named.get(method) === one) this.named.delete(method) } }
   }
 }
 

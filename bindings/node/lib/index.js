@@ -1,12 +1,18 @@
 'use strict'
 const { ConnectionOptions, ConnectionStrategy, Message, MessageStrategy, NullLogger } = require('./messages')
 const { Trace, TraceFormat, TraceValues, SetTraceNotification, LogTraceNotification } = require('./trace').words
-const { refuseDecoders, ...readers } = require('./readers')
-const { REQUEST_CANCELLED, ...errors } = require('./errors')
+const allReaders = require('./readers')
+const allErrors = require('./errors')
+const allCancellation = require('./cancellation')
 
+const { refuseDecoders, ...readers } = allReaders
+const { REQUEST_CANCELLED, ...errors } = allErrors
+const { Token, ...cancellation } = allCancellation
+
+/** @type {any} (its types are those of ../types) */
 module.exports = {
   ...require('./events'),
-  ...require('./cancellation'),
+  ...cancellation,
   ...errors,
   ...require('./signatures').words,
   Message, NullLogger, ConnectionOptions, ConnectionStrategy, MessageStrategy,

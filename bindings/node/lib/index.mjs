@@ -1,20 +1,6 @@
 // The same names as those of index.js, which a test compares.
 import all from './index.js'
 
-export const {
-  Disposable, Event, Emitter, CancellationToken, CancellationTokenSource, CancellationReceiverStrategy,
-  CancellationSenderStrategy, CancellationStrategy, IdCancellationReceiverStrategy,
-  RequestCancellationReceiverStrategy, ErrorCodes, ResponseError, ConnectionErrors, ConnectionError, RequestType,
-  RequestType1, RequestType0, RequestType2, RequestType3, RequestType4, RequestType5, RequestType6, RequestType7,
-  RequestType8, RequestType9, NotificationType, NotificationType1, NotificationType0, NotificationType2,
-  NotificationType3, NotificationType4, NotificationType5, NotificationType6, NotificationType7, NotificationType8,
-  NotificationType9, ParameterStructures, AbstractMessageSignature, ProgressType, ProgressToken, Message, NullLogger,
-  ConnectionOptions, ConnectionStrategy, MessageStrategy, Trace, TraceFormat, TraceValues, SetTraceNotification,
-  LogTraceNotification, MessageReader, AbstractMessageReader, ReadableStreamMessageReader, StreamMessageReader,
-  SocketMessageReader, IPCMessageReader, PortMessageReader, WebSocketMessageReader, MessageWriter,
-  AbstractMessageWriter, WriteableStreamMessageWriter, StreamMessageWriter, SocketMessageWriter, IPCMessageWriter,
-  PortMessageWriter, WebSocketMessageWriter, generateRandomPipeName, createClientPipeTransport,
-  createServerPipeTransport, createClientSocketTransport, createServerSocketTransport, createMessageConnection, run,
-  Connection, Refused
-} = all
+export * from './words.mjs'
+export const { Connection } = all
 export default all

@@ -1,35 +1,7 @@
 'use strict'
 // The addon, and the numbers by which it is spoken to (those of include/bullmyrtle.h and of addon/addon.c).
 
-const fs = require('node:fs')
-const path = require('node:path')
-
-const FILE = 'bullmyrtle-linux-x64.node'
-
-/** Where the addon may lie: where the variable says, in the package, or in the repository. */
-function places() {
-  if (process.env.BULLMYRTLE_ADDON) return [path.resolve(process.env.BULLMYRTLE_ADDON)]
-  return [path.join(__dirname, '..', 'prebuilt', FILE), path.join(__dirname, '..', '..', '..', 'release', FILE)]
-}
-
-function load() {
-  const here = `${process.platform}-${process.arch}`
-  if (here !== 'linux-x64') throw new Error(`bullmyrtle runs on Linux on x86-64 with glibc, and this is ${here}`)
-  const tried = places()
-  const found = tried.find(it => fs.existsSync(it))
-  if (found === undefined) throw new Error(`bullmyrtle's addon isn't there: ${tried.join(', ')}`)
-  return require(found)
-}
-
-const native = load()
-
-/** Whether the library in it has bm_open: MCP's cancels, broken input told, and where a fault lies. */
-const HAS_OPEN = native.has?.(2) === true
-
-function checkOpen(wanted) {
-  if (HAS_OPEN) return
-  throw new Error(`${wanted} needs an addon whose library has bm_open, as bullmyrtle 0.3.0 does, and this one is older`)
-}
+const { addon: native } = require('./load')
 
 /** What a call gives. */
 const CODES = [
@@ -66,6 +38,6 @@ const borrowHeads = () => free.pop() ?? { heads: native.heads(), place: made++ }
 const returnHeads = it => { free.push(it) }
 
 module.exports = {
-  native, HAS_OPEN, checkOpen, CODES, OK, HOWS, FRAMINGS, ORDERS, CANCELS, DEFECTS, TOLD, LARGE_CODE, SAY, ALONE,
-  BEFORE_HEADS, HEAD, BEFORE_SAYINGS, SAYING, MOST_SAYINGS, borrowHeads, returnHeads
+  native, CODES, OK, HOWS, FRAMINGS, ORDERS, CANCELS, DEFECTS, TOLD, LARGE_CODE, SAY, ALONE, BEFORE_HEADS, HEAD,
+  BEFORE_SAYINGS, SAYING, MOST_SAYINGS, borrowHeads, returnHeads
 }

@@ -3,6 +3,7 @@
 // it by itself; of all others it takes whole messages.
 
 const { Emitter, Disposable } = require('./events')
+const { errorOf } = require('./thrown')
 
 class AbstractMessageReader {
   #onError = new Emitter()
@@ -13,8 +14,7 @@ class AbstractMessageReader {
   get onPartialMessage() { return () => Disposable.create(() => {}) }
 
   fireError(error) {
-    const text = `Reader received error. Reason: ${error?.message ?? 'unknown'}`
-    this.#onError.fire(error instanceof Error ? error : new Error(text))
+    this.#onError.fire(errorOf(error, 'Reader received error'))
   }
 
   fireClose() {
@@ -40,7 +40,7 @@ class Frames {
     for (;;) {
       const end = this.#rest.indexOf('\r\n\r\n')
       if (end < 0) return
-      const length = /^content-length:\s*([0-9]+)\s*$/im.exec(this.#rest.latin1Slice(0, end))
+      const length = /^content-length:\s*([0-9]+)\s*$/im.exec(this.#rest.toString('latin1', 0, end))
       if (length === null) throw new Error('Header must provide a Content-Length property.')
       const over = end + 4 + Number(length[1])
       if (this.#rest.length < over) return

@@ -1,20 +1,25 @@
 'use strict'
 // A server over the standard streams, from its first byte to the end of its process.
 
+const { lateText } = require('./ends')
+
 /** Has `console` and `process.stdout` write to the standard error, so that nothing but messages is on the stream. */
 function keepFree() {
   const { stderr } = process
-  console._stdout = stderr // (what the global console writes to)
+  Object.assign(console, { _stdout: stderr }) // (what the global console writes to)
   Object.defineProperty(process, 'stdout', { configurable: true, get: () => stderr })
 }
 
 const after = milliseconds => new Promise(resolve => setTimeout(resolve, milliseconds, false))
 
-async function finish(connection, grace) {
+/** Waits, once the input is over, for what has to be answered yet, and gives the status. */
+async function finish(connection, grace, tell = console.error) {
   const isAllAnswered = await Promise.race([connection.settled().then(() => true), after(grace)])
-  if (!isAllAnswered) connection.cancelOpen()
+  const late = isAllAnswered ? [] : connection.cancelOpen()
   await connection.drained()
-  const { how } = connection.reason
+  const { how, text } = connection.reason
+  if (text !== undefined) tell(`bullmyrtle: the session ended: ${text}`)
+  if (late.length) tell(`bullmyrtle: ${lateText(late, grace / 1000)}`)
   if (how === 'Stopped') return connection.status ?? 0
   return how === 'Clean' && isAllAnswered ? 0 : 1
 }
@@ -22,7 +27,7 @@ async function finish(connection, grace) {
 /**
  * Listens, and ends the process once the input is over, every handler is done, or had its grace, and all is written.
  * The status is that of `connection.stop(status)`, or 0 for an input that was closed between two messages and all of
- * whose requests were answered by their handlers, and else 1.
+ * whose requests were answered by their handlers, and else 1; then the standard error says why.
  */
 function run(connection, { grace = 5_000 } = {}) {
   keepFree()
@@ -30,4 +35,4 @@ function run(connection, { grace = 5_000 } = {}) {
   connection.listen()
 }
 
-module.exports = { run }
+module.exports = { run, keepFree, finish }

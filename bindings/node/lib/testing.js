@@ -4,7 +4,10 @@
 const { PassThrough } = require('node:stream')
 const { createMessageConnection } = require('./message_connection')
 
-/** A server and a client that talk to each other. Both have yet to listen. */
+/**
+ * A server and a client that talk to each other. Both have yet to listen.
+ * @param {import('../types/testing').JoinedOptions} options
+ */
 function joined({ server = {}, client = {}, logger, highWaterMark } = {}) {
   const up = new PassThrough({ highWaterMark })
   const down = new PassThrough({ highWaterMark })

@@ -1,7 +1,8 @@
 'use strict'
 // What is told of messages to a tracer, as vscode-jsonrpc has it: in words, or as inspectors of LSP read it.
 
-const { words: { NotificationType } } = require('./signatures')
+const { NotificationType } = require('./signatures')
+const { print, watch } = require('./thrown')
 
 const Trace = {
   Off: 0,
@@ -36,7 +37,15 @@ class Tracing {
   }
 
   log(text, verbose) {
-    this.#tracer?.log(text, this.#level > Trace.Messages ? verbose : undefined)
+    this.#hand(() => [text, this.#level > Trace.Messages ? verbose : undefined])
+  }
+
+  #hand(made) {
+    try {
+      watch(this.#tracer.log(...made()))
+    } catch (error) {
+      print(error)
+    }
   }
 
   #data(word, value) {
@@ -46,13 +55,10 @@ class Tracing {
   }
 
   #tell(type, message, text, data) {
-    try {
-      if (this.#format === TraceFormat.JSON) {
-        this.#tracer?.log({ isLSPMessage: true, type, message, timestamp: Date.now() })
-      } else this.#tracer?.log(text, this.#level > Trace.Messages ? data() : undefined)
-    } catch (error) {
-      console.error(error)
-    }
+    this.#hand(() => {
+      if (this.#format === TraceFormat.JSON) return [{ isLSPMessage: true, type, message, timestamp: Date.now() }]
+      return [text, this.#level > Trace.Messages ? data() : undefined]
+    })
   }
 
   request(isSent, id, method, params) {

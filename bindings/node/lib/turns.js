@@ -1,7 +1,7 @@
 'use strict'
-// When what came is acted on. Plain handlers run in one go. After a handler that returned a promise, and after a reply,
-// microtasks run before the next call begins, as in vscode-jsonrpc: it waits for an immediate. An immediate each would
-// turn the loop for each message, so many are set at once.
+// When what was received is handled. Plain handlers run in one go. After a handler that returned a promise, and after
+// a reply, microtasks run before the next call begins, as in vscode-jsonrpc: it waits for an immediate. An immediate
+// each would turn the loop for each message, so many are set at once.
 
 const { TOLD } = require('./native')
 
@@ -19,8 +19,9 @@ class Turns {
   #isOver = false
 
   /**
-   * The owner has act(..) for what was told, hold(act), which does something during which nothing is written, and
-   * lookWhetherIdle(). The pieces of a socket come with all microtasks between them, those of other streams may not.
+   * The owner has handle(..) for what was received, together(act), which does something during which nothing is
+   * written, and lookWhetherIdle(). The pieces of a socket come with all microtasks between them, those of other
+   * streams may not.
    */
   constructor(owner, isSocket) {
     this.#owner = owner
@@ -37,12 +38,12 @@ class Turns {
     return this.#immediates > 0 && this.count > 0
   }
 
-  /** Acts on what was told, or has it wait. */
-  take(kind, flags, number, code, name, body, id) {
+  /** Has an event handled, or has it wait. */
+  received(kind, flags, number, code, name, body, id) {
     if (this.#queue.length > this.#first || (this.#mustWait && kind === TOLD.call)) {
       this.#queue.push([kind, flags, number, code, name, body, id])
       this.#runLater()
-    } else this.#owner.act(kind, flags, number, code, name, body, id)
+    } else this.#owner.handle(kind, flags, number, code, name, body, id)
   }
 
   /** The next call has to wait. */
@@ -53,9 +54,9 @@ class Turns {
     setImmediate(runOne, this)
   }
 
-  /** A piece came. */
+  /** A piece of a socket came. */
   piece() {
-    if (this.#isSocket) this.#mustWait = this.count > 0
+    this.#mustWait = this.count > 0
   }
 
   #runLater() {
@@ -69,7 +70,7 @@ class Turns {
   runOne() {
     this.#immediates--
     this.#mustWait = false
-    if (this.count > 0) this.#owner.hold(() => this.#goOn())
+    if (this.count > 0) this.#owner.together(() => this.#goOn())
   }
 
   #goOn() {
@@ -77,7 +78,7 @@ class Turns {
       const next = this.#queue[this.#first]
       if (this.#mustWait && next[0] === TOLD.call) break
       this.#queue[this.#first++] = undefined
-      this.#owner.act(...next)
+      this.#owner.handle(...next)
     }
     if (this.count > 0) return this.#runLater()
     this.#queue = []

@@ -3,6 +3,7 @@
 // to it by itself; to all others it gives whole messages.
 
 const { Emitter } = require('./events')
+const { errorOf } = require('./thrown')
 const { refuseDecoders } = require('./readers')
 
 class AbstractMessageWriter {
@@ -13,8 +14,7 @@ class AbstractMessageWriter {
   get onClose() { return this.#onClose.event }
 
   fireError(error, message, count) {
-    const text = `Writer received error. Reason: ${error?.message ?? 'unknown'}`
-    this.#onError.fire([error instanceof Error ? error : new Error(text), message, count])
+    this.#onError.fire([errorOf(error, 'Writer received error'), message, count])
   }
 
   fireClose() {

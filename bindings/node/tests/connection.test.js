@@ -5,7 +5,6 @@ const assert = require('node:assert/strict')
 const { test } = require('node:test')
 const { Connection, Refused } = require('..')
 const { carry } = require('../lib/testing.js')
-const { HAS_OPEN, skip } = require('./helping')
 
 const line = it => Buffer.from(`${JSON.stringify(it)}\n`)
 const refused = (act, code) => assert.throws(act, error => error instanceof Refused && error.code === code && error.name === 'Refused')
@@ -168,7 +167,7 @@ test('two connections talk', () => {
 
 const cancel = id => line({ jsonrpc: '2.0', method: 'notifications/cancelled', params: { requestId: id, reason: 'no' } })
 
-test("cancels as MCP has them", { skip }, () => {
+test("cancels as MCP has them", () => {
   const it = new Connection({ framing: 'lines', cancels: 'mcp' })
   it.feed(Buffer.concat([line({ jsonrpc: '2.0', method: 'a', id: 7 }), line({ jsonrpc: '2.0', method: 'b', id: 8 }), cancel(7)]))
   assert.deepEqual(it.events().at(-1), { kind: 'cancelled', number: 1 })
@@ -197,7 +196,7 @@ test('whose cancels', () => {
   ])
   const rows = [
     ['lsp', ['call', 'cancelled', 'call']], [undefined, ['call', 'cancelled', 'call']], [true, ['call', 'cancelled', 'call']],
-    [null, ['call', 'call', 'call']], [false, ['call', 'call', 'call']], ...(HAS_OPEN ? [['mcp', ['call', 'call', 'cancelled']]] : [])
+    [null, ['call', 'call', 'call']], [false, ['call', 'call', 'call']], ['mcp', ['call', 'call', 'cancelled']]
   ]
   for (const [cancels, kinds] of rows) {
     assert.deepEqual(new Connection({ framing: 'lines', cancels }).fed(given).map(it => it.kind), kinds, `${cancels}`)
@@ -205,7 +204,7 @@ test('whose cancels', () => {
   assert.throws(() => new Connection({ cancels: 'dap' }), /^TypeError: cancels has to be 'lsp' or 'mcp', and is 'dap'$/)
 })
 
-test('broken input is told, alone and with others, one by one and together', { skip }, () => {
+test('broken input is told, alone and with others, one by one and together', () => {
   const every = Buffer.from(Array.from({ length: 128 }, (_, at) => at + 128)) // (each byte that is no ASCII)
   const m = '{"jsonrpc":"2.0","method":"é"}'
   const rows = [
@@ -240,7 +239,7 @@ test('broken input is told, alone and with others, one by one and together', { s
   assert.deepEqual(new Connection({ framing: 'lines' }).fed(bytes).length, 13)
 })
 
-test('a batch has at most so many entries', { skip }, () => {
+test('a batch has at most so many entries', () => {
   const array = count => Buffer.from(`[${Array(count).fill('1')}]\n`)
   for (const [entries, count, invalid] of [
     [2, 2, 2], [2, 3, 1], [1n, 2, 1], [undefined, 100_000, 100_000], [undefined, 100_001, 1],
@@ -251,14 +250,14 @@ test('a batch has at most so many entries', { skip }, () => {
   }
 })
 
-test('params that are null', { skip }, () => {
+test('params that are null', () => {
   const call = Buffer.from('{"jsonrpc":"2.0","method":"m","params":null}\n')
   for (const [nullParams, params] of [[false, undefined], [true, 'null']]) {
     assert.equal(new Connection({ framing: 'lines', nullParams }).fed(call)[0].params, params)
   }
 })
 
-test('where a fault lies', { skip }, () => {
+test('where a fault lies', () => {
   const it = new Connection({ framing: 'lines', content: 10 })
   it.feed(Buffer.from('{}\n{}\n'))
   assert.equal(it.faultOffset, undefined)
@@ -266,11 +265,3 @@ test('where a fault lies', { skip }, () => {
   assert.deepEqual([it.events().at(-1).how, it.faultOffset], ['TooLarge', 6])
 })
 
-test('what an older library lacks is told', { skip: HAS_OPEN && 'the library lacks nothing' }, () => {
-  const needs = ' needs an addon whose library has bm_open, as bullmyrtle 0.3.0 does, and this one is older'
-  for (const [name, act] of [
-    ["cancels: 'mcp'", () => new Connection({ cancels: 'mcp' })], ['broken: true', () => new Connection({ broken: true })],
-    ['entries', () => new Connection({ entries: 7 })], ['nullParams: true', () => new Connection({ nullParams: true })],
-    ['faultOffset', () => new Connection().faultOffset]
-  ]) assert.throws(act, { message: `${name}${needs}` })
-})

@@ -12,7 +12,7 @@ const PACKAGE = path.dirname(__dirname)
 const TOP = path.join(PACKAGE, '..', '..')
 const PAGE = path.join(TOP, 'docs', 'node.md')
 const { version } = require('../package.json')
-const { skip } = require('./helping')
+const { patience } = require('./helping')
 const README = path.join(PACKAGE, 'README.md')
 
 const blocksOf = file => [...fs.readFileSync(file, 'utf8').matchAll(/^```(\w*)\n(.*?)^```$/gms)].map(([, kind, text]) => ({ kind, text }))
@@ -29,22 +29,20 @@ function room() {
 
 function run(folder, text) {
   const env = { ...process.env, PATH: `${path.join(folder, 'bin')}:${process.env.PATH}`, NO_COLOR: '1' }
-  return spawnSync('sh', ['-c', text], { cwd: folder, env, encoding: 'utf8', timeout: 60_000 }).stdout
+  return spawnSync('sh', ['-c', text], { cwd: folder, env, encoding: 'utf8', timeout: patience(240_000) }).stdout
 }
 
-/** Runs the blocks of a page for the shell: those whose scripts need bm_open, or the others. */
-function runBlocks(file, needsOpen) {
+/** Runs the blocks of a page for the shell, and gives how many there are. */
+function runBlocks(file) {
   const folder = room()
   const blocks = blocksOf(file)
-  const needing = []
   let ran = 0
   blocks.forEach(({ kind, text }, at) => {
     if (kind === 'js') {
       const [, name] = /^\/\/ (\S+\.mjs)\n/.exec(text)
       fs.writeFileSync(path.join(folder, name), text)
-      if (text.includes('onBroken')) needing.push(name)
     }
-    if (kind !== 'sh' || needing.some(it => text.includes(it)) !== needsOpen) return
+    if (kind !== 'sh') return
     assert.equal(blocks[at + 1].kind, 'out', text)
     assert.equal(run(folder, text), blocks[at + 1].text, text)
     ran++
@@ -53,15 +51,11 @@ function runBlocks(file, needsOpen) {
   return ran
 }
 
-for (const [name, file, fewest] of [['the page', PAGE, 5], ['the README', README, 1]]) {
+for (const [name, file, fewest] of [['the page', PAGE, 6], ['the README', README, 1]]) {
   test(`each block of ${name}`, () => {
-    assert.ok(runBlocks(file, false) >= fewest)
+    assert.ok(runBlocks(file) >= fewest)
   })
 }
-
-test('each block of the page that needs bm_open', { skip }, () => {
-  assert.equal(runBlocks(PAGE, true), 1)
-})
 
 const hasCompiler = spawnSync('tsc', ['--version']).status === 0
 test('what the page shows in TypeScript', { skip: hasCompiler ? false : 'tsc, which is not here' }, () => {
@@ -82,7 +76,7 @@ test('the package that npm packs is whole, and installs without a network', { sk
   const copy = path.join(folder, 'repository')
   for (const it of ['bindings/node', 'release/bullmyrtle-linux-x64.node']) fs.cpSync(path.join(TOP, it), path.join(copy, it), { recursive: true })
   const env = { ...process.env, npm_config_cache: path.join(folder, 'cache'), npm_config_update_notifier: 'false', HOME: folder }
-  const npm = (at, ...words) => spawnSync('npm', words, { cwd: at, env, encoding: 'utf8', timeout: 60_000 })
+  const npm = (at, ...words) => spawnSync('npm', words, { cwd: at, env, encoding: 'utf8', timeout: patience(240_000) })
   const packed = npm(path.join(copy, 'bindings/node'), 'pack', '--pack-destination', folder)
   assert.equal(packed.status, 0, packed.stderr)
   const user = path.join(folder, 'user')
@@ -91,10 +85,10 @@ test('the package that npm packs is whole, and installs without a network', { sk
   const installed = npm(user, 'install', '--offline', '--no-audit', '--no-fund', path.join(folder, `bullmyrtle-${version}.tgz`))
   assert.equal(installed.status, 0, installed.stderr)
   fs.rmSync(copy, { recursive: true })
-  const program = 'const { Connection } = require("bullmyrtle"); console.log(new Connection().pending, Object.keys(require("bullmyrtle/testing")).join())'
+  const program = 'const { Connection } = require("bullmyrtle"); console.log(new Connection().pending, Object.keys(require("bullmyrtle/testing")).join(), require("bullmyrtle/lsp").HoverRequest.method)'
   const { stdout, stderr } = spawnSync(process.execPath, ['-e', program], { cwd: user, encoding: 'utf8' })
   fs.rmSync(folder, { recursive: true })
-  assert.equal(stdout, '0 joined,carry\n', stderr)
+  assert.equal(stdout, '0 joined,carry textDocument/hover\n', stderr)
 })
 
 test('lines of the pages are short', () => {

@@ -8,7 +8,7 @@ const { spawn } = require('node:child_process')
 const { once } = require('node:events')
 const { PassThrough, Writable } = require('node:stream')
 const {
-  bullmyrtle, HAS_OPEN, skip, Raw, request, notice, until, sleep, rejectsWith, withBoth, frame, turns
+  bullmyrtle, Raw, request, notice, until, rejectsWith, withBoth, frame, turns
 } = require('./helping')
 
 const { ConnectionErrors, ErrorCodes } = bullmyrtle
@@ -51,16 +51,24 @@ test('each end has its reason', async () => {
   assert.deepEqual([broken.how, broken.error, broken.errors], ['Read', 'reset', ['reset']])
 })
 
-test('a fault of the input has its place', { skip }, async () => {
+test('a fault of the input has its place', async () => {
   const before = Buffer.concat(Array.from({ length: 300 }, () => frame(notice('m'))))
   const rows = [
-    ['BadHead', 'nonsense\r\n\r\n'], ['BadLength', 'Content-Length: x\r\n\r\n'], ['NoLength', 'Content-Type: a\r\n\r\n'],
-    ['TooLarge', 'Content-Length: 16777217\r\n\r\n'], ['HeadTooLong', `A: ${'x'.repeat(5000)}`], ['Truncated', 'Content-Length: 10\r\n\r\nxx']
+    ['BadHead', 'nonsense\r\n\r\n', ': "nonsense\\r\\n\\r\\n": messages begin with `Content-Length: N`, CR LF, CR LF; what'],
+    ['BadHead', '{"id":1}\r\n\r\n', `: ${JSON.stringify('{"id":1}\r\n\r\n')}: if each line is a message, the option is framing: 'lines'`],
+    ['BadHead', 'GET / HTTP/1.1\r\n\r\n', ': "GET / HTTP/1.1\\r\\n\\r\\n": this is HTTP, and no stream of messages'],
+    ['BadHead', '\ufeffContent-Length: 1\r\n\r\n', ': "\\u00ef\\u00bb\\u00bfContent-Length: 1\\r\\n\\r\\n": it begins with a byte order mark, which'],
+    ['BadLength', 'Content-Length: x\r\n\r\n', ': "Content-Length: x\\r\\n\\r\\n": header lines end with CR LF, one is `Content-Length: N`,'],
+    ['NoLength', 'Content-Type: a\r\n\r\n', ': "Content-Type: a\\r\\n\\r\\n": header lines end with CR LF, one is `Content-Length: N`,'],
+    ['TooLarge', 'Content-Length: 16777217\r\n\r\n', ': "Content-Length: 16777217\\r\\n\\r\\n": it may allow up to 2,147,483,647'],
+    ['HeadTooLong', `A: ${'x'.repeat(5000)}`, `: "A: ${'x'.repeat(61)}": messages begin with`],
+    ['Truncated', 'Content-Length: 10\r\n\r\nxx', ': the other side ended before it had written all of it']
   ]
-  for (const [how, bytes] of rows) {
+  for (const [how, bytes, told] of rows) {
     const { connection, error } = await endOf(Buffer.concat([before, Buffer.from(bytes)]))
     assert.deepEqual([connection.reason.how, connection.reason.offset], [how, before.length])
-    assert.match(error, new RegExp(`, at byte ${before.length}$`))
+    assert.equal(error, `the connection ended: ${connection.reason.text}`)
+    assert.ok(error.includes(`, at byte ${before.length}${told}`), error)
   }
   const lines = await endOf(Buffer.from(`{}\n${'x'.repeat(200)}`), { framing: 'lines', content: 100 })
   assert.deepEqual([lines.how, lines.connection.reason.offset], ['TooLarge', 3])
@@ -68,7 +76,7 @@ test('a fault of the input has its place', { skip }, async () => {
   assert.deepEqual(clean.connection.reason, { how: 'Clean', error: undefined })
 })
 
-test('broken input is told, in its place, and the connection goes on', { skip }, async () => {
+test('broken input is told, in its place, and the connection goes on', async () => {
   const raw = new Raw({ framing: 'lines' })
   const told = []
   raw.connection.onBroken(it => told.push(it))
@@ -89,12 +97,6 @@ test('broken input is told, in its place, and the connection goes on', { skip },
     { offset: 36, first: Buffer.from('[{"jsonrpc":"2.0","method":"m"},5,{}]'), what: 'Invalid', entry: 1, entries: 2 }, 'm', 'm'
   ])
   assert.deepEqual(raw.connection.counts().unreadable, 1)
-  raw.connection.dispose()
-})
-
-test('what an older library lacks is told', { skip: HAS_OPEN && 'the library lacks nothing' }, () => {
-  const raw = new Raw()
-  assert.throws(() => raw.connection.onBroken, /^Error: onBroken needs an addon whose library has bm_open, as bullmyrtle 0\.3\.0 does, and this one is older$/)
   raw.connection.dispose()
 })
 
@@ -236,17 +238,25 @@ const RUN = path.join(__dirname, 'run_server.js')
 
 async function ran(protocol, ...steps) {
   const child = spawn(process.execPath, [RUN, protocol], { stdio: ['pipe', 'pipe', 'pipe'] })
+  const closed = once(child, 'close') // (it may have ended before the last step is done)
+  child.stdin.on('error', () => {}) // (and then it reads no more)
   let out = ''
   let errors = ''
   child.stdout.on('data', it => { out += it })
   child.stderr.on('data', it => { errors += it })
-  for (const step of steps) {
-    if (typeof step === 'function') await step(() => out, child)
-    else child.stdin.write(protocol === 'mcp' ? `${JSON.stringify(step)}\n` : frame(step))
+  try {
+    for (const step of steps) {
+      if (typeof step === 'function') await step(() => out, child, closed)
+      else child.stdin.write(protocol === 'mcp' ? `${JSON.stringify(step)}\n` : frame(step))
+    }
+  } catch (error) {
+    child.kill() // (which would wait for more, and this process for it)
+    throw error
   }
   child.stdin.end()
-  const [status] = await once(child, 'close')
-  return { status, out, errors }
+  const [status] = await closed
+  const told = errors.split('\n').filter(it => it.startsWith('bullmyrtle: ')).map(it => it.slice('bullmyrtle: '.length))
+  return { status, out, errors, told }
 }
 
 test('run: all is answered, and the status is 0', async () => {
@@ -255,18 +265,30 @@ test('run: all is answered, and the status is 0', async () => {
   assert.deepEqual(found.out.split('\n').filter(Boolean).map(it => JSON.parse(it).id).sort(), [1, 2])
   assert.match(found.errors, /by console/)
   assert.match(found.errors, /by stdout/)
+  assert.deepEqual(found.told, [])
 })
 
 test('run: a handler that never answers has its grace', async () => {
-  const { status, out } = await ran('mcp', request(1, 'never'))
-  assert.deepEqual([status, JSON.parse(out)], [1, { error: { code: -32800, message: 'Request cancelled' }, id: 1, jsonrpc: '2.0' }])
+  const { status, out, told } = await ran('mcp', request(1, 'never'), request(2, 'late', { ms: 1 }), request(3, 'never'))
+  const cancelled = id => ({ error: { code: -32800, message: 'Request cancelled' }, id, jsonrpc: '2.0' })
+  const answers = out.split('\n').filter(Boolean).map(it => JSON.parse(it)).filter(it => it.id !== 2)
+  assert.deepEqual([status, answers], [1, [cancelled(1), cancelled(3)]])
+  assert.deepEqual(told, [`2 request(s) weren't answered within the grace of 1 seconds: "never"`])
 })
 
 test('run: stop(status), a broken head, an input that ends inside a frame', async () => {
-  assert.equal((await ran('lsp', notice('exit', { status: 7 }))).status, 7)
-  assert.equal((await ran('lsp', notice('exit'))).status, 0)
-  assert.equal((await ran('lsp', (out, child) => { child.stdin.write('x\r\n\r\n') })).status, 1)
-  assert.equal((await ran('lsp', (out, child) => { child.stdin.write('Content-Length: 5\r\n\r\n') })).status, 1)
+  const bytes = it => (out, child) => { child.stdin.write(it) }
+  const rows = [
+    [notice('exit', { status: 7 }), 7], [notice('exit'), 0],
+    [bytes('x\r\n\r\n'), 1, `a header line isn't a field, at byte 0: "x\\r\\n\\r\\n": messages begin with`],
+    [bytes('Content-Length: 5\r\n\r\n'), 1, 'the input ended inside a message, at byte 0: the other side ended before']
+  ]
+  for (const [step, status, text] of rows) {
+    const found = await ran('lsp', step)
+    assert.equal(found.status, status, found.errors)
+    assert.equal(found.told.length, text === undefined ? 0 : 1, found.errors)
+    if (text !== undefined) assert.ok(found.told[0].startsWith(`the session ended: ${text}`), found.errors)
+  }
 })
 
 test('run: megabytes of answers are written before the process ends', async () => {
@@ -276,8 +298,9 @@ test('run: megabytes of answers are written before the process ends', async () =
 })
 
 test('run: nobody reads', async () => {
-  const found = await ran('mcp', (out, child) => { child.stdout.destroy() }, request(1, 'large', { size: 1_000_000 }), () => sleep(200))
+  const found = await ran('mcp', (out, child) => { child.stdout.destroy() }, request(1, 'large', { size: 1_000_000 }), (out, child, closed) => closed)
   assert.equal(found.status, 1)
+  assert.match(found.told.join(), /^the session ended: the output can't be written: the other side has ended, or reads no more: \S/)
 })
 
 test('run: a process that ends itself has written what fitted the pipe', async () => {

@@ -6,10 +6,6 @@ const { PassThrough } = require('node:stream')
 const { setTimeout: sleep, setImmediate: turn } = require('node:timers/promises')
 const bullmyrtle = require('..')
 const { joined } = require('../lib/testing.js')
-const { HAS_OPEN } = require('../lib/native.js')
-
-/** Why what needs bm_open is skipped, where the addon's library has none. */
-const skip = HAS_OPEN ? false : "the addon's library has no bm_open: no MCP's cancels, no broken input told"
 
 const frame = it => {
   const content = Buffer.isBuffer(it) ? it : Buffer.from(typeof it === 'string' ? it : JSON.stringify(it))
@@ -79,7 +75,12 @@ class Raw {
   }
 }
 
-async function until(isReached, milliseconds = 20_000) {
+/** So many times longer than usual all takes: on a processor that is worked out in software. */
+const TIMES_SLOWER = Number(process.env.TIMES_SLOWER ?? 1)
+/** How many milliseconds something may take before it counts as wrong, of those that it may on the machine itself. */
+const patience = usual => usual * TIMES_SLOWER
+
+async function until(isReached, milliseconds = patience(60_000)) {
   const end = Date.now() + milliseconds
   while (!isReached()) {
     assert.ok(Date.now() < end, `it isn't reached in time: ${isReached}`)
@@ -114,4 +115,4 @@ const rejectsWith = (promise, code, message) => assert.rejects(promise, error =>
   return true
 })
 
-module.exports = { bullmyrtle, HAS_OPEN, skip, frame, messages, request, notice, Log, Raw, until, sleep, turns, withBoth, rejectsWith, joined }
+module.exports = { bullmyrtle, frame, messages, request, notice, Log, Raw, until, patience, sleep, turns, withBoth, rejectsWith, joined }

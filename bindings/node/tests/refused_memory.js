@@ -5,7 +5,7 @@
 const assert = require('node:assert/strict')
 const { test } = require('node:test')
 const { Connection, Refused } = require('..')
-const { joined, sleep, Log } = require('./helping')
+const { joined, sleep, turns, until, Log, Raw, request, notice } = require('./helping')
 
 const MOST = 400
 
@@ -112,11 +112,13 @@ test('the upper floor: a call is answered or rejected, or the connection ends an
     client.listen()
     process.env.REFUSE_NTH = `${n}`
     const calls = [client.sendRequest('echo', { text }), client.sendRequest('back', { n }), client.sendBatch([['echo', { n }]])]
-    const settled = await Promise.race([Promise.allSettled(calls), sleep(300, 'open')])
+    let settled = []
+    const done = Promise.allSettled(calls).then(it => { settled = it })
+    await until(() => settled.length || server.reason || client.reason) // (else calls are open, and nothing has ended)
+    await Promise.race([done, turns()])
     const wasRefused = process.env.REFUSE_NTH === 'refused'
     delete process.env.REFUSE_NTH
-    if (settled === 'open') assert.ok(server.reason || client.reason, `request ${n}: calls are open, and nothing has ended`)
-    else answered += settled.filter(it => it.status === 'fulfilled').length
+    answered += settled.filter(it => it.status === 'fulfilled').length
     if (server.reason || client.reason) ended++
     else assert.deepEqual(await client.sendRequest('echo', { well: n }), { well: n })
     dispose()
@@ -124,4 +126,46 @@ test('the upper floor: a call is answered or rejected, or the connection ends an
     refused++
   }
   assert.ok(refused >= 30 && answered > refused, `${refused} refusals, ${answered} answers, ${ended} ends`)
+})
+
+/** A server that gets these messages, with the n-th request for memory refused from then on. */
+async function refusedServer(n, messages) {
+  const raw = new Raw()
+  const told = []
+  raw.connection.onError(([it]) => told.push(it.message))
+  raw.connection.onRequest('echo', it => it)
+  raw.connection.onRequest('late', async it => { await null; return it })
+  raw.connection.onRequest('bad', () => { throw new Error('bad') })
+  raw.listen()
+  process.env.REFUSE_NTH = `${n}`
+  for (const it of messages) {
+    raw.write(it)
+    await turns()
+  }
+  const wasRefused = process.env.REFUSE_NTH === 'refused'
+  delete process.env.REFUSE_NTH
+  await sleep(30) // (what was refused is tried again)
+  return { raw, told, wasRefused }
+}
+
+test('a server over streams: each request is answered, or the input ends and onError says why', async () => {
+  const messages = [request(1, 'echo', { text }), request(2, 'bad'), notice('note', { text }), request(3, 'late', { text }), request(4, 'none')]
+  let ended = 0
+  for (let n = 1; n < MOST; n++) {
+    const { raw, told, wasRefused } = await refusedServer(n, messages)
+    const { reason } = raw.connection
+    if (reason !== undefined) {
+      ended++
+      assert.equal(reason.how, 'Read', `request ${n}`)
+      assert.match(reason.error.message, /memory was refused/, `request ${n}`)
+      assert.deepEqual(told, [reason.error.message], `request ${n}`)
+    } else {
+      assert.deepEqual(raw.written.map(it => it.id).sort(), [1, 2, 3, 4], `request ${n}: ${told} ${raw.log.errors}`)
+      assert.deepEqual(told, [], `request ${n}`)
+    }
+    assert.equal(raw.connection.counts().open, 0, `request ${n}`)
+    raw.connection.dispose()
+    if (!wasRefused) break
+  }
+  assert.ok(ended >= 3, `${ended} ends`)
 })

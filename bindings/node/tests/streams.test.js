@@ -11,6 +11,7 @@ const { MessageChannel, Worker } = require('node:worker_threads')
 const { bullmyrtle, Raw, request, notice, frame, messages, until, sleep, withBoth, turns } = require('./helping')
 
 const { createMessageConnection } = bullmyrtle
+const { BrowserMessageReader, BrowserMessageWriter } = require('../browser/ports.js')
 
 test('the input cut at each byte', async () => {
   const raw = new Raw().listen()
@@ -306,6 +307,23 @@ test('ports, and workers that end with calls open', async () => {
     assert.ok((await left).every(it => it.status === 'rejected'))
     connection.dispose()
   }
+})
+
+test('ports as browsers have them, by their events', async () => {
+  const { port1, port2 } = new MessageChannel()
+  const server = createMessageConnection(new BrowserMessageReader(port1), new BrowserMessageWriter(port1))
+  const client = createMessageConnection(new BrowserMessageReader(port2), new BrowserMessageWriter(port2))
+  const writer = new BrowserMessageWriter(port1)
+  const seen = []
+  writer.onError(([error, , count]) => seen.push(error.name, count))
+  writer.onClose(() => seen.push('closed'))
+  server.onRequest('m', it => it)
+  for (const it of [server, client]) it.listen()
+  assert.deepEqual(await client.sendRequest('m', { a: 1 }), { a: 1 })
+  await assert.rejects(writer.write({ no() {} }), { name: 'DataCloneError' })
+  port1.close()
+  await until(() => client.reason && seen.length === 3)
+  assert.deepEqual([client.reason.how, seen], ['Clean', ['DataCloneError', 1, 'closed']])
 })
 
 test('another process, by its messages', async () => {

@@ -8,10 +8,12 @@ const os = require('node:os')
 const path = require('node:path')
 const { spawnSync } = require('node:child_process')
 
-const WORDS = path.join(__dirname, 'types', 'words.ts')
+/** What is compiled: what it has to take, and to refuse. Tools need URL and AbortSignal, as Node.js's types or the DOM's have them. */
+const FILES = { words: {}, server: {}, tools: { lib: ['es2022', 'dom'] } }
 const hasCompiler = spawnSync('tsc', ['--version']).status === 0
-/** Where Node.js's own types may lie: where a variable names them, or where Debian has them. */
-const NODE_TYPES = [process.env.NODE_TYPES, '/usr/share/nodejs/@types'].find(it => it && fs.existsSync(path.join(it, 'node')))
+/** Where Node.js's own types may lie: where a variable names them, where Debian has them, or where bin/test unpacked them. */
+const UNPACKED = path.join(__dirname, '..', '..', '..', 'out', 'node-types')
+const NODE_TYPES = [process.env.NODE_TYPES, '/usr/share/nodejs/@types', UNPACKED].find(it => it && fs.existsSync(path.join(it, 'node')))
 
 /** A folder with this file, in which the package is installed, and what the compiler says of it. */
 function compiled(name, text, more = {}) {
@@ -26,20 +28,62 @@ function compiled(name, text, more = {}) {
   return { status, stdout }
 }
 
-const words = fs.readFileSync(WORDS, 'utf8')
+const textOf = name => fs.readFileSync(path.join(__dirname, 'types', `${name}.ts`), 'utf8')
 const skip = hasCompiler ? false : 'tsc, which is not here'
 
-for (const name of ['words.ts', 'words.mts']) {
-  test(`the types, strictly, in ${name}`, { skip }, () => {
-    const found = compiled(name, words)
+for (const [name, options] of Object.entries(FILES)) {
+  test(`the types, strictly, in ${name}.mts`, { skip }, () => {
+    const found = compiled(`${name}.mts`, textOf(name), options)
     assert.equal(found.status, 0, found.stdout)
+  })
+
+  // (as a module of CommonJS, where it finds nothing else)
+  test(`the compiler refuses what it has to in ${name}`, { skip }, () => {
+    const count = textOf(name).split('@ts-expect-error').length - 1
+    const found = compiled(`${name}.ts`, textOf(name).replaceAll('@ts-expect-error', 'here'), options)
+    assert.equal(new Set(found.stdout.match(/^\S+\(\d+,\d+\): error TS/gm)).size, count, found.stdout)
   })
 }
 
-test('the compiler refuses what it has to', { skip }, () => {
-  const count = words.split('@ts-expect-error').length - 1
-  const found = compiled('words.ts', words.replaceAll('@ts-expect-error', 'here'))
-  assert.equal(found.stdout.match(/error TS/g).length, count)
+test('the types of LSP, by the names of methods', { skip }, () => {
+  const text = `
+    import type { MessageConnection } from 'bullmyrtle'
+    import type { Hover, HoverParams, ServerRequests } from 'bullmyrtle/lsp'
+    type Of = ServerRequests['textDocument/hover']
+    export const listen = (connection: MessageConnection) =>
+      connection.onRequest('textDocument/hover', (params: Of['params']): Of['result'] => hover(params))
+    const hover = (params: HoverParams): Hover | null => params.position.line ? { contents: { kind: 'markdown', value: 'x' } } : null
+    // WRONG
+    export const wrong: Of['result'] = { content: 'x' }
+  `
+  for (const name of ['lsp.ts', 'lsp.mts']) {
+    const right = compiled(name, text.replace('// WRONG', '// @ts-expect-error'))
+    assert.equal(right.status, 0, right.stdout)
+    assert.match(compiled(name, text).stdout, /'?content'? does not exist in type 'Hover'/)
+  }
+})
+
+test('the types of bullmyrtle/browser', { skip }, () => {
+  const text = `
+    import type { MessageConnection } from 'bullmyrtle'
+    import { load } from 'bullmyrtle/browser'
+    const { createMessageConnection, BrowserMessageReader, BrowserMessageWriter, WebSocketMessageReader, WebSocketMessageWriter } = await load()
+    const worker = new Worker('worker.mjs', { type: 'module' })
+    const connection: MessageConnection = createMessageConnection(new BrowserMessageReader(worker), new BrowserMessageWriter(worker))
+    const sum: number = await connection.sendRequest<number>('add', 1, 2)
+    const port = new MessageChannel().port1
+    createMessageConnection(new BrowserMessageReader(port), new BrowserMessageWriter(port))
+    const socket = new WebSocket('ws://localhost')
+    createMessageConnection(new WebSocketMessageReader(socket), new WebSocketMessageWriter(socket))
+    for (const it of ['/b.wasm', fetch('/b.wasm'), new URL('b.wasm', import.meta.url)]) void await load(it)
+    // @ts-expect-error
+    void (await load()).StreamMessageReader
+    // @ts-expect-error
+    new BrowserMessageReader({ postMessage() {} })
+    void sum
+  `
+  const found = compiled('page.mts', text, { lib: ['es2022', 'dom'], target: 'es2022' })
+  assert.equal(found.status, 0, found.stdout)
 })
 
 test("Node.js's own streams fit", { skip: skip || (NODE_TYPES ? false : "Node.js's types, which are not here") }, () => {

@@ -610,6 +610,8 @@ export interface Broken {
 }
 /** Why a connection ended. */
 export interface Ended {
+  /** What was wrong, where, and what to do; absent where nothing was. */
+  text?: string
   how:
     | 'Clean' | 'BadHead' | 'BadLength' | 'TwoLengths' | 'TooLarge' | 'NoLength' | 'HeadTooLong' | 'Truncated' | 'Read'
     | 'Full' | 'OutputClosed' | 'Stopped' | 'Disposed'
@@ -714,8 +716,8 @@ export interface MessageConnection {
   readonly pending: number
   /** The input is over for us. The status is that of the process, where `run` runs it. */
   stop(status?: number): void
-  /** Answers as cancelled the requests whose handlers still go on. */
-  cancelOpen(): void
+  /** Answers as cancelled the requests whose handlers still go on, and gives their methods. */
+  cancelOpen(): string[]
   /** Why it ended, once it has. */
   readonly reason: Ended | undefined
   counts(): Counts
@@ -752,11 +754,11 @@ export interface ConnectionSettings {
   /** How many bytes a content may have, at most 2,147,483,647; 16,777,216 where it is absent. */
   content?: number
   calls?: number | bigint
-  /** Whether broken input is told. */
+  /** Whether invalid messages are reported. */
   broken?: boolean
   /** How many entries a batch may have: 100,000 where it is absent, and 4,294,967,295 or more is any number. */
   entries?: number | bigint
-  /** Whether params that are null are told as the text null; else they are none. */
+  /** Whether params that are null are reported as the text null; else they are absent. */
   nullParams?: boolean
 }
 export declare class Connection {

@@ -9,9 +9,11 @@ Python. They are measured in turn, and the best of the rounds is told, since wha
   call back  the same, for a method that calls the client first
   start      milliseconds from the start of the process to its first answer, beside a process that imports
              json and asyncio alone
+  first      milliseconds of the process's processor time until then
+  memory     MB that it holds then
 
-Behind them stand the ratios: how many requests at once we answer for each of theirs, and how long a ping and a call back
-take for each of theirs. The machine's load stands before and behind the figures. With --processor N all runs on this one
+Behind them stand the ratios: how many requests at once we answer for each of theirs, and how much of the others we take
+for each of theirs; and what a LanguageServer's start takes for each of theirs. The machine's load stands before and behind the figures. With --processor N all runs on this one
 processor, so that nothing else that runs there moves one of them alone.
 """
 import json
@@ -34,6 +36,11 @@ def hover(params):
 async def back(params, request):
     return await request.call("twice", params)
 sys.exit(server.run())
+"""
+OUR_LANGUAGE_SERVER = """
+import sys
+from bullmyrtle.lsp import LanguageServer
+sys.exit(LanguageServer("a server", "1").run())
 """
 THEIRS = """
 import sys
@@ -67,13 +74,16 @@ def received(file):
 
 
 class Server:
-    def __init__(self, code):
+    def __init__(self, code, method="hover", params=None):
         self.began = time.perf_counter()
         self.process = subprocess.Popen(
             [sys.executable, "-c", code], stdin=subprocess.PIPE, stdout=subprocess.PIPE, bufsize=-1
         )
-        self.ask("hover", PARAMS)
+        self.ask(method, params or PARAMS)
         self.start = time.perf_counter() - self.began
+        self.first = self.processor()
+        with open(f"/proc/{self.process.pid}/status", encoding="ascii") as file:
+            self.memory = int(next(it for it in file if it.startswith("VmRSS")).split()[1]) / 1024
 
     def send(self, data):
         self.process.stdin.write(data)
@@ -133,12 +143,22 @@ def measured(code, requests):
     small = max(20, requests // 20)
     found = {
         "start": server.start * 1000,
+        "first": server.first * 1000,
+        "memory": server.memory,
         "ping": server.each(small, "hover", PARAMS),
         "call back": server.each(small, "back", [4]),
     }
     found["at once"], found["processor"] = server.at_once(requests)
     server.end()
     return found
+
+
+def start_of_language_server():
+    server = Server(
+        OUR_LANGUAGE_SERVER, "initialize", {"processId": None, "rootUri": None, "capabilities": {}}
+    )
+    server.end()
+    return {"first": server.first * 1000, "memory": server.memory}
 
 
 def start_of(code):
@@ -166,11 +186,12 @@ def main(words):
         servers["pylsp-jsonrpc"] = THEIRS
     print(f"load {os.getloadavg()[0]:.1f}, {os.cpu_count()} processors, Python {sys.version.split()[0]}")
     found = {name: [] for name in servers}
-    starts = []
+    starts, language_servers = [], []
     for _ in range(rounds):
         for name, code in servers.items():
             found[name].append(measured(code, requests))
         starts.append(start_of("import json, asyncio"))
+        language_servers.append(start_of_language_server())
     best = {}
     for name, all_ in found.items():
         best[name] = it = {
@@ -178,15 +199,18 @@ def main(words):
         }
         print(
             f"{name:14} at once {it['at once']:9,.0f} requests/s   processor {it['processor']:5.1f} us   "
-            f"ping {it['ping']:6.1f} us   call back {it['call back']:6.1f} us   start {it['start']:5.0f} ms"
+            f"ping {it['ping']:6.1f} us   call back {it['call back']:6.1f} us   start {it['start']:5.0f} ms   "
+            f"first {it['first']:5.1f} ms   memory {it['memory']:5.1f} MB"
         )
     if len(best) == 2:
         ours, theirs = best.values()
         ratios = (
             f"{what} {ours[what] / theirs[what]:.2f}"
-            for what in ("at once", "processor", "ping", "call back")
+            for what in ("at once", "processor", "ping", "call back", "first", "memory")
         )
         print(f"{'ours by theirs':14} {', '.join(ratios)}")
+        least = {what: min(it[what] for it in language_servers) for what in ("first", "memory")}
+        print(f"LanguageServer {', '.join(f'{what} {it / theirs[what]:.2f}' for what, it in least.items())}")
     print(f"{'import':14} json, asyncio: {min(starts):.0f} ms")
     print(f"load {os.getloadavg()[0]:.1f}")
 

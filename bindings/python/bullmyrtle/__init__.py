@@ -6,38 +6,37 @@ conversation without input, output and threads.
 import os as _os
 import sys as _sys
 
-_machine = _os.uname().machine if hasattr(_os, "uname") else "another machine"
-if not (_sys.platform.startswith("linux") and _machine == "x86_64" and _sys.maxsize > 2**32):
+_machine = _os.uname().machine if hasattr(_os, "uname") else _os.environ.get("PROCESSOR_ARCHITECTURE", "")
+_is_known = _sys.platform.startswith(("linux", "darwin", "win32"))
+if not (_is_known and _machine.lower() in ("x86_64", "amd64", "aarch64", "arm64") and _sys.maxsize > 2**32):
     raise ImportError(
-        "bullmyrtle is for Linux on x86-64, in a 64-bit Python; "
-        f"this is {_sys.platform} on {_machine}, with {64 if _sys.maxsize > 2**32 else 32} bits"
+        "bullmyrtle is for Linux, macOS and Windows on x86-64 and arm64, in a 64-bit Python; "
+        f"this is {_sys.platform} on {_machine or 'another machine'}, with {64 if _sys.maxsize > 2**32 else 32} bits"
     )
 
-from . import events  # noqa: E402 (where the library can't run, that is said before anything else)
-from ._ends import End  # noqa: E402
-from ._marks import method  # noqa: E402
-from ._request import LATER, Reply, Request  # noqa: E402
-from ._session import Session  # noqa: E402
-from .client import Client  # noqa: E402
-from .connection import Connection, Counts  # noqa: E402
-from .errors import (  # noqa: E402
-    BadSettings,
-    Closed,
-    Empty,
-    Error,
-    Full,
-    InputOver,
-    InvalidParams,
-    LibraryError,
-    NoMemory,
-    NotJson,
-    NotOpen,
-    NotText,
-    NotWaiting,
-    Refused,
-    Unanswered,
-)
-from .server import Server  # noqa: E402
+TYPE_CHECKING = False
+if TYPE_CHECKING:
+    from . import events
+    from ._ends import End
+    from ._reply import Reply
+    from ._request import LATER, Request
+    from ._session import Session
+    from ._signatures.marks import method
+    from .client import Client
+    from .connection import Connection, Counts
+    from .errors import (
+        BadSettings,
+        Closed,
+        Empty,
+        Error,
+        Full,
+        InputOver,
+        InvalidParams,
+        LibraryError,
+        NoMemory,
+    )
+    from .errors import NotJson, NotOpen, NotText, NotWaiting, Refused, TimedOut, Unanswered
+    from .server import Server
 
 __version__ = "0.3.0"
 __all__ = [
@@ -64,7 +63,35 @@ __all__ = [
     "Request",
     "Server",
     "Session",
+    "TimedOut",
     "Unanswered",
     "events",
     "method",
 ]
+
+# Where the names of a module are; those that aren't here are exceptions. A server never imports what is a client's.
+_PLACES = {
+    "End": "_ends",
+    "method": "_signatures.marks",
+    "Reply": "_reply",
+    "LATER": "_request",
+    "Request": "_request",
+    "Session": "_session",
+    "Client": "client",
+    "Connection": "connection",
+    "Counts": "connection",
+    "Server": "server",
+}
+_MODULES = ("client", "connection", "errors", "events", "server")
+
+
+def __getattr__(name: str) -> object:
+    """What is asked for first: each module is imported when a name of it is needed."""
+    if name in _MODULES:
+        return __import__(f"{__name__}.{name}", fromlist=[name])
+    if name not in __all__:
+        raise AttributeError(f"module {__name__!r} has no attribute {name!r}")
+    module = __import__(f"{__name__}.{_PLACES.get(name, 'errors')}", fromlist=[name])
+    value: object = getattr(module, name)
+    globals()[name] = value
+    return value

@@ -1,10 +1,11 @@
 """How a session ended, as data, and in words that say what was wrong and what to do."""
 from __future__ import annotations
 
-import signal
-from typing import Any, List, Mapping, NamedTuple, Optional, Sequence
-
+from ._hints import TYPE_CHECKING, NamedTuple
 from ._log import shown
+
+if TYPE_CHECKING:
+    from typing import Any, List, Mapping, Optional, Sequence
 
 #: How much of a frame or line at fault is told.
 SHOWN = 64
@@ -156,6 +157,8 @@ def exit_text(status: Optional[int]) -> str:
     if status is None:
         return "its process still runs"
     if status < 0:
+        import signal
+
         try:
             return f"the server was killed by {signal.Signals(-status).name}"
         except ValueError:

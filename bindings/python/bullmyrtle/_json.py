@@ -5,7 +5,7 @@ the exponent of a float is written. So a text at such an edge is left to the sta
 in too many ways, so it only reads.
 
 A whole number has a bound of our own for its digits, which isn't the interpreter's: that has one for the whole process,
-or none, and whoever sends digits would choose what they cost. Where a number has more digits than the interpreter
+or none, and anyone who sends digits would choose what they cost. Where a number has more digits than the interpreter
 converts, it is made of parts of a few hundred.
 
 One difference is left, since orjson doesn't ask: an enumeration that is made of str or int too, and whose members were
@@ -13,12 +13,24 @@ given another `_value_` by its `__new__`, is written by that value, and elsewher
 """
 from __future__ import annotations
 
-import enum
-import json
-import json.encoder
+import contextlib
+import functools
 import os
 import sys
-from typing import Any, Callable, NamedTuple, Optional, Tuple
+
+from ._hints import TYPE_CHECKING, NamedTuple
+
+
+if TYPE_CHECKING:
+    from typing import Any, Callable, Optional, Tuple
+
+    Loads = Callable[[bytes], Any]
+    Dumps = Callable[[Any], bytes]
+
+_quick: Any = None
+with contextlib.suppress(ImportError):
+    # (what does the work in the module `json`, which takes long to import)
+    _quick = __import__("_json")
 
 # How many digits a whole number may have where nothing else is said, which is also what interpreters allow, and the
 # least that may be said: orjson and ids have numbers of 64 bits.
@@ -28,9 +40,6 @@ _PART = 640
 
 # Which module to use, for tests: "json", "orjson" or "ujson".
 VARIABLE = "BULLMYRTLE_JSON"
-
-Loads = Callable[[bytes], Any]
-Dumps = Callable[[Any], bytes]
 
 _DIGITS = bytes.maketrans(b"123456789", b"000000000")
 _LONG = b"0" * 19
@@ -48,7 +57,8 @@ def _default(value: Any) -> Any:
     dataclasses: Any = sys.modules.get("dataclasses")
     if dataclasses is not None and dataclasses.is_dataclass(value) and not isinstance(value, type):
         return {it.name: getattr(value, it.name) for it in dataclasses.fields(value)}
-    if isinstance(value, enum.Enum):
+    enum: Any = sys.modules.get("enum")
+    if enum is not None and isinstance(value, enum.Enum):
         return value.value
     # (orjson writes it without asking)
     uuid: Any = sys.modules.get("uuid")
@@ -76,7 +86,7 @@ def _digits(value: int) -> str:
 
 
 def _too_long(most: int) -> ValueError:
-    return ValueError(f"a whole number has more than {most:,} digits")
+    return ValueError(f"an integer has more than {most:,} digits")
 
 
 def _number_reader(most: int, instead: Optional[Callable[[], Any]] = None) -> Callable[[str], Any]:
@@ -112,8 +122,11 @@ def _real(value: float) -> str:
     return float.__repr__(value)
 
 
+@functools.lru_cache(16)
 def _slow_writer(most: int) -> Callable[[Any], str]:
     """What writes whole numbers of more digits than the interpreter converts, by the standard module without its C."""
+    import json.encoder
+
     parts: Any = json.encoder
     write = parts._make_iterencode(
         None,
@@ -139,14 +152,10 @@ def _interpreters_bound() -> int:
 
 def _writer() -> Callable[[Any], str]:
     """What writes a value. A JSONEncoder makes its inner encoder anew for each value, which takes longest."""
-    write = json.JSONEncoder(
-        ensure_ascii=False, allow_nan=False, separators=(",", ":"), default=_default
-    ).encode
     try:
         # (as JSONEncoder does; without a record of what is being written, a ring goes on until it nests too deep)
-        parts: Any = json.encoder
-        inner = parts.c_make_encoder(
-            None, _default, parts.encode_basestring, None, ":", ",", False, False, False
+        inner = _quick.make_encoder(
+            None, _default, _quick.encode_basestring, None, ":", ",", False, False, False
         )
         is_as_known = "".join(inner(["\u00e9", {"a": 1.5}], 0)) == '["\u00e9",{"a":1.5}]'
     except (AttributeError, TypeError):
@@ -155,30 +164,63 @@ def _writer() -> Callable[[Any], str]:
     def quick(value: Any) -> str:
         return "".join(inner(value, 0))
 
-    return quick if is_as_known else write
+    if is_as_known:
+        return quick
+    import json
+
+    encoder = json.JSONEncoder(ensure_ascii=False, allow_nan=False, separators=(",", ":"), default=_default)
+    return encoder.encode
+
+
+class _Reading:
+    """How the standard module reads."""
+
+    strict, object_hook, object_pairs_hook = True, None, None
+    parse_float = parse_constant = float
+
+    def __init__(self, parse_int: Callable[[str], Any]) -> None:
+        self.parse_int = parse_int
+
+
+def _scanner(parse_int: Callable[[str], Any] = int) -> Callable[[str, int], Tuple[Any, int]]:
+    """What reads the value at a place of a text, and says where it ends. Raises StopIteration where there is none."""
+    scan: Callable[[str, int], Tuple[Any, int]]
+    if _quick is not None:
+        scan = _quick.make_scanner(_Reading(parse_int))
+    else:
+        import json
+
+        decoder: Any = json.JSONDecoder(parse_int=parse_int)
+        scan = decoder.scan_once
+    return scan
 
 
 _write = _writer()
-_read = json.JSONDecoder().raw_decode
+_read = _scanner()
 
 
 def _plain(digits: int) -> Tuple[Loads, Dumps]:
     """The two functions by the standard module."""
-    read_long = json.JSONDecoder(parse_int=_number_reader(digits)).raw_decode
-    write_long = _slow_writer(digits)
+    read_slowly = _scanner(_number_reader(digits))
     too_long = b"0" * (digits + 1)
 
     def is_long(text: bytes) -> bool:
         """Whether there may be a number that is too long: a run of digits is one, or part of a string or a fraction."""
         return too_long in text.translate(_DIGITS)
 
+    def read_long(text: bytes) -> Any:
+        try:
+            return read_slowly(text.decode(), 0)[0]
+        except StopIteration:
+            raise ValueError("it isn't JSON") from None
+
     def loads(text: bytes) -> Any:
         if len(text) > digits and is_long(text):
-            return read_long(text.decode())[0]
+            return read_long(text)
         try:
-            return _read(text.decode())[0]
-        except ValueError:
-            return read_long(text.decode())[0]
+            return _read(text.decode(), 0)[0]
+        except (StopIteration, ValueError):
+            return read_long(text)
 
     def dumps(value: Any) -> bytes:
         try:
@@ -189,11 +231,11 @@ def _plain(digits: int) -> Tuple[Loads, Dumps]:
             if not 0 < _interpreters_bound() < digits:
                 raise
             try:
-                text = write_long(value).encode()
+                text = _slow_writer(digits)(value).encode()
             except RecursionError:
                 raise ValueError("it nests too deep") from None
         if len(text) > digits and is_long(text):
-            read_long(text.decode())
+            read_long(text)
         return text
 
     return loads, dumps
@@ -285,9 +327,9 @@ def with_digits(digits: int) -> Json:
     return Json(loads, dumps) if digits == DIGITS else Json(*chosen(NAME, digits)[1:])
 
 
-_read_all = json.JSONDecoder(parse_int=_number_reader(FEWEST_DIGITS, lambda: None)).raw_decode
+_read_all = _scanner(_number_reader(FEWEST_DIGITS, lambda: None))
 
 
 def loads_short(text: bytes) -> Any:
     """The value of a text with None in the place of whole numbers of more than 20 digits: an id has no more."""
-    return _read_all(text.decode())[0]
+    return _read_all(text.decode(), 0)[0]

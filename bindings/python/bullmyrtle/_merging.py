@@ -1,14 +1,18 @@
 """What is made and what is given by hand, in one object."""
 from __future__ import annotations
 
-import copy
-from typing import Any, Dict
+from ._hints import TYPE_CHECKING
 
-Json = Dict[str, Any]
+if TYPE_CHECKING:
+    from typing import Any, Dict
+
+    Json = Dict[str, Any]
 
 
 def merged(one: Json, other: Json) -> Json:
     """Two objects, and the objects in them; where both have something else, the other's stands."""
+    import copy
+
     both = copy.deepcopy(one)
     for name, value in other.items():
         there = both.get(name)

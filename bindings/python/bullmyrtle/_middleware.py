@@ -3,34 +3,37 @@ from __future__ import annotations
 
 import contextlib
 import functools
-import inspect
-import logging
-from typing import Any, Callable, Dict, Generator, List, Optional
 
-from ._asking import words_of_error
-from ._params import ASYNC, PLAIN, THREAD, Method, Methods
-from ._request import Request, words_of
-from .errors import METHOD_NOT_FOUND, Closed, Error, InvalidParams, NotOpen
+from ._hints import TYPE_CHECKING
+from ._log import log
+from ._methods import ASYNC, PLAIN, THREAD, Method, Methods
+from ._signatures.parameters import is_awaitable
+from .errors import METHOD_NOT_FOUND, Error, NotOpen
 
-log = logging.getLogger("bullmyrtle")
+if TYPE_CHECKING:
+    from typing import Any, Callable, Dict, Generator, List, Optional
+
+    from ._request import Request
+
+    #: A generator function of the request and its params, as JSON has them: what comes before its `yield` is done before
+    #: the method, and what comes behind it afterwards. What it raises before, is raised in the method's place.
+    Middleware = Callable[[Request, Any], Generator[None, Any, None]]
+    #: What answers a request that took too long.
+    Late = Callable[[Request, float], None]
+else:
+    Middleware = Late = object
 
 REQUEST_FAILED = -32803
 
-#: A generator function of the request and its params, as JSON has them: what comes before its `yield` is done before
-#: the method, and what comes behind it afterwards. What it raises before, is raised in the method's place.
-Middleware = Callable[[Request, Any], Generator[None, Any, None]]
-#: What answers a request that took too long.
-Late = Callable[[Request, float], None]
 
-
-def _fitted(method: Method, params: Any) -> Any:
+def _fitted(method: Method, params: Any, request: Request) -> Any:
     """What the method gets for its params. Raises InvalidParams."""
     try:
         return method.params(params)
     except Error:
         raise
     except (ValueError, TypeError, RecursionError) as fault:
-        raise InvalidParams(words_of(f"Invalid params: {words_of_error(fault)}")) from fault
+        raise request.session.invalid_params(fault) from fault
 
 
 def _called(method: Method, given: Any, request: Request) -> Any:
@@ -41,7 +44,7 @@ def _called(method: Method, given: Any, request: Request) -> Any:
 
 def handed(method: Method, params: Any, request: Request) -> Any:
     """Has another method answer a call: gives the result, or what is to be awaited for it."""
-    call = functools.partial(_called, method, _fitted(method, params), request)
+    call = functools.partial(_called, method, _fitted(method, params, request), request)
     return request.in_thread(call) if method.kind is THREAD else call()
 
 
@@ -64,20 +67,14 @@ def answer_late(request: Request, seconds: float) -> None:
 
 def _end(request: Request, seconds: float, late: Late) -> None:
     session, task = request.session, request.task
-    if request.number not in session._open:
+    if not request.is_open:
         return
-    for key in request.keys:
-        reply = session._replies.get(key)
-        if (
-            reply is not None
-        ):  # (the other side is told that it isn't wanted any more, and a thread that it won't come)
-            session.withdraw(reply)
-            session._refuse(reply, Closed(f"{request.method}: it took too long"))
+    session._outgoing.end(request, "it took too long")
     with contextlib.suppress(NotOpen):
         late(request, seconds)
     request.is_cancelled = True  # (whatever it does now is no more than it would be after a cancel)
     if task is not None and not task.done():
-        session._end_task(task)
+        session._incoming.end_task(task)
 
 
 def limited(method: Method, seconds: Optional[float], late: Late = answer_late) -> Method:
@@ -149,17 +146,17 @@ def around(method: Method, middlewares: List[Middleware]) -> Method:
     def run(params: Any, request: Request) -> Any:
         open_ = _Around(middlewares, request, params)
         try:
-            result = _called(method, _fitted(method, params), request)
+            result = _called(method, _fitted(method, params, request), request)
         except BaseException as error:
             open_.raised(error)
-        if inspect.isawaitable(result):
+        if is_awaitable(result):
             return _awaited(open_, result)
         return open_.returned(result)
 
     async def run_async(params: Any, request: Request) -> Any:
         open_ = _Around(middlewares, request, params)
         try:
-            result = await _called(method, _fitted(method, params), request)
+            result = await _called(method, _fitted(method, params, request), request)
         except BaseException as error:
             open_.raised(error)
         return open_.returned(result)
@@ -207,6 +204,8 @@ class Wrapped(Methods):
 
 def checked_middleware(function: Any) -> Middleware:
     """The function, where it is a generator function. Raises TypeError."""
+    import inspect
+
     if not inspect.isgeneratorfunction(function):
         raise TypeError(
             f"{function!r} has to be a generator function, as in: def timed(request, params): .. yield .."

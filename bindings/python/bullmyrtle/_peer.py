@@ -1,53 +1,71 @@
 """What a server and a client have in common: methods, settings, and the sessions that use them."""
 from __future__ import annotations
 
-import asyncio
 import functools
-import inspect
-from typing import (
-    Any,
-    Callable,
-    Dict,
-    Iterable,
-    List,
-    Literal,
-    NoReturn,
-    Optional,
-    Tuple,
-    TypeVar,
-    Union,
-    overload,
-)
 
-from . import _library, _settings
-from ._channels import Channel
-from ._ends import End
+from . import _settings
+from ._hints import TYPE_CHECKING
 from ._json import DIGITS
 from ._library import ORDERS
-from ._marks import marked, name_of
-from ._middleware import Middleware, Wrapped, checked_middleware, limited
-from ._params import Method, Methods
-from ._protocols import PROTOCOLS, ProtocolName
-from ._request import Reply, Said
+from ._methods import Method, Methods
+from ._protocols import PROTOCOLS
 from ._session import LSP_CANCEL, TOOL_CANCEL, Session
-from ._trace import Trace, Traced
-from ._watch import Watch
-from .connection import Cancels, Connection, Order
+from ._signatures.marks import marked, name_of
+from .connection import Connection
 from .errors import Closed
-from .events import Broken
 
-F = TypeVar("F", bound=Callable[..., Any])
-T = TypeVar("T")
-M = TypeVar("M", bound=Callable[..., Any])
+if not TYPE_CHECKING:
+    from ._hints import overload
 
-CancelBy = Literal["$/cancelRequest", "notifications/cancelled", "by framing"]
-Framing = Literal["frames", "lines"]
+    CancelBy = Framing = Errors = OnBroken = object
+else:
+    import asyncio
+    from typing import (
+        Any,
+        Callable,
+        Dict,
+        Iterable,
+        List,
+        Literal,
+        NoReturn,
+        Optional,
+        Tuple,
+        Type,
+        TypeVar,
+        Union,
+        overload,
+    )
 
-# What is told of broken input, with the session.
-OnBroken = Callable[[Broken, Session], Any]
+    from ._channels import Channel
+    from ._ends import End
+    from ._middleware import Middleware
+    from ._protocols import ProtocolName
+    from ._reply import Reply
+    from ._request import Said
+    from ._trace import Trace, Traced
+    from .connection import Cancels, Order
+    from .events import Broken
 
+    F = TypeVar("F", bound=Callable[..., Any])
+    T = TypeVar("T")
+    M = TypeVar("M", bound=Callable[..., Any])
+
+    CancelBy = Literal["$/cancelRequest", "notifications/cancelled", "by framing"]
+    Framing = Literal["frames", "lines"]
+    #: How much the other side is told of exceptions that aren't meant for it.
+    Errors = Literal["full", "brief"]
+    # What is told of broken input, with the session.
+    OnBroken = Callable[[Broken, Session], Any]
 #: The cancel that belongs to the framing.
 BY_FRAMING: CancelBy = "by framing"
+
+
+def _limited(method: Method, timeout: Optional[float]) -> Method:
+    if timeout is None:
+        return method
+    from ._middleware import limited
+
+    return limited(method, timeout)
 
 
 class Peer:
@@ -70,6 +88,8 @@ class Peer:
         open: Optional[int] = None,
         trace: Optional[Trace] = None,
         on_broken: Optional[OnBroken] = None,
+        errors: Optional[Errors] = None,
+        loop: bool = False,
         **unknown: NoReturn,
     ) -> None:
         """Make one, without methods yet. Raises `BadSettings` where there are no such settings.
@@ -90,9 +110,15 @@ class Peer:
         on_broken -- a function that is told of each message that can't be read, or in which something is neither a call
             nor a reply: it gets an `events.Broken` and the session, on the loop's thread, and what it raises is logged
 
+        errors -- what the other side is told of an exception that a method didn't mean for it: its name and text
+            ("full"), or only that there was one ("brief"); brief over sockets, and else full, where nothing is said
+        loop -- of a server: whether `run` has an event loop from its start on, so that one runs in plain methods too
+
         Raises `LibraryError` where "mcp" or `on_broken` is asked for, and the library is one that has neither yet.
         """
-        _settings.no_more(unknown, self._setting_names())
+        names = [*unknown, "loop"] if loop and self._is_client else list(unknown)
+        if names:
+            _settings.no_more(names, self._setting_names())
         _settings.one_of("protocol", protocol, (*PROTOCOLS, None))
         if framing is not None:
             _settings.one_of("framing", framing, ("frames", "lines"))
@@ -107,8 +133,7 @@ class Peer:
         _settings.seconds("grace", grace)
         _settings.trace(trace)
         _settings.hook("on_broken", on_broken)
-        if on_broken is not None:
-            _library.check_open("on_broken")
+        _settings.one_of("errors", errors, ("full", "brief", None))
         known = None if protocol is None else PROTOCOLS[protocol]
         if known is not None:
             known.check(framing, cancel_by, BY_FRAMING)
@@ -130,6 +155,8 @@ class Peer:
         self._digits, self._most_open = digits, open
         self._trace = trace
         self._on_broken = on_broken
+        self._errors = errors
+        self._has_loop = bool(loop)
         self._methods = Methods()
         self._middlewares: List[Middleware] = []
         self._sessions: Dict[Session, None] = {}
@@ -138,9 +165,12 @@ class Peer:
 
     @classmethod
     def _setting_names(cls) -> List[str]:
+        import inspect
+
         functions = [vars(it)["__init__"] for it in cls.__mro__[:-1] if "__init__" in vars(it)]
         parameters = [it for function in functions for it in inspect.signature(function).parameters.values()]
-        return [it.name for it in parameters if it.kind is inspect.Parameter.KEYWORD_ONLY]
+        names = [it.name for it in parameters if it.kind is inspect.Parameter.KEYWORD_ONLY]
+        return [it for it in names if it != "loop" or not cls._is_client]
 
     # Methods
 
@@ -181,15 +211,19 @@ class Peer:
 
         def register(function: F) -> F:
             made = Method(name_of(function) if given is None else given, function, thread)
-            self._methods.add(limited(made, timeout))
+            self._check_name(made.name)
+            self._methods.add(_limited(made, timeout))
             return function
 
         return register
 
+    def _check_name(self, name: str) -> None:
+        """Refuses a name that this kind of peer has registered in another way."""
+
     def register(self, instance: T) -> T:
         """Register what is marked of an instance by `@bullmyrtle.method("name")`, and give it back."""
         self._methods.add(
-            *(limited(Method(it.name, function, it.thread), it.timeout) for it, function in marked(instance))
+            *(_limited(Method(it.name, function, it.thread), it.timeout) for it, function in marked(instance))
         )
         return instance
 
@@ -228,6 +262,8 @@ class Peer:
         It runs where the method does. What it raises before its `yield` is raised in the method's place; `yield` gives
         the method's result, or raises what the method raises. The first one that is registered is the outermost.
         """
+        from ._middleware import checked_middleware
+
         self._middlewares.append(checked_middleware(function))
         return function
 
@@ -240,18 +276,21 @@ class Peer:
     def _began(self, session: Session, table: Methods) -> None:
         """A session has begun, and finds its methods in this table."""
 
-    def _session_over(self, channel: Channel, **other: Any) -> Session:
-        """A new session; `other` settings take the place of the peer's."""
+    def _session_over(
+        self, channel: Channel, turns: Any = None, kind: Type[Session] = Session, **other: Any
+    ) -> Session:
+        """A new session of a kind; `other` settings take the place of the peer's."""
         cancels = self._cancels
-        tells_broken = _library.has_open()
-        plain = Connection(cancels=cancels, broken=tells_broken, **{**self._settings, **other})
+        plain = Connection(cancels=cancels, broken=True, **{**self._settings, **other})
         connection: Union[Connection, Traced] = plain
         if self._trace is not None:
-            connection = Traced(plain, self._trace, cancels)
-        watch = Watch({**self._settings, **other}, cancels, self._is_client)
+            from . import _trace
+
+            connection = _trace.Traced(plain, self._trace, cancels)
+        watch = kind.watching({**self._settings, **other}, cancels, self._is_client)
         table = self._table()
-        session = Session(
-            Wrapped(table, self._middlewares) if self._middlewares else table,
+        session = kind(
+            self._wrapped(table) if self._middlewares else table,
             channel,
             connection,
             self._cancel_by,
@@ -261,14 +300,21 @@ class Peer:
             watch,
             self._digits,
             self._most_open,
+            turns,
         )
         session.protocol = None if self._protocol is None else PROTOCOLS[self._protocol]
         session.on_broken = self._on_broken
+        session.tells_errors = channel.is_near if self._errors is None else self._errors == "full"
         self._sessions[session] = None
         self._served += 1
         self._last = session
         self._began(session, table)
         return session
+
+    def _wrapped(self, table: Methods) -> Methods:
+        from ._middleware import Wrapped
+
+        return Wrapped(table, self._middlewares)
 
     async def _serve(self, session: Session) -> int:
         try:
@@ -307,16 +353,17 @@ class Peer:
             raise RuntimeError(f"there were {self._served} sessions: each has its own session.ended")
         return None if self._last is None else self._last.ended
 
-    def call(self, method: str, params: Any = None) -> Reply:
+    def call(self, method: str, params: Any = None, *, timeout: Optional[float] = None) -> Reply:
         """Call the other side, on behalf of no request: gives what is to be awaited.
 
-        In another thread than the loop's it blocks, and gives the result, as `call_and_wait` does.
+        In another thread than the loop's it blocks, and gives the result, as `call_and_wait` does. One that takes
+        longer than `timeout` seconds is cancelled, and raises `TimedOut`.
         """
-        return self._single("request.call(..)").call(method, params)
+        return self._single("request.call(..)").call(method, params, timeout=timeout)
 
-    def call_and_wait(self, method: str, params: Any = None) -> Any:
+    def call_and_wait(self, method: str, params: Any = None, *, timeout: Optional[float] = None) -> Any:
         """Call the other side in another thread than the loop's: it blocks, and gives the result."""
-        return self._single("request.call_and_wait(..)").call_and_wait(method, params)
+        return self._single("request.call_and_wait(..)").call_and_wait(method, params, timeout=timeout)
 
     def call_batch(
         self, calls: Iterable[Said], return_exceptions: bool = False

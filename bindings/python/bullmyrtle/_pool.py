@@ -1,16 +1,17 @@
 """Threads for methods that block."""
 from __future__ import annotations
 
-import logging
 import os
-import queue
-import threading
 import time
-from typing import Callable, List, Optional
+from ._hints import TYPE_CHECKING
+from ._log import log
 
-Job = Callable[[], None]
+if TYPE_CHECKING:
+    import queue
+    import threading
+    from typing import Callable, List, Optional
 
-log = logging.getLogger("bullmyrtle")
+    Job = Callable[[], None]
 
 
 class Pool:
@@ -21,21 +22,33 @@ class Pool:
 
     def __init__(self, most: Optional[int] = None) -> None:
         self._most = most or min(32, (os.cpu_count() or 1) + 4)
-        self._jobs: "queue.SimpleQueue[Optional[Job]]" = queue.SimpleQueue()
-        self._idle = threading.Semaphore(0)
+        self._jobs: "queue.SimpleQueue[Optional[Job]]"
+        self._idle: Optional[threading.Semaphore] = None
         self._threads: List[threading.Thread] = []
         self._is_short = False
+
+    def _begin(self) -> threading.Semaphore:
+        """(here, as a server without threads starts sooner without these modules)"""
+        import queue
+        import threading
+
+        self._jobs = queue.SimpleQueue()
+        self._idle = threading.Semaphore(0)
+        return self._idle
 
     def submit(self, job: Job) -> None:
         """Run a job in a thread, in the order of these calls where all threads are busy.
 
         Where no more threads can be started, those that there are do the work; with none, RuntimeError is raised.
         """
+        idle = self._idle or self._begin()
         self._jobs.put(job)
-        if not self._idle.acquire(blocking=False) and len(self._threads) < self._most:
+        if not idle.acquire(blocking=False) and len(self._threads) < self._most:
             self._start()
 
     def _start(self) -> None:
+        import threading
+
         thread = threading.Thread(target=self._work, name=f"bullmyrtle-{len(self._threads) + 1}", daemon=True)
         try:
             thread.start()
@@ -59,6 +72,7 @@ class Pool:
             except BaseException:
                 log.exception("a thread's work failed")
             del job
+            assert self._idle is not None
             self._idle.release()
 
     def close(self) -> None:

@@ -3,15 +3,19 @@ from __future__ import annotations
 
 import asyncio
 import contextlib
-import logging
 import os
 import subprocess
-from typing import IO, Any, Callable, List, Literal, Mapping, Optional, Union
+import threading
+from typing import IO, TYPE_CHECKING, Any, Callable, List, Literal, Mapping, Optional, Union
 
 from . import _settings
-from ._channels import Descriptors
+from ._log import log
+from ._system import WAITS
 
-log = logging.getLogger("bullmyrtle")
+if TYPE_CHECKING or WAITS:
+    from ._channels import Descriptors as _Base
+else:
+    from ._waiting import Threaded as _Base  # (which has the same hooks)
 
 #: Where a server's standard error goes: "pass on" to that of this process, which keeps the last of it; "inherit", so
 #: that nobody reads it; a file; or a function that takes bytes as they come.
@@ -47,17 +51,40 @@ class _ErrorOutput:
         self._tell = tell
         self._is_told = True
         self.last = b""
-        os.set_blocking(descriptor, False)
         self._loop = asyncio.get_running_loop()
-        self._loop.add_reader(descriptor, self.read)
+        if WAITS:
+            os.set_blocking(descriptor, False)
+            self._loop.add_reader(descriptor, self.read)
+        else:
+            threading.Thread(target=self._read_in_thread, args=(descriptor,), daemon=True).start()
 
     @property
     def is_over(self) -> bool:
         return self._descriptor is None
 
+    def _read_in_thread(self, descriptor: int) -> None:
+        """Where no loop can wait for it. The thread has the descriptor, and closes it: at its end, or with the next that
+        comes once nobody reads any more."""
+        data = b"x"
+        while data and self._descriptor is not None:
+            try:
+                data = os.read(descriptor, _READ)
+            except OSError:
+                data = b""
+            with contextlib.suppress(RuntimeError):
+                self._loop.call_soon_threadsafe(self._came, data)
+        os.close(descriptor)
+
+    def _came(self, data: bytes) -> None:
+        if data and self._descriptor is not None:
+            self.last = (self.last + data)[-_KEPT:]
+            self._say(data)
+        else:
+            self._descriptor = None
+
     def read(self) -> bool:
         """Reads what there is, up to a bound, and says whether there was anything."""
-        if self._descriptor is None:
+        if self._descriptor is None or not WAITS:
             return False
         try:
             data = os.read(self._descriptor, _READ)
@@ -78,6 +105,13 @@ class _ErrorOutput:
             if not self.read():
                 break
 
+    async def all_read(self) -> None:
+        """Reads what a process wrote before it ended. A thread that reads it is waited for, and not longer than the
+        process's end is, since a child of that may have the other end, and stay."""
+        self.read_what_is_there()
+        if not WAITS:
+            await _comes(lambda: self.is_over, _SECONDS)
+
     def _say(self, data: bytes) -> None:
         if not self._is_told:
             return
@@ -85,14 +119,26 @@ class _ErrorOutput:
             self._tell(data)
         except Exception:
             self._is_told = False
-            log.exception("what the server writes to its standard error isn't told any more")
+            log.exception("what the server writes to its standard error isn't reported any more")
 
     def close(self) -> None:
         """Reads no more. (A child of the server may have the other end, and stay.)"""
         descriptor, self._descriptor = self._descriptor, None
-        if descriptor is not None:
+        if descriptor is not None and WAITS:
             self._loop.remove_reader(descriptor)
             os.close(descriptor)
+
+
+async def _comes(is_there: Callable[[], bool], seconds: float) -> bool:
+    """Waits until something is so, and says whether it came in time."""
+    loop = asyncio.get_running_loop()
+    end, nap = loop.time() + seconds, 0.001
+    while not is_there():
+        if loop.time() >= end:
+            return False
+        await asyncio.sleep(nap)
+        nap = min(2 * nap, 0.05)
+    return True
 
 
 class ServerProcess:
@@ -136,17 +182,12 @@ class ServerProcess:
         """The last of what it wrote to its standard error."""
         return b"" if self._error is None else self._error.last
 
-    async def ended(self, seconds: float = _SECONDS) -> bool:
+    async def ended(self, seconds: Optional[float] = None) -> bool:
         """Waits for the process's end, and for what it wrote before; says whether it came in time."""
-        loop = asyncio.get_running_loop()
-        end, nap = loop.time() + seconds, 0.001
-        while self.popen.poll() is None:
-            if loop.time() >= end:
-                return False
-            await asyncio.sleep(nap)
-            nap = min(2 * nap, 0.05)
+        if not await _comes(lambda: self.popen.poll() is not None, _SECONDS if seconds is None else seconds):
+            return False
         if self._error is not None:
-            self._error.read_what_is_there()
+            await self._error.all_read()
         return True
 
     def abandon(self) -> None:
@@ -172,7 +213,7 @@ class ServerProcess:
         return status
 
 
-class _Output(Descriptors):
+class _Output(_Base):
     """The channel to a process. At its end it waits a moment for the process's, so that the status can be told."""
 
     def __init__(self, source: int, sink: int, has_ended: Callable[[], Any]) -> None:
@@ -189,12 +230,12 @@ class _Output(Descriptors):
 
     def _end(self, failed: bool) -> None:
         self.stop()
-        self._later(lambda: self._session.input_ended(failed))
+        self._later(lambda: self._transport.input_ended(failed))
 
     def _break(self) -> None:
         self._close_sink()
         self.stop()
-        self._later(self._session.broke)
+        self._later(self._transport.broke)
 
     def _later(self, tell: Callable[[], None]) -> None:
         async def wait() -> None:

@@ -1,12 +1,15 @@
 """Protocols over JSON-RPC: what each of them sets, and what its other side can't read."""
 from __future__ import annotations
 
-from typing import Any, Dict, FrozenSet, Literal, NamedTuple, Optional
-
-from . import _library
+from ._hints import TYPE_CHECKING, NamedTuple
 from .errors import BadSettings
 
-ProtocolName = Literal["lsp", "mcp"]
+if TYPE_CHECKING:
+    from typing import Any, Dict, FrozenSet, Literal, Optional
+
+    ProtocolName = Literal["lsp", "mcp"]
+else:
+    ProtocolName = object
 
 
 class ProtocolSettings(NamedTuple):
@@ -21,9 +24,7 @@ class ProtocolSettings(NamedTuple):
     never_cancelled: FrozenSet[str] = frozenset()
 
     def check(self, framing: Optional[str], cancel_by: Any, no_choice: str) -> None:
-        """Refuses what contradicts it, and a library without it; `no_choice` is a `cancel_by` that nobody chose."""
-        if self.name == "mcp":
-            _library.check_open(f"protocol={self.name!r}")
+        """Refuses what contradicts it; `no_choice` is a `cancel_by` that nobody chose."""
         if framing not in (None, self.framing):
             raise BadSettings(
                 f"framing={framing!r} contradicts: protocol={self.name!r} has framing={self.framing!r}"

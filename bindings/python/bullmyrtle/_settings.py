@@ -1,14 +1,16 @@
 """Whether settings are any that there are, and what is said where they aren't."""
 from __future__ import annotations
 
-import difflib
-import inspect
 import math
 import os
-from typing import Any, Iterable, NoReturn, Optional, Sequence
 
+from ._hints import TYPE_CHECKING
 from ._json import FEWEST_DIGITS
+from ._signatures.parameters import is_async
 from .errors import BadSettings
+
+if TYPE_CHECKING:
+    from typing import Any, Iterable, NoReturn, Optional, Sequence
 
 #: The greatest content that the library takes, in bytes, and the most calls.
 MOST_CONTENT, MOST_CALLS = (1 << 31) - 1, (1 << 64) - 1
@@ -38,13 +40,13 @@ def whole(name: str, value: Any, most: Optional[int] = None) -> None:
     if value is None or (type(value) is int and 1 <= value and (most is None or value <= most)):
         return
     until = "" if most is None else f" to {most:,}"
-    refuse(name, value, f"it is a whole number from 1{until or ' on'}, or None")
+    refuse(name, value, f"it must be an integer from 1{until or ' on'}, or None")
 
 
 def digits(value: Any) -> None:
     """A number of digits that is no less than an id may have."""
     if type(value) is not int or value < FEWEST_DIGITS:
-        refuse("digits", value, f"it is a whole number from {FEWEST_DIGITS} on")
+        refuse("digits", value, f"it must be an integer from {FEWEST_DIGITS} on")
 
 
 def seconds(name: str, value: Any) -> None:
@@ -63,12 +65,14 @@ def trace(value: Any) -> None:
 
 def hook(name: str, value: Any) -> None:
     """A plain function, or None."""
-    if value is not None and (not callable(value) or inspect.iscoroutinefunction(value)):
+    if value is not None and (not callable(value) or is_async(value)):
         refuse(name, value, "it is a plain function, or None")
 
 
 def no_more(unknown: Iterable[str], known: Iterable[str]) -> None:
     """Refuses settings by names that there aren't."""
+    import difflib  # (here, since a server starts sooner without it)
+
     names = list(known)
     for it in unknown:
         (near,) = difflib.get_close_matches(it, names, 1) or [""]

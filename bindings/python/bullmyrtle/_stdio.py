@@ -2,10 +2,13 @@
 from __future__ import annotations
 
 import contextlib
-import fcntl
 import os
 import sys
-from typing import Iterator, List, Optional, Tuple
+
+from ._hints import TYPE_CHECKING
+
+if TYPE_CHECKING:
+    from typing import Iterator, List, Optional, Tuple
 
 # No descriptor of ours may take the place of a standard one that is closed.
 _LEAST = 3
@@ -13,10 +16,22 @@ _LEAST = 3
 
 def _kept(descriptor: int) -> Optional[int]:
     """A duplicate that children don't inherit, or None where the descriptor is closed."""
+    lower = []
     try:
-        return fcntl.fcntl(descriptor, fcntl.F_DUPFD_CLOEXEC, _LEAST)
+        kept = os.dup(descriptor)
+        while kept < _LEAST:
+            lower.append(kept)
+            kept = os.dup(descriptor)
     except OSError:
         return None
+    finally:
+        for it in lower:
+            os.close(it)
+    if sys.platform == "win32":
+        import msvcrt
+
+        msvcrt.setmode(kept, os.O_BINARY)  # (ends of lines are part of what is said)
+    return kept
 
 
 def _flush() -> None:
@@ -51,8 +66,8 @@ def _restore(descriptor: int, kept: Optional[int]) -> None:
 def taken() -> Iterator[Tuple[Optional[int], Optional[int]]]:
     """Descriptors of the standard input and output that nobody else has, each None where it was closed.
 
-    Meanwhile descriptor 0 is /dev/null and 1 is what 2 is. So whoever prints, from Python, a C extension or a child
-    process, writes to the standard error, and whoever reads the standard input finds its end.
+    Meanwhile descriptor 0 is /dev/null and 1 is what 2 is. So anyone who prints, from Python, a C extension or a child
+    process, writes to the standard error, and anyone who reads the standard input finds its end.
     """
     kept: List[Optional[int]] = [_kept(0), _kept(1)]
     try:

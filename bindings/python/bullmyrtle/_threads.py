@@ -12,24 +12,25 @@ from typing import TYPE_CHECKING, Any, Callable, Optional, TypeVar
 from .errors import Closed
 
 if TYPE_CHECKING:
-    from ._answering import Answering
+    from ._session import Session
 
 T = TypeVar("T")
 
 
-def in_thread(session: Answering, function: Callable[[], T]) -> "asyncio.Future[T]":
+def in_thread(session: Session, function: Callable[[], T]) -> "asyncio.Future[T]":
     """Runs a function in a thread of a session's pool. One that is cancelled before its turn never begins."""
-    if threading.get_ident() != session._thread:
+    transport, blocked = session._transport, session._outgoing.blocked
+    if threading.get_ident() != transport.thread:
         raise RuntimeError("this runs in a thread already, so the function can simply be called")
     ticket: "concurrent.futures.Future[T]" = concurrent.futures.Future()
-    with session._lock:
-        if session._is_closed:
+    with transport.lock:
+        if transport.is_closed:
             raise Closed(session.watch.over(session.ended))
-        session._blocked.add(ticket)
-    ticket.add_done_callback(session._blocked.discard)
+        blocked.add(ticket)
+    ticket.add_done_callback(blocked.discard)
     run = functools.partial(contextvars.copy_context().run, function)
     try:
-        session._pool.submit(functools.partial(_work, ticket, run))
+        session._incoming.pool.submit(functools.partial(_work, ticket, run))
     except BaseException:
         ticket.cancel()
         raise
@@ -49,7 +50,7 @@ def _work(ticket: "concurrent.futures.Future[Any]", function: Callable[[], Any])
         raised.__cause__ = error
     except BaseException as error:
         raised = error
-    # (where the session was closed meanwhile, whoever waited is told already)
+    # (where the session was closed meanwhile, anyone who waited was notified already)
     with contextlib.suppress(concurrent.futures.InvalidStateError):
         if raised is None:
             ticket.set_result(result)

@@ -4,17 +4,15 @@ from __future__ import annotations
 import contextlib
 import functools
 import json
-import logging
 import os
 import threading
 import time
 from typing import Any, Callable, Dict, Iterable, List, Optional, Set, TextIO, Tuple, Union, cast
 
-from . import _library, events
+from . import events
+from ._log import log
 from .connection import Cancels, Connection, Json, Notes
 from .events import Event
-
-log = logging.getLogger("bullmyrtle")
 
 # A file's name, a file that takes text, or a function that takes one line at a time.
 Trace = Union[str, "os.PathLike[str]", TextIO, Callable[[str], Any]]
@@ -104,9 +102,6 @@ class Traced:
         self._is_over = False
         self.feed, self.end, self.take = connection.feed, connection.end, connection.take
         self.counts = connection.counts
-        if _library.loaded_by_name is not None:
-            about = json.dumps({_library.VARIABLE: _library.loaded_by_name}, separators=(",", ":"))
-            self._line("library", about, is_message=False)
 
     @property
     def pending(self) -> int:
@@ -221,9 +216,6 @@ class Traced:
             id_, _ = self._closed(number)
             if id_ is not None and result is not None:
                 self._line("send-response", _result(id_, result))
-
-    def _answerer(self) -> Callable[[int, bytes], None]:
-        return self.answer
 
     def _noted(self) -> Notes:
         return self._connection._noted()

@@ -1,37 +1,42 @@
 """What a session remembers of its input: where a fault is, and what couldn't be read."""
 from __future__ import annotations
 
-import asyncio
 import contextlib
 import time
-from typing import Any, Callable, List, Mapping, Optional, Protocol, Sequence, Tuple, Union
 
-from . import _ends, _library
+from . import _ends
 from ._ends import SHOWN, End, Late, Place
+from ._hints import TYPE_CHECKING
 from ._log import log
 from ._settings import USUAL_CONTENT
-from ._trace import Traced
-from .connection import Cancels, Connection, Counts, Notes
+from .connection import Connection, Counts, Notes
 from .errors import Closed, Refused
 from .events import Broken, Event, Over
+
+if TYPE_CHECKING:
+    from typing import Any, Callable, List, Mapping, Optional, Protocol, Sequence, Tuple, Union
+    import asyncio
+
+    from ._trace import Traced
+    from .connection import Cancels
+
+    class Process(Protocol):
+        """A client's server, as far as it is told of."""
+
+        @property
+        def status(self) -> Optional[int]:
+            """What it ended with."""
+
+        @property
+        def last(self) -> bytes:
+            """The last of what it wrote to its standard error."""
+
 
 # How much of the stream's beginning is kept, and of what was read last, for the first bytes of the frame at fault; and
 # how often a line of counts may come.
 _KEPT, _SECONDS = 8192, 1.0
 # How many pieces may wait to be looked into, and how long each of them may be.
 _PIECES, _SHORT = 64, 1024
-
-
-class Process(Protocol):
-    """A client's server, as far as it is told of."""
-
-    @property
-    def status(self) -> Optional[int]:
-        """What it ended with."""
-
-    @property
-    def last(self) -> bytes:
-        """The last of what it wrote to its standard error."""
 
 
 class _Lines:
@@ -76,14 +81,13 @@ class Watch:
         self._connection: Union[Connection, Traced, None] = None
         self._notes = Notes()
         self._is_busy: Callable[[], bool] = lambda: False
+        self._later: Callable[[float, Callable[[], None]], asyncio.TimerHandle]
         # The pieces that weren't looked into yet: few and short, since to do so at each one takes longer.
         self._pieces: List[bytes] = []
         self._fed = 0
         self._kept = b""
-        # Whether each message that couldn't be read is told, so that nothing is to be looked for besides.
-        self._is_told = _library.has_open()
         # What was read last, 8,192 bytes where there were so many.
-        self._recent = b"" if settings["framing"] == "frames" and self._is_told else None
+        self._recent = b"" if settings["framing"] == "frames" else None
         self._lines = _Lines() if settings["framing"] == "lines" else None
         self._how: Optional[str] = None
         self._place: Optional[Place] = None
@@ -99,9 +103,16 @@ class Watch:
         self.is_finished = False
         self._is_meant = False  # (whether it had when the input was over)
 
-    def begin(self, connection: Union[Connection, Traced], notes: Notes, is_busy: Callable[[], bool]) -> None:
-        """Begins, with the connection, what is noted of its events, and whether it can't be asked just now."""
-        self._connection, self._notes, self._is_busy = connection, notes, is_busy
+    def begin(
+        self,
+        connection: Union[Connection, Traced],
+        notes: Notes,
+        is_busy: Callable[[], bool],
+        later: Callable[[float, Callable[[], None]], asyncio.TimerHandle],
+    ) -> None:
+        """Begins, with the connection, what is noted of its events, whether it can't be asked just now, and what has
+        something done later."""
+        self._connection, self._notes, self._is_busy, self._later = connection, notes, is_busy, later
 
     def read(self, data: bytes, told: Sequence[Event]) -> None:
         """A piece was read, and these events were told of it."""
@@ -118,19 +129,18 @@ class Watch:
         self._pieces.append(data)
         if len(self._pieces) > _PIECES or len(data) > _SHORT:
             self._look_into_pieces()
-        if self._notes.broken is not self._seen or not self._is_told:
-            if self._is_told or not told or time.monotonic() >= self._next:
-                self._look()
+        if self._notes.broken is not self._seen:
+            self._look()
 
     def _look_into_pieces(self) -> None:
-        for data in self._pieces:
-            self._keep(data)
-            if self._lines is not None:
-                self._lines.add(data)
-            elif self._recent is not None:
-                self._recent = data[-_KEPT:] if len(data) >= _KEPT else (self._recent + data)[-_KEPT:]
-            self._fed += len(data)
+        data = b"".join(self._pieces)
         self._pieces.clear()
+        self._keep(data)
+        if self._lines is not None:
+            self._lines.add(data)
+        elif self._recent is not None:
+            self._recent = data[-_KEPT:] if len(data) >= _KEPT else (self._recent + data)[-_KEPT:]
+        self._fed += len(data)
 
     def _keep(self, data: bytes) -> None:
         if len(self._kept) < _KEPT:
@@ -154,9 +164,6 @@ class Watch:
     def _frame(self, data: bytes) -> Tuple[Optional[int], Optional[bytes]]:
         """Where the frame at fault begins, and its first bytes, as far as they are still known."""
         assert self._connection is not None
-        if self._recent is None:
-            offset = self._frame_at_fault(self._fed + len(data))
-            return offset, None if offset is None else self._kept[offset : offset + SHOWN]
         offset = self._connection.fault_offset
         return offset, None if offset is None else self._bytes_at(offset, data)
 
@@ -168,32 +175,6 @@ class Watch:
             return (self._recent + data)[offset - start :][:SHOWN]
         return self._kept[offset:][:SHOWN] or None
 
-    def _frame_at_fault(self, fed: int) -> Optional[int]:
-        """Where the frame at fault begins, for a library that can't say it, if the beginning that is kept reaches as far.
-
-        A connection like the session's is told again what came, up to each of a few places: one has read as many
-        messages as there are just from the last one's end on.
-        """
-        many, how = self._told_again(len(self._kept))
-        if how != self._how and not (self._how == "Truncated" and fed == len(self._kept)):
-            return None
-        low, high = 0, len(self._kept)
-        while low < high:
-            middle = (low + high) // 2
-            if self._told_again(middle)[0] < many:
-                low = middle + 1
-            else:
-                high = middle
-        return low
-
-    def _told_again(self, size: int) -> Tuple[int, Optional[str]]:
-        """How many messages, or parts of batches, the first bytes have, and what fault."""
-        with Connection(cancels=self._cancels, **self._settings) as again:
-            told = again.fed(self._kept[:size])
-            counts = again.counts()
-            how = told[-1].how if told and isinstance(told[-1], Over) else None
-            return len(told) - (how is not None) + counts.unreadable + counts.invalid + counts.ignored, how
-
     # What couldn't be read
 
     def _look(self, is_last: bool = False) -> None:
@@ -202,16 +183,13 @@ class Watch:
         self._seen = self._notes.broken
         now = time.monotonic()
         if self._is_busy():
-            self._timer = (
-                None if is_last else asyncio.get_running_loop().call_later(_SECONDS, self._look_again)
-            )
+            self._timer = None if is_last else self._later(_SECONDS, self._look_again)
             return
         counts = self._connection.counts()
         found = counts.unreadable, counts.invalid
         if found != self._said and now < self._next and not is_last:
             if self._timer is None:
-                loop = asyncio.get_running_loop()
-                self._timer = loop.call_later(self._next - now, self._look_again)
+                self._timer = self._later(self._next - now, self._look_again)
             return
         if found != self._said:
             self._said = found

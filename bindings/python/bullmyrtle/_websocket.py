@@ -8,7 +8,7 @@ from typing import TYPE_CHECKING, Any, Awaitable, Deque, Optional, Protocol, Uni
 from ._channels import Channel
 
 if TYPE_CHECKING:
-    from ._session import Session
+    from ._transport import Transport
 
 # How much may wait to be sent until reading stops, in bytes.
 _WAITING = 1 << 20
@@ -47,9 +47,9 @@ class Messages(Channel):
         self._is_broken = self._is_paused = False
         self._sent = asyncio.Event()  # (or paused no more)
 
-    def start(self, session: Session) -> None:
-        self._session = session
-        self._reading = session.loop.create_task(self._read())
+    def start(self, transport: Transport) -> None:
+        self._transport = transport
+        self._reading = transport.loop.create_task(self._read())
 
     async def _read(self) -> None:
         try:
@@ -60,25 +60,25 @@ class Messages(Channel):
                 data = (
                     message.encode("utf-8", "surrogatepass") if isinstance(message, str) else bytes(message)
                 )
-                self._session.received(data)
+                self._transport.received(data)
                 while self._is_paused or (self._waiting > _WAITING and not self._is_broken):
                     self._sent.clear()
                     await self._sent.wait()
         except Exception as error:
-            self._session.input_ended(not _is_clean(error))
+            self._transport.input_ended(not _is_clean(error))
         else:
-            self._session.input_ended(False)
+            self._transport.input_ended(False)
 
     def write(self) -> None:
         if self._is_broken:
             return
-        text = self._session.take(_ANY)
+        text = self._transport.take(_ANY)
         while text:
             self._texts.append(text)
             self._waiting += len(text)
-            text = self._session.take(_ANY)
+            text = self._transport.take(_ANY)
         if self._texts and self._writing is None:
-            self._writing = self._session.loop.create_task(self._write())
+            self._writing = self._transport.loop.create_task(self._write())
 
     async def _write(self) -> None:
         try:
@@ -91,10 +91,10 @@ class Messages(Channel):
             self._is_broken = True
             self._texts.clear()
             self._sent.set()
-            self._session.broke()
+            self._transport.broke()
         finally:
             self._writing = None
-        self._session.was_written()
+        self._transport.was_written()
 
     @property
     def is_idle(self) -> bool:

@@ -6,11 +6,12 @@ import os
 import shlex
 from typing import Any, List, Mapping, NoReturn, Optional, Sequence, Union
 
-from ._channels import Channel, Streams
+from ._channels import Channel
 from ._json import DIGITS
-from ._peer import BY_FRAMING, CancelBy, Framing, OnBroken, Peer
+from ._peer import BY_FRAMING, CancelBy, Errors, Framing, OnBroken, Peer
 from ._process import ServerProcess, StandardError, check_standard_error
 from ._protocols import ProtocolName
+from ._streams import Streams
 from ._trace import Trace
 from .connection import Order
 
@@ -69,6 +70,7 @@ class Client(Peer):
         open: Optional[int] = None,
         trace: Optional[Trace] = None,
         on_broken: Optional[OnBroken] = None,
+        errors: Optional[Errors] = None,
         **unknown: NoReturn,
     ) -> None:
         """Make a client of the server that a command starts; the other settings are those of a server.
@@ -92,6 +94,7 @@ class Client(Peer):
             open=open,
             trace=trace,
             on_broken=on_broken,
+            errors=errors,
             **unknown,
         )
         check_standard_error(stderr)
@@ -139,12 +142,12 @@ class Client(Peer):
         self._check_that_it_is_new()
         self.attach(Streams(reader, writer, pauses=False))
 
-    def attach(self, channel: Channel) -> None:
-        """Use a channel that leads to a server."""
+    def attach(self, channel: Channel, **other: Any) -> None:
+        """Use a channel that leads to a server; `other` settings take the place of the client's."""
         self._check_that_it_is_new()
-        session = self._session_over(channel)
+        session = self._session_over(channel, **other)
         session.watch.process = self._process
-        session.begin()
+        session._transport.begin()
         self._serving = asyncio.ensure_future(self._serve(session))
 
     def _check_that_it_is_new(self) -> None:
@@ -170,7 +173,7 @@ class Client(Peer):
         """
         if self._serving is not None:
             for session in list(self._sessions):
-                session.finish()
+                session._transport.finish()
             await self._wait_for_input()
         if self._process is None:
             return None

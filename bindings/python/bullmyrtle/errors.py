@@ -1,7 +1,10 @@
 """The exceptions of the package."""
 from __future__ import annotations
 
-from typing import Any, Dict, Optional, Type
+from ._hints import TYPE_CHECKING
+
+if TYPE_CHECKING:
+    from typing import Any, Optional
 
 PARSE_ERROR = -32700
 INVALID_REQUEST = -32600
@@ -47,8 +50,12 @@ class Unanswered(Exception):
     """The input is over, so this call gets no reply any more."""
 
 
+class TimedOut(TimeoutError):
+    """An outgoing request had no response within its `timeout`, and the other side is told that it isn't wanted any more."""
+
+
 class LibraryError(ImportError):
-    """The shared library isn't there, or isn't the one that this package is for."""
+    """The extension isn't there, or isn't the one that this package is for."""
 
 
 class Refused(Exception):
@@ -112,18 +119,3 @@ class Full(Refused):
     """A connection can make no more calls than 2^53 - 1."""
 
     reason = "no more calls can be made"
-
-
-# The codes of the C interface.
-NO_MEMORY, NOT_OPEN, NOT_WAITING, OVER, NOT_JSON, NOT_TEXT, SMALL, SETTINGS, EMPTY, FULL = range(1, 11)
-REFUSALS: Dict[int, Type[Refused]] = {
-    NO_MEMORY: NoMemory,
-    NOT_OPEN: NotOpen,
-    NOT_WAITING: NotWaiting,
-    OVER: InputOver,
-    NOT_JSON: NotJson,
-    NOT_TEXT: NotText,
-    SETTINGS: BadSettings,
-    EMPTY: Empty,
-    FULL: Full,
-}

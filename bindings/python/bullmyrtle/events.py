@@ -1,7 +1,28 @@
 """What a connection tells. Params, ids, results and data are compact JSON in UTF-8, or None where there are none."""
 from __future__ import annotations
 
-from typing import NamedTuple, Optional, Union
+from ._hints import TYPE_CHECKING, NamedTuple
+
+if TYPE_CHECKING:
+    from typing import Optional, Union
+
+# By the flags of the library's BM_BROKEN.
+DEFECTS = ["Unreadable", "Invalid"]
+# By the flags of its BM_INPUT_OVER.
+HOWS = [
+    "Clean",
+    "BadHead",
+    "BadLength",
+    "TwoLengths",
+    "TooLarge",
+    "NoLength",
+    "HeadTooLong",
+    "Truncated",
+    "Read",
+    "Full",
+]
+# How the extension makes the tuples below.
+make = tuple.__new__
 
 
 class Call(NamedTuple):
@@ -24,14 +45,14 @@ class Cancelled(NamedTuple):
 
 
 class Replied(NamedTuple):
-    """The result of a call of ours."""
+    """The result of an outgoing request."""
 
     key: int
     result: bytes
 
 
 class Failed(NamedTuple):
-    """The reply to a call of ours is an error."""
+    """The response to an outgoing request is an error."""
 
     key: int
     code: int
@@ -40,7 +61,7 @@ class Failed(NamedTuple):
 
 
 class Unanswered(NamedTuple):
-    """The input is over, and this call of ours has no reply."""
+    """The input is over, and this outgoing request has no response."""
 
     key: int
 
@@ -80,4 +101,7 @@ class Over(NamedTuple):
     how: str
 
 
-Event = Union[Call, Cancelled, Replied, Failed, Unanswered, Broken, Over]
+if TYPE_CHECKING:
+    Event = Union[Call, Cancelled, Replied, Failed, Unanswered, Broken, Over]
+else:
+    Event = tuple

@@ -1,18 +1,25 @@
 """A server: methods that answer what comes over the standard streams, or over others."""
 from __future__ import annotations
 
-import asyncio
 import contextlib
 import os
-import threading
-from typing import Iterator, Optional, Tuple
+import sys
+from _thread import allocate_lock
 
-from . import _loop, _stdio
-from ._channels import Channel, Descriptors, Streams
+from . import _channels, _stdio
+from ._blocking import Blocking, driven, is_needed
+from ._hints import TYPE_CHECKING
 from ._peer import Peer
-from ._websocket import Messages, WebSocket
 
-_running = threading.Lock()
+if TYPE_CHECKING:
+    import asyncio
+    from typing import Any, Iterator, Optional, Tuple
+
+    from ._channels import Channel
+    from ._session import Session
+    from ._websocket import WebSocket
+
+_running = allocate_lock()
 
 
 @contextlib.contextmanager
@@ -28,6 +35,9 @@ def _standard_streams() -> Iterator[Tuple[Optional[int], Optional[int]]]:
 
 
 def _check_that_no_loop_runs() -> None:
+    asyncio: Any = sys.modules.get("asyncio")
+    if asyncio is None:
+        return
     try:
         asyncio.get_running_loop()
     except RuntimeError:
@@ -37,6 +47,13 @@ def _check_that_no_loop_runs() -> None:
         "Write `await server.serve_stdio()` for the standard streams, `await server.serve_async(reader, writer)` "
         "for others, or `await server.serve_websocket(ws)`"
     )
+
+
+def _close(loop: asyncio.AbstractEventLoop) -> None:
+    import asyncio
+
+    asyncio.set_event_loop(None)
+    loop.close()
 
 
 class Server(Peer):
@@ -56,18 +73,30 @@ class Server(Peer):
         An end is clean where the input was closed between two messages, each request was answered by its method in
         time, and all answers were written; after `stop` the status is what that said.
 
-        Meanwhile nothing else in the process has the standard input and output: whoever prints, writes to the standard
+        Meanwhile nothing else in the process has the standard input and output: anyone who prints, writes to the standard
         error. Ctrl-C ends it with the status 1.
+
+        An event loop runs as soon as something needs one, as an `async def`; where `loop=True` was set, or the program
+        has imported asyncio, it does from the start.
         """
         _check_that_no_loop_runs()
         with _standard_streams() as (source, sink):
             return self._run(source, sink)
 
     def _run(self, source: Optional[int], sink: Optional[int]) -> int:
-        loop = _loop.new()
+        turns = Blocking()
         try:
-            asyncio.set_event_loop(loop)
-            return loop.run_until_complete(self._serve_descriptors(source, sink))
+            if self._has_loop or is_needed():
+                turns.event_loop()
+            session = self._session_on(source, sink, turns.loop or turns)
+            if turns.loop is None:
+                session._transport.begin()
+                turns.run(lambda: session._transport.is_over)
+                if turns.loop is None and session.has_nothing_left():
+                    status: int = driven(self._serve(session))
+                    return status
+                session._transport.go_over()
+            return self._run_in_loop(turns.event_loop(), session)
         except KeyboardInterrupt:
             self._because("Interrupted")
             return 1
@@ -76,26 +105,40 @@ class Server(Peer):
             raise
         finally:
             with contextlib.suppress(KeyboardInterrupt):
-                self._end(loop)
-            asyncio.set_event_loop(None)
-            loop.close()
+                self._end(turns.loop)
+            if turns.loop is not None:
+                _close(turns.loop)
+            turns.close()
 
-    async def _serve_descriptors(self, source: Optional[int], sink: Optional[int]) -> int:
+    def _run_in_loop(self, loop: asyncio.AbstractEventLoop, session: Session) -> int:
+        import asyncio
+
+        asyncio.set_event_loop(loop)
+        return loop.run_until_complete(self._serve(session))
+
+    def _session_on(self, source: Optional[int], sink: Optional[int], turns: Any = None) -> Session:
         # (the channel closes its own)
         own_source, own_sink = (None if it is None else os.dup(it) for it in (source, sink))
-        session = self._session_over(Descriptors(own_source, own_sink))
+        session = self._session_over(_channels.over(own_source, own_sink), turns)
         if source is None or sink is None:
             session.watch.because("NoStreams")
-        return await self._serve(session)
+        return session
 
     def _because(self, how: str) -> None:
         for session in self._sessions:
             session.watch.because(how)
 
-    def _end(self, loop: asyncio.AbstractEventLoop) -> None:
+    def _end(self, loop: Optional[asyncio.AbstractEventLoop]) -> None:
         """Ends what an interrupt left behind."""
         for session in list(self._sessions):
-            loop.run_until_complete(session.abort())
+            if loop is None:
+                driven(session.abort())
+            else:
+                loop.run_until_complete(session.abort())
+        if loop is None:
+            return
+        import asyncio
+
         tasks = asyncio.all_tasks(loop)
         for it in tasks:
             it.cancel()
@@ -106,16 +149,18 @@ class Server(Peer):
     async def serve_stdio(self) -> int:
         """Do in a loop that runs already what `run` does in its own: answer on the standard streams.
 
-        It ends as `run` does; Ctrl-C is up to whoever runs the loop.
+        It ends as `run` does; Ctrl-C is up to the program that runs the loop.
         """
         with _standard_streams() as (source, sink):
-            return await self._serve_descriptors(source, sink)
+            return await self._serve(self._session_on(source, sink))
 
     async def serve_async(self, reader: asyncio.StreamReader, writer: asyncio.StreamWriter) -> int:
         """Answer over a reader and a writer until the input is over, close the writer, and give the status.
 
         It may run several times at once, as for `asyncio.start_server(server.serve_async, ..)`.
         """
+        from ._streams import Streams
+
         return await self.serve_over(Streams(reader, writer))
 
     async def serve_websocket(self, socket: WebSocket) -> int:
@@ -124,6 +169,8 @@ class Server(Peer):
         `await socket.recv()` gives one message as a str or bytes, and `await socket.send(text)` sends one, as in the
         library `websockets`. The socket isn't closed here.
         """
+        from ._websocket import Messages
+
         return await self._serve(self._session_over(Messages(socket), framing="contents"))
 
     async def serve_over(self, channel: Channel) -> int:

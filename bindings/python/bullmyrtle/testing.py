@@ -3,13 +3,14 @@ from __future__ import annotations
 
 from typing import AsyncContextManager, Optional
 
-from ._channels import Memory
+from ._streams import Memory
 from .client import Client
 from .connection import Connection
+from .examine._tested import Wrong, examined
 from .judge._tested import Broke, joined_by, judged
 from .server import Server
 
-__all__ = ["Broke", "carry", "joined", "judged"]
+__all__ = ["Broke", "Wrong", "carry", "examined", "joined", "judged"]
 
 
 def joined(server: Server, client: Optional[Client] = None) -> AsyncContextManager[Client]:

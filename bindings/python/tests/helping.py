@@ -1,12 +1,17 @@
-"""What the tests have in common. BULLMYRTLE_TEST_OVER says what they run over: "library" or "standin"."""
+"""What the tests have in common."""
 import asyncio
 import contextlib
-import ctypes
+import faulthandler
+import functools
 import json
 import logging
 import os
+import re
+import signal
+import socket
 import subprocess
 import sys
+import tempfile
 import unittest
 
 HERE = os.path.dirname(os.path.abspath(__file__))
@@ -15,28 +20,9 @@ TOP = os.path.dirname(os.path.dirname(PACKAGE))
 if os.environ.get("BULLMYRTLE_TEST_INSTALLED") is None:
     sys.path.insert(0, PACKAGE)
 
-from bullmyrtle import LibraryError, _library  # noqa: E402
+from bullmyrtle import _library  # noqa: E402
 from bullmyrtle.testing import joined  # noqa: E402
 
-
-def found():
-    try:
-        return _library.find()
-    except LibraryError:
-        return None
-
-
-OVER = os.environ.get("BULLMYRTLE_TEST_OVER") or ("library" if found() else "standin")
-if OVER == "standin":
-    import standin
-
-    standin.install()
-
-#: Whether the library has bm_open, with MCP's cancels, broken input told, and where a fault lies.
-HAS_OPEN = _library.has_open()
-needs_open = unittest.skipUnless(
-    HAS_OPEN, "the library has no bm_open: no MCP's cancels, no broken input told"
-)
 
 #: What holds a bound on time. Where BULLMYRTLE_TEST_CLOCK is "no" it is left out, since whatever else the machine does
 #: adds to it: checks/test_python_clock.py runs it while nothing else runs.
@@ -45,56 +31,93 @@ by_the_clock = unittest.skipIf(
 )
 
 
-def use_library_of(case, folder, *words):
-    """Builds a library in C from these words of the compiler, and uses it for this test: gives it."""
-    file = os.path.join(folder, _library.FILE)
-    how = ["cc", "-std=c99", "-Wall", "-Wextra", "-pedantic", "-Werror", "-shared", "-fPIC"]
-    subprocess.run([*how, f"-I{os.path.join(TOP, 'include')}", "-o", file, *words], check=True)
-    case.addCleanup(_library.use, _library.library())
-    library = ctypes.PyDLL(file)
-    _library.declare(library)
-    _library.use(library)
-    return library
+def extension_of(folder, *sources):
+    """The extension with these sources in C in the library's place, compiled by the system's compiler, and loaded: it is
+    there beside the package's own."""
+    file, code = os.path.join(folder, _library.FILE), os.path.join(PACKAGE, "extension", "extension.c")
+    how = ["cc", "-std=gnu11", "-Wall", "-Wextra", "-Werror", "-shared", "-fPIC"]
+    subprocess.run([*how, f"-I{os.path.join(TOP, 'include')}", "-o", file, code, *sources], check=True)
+    return _library.load(file)
 
 
-class Older:
-    """The library as it was before bm_open."""
+def made_over(kind, base):
+    """A class of the package's over another extension's type than its own."""
+    return type(
+        kind.__name__, (base,), {key: it for key, it in vars(kind).items() if key not in OF_THE_CLASS}
+    )
 
-    def __init__(self, library):
-        self._library = library
 
-    def bm_has(self, addition):
-        return addition == _library.TOGETHER
+OF_THE_CLASS = ("__dict__", "__weakref__")
+# How many of a thing to try.
+MANY = 10_000
+# So many times longer than usual all takes: on a processor that is worked out in software.
+TIMES_SLOWER = int(os.environ.get("TIMES_SLOWER", "1"))
 
-    def __getattr__(self, name):
-        return getattr(self._library, name)
+
+def patience(usual):
+    """How many seconds something may take before it counts as wrong, of those that it may on the machine itself."""
+    return usual * TIMES_SLOWER
+
+
+SECONDS = patience(120)
+
+
+#: How many seconds a test may take, where that is said: more than any takes, and less than its file may.
+LONGEST = float(os.environ.get("BULLMYRTLE_TEST_SECONDS", "0"))
+
+
+class NoEnd(BaseException):
+    """A test waits for what doesn't come. (No test and nothing in the package catches it.)"""
 
 
 @contextlib.contextmanager
-def over_an_older_library():
-    before = _library.library()
-    _library.use(Older(before))
+def in_time(seconds=LONGEST):
+    """Ends what has no end in time, and shows where it stands: a test that waits for ever says for what."""
+    if not seconds or not hasattr(signal, "setitimer"):
+        yield
+        return
+
+    def late(*_):
+        with contextlib.suppress(RuntimeError):  # (where no loop runs)
+            for it in asyncio.all_tasks():
+                it.print_stack(file=sys.stderr)
+        faulthandler.dump_traceback()
+        raise NoEnd(f"no end after {seconds:g} seconds: what is waited for is where this was raised")
+
+    before = signal.signal(signal.SIGALRM, late)
+    signal.setitimer(signal.ITIMER_REAL, seconds, 30)  # (again where what is done at its end waits too)
     try:
         yield
     finally:
-        _library.use(before)
+        signal.setitimer(signal.ITIMER_REAL, 0)
+        signal.signal(signal.SIGALRM, before)
 
 
-# How many of a thing to try: the model isn't made for thousands.
-MANY = 10_000 if OVER == "library" else 1_000
-SECONDS = 30
+@contextlib.contextmanager
+def a_port():
+    """A port of 127.0.0.1 for a server that is told of it: nobody else is given it meanwhile, and who listens on it may
+    take it all the same, as asyncio's servers and socket.create_server do."""
+    with socket.socket() as kept:
+        kept.setsockopt(socket.SOL_SOCKET, socket.SO_REUSEADDR, 1)
+        kept.bind(("127.0.0.1", 0))
+        yield kept.getsockname()[1]
 
 
 def command(script, *words):
-    """The command that runs a script in a process of its own, over what the tests run over."""
-    runner = [os.path.join(HERE, "over_standin.py")] if OVER == "standin" else []
-    return [sys.executable, *runner, script, *words]
+    """The command that runs a script in a process of its own."""
+    return [sys.executable, script, *words]
 
 
 def environment(**more):
     paths = [PACKAGE, *filter(None, [os.environ.get("PYTHONPATH")])]
     kept = {name: it for name, it in os.environ.items() if name != "PYTHONUNBUFFERED"}
     return {**kept, "PYTHONPATH": os.pathsep.join(paths), **more}
+
+
+def ran(words, given=None, **more):
+    """Runs a command with this input, and gives its status and what it wrote."""
+    how = {"stdout": subprocess.PIPE, "stderr": subprocess.PIPE, "timeout": SECONDS, "check": False, **more}
+    return subprocess.run(words, input=given, **{"env": environment(), **how})
 
 
 def frame(value):
@@ -158,12 +181,57 @@ def logged():
         log.propagate = before
 
 
+def rows(table):
+    """Makes a test of each row of a table: the row's columns are the method's arguments, and the first one names the test
+    where it is a text, otherwise the row's index does."""
+
+    def of(test):
+        test.rows = list(table.items() if isinstance(table, dict) else table)
+        return test
+
+    return of
+
+
+def row_name(row, index):
+    first = row[0] if type(row) is tuple else row
+    words = re.sub(r"[^a-zA-Z0-9]+", "_", first).strip("_") if isinstance(first, str) else ""
+    return words[:60] or str(index)
+
+
+def runnable(test, row=()):
+    """A test method without arguments."""
+
+    @functools.wraps(test)
+    def run(self):
+        done = test(self, *(row if type(row) is tuple else (row,)))
+        if asyncio.iscoroutine(done):
+            self.wait(done)
+
+    return run
+
+
 class Case(unittest.TestCase):
-    """A test whose coroutines have a limited time."""
+    """A test case whose methods may be coroutines, which have a limited time, and may have `rows`."""
 
     maxDiff = 4000
 
-    def wait(self, coroutine, seconds=SECONDS):
+    def __init_subclass__(cls):
+        super().__init_subclass__()
+        for name, test in [it for it in vars(cls).items() if it[0].startswith("test")]:
+            if not hasattr(test, "rows"):
+                setattr(cls, name, runnable(test))
+                continue
+            delattr(cls, name)
+            for index, row in enumerate(test.rows):
+                one = f"{name}_{row_name(row, index)}"
+                setattr(cls, f"{one}_{index}" if hasattr(cls, one) else one, runnable(test, row))
+
+    def run(self, result=None):
+        with in_time():
+            return super().run(result)
+
+    def wait(self, coroutine, seconds=3 * SECONDS):
+        """(longer than anything in it is waited for)"""
         return asyncio.run(asyncio.wait_for(coroutine, seconds))
 
     async def until(self, is_reached, seconds=SECONDS):
@@ -173,22 +241,48 @@ class Case(unittest.TestCase):
             await asyncio.sleep(0.001)
 
 
+class InAFolder(Case):
+    """A test case with a folder of its own."""
+
+    def setUp(self):
+        room = tempfile.TemporaryDirectory()
+        self.addCleanup(room.cleanup)
+        self.room = room.name
+
+    def file(self, name, data=None):
+        """The place of a file in it, which is written where there is data."""
+        place = os.path.join(self.room, name)
+        if data is not None:
+            with open(place, "wb") as it:
+                it.write(data.encode() if isinstance(data, str) else data)
+        return place
+
+    def data(self, name):
+        with open(self.file(name), "rb") as it:
+            return it.read()
+
+    def text(self, name):
+        return self.data(name).decode()
+
+
 __all__ = [
-    "HAS_OPEN",
     "HERE",
     "MANY",
-    "OVER",
     "PACKAGE",
     "TOP",
     "Case",
+    "InAFolder",
+    "a_port",
     "command",
     "environment",
+    "extension_of",
     "frame",
     "joined",
     "logged",
+    "made_over",
     "messages",
-    "needs_open",
     "notice",
-    "over_an_older_library",
+    "ran",
     "request",
+    "rows",
 ]

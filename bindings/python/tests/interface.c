@@ -1,12 +1,13 @@
-/* The calls of the library, made so that they write down what they are given: for a test of what the package passes.
- * It is compiled with include/bullmyrtle.h, and test_interface.py reads what is written, by bm_take. With OPEN, which
- * it is compiled with where the header has bm_open, it has that too; with JUDGE, those of interface_judge.c. */
+/* The library's calls of a connection, made so that they write down what they are given: for a test of what the
+ * extension passes. It is linked with that in the library's place, and test_interface.py reads what is written, by
+ * bm_take. */
 #include "bullmyrtle.h"
 
 #include <stdarg.h>
 #include <stdio.h>
 #include <stdlib.h>
 #include <string.h>
+#include <unistd.h>
 
 typedef struct {
     char said[4096];
@@ -32,11 +33,6 @@ static int last(const uint8_t *bytes, size_t length)
 
 #define U(it) ((unsigned long long)(it))
 
-uint32_t bm_interface(void)
-{
-    return BM_INTERFACE;
-}
-
 static int32_t make(void **at, uint32_t done)
 {
     made *it = calloc(1, sizeof *it);
@@ -48,28 +44,6 @@ static int32_t make(void **at, uint32_t done)
     return BM_OK;
 }
 
-static void say_sizes(bm_connection *connection)
-{
-    say(connection, "sizes %zu %zu %zu %zu\n", sizeof(bm_settings), sizeof(bm_connection), sizeof(bm_event),
-        sizeof(bm_report));
-    say(connection, "event %zu %zu %zu %zu %zu %zu %zu %zu\n", offsetof(bm_event, kind), offsetof(bm_event, flags),
-        offsetof(bm_event, number), offsetof(bm_event, key), offsetof(bm_event, code), offsetof(bm_event, name_len),
-        offsetof(bm_event, text_len), offsetof(bm_event, id_len));
-}
-
-int32_t bm_new(const bm_settings *settings, void **at)
-{
-    int32_t code = make(at, settings->takes_cancels);
-    if (code == BM_OK) {
-        bm_connection connection = {*at};
-        say(&connection, "new %u %u %u %u %llu\n", settings->framing, settings->order, settings->takes_cancels,
-            settings->content, U(settings->calls));
-        say_sizes(&connection);
-    }
-    return code;
-}
-
-#ifdef OPEN
 int32_t bm_open(const bm_options *options, void **at)
 {
     int32_t code = make(at, options->cancels);
@@ -78,7 +52,6 @@ int32_t bm_open(const bm_options *options, void **at)
         say(&connection, "open %u %u %u %u %u %u %llu %u %u\n", options->size == sizeof *options, options->framing,
             options->order, options->cancels, options->broken, options->content, U(options->calls), options->entries,
             options->null_params);
-        say_sizes(&connection);
     }
     return code;
 }
@@ -89,15 +62,25 @@ bool bm_fault_at(bm_connection *connection, uint64_t *offset)
     *offset = UINT64_MAX;
     return ((made *)connection->at)->done;
 }
-#endif
 
 void bm_free(bm_connection connection)
 {
     free(connection.at);
 }
 
+/* What is fed as "wait N" waits until there is a byte in this descriptor. */
+static void wait_for(const uint8_t *bytes, size_t length)
+{
+    char words[16] = "", byte;
+    int descriptor;
+    memcpy(words, bytes, length < sizeof words ? length : sizeof words - 1);
+    if (sscanf(words, "wait %d", &descriptor) == 1 && read(descriptor, &byte, 1) != 1)
+        abort();
+}
+
 int32_t bm_feed(bm_connection *connection, const uint8_t *bytes, size_t length)
 {
+    wait_for(bytes, length);
     say(connection, "feed %zu %d\n", length, last(bytes, length));
     ((made *)connection->at)->events++;
     return BM_OK;
@@ -124,22 +107,14 @@ static int tell(bm_connection *connection, bm_event *event, uint8_t *room, size_
     return 1;
 }
 
-int32_t bm_next(bm_connection *connection, bm_event *event, uint8_t *room, size_t length)
-{
-    if (((made *)connection->at)->events == 0) {
-        memset(event, 0, sizeof *event);
-        return BM_OK;
-    }
-    return tell(connection, event, room, length) ? BM_OK : BM_SMALL;
-}
-
 void bm_tell(bm_connection *connection, uint8_t *room, size_t length, uint32_t most, bm_told *told)
 {
     memset(told, 0, sizeof *told);
-    if (most) {
-        abort(); /* (the package asks for as many as there are) */
-    }
     while (((made *)connection->at)->events) {
+        if (most && told->count == most) {
+            told->stopped = BM_STOP_MOST;
+            return;
+        }
         size_t at = (told->used + 7) / 8 * 8;
         if ((uintptr_t)room % 8 || length < at + sizeof(bm_event) + sizeof TEXTS) {
             told->stopped = BM_STOP_ROOM, told->needed = sizeof(bm_event) + sizeof TEXTS;
@@ -159,45 +134,6 @@ int32_t bm_fed(bm_connection *connection, const uint8_t *bytes, size_t length, u
     bm_feed(connection, bytes, length);
     bm_tell(connection, room, room_length, most, told);
     return BM_OK;
-}
-
-bool bm_has(uint32_t addition)
-{
-#ifdef JUDGE
-    if (addition == BM_HAS_JUDGE)
-        return true;
-#endif
-#ifdef OPEN
-    return addition == BM_HAS_TOGETHER || addition == BM_HAS_OPEN;
-#else
-    return addition == BM_HAS_TOGETHER;
-#endif
-}
-
-/* What the package doesn't call. */
-int32_t bm_next_all(bm_connection *connection, uint8_t *room, size_t length, size_t *used, uint32_t *count)
-{
-    (void)connection, (void)room, (void)length, (void)used, (void)count;
-    abort();
-}
-
-int32_t bm_say_all(bm_connection *connection, bm_saying *sayings, size_t count, const uint8_t *bytes, size_t length,
-                   uint8_t *room, size_t room_length, bm_said *said)
-{
-    (void)connection, (void)sayings, (void)count, (void)bytes, (void)length, (void)room, (void)room_length, (void)said;
-    abort();
-}
-
-int32_t bm_close_call(bm_connection *connection, uint64_t number)
-{
-    (void)connection, (void)number;
-    abort();
-}
-
-int32_t bm_taken(bm_connection *connection, uint8_t *room, size_t length, size_t *count)
-{
-    (void)connection, (void)room, (void)length, (void)count;
-    abort();
 }
 
 int32_t bm_call(bm_connection *connection, uint64_t number, const uint8_t *method, size_t method_length,

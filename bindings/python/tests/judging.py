@@ -1,32 +1,12 @@
-"""What the tests of the judge have in common. Where the library has no judge, they run over the plain model of it."""
+"""What the tests of the judge have in common."""
 import os
 import re
 import sys
 
-import helping
-from helping import HERE, OVER, environment
+from helping import HERE, Case, environment
 
-from bullmyrtle import _library
-from bullmyrtle.judge import _tested
-
-#: Whether the library has the judge.
-HAS_JUDGE = OVER == "library" and _library.library().bm_has(_library.JUDGE)
-if not HAS_JUDGE and OVER == "library":
-    import standin
-
-    standin.install_judge()
-
-OVER_STANDIN = [sys.executable, os.path.join(HERE, "over_standin_judge.py")]
 #: The command.
-COMMAND = [sys.executable, "-m", "bullmyrtle.judge"] if HAS_JUDGE else OVER_STANDIN
-if not HAS_JUDGE:
-    _tested._runner = lambda: OVER_STANDIN
-
-
-class Case(helping.Case):
-    """A test over a library that has the judge, or over the plain model of it."""
-
-
+COMMAND = [sys.executable, "-m", "bullmyrtle.judge"]
 FOUND = re.compile(r"! (client|server) ([\w-]+) (must|should|note)(?: (client|server))? (\d+)(?:\.(\d+))?")
 
 
@@ -55,4 +35,4 @@ def rows_of(file):
     return rows
 
 
-__all__ = ["COMMAND", "FOUND", "HAS_JUDGE", "Case", "environment", "found_of", "rows_of"]
+__all__ = ["COMMAND", "FOUND", "Case", "environment", "found_of", "rows_of"]

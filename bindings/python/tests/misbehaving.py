@@ -214,7 +214,7 @@ def rows():
 
 
 def a_server(**settings):
-    server = Server(framing="lines", grace=1, **settings)
+    server = Server(framing="lines", grace=1, errors="full", **settings)
     for name, (function, thread, *_) in rows().items():
         server.method(name, thread=thread)(function)
     server.method("ping")(lambda params: params)

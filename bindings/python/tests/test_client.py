@@ -1,13 +1,12 @@
 """Clients: processes that they start, and readers and writers."""
 import asyncio
+import contextlib
 import os
 import sys
-import tempfile
 import textwrap
 import threading
-import unittest
 
-from helping import Case, command, environment, joined, logged
+from helping import SECONDS, Case, InAFolder, command, environment, joined, logged
 
 from bullmyrtle import Client, Closed, Error, Server, Unanswered
 
@@ -34,56 +33,45 @@ def deaf(params):
 """
 
 
-class Processes(Case):
-    def setUp(self):
-        room = tempfile.TemporaryDirectory()
-        self.addCleanup(room.cleanup)
-        self.file = os.path.join(room.name, "server.py")
-
-    def client(self, tail="sys.exit(server.run())", **more):
-        with open(self.file, "w", encoding="utf-8") as it:
-            it.write(SCRIPT + textwrap.dedent(tail))
-        client = Client(command(self.file), env=environment(), **more)
+class Processes(InAFolder):
+    def client(self, tail="sys.exit(server.run())", grace=SECONDS, **more):
+        """(with so long a grace that a process which ends late on a busy machine isn't ended)"""
+        file = self.file("server.py", SCRIPT + textwrap.dedent(tail))
+        client = Client(command(file), env=environment(), grace=grace, **more)
         client.method("name")(lambda params: "client")
         return client
 
-    def test_a_session(self):
-        async def main():
-            before = len(os.listdir("/proc/self/fd"))
-            async with self.client() as client:
-                self.assertIsInstance(client.pid, int)
-                self.assertEqual(await client.call("echo", [1]), [1])
-                self.assertEqual(await client.call("ask"), "client")
-                large = "x" * 1_000_000
-                self.assertEqual(
-                    await asyncio.gather(*(client.call("echo", [large]) for _ in range(3))), [[large]] * 3
-                )
-                self.assertEqual(await client.close(), 0)
-                with self.assertRaises(Closed):
-                    client.call("echo")
-            self.assertEqual(len(os.listdir("/proc/self/fd")), before)
+    async def test_a_session(self):
+        before = len(os.listdir("/proc/self/fd"))
+        async with self.client() as client:
+            self.assertIsInstance(client.pid, int)
+            self.assertEqual(await client.call("echo", [1]), [1])
+            self.assertEqual(await client.call("ask"), "client")
+            large = "x" * 1_000_000
+            self.assertEqual(
+                await asyncio.gather(*(client.call("echo", [large]) for _ in range(3))), [[large]] * 3
+            )
+            self.assertEqual(await client.close(), 0)
+            with self.assertRaises(Closed):
+                client.call("echo")
+        # (a thread that waits for a stream closes it itself, a moment later)
+        with contextlib.suppress(AssertionError):
+            await self.until(lambda: len(os.listdir("/proc/self/fd")) == before, 20)
+        self.assertEqual(len(os.listdir("/proc/self/fd")), before)
 
-        self.wait(main())
+    async def test_statuses(self):
+        client = self.client()
+        async with client:
+            client.notify("exit", [5])
+        self.assertEqual(await client.close(), 5)
 
-    def test_statuses(self):
-        async def main():
-            client = self.client()
-            async with client:
-                client.notify("exit", [5])
-            self.assertEqual(await client.close(), 5)
-
-        self.wait(main())
-
-    def test_one_that_dies(self):
-        async def main():
+    async def test_one_that_dies(self):
+        with logged():
             client = self.client()
             async with client:
                 with self.assertRaises(Unanswered):
                     await client.call("die")
             self.assertEqual(await client.close(), -9)
-
-        with logged():
-            self.wait(main())
 
     def test_one_that_doesnt_end(self):
         async def main(tail, status):
@@ -98,73 +86,64 @@ class Processes(Case):
             self.wait(main("server.run()\ntime.sleep(20)", -15))
             self.wait(main("server.run() # deaf\ntime.sleep(20)", -9))
 
-    def test_one_that_isnt_there(self):
-        async def main():
-            with self.assertRaises(FileNotFoundError):
-                async with Client(["/nowhere/server"]):
-                    pass
-            with self.assertRaises(ValueError):
-                Client().start()
+    async def test_one_that_isnt_there(self):
+        with self.assertRaises(FileNotFoundError):
+            async with Client(["/nowhere/server"]):
+                pass
+        with self.assertRaises(ValueError):
+            Client().start()
 
-        self.wait(main())
-
-    def test_one_that_is_no_server(self):
-        async def main():
+    async def test_one_that_is_no_server(self):
+        with logged():
             client = Client([sys.executable, "-c", "print('hello')"])
             async with client:
                 with self.assertRaises((Unanswered, Closed)):
                     await client.call("x")
 
-        with logged():
-            self.wait(main())
-
 
 class Streams(Case):
-    def test_a_server_of_many(self):
-        async def main():
-            server = Server()
-            server.method("echo")(lambda params: params)
+    async def test_a_server_of_many(self):
+        server = Server()
+        server.method("echo")(lambda params: params)
 
-            @server.method("back")
-            async def back(params, request):
-                return await request.call("name")
+        @server.method("back")
+        async def back(params, request):
+            return await request.call("name")
 
-            @server.method("own")
-            def own(params):
-                server.notify("x")
+        @server.method("own")
+        def own(params):
+            server.notify("x")
 
-            statuses = []
+        statuses = []
 
-            async def serve(reader, writer):
-                statuses.append(await server.serve_async(reader, writer))
+        async def serve(reader, writer):
+            statuses.append(await server.serve_async(reader, writer))
 
-            listening = await asyncio.start_server(serve, "127.0.0.1", 0)
-            port = listening.sockets[0].getsockname()[1]
-            clients = []
-            for number in range(3):
-                client = Client()
-                client.method("name")(lambda params, number=number: number)
-                client.connect(*await asyncio.open_connection("127.0.0.1", port))
-                clients.append(client)
-            large = "x" * 300_000
-            for number, client in enumerate(clients):
-                self.assertEqual(await client.call("back"), number)
-                self.assertEqual(await client.call("echo", [large]), [large])
-                with logged(), self.assertRaises(Error):
-                    await client.call("own")  # (it can't know to whom)
-                with self.assertRaises(RuntimeError):
-                    client.connect(None, None)
-            for client in clients:
-                self.assertIsNone(await client.close())
-            listening.close()
-            await listening.wait_closed()
-            await self.until(lambda: len(statuses) == 3)
-            self.assertEqual(statuses, [0, 0, 0])
+        listening = await asyncio.start_server(serve, "127.0.0.1", 0)
+        port = listening.sockets[0].getsockname()[1]
+        clients = []
+        for number in range(3):
+            client = Client()
+            client.method("name")(lambda params, number=number: number)
+            client.connect(*await asyncio.open_connection("127.0.0.1", port))
+            clients.append(client)
+        large = "x" * 300_000
+        for number, client in enumerate(clients):
+            self.assertEqual(await client.call("back"), number)
+            self.assertEqual(await client.call("echo", [large]), [large])
+            with logged(), self.assertRaises(Error):
+                await client.call("own")  # (it can't know to whom)
+            with self.assertRaises(RuntimeError):
+                client.connect(None, None)
+        for client in clients:
+            self.assertIsNone(await client.close())
+        listening.close()
+        await listening.wait_closed()
+        await self.until(lambda: len(statuses) == 3)
+        self.assertEqual(statuses, [0, 0, 0])
 
-        self.wait(main())
-
-    def test_one_that_resets(self):
-        async def main():
+    async def test_one_that_resets(self):
+        with logged():
             server, statuses = Server(grace=0.2), []
 
             @server.method("wait")
@@ -188,11 +167,8 @@ class Streams(Case):
             await client.close()
             listening.close()
 
-        with logged():
-            self.wait(main())
-
-    def test_cancelled_by_the_host(self):
-        async def main():
+    async def test_cancelled_by_the_host(self):
+        with logged(), self.assertRaises((KeyError, asyncio.CancelledError)):
             server = Server()
 
             @server.method("wait")
@@ -211,20 +187,10 @@ class Streams(Case):
                     await tasks[0]
                 raise KeyError("left")
 
-        with logged(), self.assertRaises((KeyError, asyncio.CancelledError)):
-            self.wait(main())
-
-    def test_no_thread_is_left(self):
-        async def main():
-            server = Server()
-            server.method("x", thread=True)(lambda params: params)
-            async with joined(server) as client:
-                await asyncio.gather(*(client.call("x") for _ in range(50)))
-
+    async def test_no_thread_is_left(self):
         before = threading.active_count()
-        self.wait(main())
+        server = Server()
+        server.method("x", thread=True)(lambda params: params)
+        async with joined(server) as client:
+            await asyncio.gather(*(client.call("x") for _ in range(50)))
         self.assertEqual(threading.active_count(), before)
-
-
-if __name__ == "__main__":
-    unittest.main()

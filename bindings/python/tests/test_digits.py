@@ -1,12 +1,11 @@
 """Whole numbers of many digits: how many there may be is a setting, whatever the interpreter's own bound is."""
 import asyncio
+import contextlib
 import json
-import subprocess
 import sys
 import time
-import unittest
 
-from helping import Case, by_the_clock, environment, joined, logged, notice
+from helping import Case, by_the_clock, environment, joined, logged, notice, patience, ran, rows
 
 from bullmyrtle import BadSettings, Client, Connection, Error, NotJson, Server, _json, events
 
@@ -20,27 +19,25 @@ def number(digits):
 
 
 class Default(Case):
-    def run_both(self, use, server=None, client=None):
-        async def main():
-            first, second = server or Server(), client or Client()
-            for it in (first, second):
-                it.method("echo")(lambda params: params)
-                it.method("type")(lambda params: type(params[0]).__name__)
-            first.method("number")(lambda params: number(params[0]))
+    @contextlib.asynccontextmanager
+    async def run_both(self, server=None, client=None):
+        first, second = server or Server(), client or Client()
+        for it in (first, second):
+            it.method("echo")(lambda params: params)
+            it.method("type")(lambda params: type(params[0]).__name__)
+        first.method("number")(lambda params: number(params[0]))
 
-            @first.method("data")
-            def data(params):
-                raise Error(1, "x", [number(params[0])])
+        @first.method("data")
+        def data(params):
+            raise Error(1, "x", [number(params[0])])
 
-            @first.method("ask")
-            async def ask(params, request):
-                return await request.call("number", params)
+        @first.method("ask")
+        async def ask(params, request):
+            return await request.call("number", params)
 
-            second.method("number")(lambda params: number(params[0]))
-            async with joined(first, second) as joint:
-                await use(first, second, joint)
-
-        self.wait(main())
+        second.method("number")(lambda params: number(params[0]))
+        async with joined(first, second) as joint:
+            yield first, second, joint
 
     async def refused(self, awaitable, code, *words):
         with self.assertRaises(Error) as caught:
@@ -49,18 +46,16 @@ class Default(Case):
         for it in words:
             self.assertIn(it, caught.exception.message)
 
-    def test_up_to_the_bound_all_goes_through_both_ways(self):
-        async def use(server, client, _):
+    async def test_up_to_the_bound_all_goes_through_both_ways(self):
+        async with self.run_both() as (_, client, _):
             for digits in (1, 19, 20, 21, 400, 640, 641, MOST - 1, MOST):
                 for it in (number(digits) if digits > 9 else 7, -number(max(digits, 9))):
                     self.assertEqual(await client.call("echo", [it, {"a": [it]}]), [it, {"a": [it]}])
             self.assertEqual(await client.call("number", [MOST]), number(MOST))
             self.assertEqual(await client.call("ask", [MOST]), number(MOST))
 
-        self.run_both(use)
-
-    def test_own_values_over_it_are_no_json(self):
-        async def use(server, client, _):
+    async def test_own_values_over_it_are_no_json(self):
+        async with self.run_both() as (_, client, _):
             for it in (number(MOST + 1), -number(MOST + 1), {"a": [10**20_000]}):
                 with self.assertRaises(NotJson):
                     client.call("echo", [it])
@@ -71,20 +66,16 @@ class Default(Case):
                 await self.refused(client.call("data", [MOST + 1]), -32603, "the error isn't JSON")
             self.assertEqual(len(log.errors), 2)
 
-        self.run_both(use)
-
-    def test_params_over_it_are_refused(self):
-        async def use(server, client, session):
+    async def test_params_over_it_are_refused(self):
+        async with self.run_both(client=Client(digits=20_000)) as (_, client, _):
             await self.refused(client.call("echo", [number(MOST + 1)]), -32602, "4,300 digits")
             await self.refused(client.call("echo", {"a": -number(MOST + 1)}), -32602, "4,300 digits")
             # (digits that are no whole number have no bound)
             self.assertEqual(await client.call("type", ["1" * 9000]), "str")
             self.assertEqual(await client.call("type", [1.5]), "float")
 
-        self.run_both(use, client=Client(digits=20_000))
-
-    def test_a_reply_over_it_raises_an_error_and_data_over_it_stay_text(self):
-        async def use(server, client, _):
+    async def test_a_reply_over_it_raises_an_error_and_data_over_it_stay_text(self):
+        async with self.run_both(server=Server(digits=20_000)) as (_, client, _):
             await self.refused(client.call("number", [MOST + 1]), -32603, "the result can't be read")
             with self.assertRaises(Error) as caught:
                 await client.call("data", [MOST + 1])
@@ -94,24 +85,19 @@ class Default(Case):
                 await client.call("data", [MOST])
             self.assertEqual(caught.exception.data, [number(MOST)])
 
-        self.run_both(use, server=Server(digits=20_000))
+    @rows([20, 700, 12_000])
+    async def test_another_bound(self, digits):
+        async with self.run_both(Server(digits=digits), Client(digits=digits)) as (_, client, _):
+            self.assertEqual(await client.call("echo", [number(digits)]), [number(digits)])
+            self.assertEqual(await client.call("ask", [digits]), number(digits))
+            with self.assertRaises(NotJson):
+                client.call("echo", [number(digits + 1)])
 
-    def test_another_bound(self):
-        for digits in (20, 700, 12_000):
-
-            async def use(server, client, _, digits=digits):
-                self.assertEqual(await client.call("echo", [number(digits)]), [number(digits)])
-                self.assertEqual(await client.call("ask", [digits]), number(digits))
-                with self.assertRaises(NotJson):
-                    client.call("echo", [number(digits + 1)])
-
-            self.run_both(use, Server(digits=digits), Client(digits=digits))
-
-    def test_bounds_that_there_are_none(self):
-        for it in (19, 0, -1, None, "20", True, 4300.0):
-            for side in (Server, Client):
-                with self.assertRaises(BadSettings):
-                    side(digits=it)
+    @rows([19, 0, -1, None, "20", True, 4300.0])
+    def test_bounds_that_there_are_none(self, it):
+        for side in (Server, Client):
+            with self.assertRaises(BadSettings):
+                side(digits=it)
 
     def test_the_lower_floor_passes_all_digits(self):
         connection = Connection("lines")
@@ -125,8 +111,8 @@ class Default(Case):
 class Streams(Case):
     """A cancel with a number that is too long is a cancel all the same, and what stands behind it is read."""
 
-    def test_over_tcp(self):
-        async def main():
+    async def test_over_tcp(self):
+        with logged():
             server = Server(framing="lines")
             server.method("echo")(lambda params: params)
 
@@ -148,7 +134,7 @@ class Streams(Case):
                 )
                 found = {}
                 while 2 not in found or (member == "x" and 1 not in found):
-                    answer = json.loads(await asyncio.wait_for(reader.readline(), 5))
+                    answer = json.loads(await asyncio.wait_for(reader.readline(), patience(5)))
                     found[answer["id"]] = answer
                 self.assertEqual(found[2]["result"], [2])
                 if member == "x":
@@ -156,9 +142,6 @@ class Streams(Case):
                 writer.close()
             await self.until(lambda: not server._sessions)
             listening.close()
-
-        with logged():
-            self.wait(main())
 
 
 class Interpreters(Case):
@@ -194,14 +177,14 @@ after = sys.get_int_max_str_digits() if hasattr(sys, "get_int_max_str_digits") e
 assert before == after
 """
 
-    def test_each_bound_of_the_interpreters(self):
-        for bound in ("0", "640", "4300", "100000"):
-            with self.subTest(bound):
-                subprocess.run(
-                    [sys.executable, "-c", self.SCRIPT],
-                    env=environment(PYTHONINTMAXSTRDIGITS=bound),
-                    check=True,
-                )
+    @rows(["0", "640", "4300", "100000"])
+    def test_each_bound_of_the_interpreters(self, bound):
+        ran(
+            [sys.executable, "-c", self.SCRIPT],
+            env=environment(PYTHONINTMAXSTRDIGITS=bound),
+            check=True,
+            stderr=None,
+        )
 
     @by_the_clock
     def test_what_it_costs_is_at_most_about_quadratic(self):
@@ -216,7 +199,3 @@ assert before == after
             times.append(min(took))
         # (four times the digits take 16 times as long where it is quadratic, and 64 times where it is cubic)
         self.assertLess(times[1], 32 * times[0])
-
-
-if __name__ == "__main__":
-    unittest.main()

@@ -5,16 +5,12 @@ import shutil
 import stat
 import subprocess
 import sys
-import tempfile
-import unittest
 
-from helping import HAS_OPEN, HERE, OVER, PACKAGE, TOP, Case, environment, frame, request
+from helping import HERE, PACKAGE, TOP, InAFolder, environment, frame, ran, request, rows
 
 PAGE = os.path.join(TOP, "docs", "python.md")
 SERVERS = os.path.join(TOP, "docs", "language_servers.md")
-# What a script has that needs a library with bm_open.
-NEEDS_OPEN = re.compile(r'on_broken=|protocol="mcp"')
-RUNNER = '#!/bin/sh\nexec "{python}" {runner} "$@"\n'
+RUNNER = '#!/bin/sh\nexec "{python}" "$@"\n'
 
 
 def blocks_of(file):
@@ -23,49 +19,36 @@ def blocks_of(file):
         return re.findall(r"^```(\w*)\n(.*?)^```$", it.read(), re.M | re.S)
 
 
-class Page(Case):
+class Blocks(InAFolder):
+    """A folder in which the blocks of a page are written and run."""
+
     def setUp(self):
-        room = tempfile.TemporaryDirectory()
-        self.addCleanup(room.cleanup)
-        self.room = room.name
-        # (python3 is this one, over what the tests run over)
-        os.mkdir(os.path.join(self.room, "bin"))
-        python = os.path.join(self.room, "bin", "python3")
-        with open(python, "w", encoding="utf-8") as it:
-            runner = f'"{HERE}/over_standin.py"' if OVER == "standin" else ""
-            it.write(RUNNER.format(python=sys.executable, runner=runner))
-        os.chmod(python, stat.S_IRWXU)
-        path = os.pathsep.join([os.path.join(self.room, "bin"), os.environ["PATH"]])
+        super().setUp()
+        # (python3 is this one)
+        os.mkdir(self.file("bin"))
+        os.chmod(self.file("bin/python3", RUNNER.format(python=sys.executable)), stat.S_IRWXU)
+        path = os.pathsep.join([self.file("bin"), os.environ["PATH"]])
         self.env = environment(PATH=path)
 
-    def write(self, name, text):
-        if OVER == "standin":
-            text = text.replace("[sys.executable, ", '["python3", ')
-        with open(os.path.join(self.room, name), "w", encoding="utf-8") as it:
-            it.write(text)
-
     def run_block(self, text):
-        how = {"cwd": self.room, "env": self.env, "stdout": subprocess.PIPE, "timeout": 60, "check": False}
-        return subprocess.run(["sh", "-c", text], **how).stdout.decode()
+        return ran(["sh", "-c", text], cwd=self.room, env=self.env).stdout.decode()
 
     def run_blocks(self, page, least):
-        ran, lacking = 0, set()
+        count = 0
         blocks = blocks_of(page)
         for (kind, text), (after, expected) in zip(blocks, [*blocks[1:], ("", "")]):
             if kind == "python":
                 name = re.match(r"# (\w+\.py)\n", text)[1]
-                self.write(name, text)
-                if NEEDS_OPEN.search(text) and not HAS_OPEN:
-                    lacking.add(name)
+                self.file(name, text)
             elif kind == "sh":
                 self.assertEqual(after, "out", text)
                 with self.subTest(text):
-                    if any(it in text for it in lacking):
-                        self.skipTest("the library has no bm_open: what the page shows with it isn't run")
                     self.assertEqual(self.run_block(text), expected)
-                ran += 1
-        self.assertGreater(ran, least)
+                count += 1
+        self.assertGreater(count, least)
 
+
+class Page(Blocks):
     def test_each_block(self):
         self.run_blocks(PAGE, 7)
 
@@ -80,9 +63,9 @@ class Page(Case):
         server = next(text for kind, text in blocks if kind == "python")
         own = [it for it in server.splitlines() if it.strip() and not it.startswith("#")]
         self.assertLessEqual(len(own), 10)
-        self.write("hover.py", server)
-        self.write("start.lua", next(text for kind, text in blocks if kind == "lua"))
-        self.write("notes.txt", "a rose is\na rose\n")
+        self.file("hover.py", server)
+        self.file("start.lua", next(text for kind, text in blocks if kind == "lua"))
+        self.file("notes.txt", "a rose is\na rose\n")
         words = [
             "nvim",
             "--headless",
@@ -91,31 +74,10 @@ class Page(Case):
             os.path.join(HERE, "editors", "neovim_page.lua"),
             "notes.txt",
         ]
-        how = {
-            "cwd": self.room,
-            "env": {**self.env, "HOME": self.room},
-            "stdin": subprocess.DEVNULL,
-            "timeout": 60,
-        }
-        ended = subprocess.run(words, capture_output=True, check=False, **how)
+        env = {**self.env, "HOME": self.room}
+        ended = ran(words, cwd=self.room, env=env, stdin=subprocess.DEVNULL)
         self.assertIn("rose: 2 times", (ended.stdout + ended.stderr).decode())
         self.assertEqual(ended.returncode, 0)
-
-    def test_the_other_one_by_hand_gives_the_same(self):
-        """The page's hover by hand, driven as the short one is."""
-        texts = {
-            re.match(r"# (\w+\.py)\n", text)[1]: text for kind, text in blocks_of(SERVERS) if kind == "python"
-        }
-        self.write("hover.py", texts["hover_by_hand.py"])
-        script = texts["editing.py"]
-        # (it keeps whole texts)
-        change = re.search(r"\[change\]", script)
-        whole = '[{"text": "a rose is\\na rose, a rose"}]'
-        self.write("editing.py", script[: change.start()] + whole + script[change.end() :])
-        self.assertEqual(
-            self.run_block("python3 editing.py"),
-            "{'name': 'words', 'version': '1.0'} True\n{'contents': 'rose: 3 times'}\nstatus 0\n",
-        )
 
     def test_how_long_the_examples_are(self):
         with open(SERVERS, encoding="utf-8") as it:
@@ -135,29 +97,45 @@ class Page(Case):
             last = name.rpartition("/")[2]
             self.assertRegex(table, rf"`(?:\w+/)*{re.escape(last)}`", name)
 
-    def test_the_command_that_installs(self):
-        for page in (PAGE, SERVERS):
-            text = next(text for kind, text in blocks_of(page) if kind == "text")
-            *words, folder = text.split()
-            self.assertEqual(words, ["pip", "install", "--no-index"])
-            self.assertEqual(os.path.normpath(os.path.join(TOP, folder)), PACKAGE)
+    @rows([PAGE, SERVERS])
+    def test_the_command_that_installs(self, page):
+        text = next(text for kind, text in blocks_of(page) if kind == "text")
+        *words, folder = text.split()
+        self.assertEqual(words, ["pip", "install", "--no-index"])
+        self.assertEqual(os.path.normpath(os.path.join(TOP, folder)), PACKAGE)
 
     def test_the_readme(self):
         ((kind, text),) = blocks_of(os.path.join(PACKAGE, "README.md"))
-        self.write("first.py", text)
-        with open(os.path.join(self.room, "given"), "wb") as it:
-            it.write(frame(request(1, "add", [1, 2])))
+        self.file("first.py", text)
+        self.file("given", frame(request(1, "add", [1, 2])))
         self.assertEqual(
             self.run_block("python3 first.py < given")[-35:], '{"id":1,"jsonrpc":"2.0","result":3}'
         )
 
-    def test_lines_are_short(self):
-        for file in (PAGE, SERVERS, os.path.join(PACKAGE, "README.md")):
-            with open(file, encoding="utf-8") as it:
-                prose = re.sub(r"^```.*?^```$", "", it.read(), flags=re.M | re.S)
-            long = [it for it in prose.splitlines() if len(it) > 120 and not it.startswith("|")]
-            self.assertEqual(long, [])
+    def test_the_map_of_the_modules(self):
+        """Each module of the package is named once, and no other."""
+        with open(PAGE, encoding="utf-8") as it:
+            table = it.read().partition("\n## The modules\n")[2]
+        named = {}
+        for names, about in re.findall(r"^\| (`.*?) \| (.*) \|$", table, re.M):
+            for name in re.findall(r"`(\w+/?)`", names):
+                of = re.findall(r"`(\w+)`", about) if name in ("lsp/", "mcp/") else None
+                self.assertNotIn(name, named)
+                named[name.rstrip("/")] = of
+        there = {}
+        for it in os.listdir(os.path.join(PACKAGE, "bullmyrtle")):
+            folder = os.path.join(PACKAGE, "bullmyrtle", it)
+            if it.endswith(".py"):
+                there[it[:-3]] = None
+            elif os.path.isfile(os.path.join(folder, "__init__.py")):
+                files = [one[:-3] for one in os.listdir(folder) if re.fullmatch(r"(?!__).*\.py", one)]
+                there[it] = sorted(files) if it in ("lsp", "mcp") else None
+        del there["__init__"]
+        self.assertEqual({name: it and sorted(it) for name, it in named.items()}, there)
 
-
-if __name__ == "__main__":
-    unittest.main()
+    @rows([PAGE, SERVERS, os.path.join(PACKAGE, "README.md")])
+    def test_lines_are_short(self, file):
+        with open(file, encoding="utf-8") as it:
+            prose = re.sub(r"^```.*?^```$", "", it.read(), flags=re.M | re.S)
+        long = [it for it in prose.splitlines() if len(it) > 120 and not it.startswith("|")]
+        self.assertEqual(long, [])

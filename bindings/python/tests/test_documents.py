@@ -3,6 +3,7 @@ import random
 import re
 import time
 import unittest
+import unittest.mock
 
 from helping import Case, by_the_clock, logged
 
@@ -188,6 +189,23 @@ class Places(Case):
         self.assertEqual(document.text_in(between((0, 1), (2, 2))), "ne\n\r\nth")
         self.assertEqual(document.text_in(between((2, 2), (0, 1))), "ne\n\r\nth")
 
+    def test_lines_are_split_once_for_each_change(self):
+        document, splits = self.document("one\ntwo\n"), []
+
+        def split(pattern, text):
+            splits.append(text)
+            return text.splitlines(True)
+
+        with unittest.mock.patch.object(re, "findall", split):
+            document.lines.append("of the user's own")
+            before = document.snapshot()
+            self.assertEqual((document.lines, before.lines), (["one\n", "two\n"],) * 2)
+            self.assertEqual(splits, ["one\ntwo\n"])
+            document.change([{"range": between((0, 0), (1, 0)), "text": ""}])
+            self.assertEqual((document.lines, document.lines), (["two\n"],) * 2)
+            self.assertEqual(before.lines, ["one\n", "two\n"])
+            self.assertEqual(splits[1:], ["two\n"])
+
     def test_words(self):
         document = self.document("  foo_1 bär-\U0001f600z\n")
         words = [document.word_at(at(0, it)) for it in range(16)]
@@ -269,13 +287,13 @@ class Large(Case):
     def test_many_changes(self):
         for name, text in self.TEXTS.items():
             with self.subTest(name):
-                once, twice = [], []
-                # (the least of a few: other processes slow it down)
-                while not once or (max(min(once) / 5, min(twice) / min(once) / 2.2) >= 1 and len(once) < 4):
-                    once.append(self.seconds(text, 10_000))
-                    twice.append(self.seconds(text, 20_000))
-                self.assertLess(min(once), 5)
-                self.assertLessEqual(min(twice), 2.2 * min(once))
+                least, ratio, turns = 5.0, 3.0, 0
+                # (the least of a few turns, of each of which the parts stand side by side: other processes slow it down)
+                while (least >= 5 or ratio > 2.2) and turns < 8:
+                    once, twice = self.seconds(text, 10_000), self.seconds(text, 20_000)
+                    least, ratio, turns = min(least, once), min(ratio, twice / once), turns + 1
+                self.assertLess(least, 5)
+                self.assertLessEqual(ratio, 2.2)
 
     def test_they_are_applied(self):
         text = "0123456789" * 1_000
@@ -306,7 +324,3 @@ class Large(Case):
         self.assertEqual(document.text, "")
         self.assertLess(full, 1.25 * 10_000_000)
         self.assertLess(left, 100_000)
-
-
-if __name__ == "__main__":
-    unittest.main()

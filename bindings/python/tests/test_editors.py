@@ -4,9 +4,8 @@ import os
 import shutil
 import subprocess
 import tempfile
-import unittest
 
-from helping import HERE, TOP, Case, command, environment
+from helping import HERE, TOP, Case, command, environment, rows
 
 EXAMPLES = os.path.join(TOP, "examples", "python")
 TEXT = "Roses are red.\nVoilets are are blue.\nThey are.\n"
@@ -67,15 +66,10 @@ class Editors(Case):
 
     # The editors' own edits: the server has the buffer's text
 
-    def test_neovims_edits(self):
-        for endings in ("unix", "dos"):
-            with self.subTest(endings):
-                server = os.path.join(HERE, "editors", "texts_server.py")
-                self.neovim(server, "neovim_edits.lua", ENDINGS=endings)
+    @rows(["unix", "dos"])
+    def test_neovims_edits(self, endings):
+        server = os.path.join(HERE, "editors", "texts_server.py")
+        self.neovim(server, "neovim_edits.lua", ENDINGS=endings)
 
     def test_eglots_edits(self):
         self.eglot(os.path.join(HERE, "editors", "texts_server.py"), "eglot_edits.el")
-
-
-if __name__ == "__main__":
-    unittest.main()

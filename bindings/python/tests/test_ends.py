@@ -1,5 +1,6 @@
 """An end that says why: one line that a person understands, and the same as data."""
 import asyncio
+import contextlib
 import json
 import logging
 import os
@@ -8,35 +9,12 @@ import sys
 import tempfile
 import textwrap
 import time
-import unittest
+from unittest import mock
 
-from helping import (
-    HAS_OPEN,
-    Case,
-    by_the_clock,
-    command,
-    environment,
-    frame,
-    joined,
-    logged,
-    needs_open,
-    notice,
-    over_an_older_library,
-    request,
-)
+from helping import SECONDS, Case, InAFolder, by_the_clock, command, environment, frame, joined
+from helping import logged, notice, ran, request, rows
 
-from bullmyrtle import (
-    LATER,
-    BadSettings,
-    Client,
-    Closed,
-    LibraryError,
-    NoMemory,
-    Server,
-    Unanswered,
-    _process,
-    events,
-)
+from bullmyrtle import LATER, BadSettings, Client, Closed, NoMemory, Server, Unanswered, _process, events
 from bullmyrtle.testing import Memory
 
 LINE = b'{"jsonrpc":"2.0","method":"add","params":[1,2],"id":7}\n'
@@ -47,9 +25,13 @@ LINES = 'is this line framing? Server(framing="lines")'
 class Raw(Memory):
     """A channel whose other half is the test."""
 
+    def __init__(self):
+        super().__init__()
+        self._other = Memory()
+
     def feed(self, *pieces):
         for it in pieces:
-            self._session.received(it)
+            self._transport.received(it)
 
 
 def a_server(**settings):
@@ -68,12 +50,11 @@ def a_server(**settings):
 
 
 class Ends(Case):
-    def end(self, server, *pieces, use=lambda server, channel: channel._session.input_ended(False)):
+    def end(self, server, *pieces, use=lambda server, channel: channel._transport.input_ended(False)):
         """How a session ends that is fed with these, and what is logged at WARNING."""
 
         async def main():
             channel = Raw()
-            channel._other = Raw()
             serving = asyncio.ensure_future(server.serve_over(channel))
             await asyncio.sleep(0)
             session = server.session
@@ -152,10 +133,8 @@ class Ends(Case):
             self.check([given[:cut], given[cut:]], "BadHead", len(ADD), seen[len(ADD) :])
         self.check([bytes([it]) for it in given], "BadHead", len(ADD), b"hello\n")
 
-    @needs_open
-    def test_anywhere_in_the_stream(self):
-        """As far behind the stream's beginning as may be, and cut anyhow."""
-        for given, how in (
+    @rows(
+        [
             (b"hello\nand more", "BadHead"),
             (LINE, "BadHead"),
             (b"Content-Length: x\r\n\r\n", "BadLength"),
@@ -165,20 +144,21 @@ class Ends(Case):
             (b"Content-Length: 99999999\r\n\r\n", "TooLarge"),
             (b"Content-Length: 9\r\n\r\n{}", "Truncated"),
             (b"Content-Length: 9000\r\n\r\n" + b"y" * 7000, "Truncated"),
-        ):
-            with self.subTest(how):
-                for many in (103 * ADD, 300 * ADD + frame(b"nonsense")):
-                    data = many + given
-                    for at in (len(many) - 1, len(many), len(many) + 1):
-                        self.check([data[:at], data[at:]], how, len(many), given[:64])
-                    if len(given) > 100:
-                        continue
-                    end = self.end(a_server(), many, *(bytes([it]) for it in given))
-                    self.assertEqual((end.how, end.offset), (how, len(many)))
-                    self.assertEqual(end.first, given[: len(end.first)])
-                    self.assertGreater(len(end.first), 5)
+        ]
+    )
+    def test_anywhere_in_the_stream(self, given, how):
+        """As far behind the stream's beginning as may be, and cut anyhow."""
+        for many in (103 * ADD, 300 * ADD + frame(b"nonsense")):
+            data = many + given
+            for at in (len(many) - 1, len(many), len(many) + 1):
+                self.check([data[:at], data[at:]], how, len(many), given[:64])
+            if len(given) > 100:
+                continue
+            end = self.end(a_server(), many, *(bytes([it]) for it in given))
+            self.assertEqual((end.how, end.offset), (how, len(many)))
+            self.assertEqual(end.first, given[: len(end.first)])
+            self.assertGreater(len(end.first), 5)
 
-    @needs_open
     def test_a_frame_whose_beginning_isnt_kept(self):
         """Its place is known all the same."""
         large = b"Content-Length: 99999\r\n\r\n"
@@ -191,37 +171,20 @@ class Ends(Case):
         )
         self.check([large, *pieces], "Truncated", 0, (large + pieces[0])[:64])
 
-    @needs_open
     def test_it_is_what_the_connection_says(self):
         """In a session that is traced, and in one whose content is read aside."""
         many, large = 500 * ADD, frame(request(1, "echo", ["x" * 200_000]))
         self.check([many, b"hello\n"], "BadHead", len(many), b"hello\n", trace=lambda line: None)
         self.check([many + large + b"hello\n"], "BadHead", len(many + large), b"hello\n")
 
-    def test_behind_what_is_kept_over_an_older_library(self):
-        """Where the frame began isn't known any more, and what was read last is."""
-        with over_an_older_library():
-            self.check_behind_what_is_kept()
-
-    def check_behind_what_is_kept(self):
-        many = 500 * ADD
-        end = self.check([many, b"hello\nand more"], "BadHead", None, None)
-        self.assertIn(f"in what was read from byte {len(many)} on, b'hello\\nand more'", end.text)
-        # (what that begins with says nothing of the frame at fault)
-        for piece in (ADD + b"hello\n", b'{"a":1}\n', b"GET / HTTP/1.1\r\n"):
-            end = self.check([many, piece], "BadHead", None, None)
-            self.assertTrue(
-                end.text.endswith(": each message begins with `Content-Length: N`, CR LF, CR LF"), end.text
-            )
-
-    def test_behind_many_short_pieces(self):
-        for many in (1, 64, 65, 66, 200):
-            self.check([ADD] * many + [b"hello\n"], "BadHead", many * len(ADD), b"hello\n")
-            self.check([ADD] * many + [b"hel", b"lo\n"], "BadHead", many * len(ADD), b"hello\n")
-            good, long = b'{"jsonrpc":"2.0","method":"echo"}\n', b"x" * 101
-            self.check(
-                [good] * many + [long], "TooLarge", many * len(good), long[:64], framing="lines", content=100
-            )
+    @rows([1, 64, 65, 66, 200])
+    def test_behind_many_short_pieces(self, many):
+        self.check([ADD] * many + [b"hello\n"], "BadHead", many * len(ADD), b"hello\n")
+        self.check([ADD] * many + [b"hel", b"lo\n"], "BadHead", many * len(ADD), b"hello\n")
+        good, long = b'{"jsonrpc":"2.0","method":"echo"}\n', b"x" * 101
+        self.check(
+            [good] * many + [long], "TooLarge", many * len(good), long[:64], framing="lines", content=100
+        )
 
     def test_what_comes_behind_a_fault_doesnt_count(self):
         self.check([LINE, LINE, ADD], "BadHead", 0, LINE)
@@ -248,12 +211,29 @@ class Ends(Case):
         self.check([fits + b"\n" + fits + b"y"], "TooLarge", 101, fits[:64], framing="lines", content=100)
 
     def test_reading_that_fails(self):
-        end = self.end(a_server(), ADD, use=lambda server, channel: channel._session.input_ended(True))
+        end = self.end(a_server(), ADD, use=lambda server, channel: channel._transport.input_ended(True))
         self.assertEqual((end.how, end.offset, end.status), ("Read", None, 1))
         self.assertIn("reading failed", end.text)
 
+    async def test_a_call_while_the_streams_are_closed(self):
+        class Closing(Raw):
+            async def close(self, seconds):
+                try:
+                    self._transport.session.call("x")
+                except Closed as error:
+                    said.append(str(error))
+                await super().close(seconds)
+
+        said = []
+        channel, server = Closing(), a_server()
+        serving = asyncio.ensure_future(server.serve_over(channel))
+        await asyncio.sleep(0)
+        channel._transport.input_ended(False)
+        await serving
+        self.assertEqual(said, ["the session is over"])
+
     def test_nobody_reads(self):
-        end = self.end(a_server(), ADD, use=lambda server, channel: channel._session.broke())
+        end = self.end(a_server(), ADD, use=lambda server, channel: channel._transport.broke())
         self.assertEqual((end.how, end.status), ("Broken", 1))
         self.assertIn("nobody reads", end.text)
 
@@ -281,7 +261,7 @@ class Ends(Case):
             def fed(data):
                 raise NoMemory()
 
-            server.session._connection.fed = fed
+            server.session._transport.connection.fed = fed
             channel.feed(ADD)
 
         end = self.end(a_server(), ADD, use=refuse)
@@ -304,24 +284,20 @@ class Ends(Case):
             end = self.end(a_server(), ADD, ADD[:9], use=lambda server, channel: server.stop(status))
             self.assertEqual((end.how, end.status, end.is_clean), ("Stopped", status, True))
 
-    def test_of_a_server(self):
+    async def test_of_a_server(self):
         server = a_server()
         self.assertIsNone(server.ended)
+        async with joined(server):
+            self.assertIsNone(server.ended)
+        self.assertEqual(server.ended.how, "Clean")
+        async with joined(server):
+            pass
+        with self.assertRaises(RuntimeError) as caught:
+            server.ended
+        self.assertIn("session.ended", str(caught.exception))
 
-        async def main():
-            async with joined(server):
-                self.assertIsNone(server.ended)
-            self.assertEqual(server.ended.how, "Clean")
-            async with joined(server):
-                pass
-            with self.assertRaises(RuntimeError) as caught:
-                server.ended
-            self.assertIn("session.ended", str(caught.exception))
-
-        self.wait(main())
-
-    def test_later_calls_are_told(self):
-        async def main():
+    async def test_later_calls_are_told(self):
+        with logged():
             server = a_server()
             caught = []
 
@@ -334,17 +310,12 @@ class Ends(Case):
                         caught.append(str(error))
 
             channel = Raw()
-            channel._other = Raw()
             serving = asyncio.ensure_future(server.serve_over(channel))
             await asyncio.sleep(0)
             channel.feed(frame(request(1, "ask")))
             await asyncio.sleep(0)
             channel.feed(LINE)
             await serving
-            return server, caught
-
-        with logged():
-            server, caught = self.wait(main())
         self.assertEqual(len(caught), 2)
         for it in caught:
             self.assertIn(LINES, it)
@@ -362,8 +333,7 @@ class OnStandardError(Case):
             head = "import sys\nfrom bullmyrtle import LATER, Server\nserver = Server(grace=0.05)\n"
             with open(file, "w", encoding="utf-8") as it:
                 it.write(head + text + "sys.exit(server.run())\n")
-            how = {"env": environment(), "capture_output": True, "timeout": 60, "check": False}
-            got = subprocess.run(command(file), input=given, **how)
+            got = ran(command(file), given)
         return got.returncode, got.stderr.decode().splitlines()
 
     def test_lines_to_a_framed_server(self):
@@ -398,31 +368,29 @@ class OnStandardError(Case):
         self.assertEqual(self.run_server(frame(request(1, "m")), text), (3, []))
 
 
-class Scripts(Case):
+class Scripts(InAFolder):
     """A client of a script that is written here."""
 
-    def setUp(self):
-        room = tempfile.TemporaryDirectory()
-        self.addCleanup(room.cleanup)
-        self.room = room.name
-
     def script(self, text):
-        file = os.path.join(self.room, "server.py")
-        with open(file, "w", encoding="utf-8") as it:
-            it.write(textwrap.dedent(text))
-        return file
+        return self.file("server.py", textwrap.dedent(text))
 
     def client(self, text, **more):
-        return Client([sys.executable, self.script(text)], grace=2, **{"stderr": lambda data: None, **more})
+        more = {"stderr": lambda data: None, **more}
+        # (so long a grace that a process which begins or ends late on a busy machine isn't killed)
+        return Client([sys.executable, self.script(text)], grace=SECONDS, **more)
+
+    @staticmethod
+    def patient(seconds=SECONDS):
+        """Waits for a process that ends, and not for so long only as a person should."""
+        return mock.patch.object(_process, "_SECONDS", seconds)
 
 
 class Processes(Scripts):
     """What a client says of a server that ends."""
 
-    def told(self, client):
+    async def told(self, client):
         """The text of what a call raises, that of a later one, and the one line that is logged."""
-
-        async def main():
+        with logged() as log:
             async with client:
                 with self.assertRaises((Unanswered, Closed)) as first:
                     await client.call("x")
@@ -430,18 +398,15 @@ class Processes(Scripts):
                     await client.call("x")
             with self.assertRaises(Closed) as third:
                 client.call("x")
-            return [str(it.exception) for it in (first, second, third)]
-
-        with logged() as log:
-            texts = self.wait(main())
+            texts = [str(it.exception) for it in (first, second, third)]
         lines = [it.getMessage() for it in log.records if it.levelno == logging.WARNING]
         self.assertEqual(len(lines), 1, lines)
         self.assertNotIn("\n", lines[0])
         return [*texts, *lines]
 
-    def test_a_banner(self):
+    async def test_a_banner(self):
         client = self.client("print('Welcome to server 1.0', flush=True)\nimport sys; sys.stdin.read()\n")
-        for it in self.told(client):
+        for it in await self.told(client):
             self.assertIn(
                 "at byte 0: b'Welcome to server 1.0\\n': the server wrote something else than messages to its "
                 "standard output, as a banner or what it prints, which belongs on its standard error",
@@ -450,16 +415,17 @@ class Processes(Scripts):
         self.assertEqual((client.ended.how, client.ended.offset), ("BadHead", 0))
         self.assertEqual(client.ended.first, b"Welcome to server 1.0\n")
 
-    def test_lines(self):
+    async def test_lines(self):
         client = self.client(
             'print(\'{"jsonrpc":"2.0","method":"x"}\', flush=True)\nimport sys; sys.stdin.read()\n'
         )
-        for it in self.told(client):
+        for it in await self.told(client):
             self.assertIn('is this line framing? Client(.., framing="lines")', it)
 
-    def test_a_traceback(self):
+    async def test_a_traceback(self):
         client = self.client("raise KeyError('there is no such thing')\n")
-        *texts, line = self.told(client)
+        with self.patient():
+            *texts, line = await self.told(client)
         for it in texts:
             self.assertIn("the server ended with status 1", it)
             self.assertIn("KeyError: 'there is no such thing'", it)
@@ -467,31 +433,43 @@ class Processes(Scripts):
         self.assertEqual((client.ended.exit_status, client.ended.is_clean), (1, False))
         self.assertIn(b"KeyError", client.ended.stderr)
 
-    def test_killed(self):
+    async def check_killed(self):
         client = self.client(
             "import os, sys\nsys.stderr.write('so far'); sys.stderr.flush()\nos.kill(os.getpid(), 9)\n"
         )
-        for it in self.told(client):
+        with self.patient():
+            found = await self.told(client)
+        for it in found:
             self.assertIn("the server was killed by SIGKILL", it)
         self.assertEqual((client.ended.exit_status, client.ended.stderr), (-9, b"so far"))
 
-    def test_it_stays_but_says_no_more(self):
+    async def test_killed(self):
+        await self.check_killed()
+
+    async def test_killed_while_a_thread_reads_late(self):
+        """Where a thread reads its standard error, that may come to it once the process has ended."""
+        usual = _process._ErrorOutput._read_in_thread
+
+        def late(output, descriptor):
+            with contextlib.suppress(ChildProcessError):  # (there are none once its status was taken)
+                os.waitid(os.P_ALL, 0, os.WEXITED | os.WNOWAIT)
+            time.sleep(0.1)
+            usual(output, descriptor)
+
+        with mock.patch.object(_process, "WAITS", False):
+            with mock.patch.object(_process._ErrorOutput, "_read_in_thread", late):
+                await self.check_killed()
+
+    async def test_it_stays_but_says_no_more(self):
         client = self.client("import os, sys\nos.close(1)\nsys.stdin.read()\n", stderr="inherit")
         began = time.monotonic()
-        first, second, after, line = self.told(client)
+        first, second, after, line = await self.told(client)
         for it in (first, second, line):
             self.assertIn("its process still runs", it)
         self.assertIn("the server ended with status 0", after)
-        self.assertLess(time.monotonic() - began, 5)
+        self.assertLess(time.monotonic() - began, SECONDS / 2)  # (of its grace)
 
-    def test_a_clean_end_says_nothing(self):
-        async def main():
-            async with client:
-                self.assertEqual(await client.call("echo", [1]), [1])
-            self.assertEqual(await client.close(), 0)
-            self.assertEqual((client.ended.how, client.ended.is_clean), ("Clean", True))
-            self.assertEqual((client.ended.exit_status, client.ended.stderr), (0, b""))
-
+    async def test_a_clean_end_says_nothing(self):
         file = self.script(
             """
             import sys
@@ -503,38 +481,35 @@ class Processes(Scripts):
         )
         client = Client(command(file), env=environment())
         with logged() as log:
-            self.wait(main())
+            async with client:
+                self.assertEqual(await client.call("echo", [1]), [1])
+            self.assertEqual(await client.close(), 0)
+            self.assertEqual((client.ended.how, client.ended.is_clean), ("Clean", True))
+            self.assertEqual((client.ended.exit_status, client.ended.stderr), (0, b""))
         self.assertEqual(log.texts, [])
 
-    def test_it_ends_by_itself_and_well(self):
-        async def main():
+    async def test_it_ends_by_itself_and_well(self):
+        client = self.client("print(end='')\n")
+        with logged() as log, self.patient():
             async with client:
                 await self.until(lambda: client.ended)
                 with self.assertRaises(Closed) as caught:
                     client.call("x")
-                return str(caught.exception)
-
-        client = self.client("print(end='')\n")
-        with logged() as log:
-            said = self.wait(main())
+                said = str(caught.exception)
         self.assertEqual(
             said,
             "the session with the server is over: the server closed its output; the server ended with status 0",
         )
         self.assertEqual((log.texts, client.ended.how), ([], "Clean"))
 
-    def test_one_that_has_to_be_killed(self):
+    async def test_one_that_has_to_be_killed(self):
         text = "import signal, sys, time\nsignal.signal(signal.SIGTERM, signal.SIG_IGN)\n"
-        client = self.client(text + "print(end='', flush=True)\ntime.sleep(60)\n")
+        client = self.client(text + "print('ready', file=sys.stderr, flush=True)\ntime.sleep(60)\n")
         client._grace = 0.3
-
-        async def main():
-            async with client:
-                await asyncio.sleep(0.3)
-            return await client.close()
-
         with logged() as log:
-            self.assertEqual(self.wait(main()), -9)
+            async with client:
+                await self.until(lambda: b"ready" in client._process.last)
+            self.assertEqual(await client.close(), -9)
         (line,) = [it for it in log.texts if "killed" in it]
         self.assertIn("didn't end within the grace of 0.3 seconds", line)
 
@@ -548,15 +523,14 @@ class StandardErrors(Scripts):
             pass
     """
 
-    def run_loud(self, text=LOUD, **more):
-        async def main():
+    async def run_loud(self, text=LOUD, seconds=SECONDS, **more):
+        """How a client ended that saw its server for a while; so many seconds it waits for the process's end, and for what
+        that wrote before."""
+        client = self.client(text, **more)
+        with logged(), self.patient(seconds):
             async with client:
                 await asyncio.sleep(0.3)
             return client.ended
-
-        client = self.client(text, **more)
-        with logged():
-            return self.wait(main())
 
     def test_it_is_passed_on_as_it_comes(self):
         code = """
@@ -578,22 +552,22 @@ class StandardErrors(Scripts):
             self.assertEqual(process.stderr.readline(), b"at once\n")
             process.stdin.close()
             self.assertEqual(process.stderr.read(), b"at last\n")
-            self.assertEqual(process.wait(20), 0)
+            self.assertEqual(process.wait(SECONDS), 0)
 
-    def test_a_callback(self):
+    async def test_a_callback(self):
         heard = []
-        end = self.run_loud(stderr=heard.append)
+        end = await self.run_loud(stderr=heard.append)
         self.assertEqual((b"".join(heard), end.stderr), (b"line 0\nline 1\nline 2\n",) * 2)
 
-    def test_a_callback_that_raises(self):
+    async def test_a_callback_that_raises(self):
         def fail(data):
             raise KeyError("no")
 
-        self.assertEqual(self.run_loud(stderr=fail).stderr, b"line 0\nline 1\nline 2\n")
+        self.assertEqual((await self.run_loud(stderr=fail)).stderr, b"line 0\nline 1\nline 2\n")
 
-    def test_a_file(self):
+    async def test_a_file(self):
         with tempfile.TemporaryFile() as it:
-            end = self.run_loud(stderr=it)
+            end = await self.run_loud(stderr=it)
             it.seek(0)
             self.assertEqual((it.read(), end.stderr), (b"line 0\nline 1\nline 2\n", b""))
 
@@ -611,41 +585,41 @@ class StandardErrors(Scripts):
         with open(host, "w", encoding="utf-8") as it:
             it.write(textwrap.dedent(code))
         with tempfile.NamedTemporaryFile(dir=self.room) as it:
-            subprocess.run(command(host, asks), stderr=it, env=environment(), timeout=60, check=True)
+            ran(command(host, asks), stderr=it, check=True)
             it.seek(0)
             self.assertEqual(it.read().decode(), it.name)
 
-    def test_other_choices(self):
-        for it in ("nowhere", 5.5, object()):
-            with self.assertRaises(BadSettings) as caught:
-                Client(["server"], stderr=it)
-            self.assertIn("'inherit'", str(caught.exception))
+    @rows(["nowhere", 5.5, object()])
+    def test_other_choices(self, it):
+        with self.assertRaises(BadSettings) as caught:
+            Client(["server"], stderr=it)
+        self.assertIn("'inherit'", str(caught.exception))
 
-    def test_the_last_4_kb_of_much(self):
-        end = self.run_loud(
+    async def test_the_last_4_kb_of_much(self):
+        end = await self.run_loud(
             "import os, sys\nfor it in range(20000):\n    os.write(2, b'%06d\\n' % it)\nsys.stdin.read()\n"
         )
         self.assertEqual(len(end.stderr), 4096)
         self.assertTrue(end.stderr.endswith(b"019998\n019999\n"))
 
     @by_the_clock
-    def test_nothing_is_left_behind(self):
+    async def test_nothing_is_left_behind(self):
         """Also where a child of the server has its standard error, and stays."""
         text = "import subprocess, sys\nnull = subprocess.DEVNULL\n"
         text += "subprocess.Popen(['sleep', '3'], stdin=null, stdout=null)\n"
         before = len(os.listdir("/proc/self/fd"))
         began = time.monotonic()
-        self.run_loud(text + "sys.stdin.read()\n")
+        await self.run_loud(text + "sys.stdin.read()\n", _process._SECONDS)
         self.assertEqual(len(os.listdir("/proc/self/fd")), before)
         self.assertLess(time.monotonic() - began, 2.5)
 
-    def test_a_child_that_goes_on_writing(self):
+    async def test_a_child_that_goes_on_writing(self):
         text = "import subprocess, sys\nnull = subprocess.DEVNULL\n"
         text += "subprocess.Popen(['sh', '-c', 'yes >&2'], stdin=null, stdout=null)\nsys.stdin.read()\n"
         began = time.monotonic()
-        end = self.run_loud(text)
+        end = await self.run_loud(text, _process._SECONDS)
         self.assertEqual((end.how, len(end.stderr)), ("Clean", 4096))
-        self.assertLess(time.monotonic() - began, 10)
+        self.assertLess(time.monotonic() - began, SECONDS / 2)  # (of the server's grace)
         # (the child may be slower than who reads; so here is one that isn't)
         endless, reads = _process._ErrorOutput.__new__(_process._ErrorOutput), []
         endless.read = lambda: len(reads) < 100_000 and not reads.append(1)
@@ -656,27 +630,23 @@ class StandardErrors(Scripts):
 class Counted(Case):
     """Messages that can't be read, or are none: one line at INFO, at most once a second."""
 
-    def lines(self, *pieces, server=None, naps=()):
-        async def main():
-            it = server or a_server(framing="lines")
-            channel = Raw()
-            channel._other = Raw()
-            serving = asyncio.ensure_future(it.serve_over(channel))
-            await asyncio.sleep(0)
-            for at, piece in enumerate(pieces):
-                channel.feed(piece)
-                await asyncio.sleep(naps[at] if at < len(naps) else 0)
-                seen.append(len(self.of(log)))
-            channel._session.input_ended(False)
-            await serving
-
+    async def lines(self, *pieces, server=None, naps=()):
         seen = []
         root = logging.getLogger("bullmyrtle")
         before = root.level
         root.setLevel(logging.INFO)
         try:
             with logged() as log:
-                self.wait(main())
+                it = server or a_server(framing="lines")
+                channel = Raw()
+                serving = asyncio.ensure_future(it.serve_over(channel))
+                await asyncio.sleep(0)
+                for at, piece in enumerate(pieces):
+                    channel.feed(piece)
+                    await asyncio.sleep(naps[at] if at < len(naps) else 0)
+                    seen.append(len(self.of(log)))
+                channel._transport.input_ended(False)
+                await serving
         finally:
             root.setLevel(before)
         return self.of(log), seen
@@ -689,65 +659,59 @@ class Counted(Case):
             if it.levelno == logging.INFO and "came so far" in it.getMessage()
         ]
 
-    def test_at_once(self):
-        lines, seen = self.lines(b"hello\n")
+    async def test_at_once(self):
+        lines, seen = await self.lines(b"hello\n")
         self.assertEqual((len(lines), seen), (1, [1]))
         self.assertIn("1 message that couldn't be read (-32700) came so far", lines[0])
         self.assertIn("b'hello", lines[0])
-        lines, _ = self.lines(b"5\n6\n")
+        lines, _ = await self.lines(b"5\n6\n")
         self.assertIn("2 messages that were neither a call nor a reply (-32600) came so far", lines[0])
         said = (
             "2 messages that couldn't be read (-32700) and 1 that was neither a call nor a reply (-32600) "
             "came so far, besides 0 calls; "
         )
         last = "the last one began at byte 8 with b'byebye'"
-        began = "the input began with b'hello\\n5\\nbyebye\\n'"
-        lines, _ = self.lines(b"hello\n5\nbyebye\n")
-        self.assertEqual(lines, [said + (last if HAS_OPEN else began)])
-        with over_an_older_library():
-            lines, _ = self.lines(b"hello\n5\nbyebye\n")
-        self.assertEqual(lines, [said + began])
+        lines, _ = await self.lines(b"hello\n5\nbyebye\n")
+        self.assertEqual(lines, [said + last])
 
-    def test_frames_to_a_server_of_lines(self):
-        lines, _ = self.lines(ADD)
+    async def test_frames_to_a_server_of_lines(self):
+        lines, _ = await self.lines(ADD)
         self.assertIn('are these frames? Server(framing="frames")', lines[0])
 
-    def test_none(self):
-        self.assertEqual(self.lines(b'{"jsonrpc":"2.0","method":"echo","id":1}\n\n')[0], [])
+    async def test_none(self):
+        self.assertEqual((await self.lines(b'{"jsonrpc":"2.0","method":"echo","id":1}\n\n'))[0], [])
 
-    def test_once_a_second(self):
+    async def test_once_a_second(self):
         good = b'{"jsonrpc":"2.0","method":"echo","id":1}\n'
-        lines, seen = self.lines(*[b"hello\n"] * 5, good, good, naps=[0, 0, 0, 0, 0, 1.3, 0])
+        lines, seen = await self.lines(*[b"hello\n"] * 5, good, good, naps=[0, 0, 0, 0, 0, 1.3, 0])
         self.assertEqual(seen, [1, 1, 1, 1, 1, 2, 2])
         self.assertIn("5 messages", lines[-1])
 
-    def test_at_the_end(self):
-        lines, seen = self.lines(b"hello\n", b"hello\n")
+    async def test_at_the_end(self):
+        lines, seen = await self.lines(b"hello\n", b"hello\n")
         self.assertEqual(seen, [1, 1])
         self.assertEqual(len(lines), 2)
         self.assertIn("2 messages", lines[-1])
 
-    def test_beside_good_ones(self):
+    async def test_beside_good_ones(self):
         good = b'{"jsonrpc":"2.0","method":"echo","id":1}\n'
-        lines, _ = self.lines(good + b"hello\n" + good)
+        lines, _ = await self.lines(good + b"hello\n" + good)
         self.assertEqual(len(lines), 1)
         self.assertIn("besides 2 calls", lines[0])
 
 
-@needs_open
 class Broken(Case):
     """Broken input is told to a hook: where it is, its first bytes, and what is wrong."""
 
     GOOD = b'{"jsonrpc":"2.0","method":"echo","id":1}\n'
 
-    def told(self, hook, *pieces, make=Server, **settings):
+    async def told(self, hook, *pieces, make=Server, **settings):
         """Feeds a session, and gives what was logged as errors."""
-
-        async def main():
+        self.seen = []
+        with logged() as log:
             peer = make(framing="lines", on_broken=hook, **settings)
             peer.method("echo")(lambda params: self.seen.append("echo"))
             channel = Raw()
-            channel._other = Raw()
             if make is Server:
                 serving = asyncio.ensure_future(peer.serve_over(channel))
             else:
@@ -757,47 +721,43 @@ class Broken(Case):
             self.session = peer.session
             channel.feed(*pieces)
             await asyncio.sleep(0)
-            channel._session.input_ended(False)
+            channel._transport.input_ended(False)
             await serving
             self.ended = self.session.ended
-
-        self.seen = []
-        with logged() as log:
-            self.wait(main())
         return log.errors
 
-    def test_it_is_told_in_its_place(self):
+    @rows([Server, Client])
+    async def test_it_is_told_in_its_place(self, make):
         def hook(broken, session):
             self.assertIs(session, self.session)
             self.seen.append(broken)
 
-        for make in (Server, Client):
-            self.assertEqual(self.told(hook, self.GOOD + b"nonsense\n[1,2]\n", self.GOOD, make=make), [])
-            self.assertEqual(
-                self.seen,
-                [
-                    "echo",
-                    events.Broken(len(self.GOOD), b"nonsense", "Unreadable", 0, 0),
-                    events.Broken(len(self.GOOD) + 9, b"[1,2]", "Invalid", 0, 2),
-                    "echo",
-                ],
-            )
-            self.assertEqual((self.ended.how, self.ended.status), ("Clean", 0))
+        self.assertEqual(await self.told(hook, self.GOOD + b"nonsense\n[1,2]\n", self.GOOD, make=make), [])
+        self.assertEqual(
+            self.seen,
+            [
+                "echo",
+                events.Broken(len(self.GOOD), b"nonsense", "Unreadable", 0, 0),
+                events.Broken(len(self.GOOD) + 9, b"[1,2]", "Invalid", 0, 2),
+                "echo",
+            ],
+        )
+        self.assertEqual((self.ended.how, self.ended.status), ("Clean", 0))
 
-    def test_a_hook_that_raises(self):
+    async def test_a_hook_that_raises(self):
         def hook(broken, session):
             raise KeyError(broken.offset)
 
-        errors = self.told(hook, b"nonsense\n" + self.GOOD + b"5\n")
+        errors = await self.told(hook, b"nonsense\n" + self.GOOD + b"5\n")
         self.assertEqual([it.getMessage() for it in errors], ["on_broken raised KeyError"] * 2)
         self.assertEqual((self.seen, self.ended.how), (["echo"], "Clean"))
 
-    def test_a_hook_that_ends_the_session(self):
-        errors = self.told(lambda broken, session: session.stop(3), b"nonsense\n", self.GOOD)
+    async def test_a_hook_that_ends_the_session(self):
+        errors = await self.told(lambda broken, session: session.stop(3), b"nonsense\n", self.GOOD)
         self.assertEqual((errors, self.seen), ([], []))
         self.assertEqual((self.ended.how, self.ended.status), ("Stopped", 3))
 
-    def test_while_calls_are_held(self):
+    async def test_while_calls_are_held(self):
         """A slow reader holds calls up, and not what is told of broken input."""
 
         def hook(broken, session):
@@ -807,28 +767,24 @@ class Broken(Case):
             self.seen.append("much")
             return "x" * 2_000_000
 
-        async def main():
-            server = Server(framing="lines", on_broken=hook)
-            server.method("much")(much)
-            channel = Raw()
-            channel._other = Raw()
-            channel.write = lambda: None
-            serving = asyncio.ensure_future(server.serve_over(channel))
-            await asyncio.sleep(0)
-            ask = b'{"jsonrpc":"2.0","method":"much","id":1}\n'
-            channel.feed(ask + ask + b"nonsense\n" + ask)
-            await self.until(lambda: len(self.seen) == 2)
-            self.assertEqual(self.seen, ["much", b"nonsense"])
-            server.stop()
-            with logged():
-                await serving
-
         self.seen = []
-        self.wait(main())
+        server = Server(framing="lines", on_broken=hook)
+        server.method("much")(much)
+        channel = Raw()
+        channel.write = lambda: None
+        serving = asyncio.ensure_future(server.serve_over(channel))
+        await asyncio.sleep(0)
+        ask = b'{"jsonrpc":"2.0","method":"much","id":1}\n'
+        channel.feed(ask + ask + b"nonsense\n" + ask)
+        await self.until(lambda: len(self.seen) == 2)
+        self.assertEqual(self.seen, ["much", b"nonsense"])
+        server.stop()
+        with logged():
+            await serving
 
-    def test_the_trace_has_it(self):
+    async def test_the_trace_has_it(self):
         lines = []
-        self.told(None, b"nonsense\n", trace=lines.append)
+        await self.told(None, b"nonsense\n", trace=lines.append)
         found = [it for it in map(json.loads, lines) if it["type"] == "broken"]
         self.assertEqual([it["isLSPMessage"] for it in found], [False])
         self.assertEqual(
@@ -837,23 +793,12 @@ class Broken(Case):
 
 
 class Hooks(Case):
-    def test_what_is_no_hook(self):
+    @rows([Server, Client])
+    def test_what_is_no_hook(self, kind):
         async def later(broken, session):
             pass
 
-        for kind in (Server, Client):
-            for it in (5, "log", later):
-                with self.assertRaises(BadSettings) as caught:
-                    kind(on_broken=it)
-                self.assertIn("it is a plain function, or None", str(caught.exception))
-
-    def test_an_older_library(self):
-        with over_an_older_library():
-            for kind in (Server, Client):
-                with self.assertRaises(LibraryError) as caught:
-                    kind(on_broken=print)
-                self.assertIn("on_broken needs a library that has bm_open", str(caught.exception))
-
-
-if __name__ == "__main__":
-    unittest.main()
+        for it in (5, "log", later):
+            with self.assertRaises(BadSettings) as caught:
+                kind(on_broken=it)
+            self.assertIn("it is a plain function, or None", str(caught.exception))

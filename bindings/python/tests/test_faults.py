@@ -8,11 +8,10 @@ import socket
 import subprocess
 import threading
 import time
-import unittest
 from unittest import mock
 
 import misbehaving
-from helping import HERE, Case, command, environment, joined, logged, request
+from helping import HERE, SECONDS, Case, command, environment, joined, logged, patience, request, rows
 from test_calls import Kept
 
 from bullmyrtle import Client, Error, NoMemory, Server
@@ -66,7 +65,7 @@ class Table(Case):
         got = {}
         for name in rows:
             send(line(request(name, name)) + line(request("ping " + name, "ping", [name])))
-            found = answers.until({name, "ping " + name}, 5)
+            found = answers.until({name, "ping " + name}, SECONDS)
             got.update(found)
             unanswered += [it for it in (name, "ping " + name) if it not in found]
             self.assertLess(len(unanswered), 5, unanswered)
@@ -94,7 +93,7 @@ class Table(Case):
         reading.start()
         got = self.ask_all(process.stdin.write, Answers(process.stdout.fileno()))
         process.stdin.close()
-        self.assertEqual(process.wait(20), 0)
+        self.assertEqual(process.wait(SECONDS), 0)
         reading.join()
         self.judge(got)
         self.judge_log(said[0].decode())
@@ -114,29 +113,28 @@ class Table(Case):
         self.judge(got)
         self.judge_log(said[0].decode())
 
-    def test_what_ends_the_process(self):
-        for name, status in (("interrupts", 1), ("exits", 7)):
-            for kind, (_, thread) in misbehaving.methods(None).items():
-                if thread:
-                    continue
-                with self.subTest(name=name, kind=kind):
-                    process = self.started("run")
-                    process.stdin.write(
-                        line(request(1, "ping", [1]))
-                        + line(request(2, f"{kind} {name}"))
-                        + line(request(3, "ping"))
-                    )
-                    self.assertEqual(process.wait(20), status)
-                    self.assertIn(1, Answers(process.stdout.fileno()).until({1}, 5))
+    @rows([("interrupts", 1), ("exits", 7)])
+    def test_what_ends_the_process(self, name, status):
+        for kind, (_, thread) in misbehaving.methods(None).items():
+            if thread:
+                continue
+            with self.subTest(name=name, kind=kind):
+                process = self.started("run")
+                process.stdin.write(
+                    line(request(1, "ping", [1]))
+                    + line(request(2, f"{kind} {name}"))
+                    + line(request(3, "ping"))
+                )
+                self.assertEqual(process.wait(SECONDS), status)
+                self.assertIn(1, Answers(process.stdout.fileno()).until({1}, 5))
 
 
 class LastResort(Case):
     """What gets past everything else."""
 
-    def served(self, talk, server=None):
+    async def served(self, talk, server=None):
         """Serves over a channel that is fed by hand, and gives the status and the answers by their ids."""
-
-        async def main():
+        with logged() as log:
             own = server or Server(framing="lines", grace=0.2)
             own.method("echo")(lambda params: params)
 
@@ -149,103 +147,94 @@ class LastResort(Case):
             serving = asyncio.ensure_future(own.serve_over(channel))
             await asyncio.sleep(0)
             await talk(channel.session)
-            channel.session.input_ended(False)
-            status = await asyncio.wait_for(serving, 10)
-            self.assertTrue(channel.session._is_closed)
-            return status, {it["id"]: it for it in map(json.loads, channel.written.splitlines())}
-
-        with logged() as log:
-            return (*self.wait(main()), log)
+            channel.session._transport.input_ended(False)
+            status = await asyncio.wait_for(serving, patience(10))
+            self.assertTrue(channel.session._transport.is_closed)
+            return status, {it["id"]: it for it in map(json.loads, channel.written.splitlines())}, log
 
     class Odd(BaseException):
         pass
 
-    def test_an_event_whose_handling_fails_is_answered_and_the_rest_goes_on(self):
-        for name in ("_returned_plainly", "_raised", "_begin"):
-            with self.subTest(name):
+    @rows(["_returned_plainly", "_raised", "_begin_request"])
+    async def test_an_event_whose_handling_fails_is_answered_and_the_rest_goes_on(self, name):
+        async def talk(session, name=name):
+            def fail(*_):
+                raise self.Odd()
 
-                async def talk(session, name=name):
-                    def fail(*_):
-                        raise self.Odd()
+            lines = b"".join(line(request(it, "x" if it == 2 else "echo", [it])) for it in range(1, 4))
+            session._incoming.methods["x"].is_quick = name != "_begin_request"
+            with mock.patch.object(session._incoming, name, fail):
+                session._transport.received(lines)
 
-                    lines = b"".join(
-                        line(request(it, "x" if it == 2 else "echo", [it])) for it in range(1, 4)
-                    )
-                    session._methods["x"].is_quick = name != "_begin"
-                    with mock.patch.object(session, name, fail):
-                        session.received(lines)
+        server = Server(framing="lines", grace=0.2, errors="full")
 
-                server = Server(framing="lines", grace=0.2)
+        @server.method("x")
+        def x(params, name=name):
+            if name == "_raised":
+                raise KeyError
+            return (1,)  # (which isn't among what is answered without a look)
 
-                @server.method("x")
-                def x(params, name=name):
-                    if name == "_raised":
-                        raise KeyError
-                    return (1,)  # (which isn't among what is answered without a look)
+        status, answers, log = await self.served(talk, server)
+        self.assertEqual((status, answers[1]["result"], answers[3]["result"]), (0, [1], [3]))
+        self.assertEqual(answers[2]["error"], {"code": -32603, "message": "Internal error: Odd"})
+        self.assertEqual(len(log.errors), 1)
 
-                status, answers, log = self.served(talk, server)
-                self.assertEqual((status, answers[1]["result"], answers[3]["result"]), (0, [1], [3]))
-                self.assertEqual(answers[2]["error"], {"code": -32603, "message": "Internal error: Odd"})
-                self.assertEqual(len(log.errors), 1)
-
-    def test_a_task_whose_answer_fails_is_answered(self):
+    async def test_a_task_whose_answer_fails_is_answered(self):
         async def talk(session):
             def fail(*_):
                 raise self.Odd()
 
-            with mock.patch.object(session, "_answer", fail):
-                session.received(line(request(1, "later")))
+            with mock.patch.object(session._incoming, "_answer", fail):
+                session._transport.received(line(request(1, "later")))
                 await asyncio.sleep(0.05)
-            session.received(line(request(2, "later")))
+            session._transport.received(line(request(2, "later")))
             await asyncio.sleep(0.05)
 
-        status, answers, log = self.served(talk)
+        status, answers, log = await self.served(talk)
         self.assertEqual((status, answers[1]["error"]["code"], answers[2]["result"]), (0, -32603, None))
         self.assertEqual(len(log.errors), 1)
 
-    def test_what_cant_be_answered_ends_the_session(self):
+    async def test_what_cant_be_answered_ends_the_session(self):
         async def talk(session):
             def fail(*_):
                 raise self.Odd()
 
-            connection = session._connection
-            session._answer_quickly = fail
+            connection = session._transport.connection
+            session._incoming.answer_quickly = fail
             with mock.patch.object(connection, "answer", fail), mock.patch.object(connection, "fail", fail):
-                session.received(line(request(1, "echo")) + line(request(2, "echo")))
-            self.assertTrue(session._over.done())
+                session._transport.received(line(request(1, "echo")) + line(request(2, "echo")))
+            self.assertTrue(session._transport.is_over)
 
-        status, answers, log = self.served(talk)
+        status, answers, log = await self.served(talk)
         self.assertEqual((status, answers), (1, {}))
         self.assertEqual(len([it for it in log.texts if "can't be answered" in it]), 1, log.texts)
 
-    def test_what_cant_be_read_or_written_ends_the_session(self):
-        for name in ("fed", "take"):
-            with self.subTest(name):
+    @rows(["fed", "take"])
+    async def test_what_cant_be_read_or_written_ends_the_session(self, name):
+        async def talk(session, name=name):
+            def fail(*_):
+                raise self.Odd()
 
-                async def talk(session, name=name):
-                    def fail(*_):
-                        raise self.Odd()
+            target = session._transport.connection if name == "fed" else session._transport
+            setattr(target, name, fail)
+            session._transport.received(line(request(1, "echo")))
+            self.assertTrue(session._transport.is_over)
+            if name == "take":
+                session._transport.take = session._transport.connection.take
 
-                    target = session._connection if name == "fed" else session
-                    setattr(target, name, fail)
-                    session.received(line(request(1, "echo")))
-                    self.assertTrue(session._over.done())
-                    if name == "take":
-                        session.take = session._connection.take
+        status, _, log = await self.served(talk)
+        self.assertEqual(status, 1)
+        self.assertEqual(len([it for it in log.texts if "the session ends" in it]), 1, log.texts)
 
-                status, _, log = self.served(talk)
-                self.assertEqual(status, 1)
-                self.assertEqual(len([it for it in log.texts if "the session ends" in it]), 1, log.texts)
-
-    def test_what_fails_at_the_end_is_no_traceback(self):
+    async def test_what_fails_at_the_end_is_no_traceback(self):
         async def talk(session):
-            session.received(line(request(1, "never")))
+            session._transport.received(line(request(1, "never")))
             await asyncio.sleep(0.01)
 
             def fail(*_):
                 raise NoMemory()
 
-            session._connection.cancel = fail
+            session._transport.connection.cancel = fail
 
         server = Server(framing="lines", grace=0.05)
 
@@ -253,25 +242,25 @@ class LastResort(Case):
         async def never(params):
             await asyncio.sleep(20)
 
-        status, answers, _ = self.served(talk, server)
+        status, answers, _ = await self.served(talk, server)
         self.assertEqual((status, answers[1]["error"]["code"]), (1, -32603))
 
-    def test_a_log_that_fails_keeps_no_answer_back(self):
+    async def test_a_log_that_fails_keeps_no_answer_back(self):
         async def talk(session):
-            with mock.patch("bullmyrtle._answering.log.error", side_effect=self.Odd):
-                session.received(line(request(1, "raises")) + line(request(2, "echo", [2])))
+            with mock.patch("bullmyrtle._incoming.log.error", side_effect=self.Odd):
+                session._transport.received(line(request(1, "raises")) + line(request(2, "echo", [2])))
 
         server = Server(framing="lines", grace=0.2)
         server.method("raises")(lambda params: {}[1])
-        status, answers, _ = self.served(talk, server)
+        status, answers, _ = await self.served(talk, server)
         self.assertEqual((status, answers[1]["error"]["code"], answers[2]["result"]), (0, -32603, [2]))
 
-    def test_a_reader_that_fails_ends_its_session_and_closes_its_stream(self):
+    async def test_a_reader_that_fails_ends_its_session_and_closes_its_stream(self):
         class Reader:
             async def read(self, count):
                 raise ValueError("no reader")
 
-        async def main():
+        with logged() as log:
             server, statuses = Server(framing="lines", grace=0.2), []
 
             async def serve(reader, writer):
@@ -279,13 +268,10 @@ class LastResort(Case):
 
             listening = await asyncio.start_server(serve, "127.0.0.1", 0)
             reader, writer = await asyncio.open_connection(*listening.sockets[0].getsockname())
-            self.assertEqual(await asyncio.wait_for(reader.read(), 5), b"")
+            self.assertEqual(await asyncio.wait_for(reader.read(), patience(5)), b"")
             writer.close()
             listening.close()
             self.assertEqual((statuses, server._sessions), ([1], {}))
-
-        with logged() as log:
-            self.wait(main())
         self.assertEqual(len([it for it in log.texts if "the reader failed" in it]), 1)
 
 
@@ -306,8 +292,8 @@ class NoThreads(Case):
         with mock.patch.object(threading.Thread, "start", limited):
             yield
 
-    def asked(self, threads):
-        async def main():
+    async def asked(self, threads):
+        with logged() as log:
             server = Server()
 
             @server.method("x", thread=True)
@@ -321,19 +307,16 @@ class NoThreads(Case):
                     calls = [client.call("x", [it]) for it in range(5)]
                     found = await asyncio.gather(*calls, return_exceptions=True)
                     self.assertEqual(await client.call("y", [1]), [1])
-                return found, [await client.call("x", [9])]
+                return found, [await client.call("x", [9])], log
 
-        with logged() as log:
-            return (*self.wait(main()), log)
+    @rows([1, 2])
+    async def test_those_that_there_are_do_the_work(self, count):
+        found, after, log = await self.asked(count)
+        self.assertEqual((found, after), ([[it] for it in range(5)], [[9]]))
+        self.assertEqual(len(log.texts), 1)
 
-    def test_those_that_there_are_do_the_work(self):
-        for count in (1, 2):
-            found, after, log = self.asked(count)
-            self.assertEqual((found, after), ([[it] for it in range(5)], [[9]]))
-            self.assertEqual(len(log.texts), 1)
-
-    def test_with_none_it_is_answered(self):
-        found, after, _ = self.asked(0)
+    async def test_with_none_it_is_answered(self):
+        found, after, _ = await self.asked(0)
         self.assertEqual([it.code for it in found], [-32603] * 5)
         self.assertEqual(after, [[9]])
 
@@ -341,8 +324,8 @@ class NoThreads(Case):
 class Open(Case):
     """A limit to how many requests are open."""
 
-    def test_one_more_is_refused_and_all_else_goes_on(self):
-        async def main():
+    async def test_one_more_is_refused_and_all_else_goes_on(self):
+        with logged() as log:
             server, seen = Server(open=2), []
             client = Client()
             client.method("ask")(lambda params: params)
@@ -378,64 +361,48 @@ class Open(Case):
                 self.assertEqual(
                     await asyncio.gather(client.call("hold", [4]), client.call("hold", [5])), [[4], [5]]
                 )
-
-        with logged() as log:
-            self.wait(main())
         self.assertEqual(log.texts, [])
 
-    def test_requests_of_threads_and_later_ones_count(self):
-        async def main():
-            server, kept, free = Server(open=2), [], threading.Event()
-            server.method("later")(lambda params, request: kept.append(request) or misbehaving.LATER)
-            server.method("thread", thread=True)(lambda params: free.wait(10))
-            async with joined(server) as client:
-                calls = [client.call("later"), client.call("thread")]
-                with self.assertRaises(Error) as caught:
-                    await client.call("later")
-                self.assertEqual(caught.exception.code, -32000)
-                kept[0].answer("a")
-                free.set()
-                self.assertEqual(await asyncio.gather(*calls), ["a", True])
-
-        self.wait(main())
+    async def test_requests_of_threads_and_later_ones_count(self):
+        server, kept, free = Server(open=2), [], threading.Event()
+        server.method("later")(lambda params, request: kept.append(request) or misbehaving.LATER)
+        server.method("thread", thread=True)(lambda params: free.wait(SECONDS))
+        async with joined(server) as client:
+            calls = [client.call("later"), client.call("thread")]
+            with self.assertRaises(Error) as caught:
+                await client.call("later")
+            self.assertEqual(caught.exception.code, -32000)
+            kept[0].answer("a")
+            free.set()
+            self.assertEqual(await asyncio.gather(*calls), ["a", True])
 
 
 class LongCancels(Case):
     """A number in a cancel of which nobody knows anything."""
 
-    def test_on_the_standard_streams(self):
+    async def test_on_the_standard_streams(self):
         pipes = [os.pipe(), os.pipe()]
         (given, theirs), (ours, taken) = pipes
+        server = Server(framing="lines")
+        server.method("echo")(lambda params: params)
 
-        async def main():
-            server = Server(framing="lines")
-            server.method("echo")(lambda params: params)
+        @server.method("slow")
+        async def slow():
+            await asyncio.sleep(20)
 
-            @server.method("slow")
-            async def slow():
-                await asyncio.sleep(20)
-
-            serving = asyncio.ensure_future(server.serve_over(Descriptors(given, taken)))
-            os.write(theirs, line(request(1, "slow")))
-            await asyncio.sleep(0.01)
-            digits = b"1" * 5000
-            os.write(
-                theirs,
-                b'{"jsonrpc":"2.0","method":"notifications/cancelled","params":{"requestId":1,"x":%s}}\n'
-                % digits
-                + b'{"jsonrpc":"2.0","method":"notifications/cancelled","params":{"requestId":%s}}\n' % digits
-                + line(request(2, "echo", [2])),
-            )
-            loop = asyncio.get_running_loop()
-            found = await loop.run_in_executor(None, Answers(ours).until, {1, 2}, 5)
-            os.close(theirs)
-            self.assertEqual(await serving, 0)
-            return found
-
-        found = self.wait(main())
+        serving = asyncio.ensure_future(server.serve_over(Descriptors(given, taken)))
+        os.write(theirs, line(request(1, "slow")))
+        await asyncio.sleep(0.01)
+        digits = b"1" * 5000
+        os.write(
+            theirs,
+            b'{"jsonrpc":"2.0","method":"notifications/cancelled","params":{"requestId":1,"x":%s}}\n' % digits
+            + b'{"jsonrpc":"2.0","method":"notifications/cancelled","params":{"requestId":%s}}\n' % digits
+            + line(request(2, "echo", [2])),
+        )
+        loop = asyncio.get_running_loop()
+        found = await loop.run_in_executor(None, Answers(ours).until, {1, 2}, SECONDS)
+        os.close(theirs)
+        self.assertEqual(await serving, 0)
         os.close(ours)
         self.assertEqual((found[1]["error"]["code"], found[2]["result"]), (-32800, [2]))
-
-
-if __name__ == "__main__":
-    unittest.main()

@@ -1,14 +1,14 @@
 """How much is taken in and held: large contents that are read aside, and a reader that is slow."""
 import asyncio
+import contextlib
 import json
 import os
 import socket
 import threading
 import time
-import unittest
 from unittest import mock
 
-from helping import HAS_OPEN, OVER, Case, by_the_clock, joined, logged, notice, request
+from helping import Case, by_the_clock, joined, logged, notice, patience, request, rows
 
 from bullmyrtle import LATER, Client, Closed, Error, NotJson, NotOpen, Server, Unanswered
 from bullmyrtle._channels import Descriptors
@@ -25,15 +25,25 @@ def large(id_, size=100_000):
     return line(request(id_, "size", ["x" * size]))
 
 
-@unittest.skipIf(OVER != "library", "large contents: the model isn't made for so much")
+def is_closed(connection):
+    try:
+        connection.counts()
+    except Closed:
+        return True
+    return False
+
+
 class Aside(Case):
     """While a large content is read in another thread, the session waits and the others go on."""
 
     class Blocked:
-        """Keeps a session's thread in the reading of a large content, until it is let go."""
+        """Keeps a session's thread in the reading of a large content, until it is let go. (Who waited for the thread
+        would wait for so many seconds.)"""
+
+        SECONDS = patience(60)
 
         def __init__(self, session):
-            self.session, self.connection = session, session._connection
+            self.session, self.connection = session, session._transport.connection
             self.is_in, self.may_go = threading.Event(), threading.Event()
             self.fed = self.connection.fed
             self.connection.fed = self.read
@@ -41,23 +51,23 @@ class Aside(Case):
         def read(self, data, aside=False):
             if not aside:
                 return self.fed(data)
-            with self.connection._lock:
-                self.is_in.set()
-                if not self.may_go.wait(20):
-                    raise RuntimeError("it wasn't let go")
+            self.is_in.set()
+            if not self.may_go.wait(self.SECONDS):
+                raise RuntimeError("it wasn't let go")
             return self.fed(data, True)
 
         async def reached(self):
-            await asyncio.get_running_loop().run_in_executor(None, self.is_in.wait, 10)
+            is_in = await asyncio.get_running_loop().run_in_executor(None, self.is_in.wait, self.SECONDS)
+            assert is_in, "no large content is read in another thread"
 
         def let_go(self):
             self.may_go.set()
             self.connection.fed = self.fed
 
-    def served(self, use, **settings):
-        """A server and a client over TCP, and what else they need; gives the log."""
-
-        async def main():
+    @contextlib.asynccontextmanager
+    async def served(self, **settings):
+        """A server, and what makes a client over TCP with the server's session."""
+        with logged() as log:
             server, sides = Server(framing="lines", grace=2, **settings), []
             server.method("size")(lambda params: len(params[0]))
             server.method("echo")(lambda params: params)
@@ -70,49 +80,46 @@ class Aside(Case):
                 self.assertEqual(await client.call("echo", [0]), [0])
                 return client, server.sessions[-1]
 
-            await use(server, joint)
+            yield server, joint
             for it in sides:
                 await it.close()
             listening.close()
             await self.until(lambda: not server.sessions)
+        self.texts = log.texts
 
-        with logged() as log:
-            self.wait(main())
-        return log
-
-    def test_it_is_read_in_another_thread_and_what_follows_in_order(self):
-        async def use(server, joint):
+    async def test_it_is_read_in_another_thread_and_what_follows_in_order(self):
+        async with self.served() as (_, joint):
             client, session = await joint()
-            threads, fed = [], session._connection.fed
+            threads, fed = [], session._transport.connection.fed
 
             def read(data, aside=False):
-                threads.append((aside, threading.get_ident() == session._thread))
+                threads.append((aside, threading.get_ident() == session._transport.thread))
                 return fed(data, aside)
 
-            session._connection.fed = read
+            session._transport.connection.fed = read
             sizes = [10, 100_000, 20, 3_000_000, 30]
             found = await asyncio.gather(*(client.call("size", ["x" * it]) for it in sizes))
             self.assertEqual(found, sizes)
             self.assertEqual(set(threads), {(False, True), (True, False)})
+        self.assertEqual(self.texts, [])
 
-        self.assertEqual(self.served(use).texts, [])
-
-    def test_other_sessions_go_on_and_its_own_waits(self):
-        async def use(server, joint):
+    async def test_other_sessions_go_on_and_its_own_waits(self):
+        async with self.served() as (_, joint):
             (client, session), (other, _) = await joint(), await joint()
             blocked = self.Blocked(session)
             calls = [client.call("size", ["x" * 100_000]), client.call("echo", [1])]
             await blocked.reached()
             for it in range(20):
-                self.assertEqual(await asyncio.wait_for(other.call("echo", [it]), 5), [it])
+                self.assertEqual(
+                    await asyncio.wait_for(other.call("echo", [it]), self.Blocked.SECONDS / 2), [it]
+                )
             self.assertFalse(calls[0].done() or calls[1].done())
             blocked.let_go()
             self.assertEqual(await asyncio.gather(*calls), [100_000, [1]])
+        self.assertEqual(self.texts, [])
 
-        self.assertEqual(self.served(use).texts, [])
-
-    def test_what_the_session_says_meanwhile_goes_out_afterwards(self):
-        async def use(server, joint):
+    async def test_what_the_session_says_meanwhile_goes_out_afterwards(self):
+        async with self.served() as (server, joint):
             told, kept, free = [], [], threading.Event()
             finish = asyncio.Event()
 
@@ -123,7 +130,7 @@ class Aside(Case):
 
             @server.method("thread", thread=True)
             def thread(params):
-                free.wait(10)
+                free.wait(self.Blocked.SECONDS)
                 return "thread"
 
             @server.method("hand")
@@ -133,7 +140,7 @@ class Aside(Case):
 
             @server.method("back", thread=True)
             def back(params, request):
-                free.wait(10)
+                free.wait(self.Blocked.SECONDS)
                 return request.call_and_wait("ask", params)
 
             client, session = await joint()
@@ -169,7 +176,7 @@ class Aside(Case):
                 session.call_batch([])
             began = time.monotonic()
             await asyncio.sleep(0.1)
-            self.assertLess(time.monotonic() - began, 1)
+            self.assertLess(time.monotonic() - began, self.Blocked.SECONDS / 2)
             self.assertFalse(own.done() or batch.done() or calls["async"].done())
 
             blocked.let_go()
@@ -181,15 +188,14 @@ class Aside(Case):
                 await failing
             self.assertEqual((caught.exception.code, caught.exception.data), (5, [5]))
             self.assertEqual(told, [[1]])
-            self.assertEqual((session._replies, session._open), ({}, {}))
-            counts = session._connection.counts()
+            self.assertEqual((session._outgoing.replies, session._incoming.open), ({}, {}))
+            counts = session._transport.connection.counts()
             # (that which nobody waited for any more wasn't said)
             self.assertEqual((counts.own_calls, counts.open), (5, 0))
+        self.assertEqual(self.texts, [])
 
-        self.assertEqual(self.served(use).texts, [])
-
-    def test_a_cancel_and_the_end_wait_too(self):
-        async def use(server, joint):
+    async def test_a_cancel_and_the_end_wait_too(self):
+        async with self.served() as (server, joint):
             began = []
 
             @server.method("slow")
@@ -204,18 +210,17 @@ class Aside(Case):
             large = client.call("size", ["x" * 100_000])
             await blocked.reached()
             client.notify("notifications/cancelled", {"requestId": waiting.key})
-            client.session.finish()
+            client.session._transport.finish()
             await asyncio.sleep(0.05)
             self.assertFalse(waiting.done())
             blocked.let_go()
             with self.assertRaises(Error) as caught:
                 await waiting
             self.assertEqual((caught.exception.code, await large), (-32800, 100_000))
+        self.assertEqual(self.texts, [])
 
-        self.assertEqual(self.served(use).texts, [])
-
-    def test_a_session_that_is_closed_meanwhile(self):
-        async def use(server, joint):
+    async def test_a_session_that_is_closed_meanwhile(self):
+        async with self.served() as (_, joint):
             client, session = await joint()
             blocked = self.Blocked(session)
             large = client.call("size", ["x" * 100_000])
@@ -223,21 +228,19 @@ class Aside(Case):
             own = session.call("echo")
             began = time.monotonic()
             await session.close(0)
-            self.assertLess(time.monotonic() - began, 1)
+            self.assertLess(time.monotonic() - began, self.Blocked.SECONDS / 2)
             with self.assertRaises(Closed):
                 await own
             with self.assertRaises((Unanswered, Closed)):
                 await large
             blocked.let_go()
-            await self.until(lambda: session._connection._at is None)
+            await self.until(lambda: is_closed(session._transport.connection))
             with self.assertRaises(Closed):
                 session.notify("x")
-            session._over.set_result("Read")  # (for `serve`, which still waits)
+            session._transport.is_over_by("Read")  # (for `serve`, which still waits)
 
-        self.served(use)
-
-    def test_stop_meanwhile(self):
-        async def use(server, joint):
+    async def test_stop_meanwhile(self):
+        async with self.served() as (_, joint):
             client, session = await joint()
             blocked = self.Blocked(session)
             large = client.call("size", ["x" * 100_000])
@@ -247,10 +250,8 @@ class Aside(Case):
             with self.assertRaises((Error, Unanswered, Closed)):
                 await large
 
-        self.served(use)
-
-    def test_no_thread_can_be_started(self):
-        async def use(server, joint):
+    async def test_no_thread_can_be_started(self):
+        async with self.served() as (_, joint):
             client, _ = await joint()
             start = threading.Thread.start
 
@@ -261,44 +262,40 @@ class Aside(Case):
 
             with mock.patch.object(threading.Thread, "start", limited):
                 self.assertEqual(await client.call("size", ["x" * 1_000_000]), 1_000_000)
+        self.assertEqual(self.texts, [])
 
-        self.assertEqual(self.served(use).texts, [])
+    async def test_descriptors_write_all_though_they_are_kept_from_it(self):
+        given, theirs = os.pipe()
+        ours, taken = os.pipe()
+        server = Server(framing="lines")
+        server.method("size")(lambda params: len(params[0]))
+        server.method("much")(lambda params: "x" * 700_000)
+        serving = asyncio.ensure_future(server.serve_over(Descriptors(given, taken)))
+        await asyncio.sleep(0)
+        loop, got = asyncio.get_running_loop(), []
 
-    def test_descriptors_write_all_though_they_are_kept_from_it(self):
-        async def main():
-            given, theirs = os.pipe()
-            ours, taken = os.pipe()
-            server = Server(framing="lines")
-            server.method("size")(lambda params: len(params[0]))
-            server.method("much")(lambda params: "x" * 700_000)
-            serving = asyncio.ensure_future(server.serve_over(Descriptors(given, taken)))
-            await asyncio.sleep(0)
-            loop, got = asyncio.get_running_loop(), []
+        def read():
+            while data := os.read(ours, 1 << 16):
+                got.append(data)
 
-            def read():
-                while data := os.read(ours, 1 << 16):
-                    got.append(data)
-
-            os.write(theirs, line(request(1, "much")))
-            await self.until(lambda: not server.session._channel.is_idle)
-            blocked = self.Blocked(server.session)
-            writing = loop.run_in_executor(None, os.write, theirs, large(2, 300_000))
-            await blocked.reached()
-            reading = loop.run_in_executor(None, read)
-            await asyncio.sleep(0.1)
-            blocked.let_go()
-            await writing
-            os.close(theirs)
-            self.assertEqual(await serving, 0)
-            await reading
-            os.close(ours)
-            answers = [json.loads(it)["result"] for it in b"".join(got).splitlines()]
-            self.assertEqual([len(answers[0]), answers[1]], [700_000, 300_000])
-
-        self.wait(main())
+        os.write(theirs, line(request(1, "much")))
+        await self.until(lambda: not server.session._transport.channel.is_idle)
+        blocked = self.Blocked(server.session)
+        writing = loop.run_in_executor(None, os.write, theirs, large(2, 300_000))
+        await blocked.reached()
+        reading = loop.run_in_executor(None, read)
+        await asyncio.sleep(0.1)
+        blocked.let_go()
+        await writing
+        os.close(theirs)
+        self.assertEqual(await serving, 0)
+        await reading
+        os.close(ours)
+        answers = [json.loads(it)["result"] for it in b"".join(got).splitlines()]
+        self.assertEqual([len(answers[0]), answers[1]], [700_000, 300_000])
 
     @by_the_clock
-    def test_other_sessions_answer_in_time(self):
+    async def test_other_sessions_answer_in_time(self):
         """The longest that a session waits for an answer, while another one gets a content of 16 MB."""
 
         async def longest(server, address):
@@ -327,7 +324,7 @@ class Aside(Case):
             await client.close()
             return max(took)
 
-        async def main():
+        with logged():
             server = Server(framing="lines")
             server.method("echo")(lambda params: params)
             listening = await asyncio.start_server(server.serve_async, "127.0.0.1", 0)
@@ -336,42 +333,34 @@ class Aside(Case):
             while not times or (min(times) > 0.05 and len(times) < 6):
                 times.append(await longest(server, listening.sockets[0].getsockname()))
             listening.close()
-            return times
-
-        with logged():
-            self.assertLess(min(self.wait(main(), 60)), 0.05)
+            self.assertLess(min(times), 0.05)
 
 
-@unittest.skipIf(OVER != "library", "large contents: the model isn't made for so much")
 class SlowReader(Case):
     """Calls begin as long as what is said is read; all else is told on."""
 
-    def piped(self, use, count=60, size=1_000_000, **settings):
+    @contextlib.asynccontextmanager
+    async def piped(self, count=60, size=1_000_000, **settings):
         """Serves what 6 KB ask for, of which nothing is read at first."""
+        given, theirs = os.pipe()
+        ours, taken = os.pipe()
+        server, began = Server(**{"framing": "lines", "grace": 60, **settings}), []
 
-        async def main():
-            given, theirs = os.pipe()
-            ours, taken = os.pipe()
-            server, began = Server(**{"framing": "lines", "grace": 60, **settings}), []
+        @server.method("much")
+        def much(params):
+            began.append(params[0])
+            return "x" * size
 
-            @server.method("much")
-            def much(params):
-                began.append(params[0])
-                return "x" * size
-
-            serving = asyncio.ensure_future(server.serve_over(Descriptors(given, taken)))
-            await asyncio.sleep(0)
-            asked = b"".join(line(request(it, "much", [it])) for it in range(count))
-            self.assertLess(len(asked), 6_000)
-            read = self.reader(ours)
-            await use(server, began, lambda data: os.write(theirs, data), asked, read)
-            os.close(theirs)
-            answers = await read(None)
-            status = await serving
-            os.close(ours)
-            return status, answers, began
-
-        return self.wait(main(), 60)
+        serving = asyncio.ensure_future(server.serve_over(Descriptors(given, taken)))
+        await asyncio.sleep(0)
+        asked = b"".join(line(request(it, "much", [it])) for it in range(count))
+        self.assertLess(len(asked), 6_000)
+        read = self.reader(ours)
+        yield server, began, lambda data: os.write(theirs, data), asked, read
+        os.close(theirs)
+        self.answers = await read(None)
+        self.status = await serving
+        os.close(ours)
 
     def reader(self, descriptor):
         rest = [b""]
@@ -391,30 +380,27 @@ class SlowReader(Case):
 
         return read
 
-    def test_no_call_begins_while_much_waits(self):
-        async def use(server, began, write, asked, read):
+    async def test_no_call_begins_while_much_waits(self):
+        async with self.piped() as (server, began, write, asked, read):
             write(asked)
             await self.until(lambda: len(began) >= 2)
             await asyncio.sleep(0.1)
             # (1 MiB may wait: that is one result, and the second one is over it)
             self.assertEqual(began, [0, 1])
-            self.assertLess(server.session.pending, 3 * MIB)
+            self.assertLess(server.session._transport.pending, 3 * MIB)
             self.assertEqual(set(await read(2)), {0, 1})
+        self.assertEqual((self.status, began), (0, list(range(60))))
+        self.assertEqual(len(self.answers), 58)
 
-        status, answers, began = self.piped(use)
-        self.assertEqual((status, began), (0, list(range(60))))
-        self.assertEqual(len(answers), 58)
-
-    def test_replies_cancels_and_notifications_of_tasks_are_told_on(self):
-        self.check_what_is_told_on("notifications/cancelled", "requestId", -32800)
-
-    def test_the_same_with_other_cancels(self):
-        self.check_what_is_told_on("$/cancelRequest", "id", -32800, cancel_by="$/cancelRequest")
-        if HAS_OPEN:
-            self.check_what_is_told_on("notifications/cancelled", "requestId", None, protocol="mcp")
-
-    def check_what_is_told_on(self, name, member, code, **settings):
-        async def use(server, began, write, asked, read):
+    @rows(
+        [
+            ("notifications/cancelled", "requestId", -32800, {}),
+            ("$/cancelRequest", "id", -32800, {"cancel_by": "$/cancelRequest"}),
+            ("notifications/cancelled", "requestId", None, {"protocol": "mcp"}),
+        ]
+    )
+    async def test_replies_cancels_and_notifications_of_tasks_are_told_on(self, name, member, code, settings):
+        async with self.piped(**settings) as (server, began, write, asked, _):
             told, key = [], []
 
             @server.method("ask")
@@ -432,7 +418,7 @@ class SlowReader(Case):
                     raise
 
             write(line(notice("ask")) + line(request("slow", "slow")))
-            await self.until(lambda: key and len(server.session._open) == 2)
+            await self.until(lambda: key and len(server.session._incoming.open) == 2)
             write(
                 asked
                 + line({"jsonrpc": "2.0", "id": key[0], "result": "Ys"})
@@ -441,15 +427,13 @@ class SlowReader(Case):
             )
             await self.until(lambda: len(told) == 2)
             self.assertEqual((sorted(told), began), (["Ys", "cancelled"], [0, 1]))
-
-        status, answers, began = self.piped(use, **settings)
         # (those that were cancelled meanwhile never begin)
-        self.assertEqual((status, began), (0, list(range(40))))
-        codes = {answers[it]["error"]["code"] if it in answers else None for it in range(40, 60)}
+        self.assertEqual((self.status, began), (0, list(range(40))))
+        codes = {self.answers[it]["error"]["code"] if it in self.answers else None for it in range(40, 60)}
         self.assertEqual(codes, {code})
 
-    def test_the_end_is_told_on(self):
-        async def use(server, began, write, asked, read):
+    async def test_the_end_is_told_on(self):
+        async with self.piped() as (server, began, write, asked, _):
             found = []
 
             @server.method("ask")
@@ -460,20 +444,18 @@ class SlowReader(Case):
                     found.append(error)
 
             write(line(notice("ask")))
-            await self.until(lambda: len(server.session._replies) == 1)
+            await self.until(lambda: len(server.session._outgoing.replies) == 1)
             write(asked[: asked.index(b"\n", 400) + 1])
             await self.until(lambda: len(began) == 2)
-            server.session.input_ended(False)
+            server.session._transport.input_ended(False)
             await self.until(lambda: found)
             self.assertEqual(began, [0, 1])
-
-        status, answers, began = self.piped(use)
-        self.assertEqual(status, 0)
-        self.assertEqual(len(began), len([it for it in answers.values() if "result" in it]))
+        self.assertEqual(self.status, 0)
+        self.assertEqual(len(began), len([it for it in self.answers.values() if "result" in it]))
         self.assertGreater(len(began), 3)
 
-    def test_nobody_ever_reads(self):
-        async def main():
+    async def test_nobody_ever_reads(self):
+        with logged():
             given, theirs = os.pipe()
             ours, taken = os.pipe()
             server, began = Server(framing="lines", grace=0.2), []
@@ -487,25 +469,21 @@ class SlowReader(Case):
             await asyncio.sleep(0)
             os.write(theirs, b"".join(line(request(it, "much")) for it in range(50)))
             await self.until(lambda: len(began) == 2)
-            server.session.input_ended(False)
-            status = await serving
+            server.session._transport.input_ended(False)
+            self.assertEqual((await serving, len(began)), (1, 2))
             os.close(theirs)
             os.close(ours)
-            return status, len(began)
 
-        with logged():
-            self.assertEqual(self.wait(main()), (1, 2))
-
-    def test_nobody_reads_any_more(self):
+    async def test_nobody_reads_any_more(self):
         # (what is said then isn't kept)
-        async def main():
+        with logged():
             given, theirs = os.pipe()
             ours, taken = os.pipe()
             server, began = Server(framing="lines", grace=2), []
 
             @server.method("much")
             def much(params):
-                began.append(server.session.pending)
+                began.append(server.session._transport.pending)
                 return "x" * 1_000_000
 
             serving = asyncio.ensure_future(server.serve_over(Descriptors(given, taken)))
@@ -515,43 +493,37 @@ class SlowReader(Case):
             os.close(ours)
             self.assertEqual(await serving, 1)
             os.close(theirs)
-            return max(began)
+            self.assertLess(max(began), 3 * MIB)
 
-        with logged():
-            self.assertLess(self.wait(main()), 3 * MIB)
+    async def test_over_tcp(self):
+        server, began = Server(framing="lines"), []
 
-    def test_over_tcp(self):
-        async def main():
-            server, began = Server(framing="lines"), []
+        @server.method("much")
+        def much(params):
+            began.append(params[0])
+            return "x" * 1_000_000
 
-            @server.method("much")
-            def much(params):
-                began.append(params[0])
-                return "x" * 1_000_000
+        async def serve(reader, writer):
+            writer.get_extra_info("socket").setsockopt(socket.SOL_SOCKET, socket.SO_SNDBUF, 1 << 16)
+            await server.serve_async(reader, writer)
 
-            async def serve(reader, writer):
-                writer.get_extra_info("socket").setsockopt(socket.SOL_SOCKET, socket.SO_SNDBUF, 1 << 16)
-                await server.serve_async(reader, writer)
+        listening = await asyncio.start_server(serve, "127.0.0.1", 0)
+        stream = socket.socket()
+        stream.setsockopt(socket.SOL_SOCKET, socket.SO_RCVBUF, 1 << 16)
+        stream.connect(listening.sockets[0].getsockname())
+        stream.sendall(b"".join(line(request(it, "much", [it])) for it in range(60)))
+        await self.until(lambda: len(began) >= 2)
+        await asyncio.sleep(0.2)
+        self.assertLess(len(began), 6)
+        stream.shutdown(socket.SHUT_WR)
+        read = self.reader(stream.fileno())
+        self.assertEqual(set(await read(None)), set(range(60)))
+        self.assertEqual(began, list(range(60)))
+        stream.close()
+        listening.close()
 
-            listening = await asyncio.start_server(serve, "127.0.0.1", 0)
-            stream = socket.socket()
-            stream.setsockopt(socket.SOL_SOCKET, socket.SO_RCVBUF, 1 << 16)
-            stream.connect(listening.sockets[0].getsockname())
-            stream.sendall(b"".join(line(request(it, "much", [it])) for it in range(60)))
-            await self.until(lambda: len(began) >= 2)
-            await asyncio.sleep(0.2)
-            self.assertLess(len(began), 6)
-            stream.shutdown(socket.SHUT_WR)
-            read = self.reader(stream.fileno())
-            self.assertEqual(set(await read(None)), set(range(60)))
-            self.assertEqual(began, list(range(60)))
-            stream.close()
-            listening.close()
-
-        self.wait(main())
-
-    def test_what_methods_say_besides_their_results_counts_too(self):
-        async def use(server, began, write, asked, read):
+    async def test_what_methods_say_besides_their_results_counts_too(self):
+        async with self.piped() as (server, _, write, _, _):
             count = []
 
             @server.method("tell")
@@ -564,62 +536,47 @@ class SlowReader(Case):
             await self.until(lambda: count)
             await asyncio.sleep(0.1)
             self.assertLess(len(count), 4)
-            count.append(None)
-            self.counted = count
+        self.assertEqual((self.status, len(count)), (0, 100))
 
-        status, _, _ = self.piped(use)
-        self.assertEqual((status, len(self.counted)), (0, 101))
-
-    def test_a_client_goes_on_reading(self):
+    async def test_a_client_goes_on_reading(self):
         # (or both sides might wait for each other to read)
-        async def main():
-            server, client = Server(), Client()
-            client.method("much")(lambda params: "x" * 400_000)
+        server, client = Server(), Client()
+        client.method("much")(lambda params: "x" * 400_000)
 
-            @server.method("ask")
-            async def ask(params, request):
-                return [len(it) for it in await asyncio.gather(*(request.call("much") for _ in range(20)))]
+        @server.method("ask")
+        async def ask(params, request):
+            return [len(it) for it in await asyncio.gather(*(request.call("much") for _ in range(20)))]
 
-            async with joined(server, client):
-                self.assertEqual(await client.call("ask"), [400_000] * 20)
-
-        self.wait(main())
+        async with joined(server, client):
+            self.assertEqual(await client.call("ask"), [400_000] * 20)
 
 
-@unittest.skipIf(OVER != "library", "large contents: the model isn't made for so much")
 class Many(Case):
-    def test_reading_stops_while_many_calls_wait_for_their_turn(self):
-        async def main():
-            given, theirs = os.pipe()
-            ours, taken = os.pipe()
-            server, most = Server(framing="lines"), [0, 0]
-            session = []
+    async def test_reading_stops_while_many_calls_wait_for_their_turn(self):
+        given, theirs = os.pipe()
+        ours, taken = os.pipe()
+        server, most = Server(framing="lines"), [0, 0]
+        session = []
 
-            @server.method("count")
-            async def count(params):
-                session.append(server.session)
-                most[0] += 1
-                most[1] = max(most[1], len(session[0]._events))
+        @server.method("count")
+        async def count(params):
+            session.append(server.session)
+            most[0] += 1
+            most[1] = max(most[1], len(session[0]._transport.events))
 
-            data = line(notice("count")) * 30_000
+        data = line(notice("count")) * 30_000
 
-            def write():
-                at = 0
-                while at < len(data):
-                    at += os.write(theirs, data[at : at + 65536])
-                os.close(theirs)
+        def write():
+            at = 0
+            while at < len(data):
+                at += os.write(theirs, data[at : at + 65536])
+            os.close(theirs)
 
-            writing = threading.Thread(target=write)
-            writing.start()
-            status = await server.serve_over(Descriptors(given, taken))
-            writing.join()
-            os.close(ours)
-            self.assertEqual((status, most[0]), (0, 30_000))
-            # (two pieces of 64 KiB at most are told of, beyond those that may wait)
-            self.assertLess(most[1], 4_000 + 2 * 65536 // 37)
-
-        self.wait(main(), 60)
-
-
-if __name__ == "__main__":
-    unittest.main()
+        writing = threading.Thread(target=write)
+        writing.start()
+        status = await server.serve_over(Descriptors(given, taken))
+        writing.join()
+        os.close(ours)
+        self.assertEqual((status, most[0]), (0, 30_000))
+        # (two pieces of 64 KiB at most are told of, beyond those that may wait)
+        self.assertLess(most[1], 4_000 + 2 * 65536 // 37)

@@ -2,16 +2,14 @@
 import os
 import shutil
 import tempfile
-import unittest
+import threading
 
-from helping import HERE, TOP, Case, use_library_of
+from helping import HERE, Case, extension_of, made_over, patience
 
-from bullmyrtle import Connection, Counts, Empty, NoMemory, NotOpen, NotWaiting, events
+from bullmyrtle import Closed, Connection, Counts, Empty, NoMemory, NotOpen, NotWaiting, Refused, events
 
-SAID = """
-new 1 1 1 123 9223372036854775808
-sizes 24 8 56 72
-event 0 4 8 16 24 32 40 48
+SAID = """\
+open 1 1 1 1 0 123 9223372036854775808 0 0
 feed 3 255
 feed 0 -1
 feed 1 49
@@ -33,21 +31,17 @@ end 1
 
 
 class Interface(Case):
-    more = ()
-
     def setUp(self):
         if shutil.which("cc") is None:
             self.skipTest("cc isn't there: nothing shows how C sees what the package passes")
         room = tempfile.TemporaryDirectory()
         self.addCleanup(room.cleanup)
-        use_library_of(self, room.name, *self.more, os.path.join(HERE, "interface.c"))
+        sources = [os.path.join(HERE, it) for it in ("interface.c", "interface_judge.c")]
+        self.kind = made_over(Connection, extension_of(room.name, *sources).Connection)
 
     def test_it(self):
-        self.check(SAID.lstrip(), b"new 0 0 0 0 0\n")
-
-    def check(self, wanted, without_cancels):
         event = events.Call((1 << 64) - 1, "a\0b", b"[10]", b'"i"')
-        with Connection("lines", "as-came", True, 123, 1 << 63) as it:
+        with self.kind("lines", "as-came", True, 123, 1 << 63) as it:
             self.assertIs(it.is_done, True)
             self.assertEqual(it.counts(), Counts(1 << 40, 1, 2, 3, 4, 5, 6, 7, 1 << 41))
             it.feed(b"x\0\xff")
@@ -75,38 +69,73 @@ class Interface(Case):
             it.end(failed=True)
             pending = it.pending
             said = it.take(5) + it.take()
-            self.assertEqual((said.decode(), pending), (wanted, len(said)))
-        with Connection(cancels=False) as it:
+            self.assertEqual((said.decode(), pending), (SAID, len(said)))
+        with self.kind(cancels=False) as it:
             self.assertIs(it.is_done, False)
-            self.assertTrue(it.take().startswith(without_cancels))
+            self.assertTrue(it.take().startswith(b"open 1 0 0 0 0 0 0 0 0\n"))
 
-
-class Opened(Interface):
-    """The same of a library that has bm_open."""
-
-    more = ("-DOPEN",)
-
-    def setUp(self):
-        with open(os.path.join(TOP, "include", "bullmyrtle.h"), encoding="utf-8") as header:
-            if "bm_open" not in header.read():
-                self.skipTest("the header has no bm_open")
-        super().setUp()
-
-    def test_it(self):
-        head = "new 1 1 1 123 9223372036854775808\n"
-        opened = "open 1 1 1 1 0 123 9223372036854775808 0 0\n"
-        self.check(SAID.lstrip().replace(head, opened), b"open 1 0 0 0 0 0 0 0 0\n")
-
-    def test_what_it_has_more(self):
-        with Connection("contents", cancels="mcp", broken=True) as it:
-            self.assertTrue(it.take().startswith(b"open 1 2 0 2 1 0 0 0 0\n"))
+    def test_what_it_is_made_with(self):
+        with self.kind("contents", cancels="mcp", broken=True) as it:
+            self.assertEqual(it.take(), b"open 1 2 0 2 1 0 0 0 0\n")
             self.assertEqual(it.fault_offset, (1 << 64) - 1)
             self.assertEqual(it.take(), b"fault_at\n")
-        with Connection(cancels=None) as it:
+        with self.kind(cancels=None) as it:
             self.assertIsNone(it.fault_offset)
-        with Connection(entries=7, null_params=True) as it:
-            self.assertTrue(it.take().startswith(b"open 1 0 0 1 0 0 0 7 1\n"))
+        with self.kind(entries=7, null_params=True) as it:
+            self.assertEqual(it.take(), b"open 1 0 0 1 0 0 0 7 1\n")
 
+    def test_others_go_on_during_a_long_call(self):
+        """Other threads go on, and those that call the same connection wait, also with what closes it."""
+        calls = {
+            "feed": (b"x",),
+            "end": (),
+            "events": (),
+            "fed": (b"x",),
+            "next_event": (),
+            "call": (0, "m"),
+            "call_batch": (0, [("m", None)]),
+            "notify": ("m",),
+            "withdraw": (1,),
+            "answer": (1, b"1"),
+            "fail": (1, 1),
+            "cancel": (1,),
+            "take": (),
+            "counts": (),
+            "pending": None,
+            "is_done": None,
+            "fault_offset": None,
+            "close": (),
+        }
+        public = {it for it in dir(Connection) if it[0] != "_"}
+        self.assertEqual(public, set(calls))
+        for name, given in calls.items():
+            with self.subTest(name):
+                self.check_that_it_waits(name, given)
 
-if __name__ == "__main__":
-    unittest.main()
+    def check_that_it_waits(self, name, given):
+        read, write = os.pipe()
+        it, done = self.kind(), []
+
+        def call():
+            try:
+                found = getattr(it, name)
+                done.append(found if given is None else found(*given))
+            except Refused:
+                done.append("refused")
+
+        long_one = threading.Thread(target=it.fed, args=(b"wait %d" % read, True))
+        long_one.start()
+        other = threading.Thread(target=call)
+        other.start()
+        other.join(0.02)
+        self.assertEqual((long_one.is_alive(), other.is_alive(), done), (True, True, []))
+        os.write(write, b"x")
+        for thread in (long_one, other):
+            thread.join(patience(30))
+            self.assertFalse(thread.is_alive())
+        self.assertEqual(len(done), 1)
+        if name == "close":
+            with self.assertRaises(Closed):
+                it.counts()
+        for descriptor in (read, write):
+            os.close(descriptor)

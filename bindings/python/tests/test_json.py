@@ -8,10 +8,9 @@ import math
 import random
 import struct
 import typing
-import unittest
 import uuid
 
-from helping import Case
+from helping import Case, rows
 
 from bullmyrtle import _json
 
@@ -159,12 +158,12 @@ class Same(Case):
     def test_there_is_the_standard_module(self):
         self.assertEqual(MODULES[0][0], "json")
 
-    def test_texts(self):
-        for name, _, dumps in MODULES:
-            for value in VALUES:
-                with self.subTest(module=name, value=value):
-                    self.assertEqual(dumps(value), _json.plain_dumps(value))
-                    self.assertNotIn(b"\\/", dumps(value))
+    @rows(MODULES)
+    def test_texts(self, name, _, dumps):
+        for value in VALUES:
+            with self.subTest(module=name, value=value):
+                self.assertEqual(dumps(value), _json.plain_dumps(value))
+                self.assertNotIn(b"\\/", dumps(value))
 
     def test_refused(self):
         ring = []
@@ -174,33 +173,32 @@ class Same(Case):
                 with self.subTest(module=name, value=repr(value)), self.assertRaises((TypeError, ValueError)):
                     dumps(value)
 
-    def test_values(self):
-        for name, loads, _ in MODULES:
-            for text in [
-                *TEXTS,
-                *map(repr, FLOATS),
-                *(json.dumps(it, ensure_ascii=False) for it in VALUES[:30] if it is None or it is True),
-            ]:
-                with self.subTest(module=name, text=text[:40]):
-                    self.assertTrue(
-                        same(loads(text.encode()), json.loads(text)), (loads(text.encode()), json.loads(text))
-                    )
+    @rows(MODULES)
+    def test_values(self, name, loads, _):
+        for text in [
+            *TEXTS,
+            *map(repr, FLOATS),
+            *(json.dumps(it, ensure_ascii=False) for it in VALUES[:30] if it is None or it is True),
+        ]:
+            with self.subTest(module=name, text=text[:40]):
+                self.assertTrue(
+                    same(loads(text.encode()), json.loads(text)), (loads(text.encode()), json.loads(text))
+                )
 
-    def test_long_numbers(self):
-        for name, loads, _ in MODULES:
-            with self.subTest(name):
-                try:
-                    expected = json.loads("1" * 5000)
-                except ValueError:
-                    with self.assertRaises(ValueError):
-                        loads(b"1" * 5000)
-                else:
-                    self.assertEqual(loads(b"1" * 5000), expected)
+    @rows(MODULES)
+    def test_long_numbers(self, name, loads, _):
+        try:
+            expected = json.loads("1" * 5000)
+        except ValueError:
+            with self.assertRaises(ValueError):
+                loads(b"1" * 5000)
+        else:
+            self.assertEqual(loads(b"1" * 5000), expected)
 
-    def test_depth(self):
+    @rows(MODULES)
+    def test_depth(self, _, loads, dumps):
         text = b"[" * 127 + b"]" * 127
-        for _, loads, dumps in MODULES:
-            self.assertEqual(dumps(loads(text)), text)
+        self.assertEqual(dumps(loads(text)), text)
 
     def test_random(self):
         chance = random.Random(7)
@@ -233,7 +231,3 @@ class Same(Case):
             for name, loads, dumps in MODULES:
                 self.assertEqual(dumps(it), text, name)
                 self.assertTrue(same(loads(text), it), (name, text))
-
-
-if __name__ == "__main__":
-    unittest.main()

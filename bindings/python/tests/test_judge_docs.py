@@ -1,4 +1,5 @@
-"""What docs/judging.md shows, run as it stands there; and its tables beside those of the package and of docs/judge.md."""
+"""What docs/judge.md shows, run as it is there; and its tables beside those of the package."""
+import itertools
 import json
 import os
 import re
@@ -7,16 +8,16 @@ import shutil
 import stat
 import subprocess
 import sys
-import tempfile
 import unittest
 
-from helping import HERE, TOP, environment
-from judging import COMMAND, HAS_JUDGE, Case
+from helping import HERE, TOP, InAFolder, environment, ran
+from judging import COMMAND
 
 from bullmyrtle.judge import LIFE, PROVED
 from bullmyrtle.judge._command import _parser
+from bullmyrtle.judge._versions import MCP
 
-PAGE = os.path.join(TOP, "docs", "judging.md")
+PAGE = os.path.join(TOP, "docs", "judge.md")
 # A python3 whose judge is the one that the tests run.
 PYTHON = """#!/bin/sh
 if [ "$1 $2" = "-m bullmyrtle.judge" ]; then
@@ -33,45 +34,32 @@ def text_of(*place):
 
 
 def blocks():
-    return re.findall(r"^```(\w*)\n(.*?)^```$", text_of("docs", "judging.md"), re.M | re.S)
+    return re.findall(r"^```(\w*)\n(.*?)^```$", text_of("docs", "judge.md"), re.M | re.S)
 
 
-class Page(Case):
+class Page(InAFolder):
     def setUp(self):
-        room = tempfile.TemporaryDirectory()
-        self.addCleanup(room.cleanup)
-        self.room = room.name
+        super().setUp()
         os.mkdir(self.file("bin"))
         judge = " ".join(map(shlex.quote, COMMAND))
-        self.write("bin/python3", PYTHON.format(judge=judge, python=shlex.quote(sys.executable)))
+        self.file("bin/python3", PYTHON.format(judge=judge, python=shlex.quote(sys.executable)))
         os.chmod(self.file("bin/python3"), stat.S_IRWXU)
         path = os.pathsep.join([self.file("bin"), os.environ["PATH"]])
         self.env = environment(PATH=path, HOME=self.room)
 
-    def file(self, name):
-        return os.path.join(self.room, name)
-
-    def write(self, name, text):
-        with open(self.file(name), "w", encoding="utf-8") as it:
-            it.write(text)
-
     def run_words(self, words):
-        how = {"cwd": self.room, "env": self.env, "stdin": subprocess.DEVNULL, "timeout": 120, "check": False}
-        return subprocess.run(words, stdout=subprocess.PIPE, stderr=subprocess.STDOUT, **how).stdout.decode()
+        how = {"cwd": self.room, "env": self.env, "stdin": subprocess.DEVNULL}
+        return ran(words, stderr=subprocess.STDOUT, **how).stdout.decode()
 
     def test_each_block(self):
         ran, found = 0, blocks()
         for (kind, text), (after, expected) in zip(found, [*found[1:], ("", "")]):
             if kind == "python":
-                self.write(re.match(r"# (\w+\.py)\n", text)[1], text)
+                self.file(re.match(r"# (\w+\.py)\n", text)[1], text)
             elif kind == "text":
-                self.write("talk.record", text)
+                self.file("talk.record", text)
             elif kind == "sh":
                 self.assertEqual(after, "out", text)
-                if "test_adding" in text and not HAS_JUDGE:
-                    continue  # (a script that starts the judge by itself needs a library that has it)
-                if "judging.py" in text and not HAS_JUDGE:
-                    continue
                 with self.subTest(text):
                     self.assertEqual(self.run_words(["sh", "-c", text]), expected)
                 ran += 1
@@ -81,9 +69,9 @@ class Page(Case):
         if shutil.which("nvim") is None:
             self.skipTest("nvim isn't there: no hover as the page has it")
         servers = re.findall(r"^```python\n(.*?)^```$", text_of("docs", "language_servers.md"), re.M | re.S)
-        self.write("hover.py", servers[0])
-        self.write("start.lua", next(text for kind, text in blocks() if kind == "lua"))
-        self.write("notes.txt", "a rose is\na rose\n")
+        self.file("hover.py", servers[0])
+        self.file("start.lua", next(text for kind, text in blocks() if kind == "lua"))
+        self.file("notes.txt", "a rose is\na rose\n")
         script = os.path.join(HERE, "editors", "neovim_page.lua")
         self.assertIn(
             "rose: 2 times", self.run_words(["nvim", "--headless", "--clean", "-S", script, "notes.txt"])
@@ -105,6 +93,23 @@ class Page(Case):
             self.assertIn("--", _parser().parse_args(words[3:]).command)
 
 
+def by_version(levels):
+    """The levels of a rule in the versions of MCP, in words."""
+    runs = [(level, list(its)) for level, its in itertools.groupby(MCP, levels.get)]
+    told = []
+    for level, its in reversed(runs):
+        if level is not None and len(runs) > 1:
+            is_newest, is_oldest = its[-1] == MCP[-1], its[0] == MCP[0]
+            told.append(
+                f"{level} since {its[0]}"
+                if is_newest
+                else f"{level} before"
+                if is_oldest and told
+                else f"{level} in {its[-1]}"
+            )
+    return (runs[0][0] or "") if len(runs) == 1 else ", ".join(told)
+
+
 class Tables(unittest.TestCase):
     def rows(self, page, columns):
         found = re.findall(r"^\| `([\w-]+)` \|(.*)\|$", page, re.M)
@@ -112,30 +117,23 @@ class Tables(unittest.TestCase):
         return {name: it for name, it in cells if len(it) == columns}
 
     def test_life(self):
-        rows = self.rows(text_of("docs", "judging.md"), 5)
+        rows = self.rows(text_of("docs", "judge.md"), 5)
         self.assertEqual(list(rows), [it.name for it in LIFE])
         for rule in LIFE:
             _, lsp, mcp, what, section = rows[rule.name]
             self.assertEqual((lsp, section), (rule.levels.get("lsp", ""), rule.section), rule.name)
-            newer, older = rule.levels.get("mcp", ""), rule.levels.get("mcp:2025-03-26", "")
-            wanted = (
-                newer if newer == older else "; ".join(filter(None, [newer, f"{older} in `mcp:2025-03-26`"]))
-            )
-            self.assertEqual(mcp, wanted, rule.name)
+            self.assertEqual(mcp, by_version(rule.levels), rule.name)
             self.assertTrue(what.startswith(rule.what), rule.name)
 
     def test_proved(self):
         rows = self.rows(text_of("docs", "judge.md"), 4)
-        self.assertEqual([*rows, "not-judged"], [it.name for it in PROVED])
-        for rule in PROVED[:-1]:
+        proved = [it for it in PROVED if it.name != "not-judged"]
+        self.assertEqual(list(rows), [it.name for it in proved])
+        for rule in proved:
             self.assertEqual(rows[rule.name][3], rule.section, rule.name)
 
     def test_options(self):
-        table = text_of("docs", "judging.md").partition("## Options and statuses")[2].partition("\n## ")[0]
+        table = text_of("docs", "judge.md").partition("## Options and statuses")[2].partition("\n## ")[0]
         shown = set(re.findall(r"`(--[a-z]+)", table))
         known = {it for action in _parser()._actions for it in action.option_strings if it.startswith("--")}
         self.assertEqual(shown | {"--help", "--contents"}, known)
-
-
-if __name__ == "__main__":
-    unittest.main()

@@ -4,12 +4,11 @@ import ctypes
 import os
 import shutil
 import tempfile
-import unittest
 
-from helping import HERE, TOP, Case, use_library_of
+from helping import HERE, Case, extension_of, made_over
 
-from bullmyrtle import BadSettings, LibraryError, NoMemory, _library
-from bullmyrtle.judge import PROVED, Finding, Judge, Talk, _rules
+from bullmyrtle import BadSettings, NoMemory, _library
+from bullmyrtle.judge import PROVED, Finding, Judge, _rules
 
 SAID = """\
 new 1 1 1 99 0
@@ -29,23 +28,22 @@ class Interface(Case):
     def setUp(self):
         if shutil.which("cc") is None:
             self.skipTest("cc isn't there: nothing shows how C sees what the package passes")
-        with open(os.path.join(TOP, "include", "bullmyrtle.h"), encoding="utf-8") as header:
-            if "bm_judge_new" not in header.read():
-                self.skipTest("the header has no bm_judge_new")
         room = tempfile.TemporaryDirectory()
         self.addCleanup(room.cleanup)
         self.said = os.path.join(room.name, "said")
         os.environ["SAID"] = self.said
         self.addCleanup(os.environ.pop, "SAID")
         sources = [os.path.join(HERE, it) for it in ("interface.c", "interface_judge.c")]
-        self.library = use_library_of(self, room.name, "-DOPEN", "-DJUDGE", *sources)
+        extension = extension_of(room.name, *sources)
+        self.kind = made_over(Judge, extension.Judge)
+        self.library = ctypes.CDLL(os.path.join(room.name, _library.FILE))
 
     def read(self):
         with open(self.said, encoding="ascii") as file:
             return file.read()
 
     def test_it(self):
-        judge = Judge("lsp", "lines", 99)
+        judge = self.kind("lsp", "lines", 99)
         judge.saw("client", b"x\xff")
         judge.saw("server", b"")
         with self.assertRaises(NoMemory):
@@ -65,11 +63,8 @@ class Interface(Case):
 
     def test_no_memory(self):
         with self.assertRaises(NoMemory):
-            Judge("mcp", "contents")
+            self.kind("mcp", "contents")
         self.assertEqual(self.read(), "new 1 2 2 0 0\n")
-
-    def test_sizes(self):
-        self.assertEqual([ctypes.sizeof(it) for it in (_library.JudgeOptions, _library.Found)], [20, 40])
 
     def test_tables(self):
         self.library.say_tables()
@@ -77,8 +72,9 @@ class Interface(Case):
         self.assertEqual(lines[-3:], [*_rules.LEVELS])
         names = [it.partition(": ") for it in lines[:-3]]
         self.assertEqual([it[0] for it in names], [it.name for it in PROVED])
-        for (name, _, section), rule in zip(names[:-1], PROVED):
-            self.assertEqual(section, rule.section, name)
+        for (name, _, section), rule in zip(names, PROVED):
+            # (what isn't judged is no rule of a standard's)
+            self.assertEqual(section, "" if name == "not-judged" else rule.section, name)
 
 
 class BadUse(Case):
@@ -92,24 +88,3 @@ class BadUse(Case):
         ):
             with self.assertRaises(BadSettings):
                 Judge(*ways)
-
-    def test_library_without_a_judge(self):
-        class Older:
-            def __init__(self, library):
-                self._library = library
-
-            def bm_has(self, addition):
-                return addition != _library.JUDGE and self._library.bm_has(addition)
-
-            def __getattr__(self, name):
-                return getattr(self._library, name)
-
-        before = _library.library()
-        self.addCleanup(_library.use, before)
-        _library.use(Older(before))
-        with self.assertRaisesRegex(LibraryError, "judging needs a library that has bm_judge_new"):
-            Talk()
-
-
-if __name__ == "__main__":
-    unittest.main()

@@ -2,7 +2,6 @@
 import collections
 import os
 import re
-import unittest
 
 from helping import TOP
 from judging import Case
@@ -17,7 +16,7 @@ def found_in(name):
     """How often each rule is broken, as the page has it."""
     with open(os.path.join(FOLDER, f"{name}.record"), "rb") as file:
         recording = Recording(file)
-        talk, found = Talk(recording.rules, recording.framing), []
+        talk, found = Talk(recording.rules, recording.framing, shapes=True), []
         for it in recording:
             found += talk.ended(it.side, it.ended, it.at) if it.ended else talk.saw(it.side, it.data, it.at)
         talk.close()
@@ -43,7 +42,3 @@ class Recordings(Case):
     def test_none_is_large(self):
         for it in os.listdir(FOLDER):
             self.assertLess(os.path.getsize(os.path.join(FOLDER, it)), 100_000, it)
-
-
-if __name__ == "__main__":
-    unittest.main()

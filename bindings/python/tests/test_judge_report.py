@@ -5,12 +5,11 @@ import re
 import shutil
 import subprocess
 import tempfile
-import unittest
 
-from helping import frame, notice, request
+from helping import frame, notice, patience, request
 from judging import Case
 
-from bullmyrtle.judge import Event, Report, Talk
+from bullmyrtle.judge import Event, Report, Talk, summary_of
 
 VOID = {"meta", "input", "br"}
 
@@ -95,6 +94,29 @@ class Reports(Case):
         self.assertEqual(len(self.page.all("script")), 1)
         self.assertIn("</pre><script>", self.page.text)
         self.assertIn("a <b> & c", self.page.text)
+
+    def test_rules_that_are_broken_often_are_grouped(self):
+        """Where a rule is broken more than once, each has a line with a count and the first place; else there is none."""
+        answer = b'{"jsonrpc":"2.0","id":%d,"result":1}\n'
+        seen = [("server", it) for it in (answer % 1, answer % 2, b"5\n")]
+        how = {"rules": "jsonrpc", "framing": "lines"}
+        self.assertNotIn("By rule", Page(talked(seen[0], seen[2], **how)).text)
+        page = Page(talked(*seen, **how))
+        self.assertEqual(page.faults, [])
+        self.assertIn(
+            "By rule level who count rule first must server 2 not-owed message 1 at byte 0", page.text
+        )
+        talk = Talk("jsonrpc", "lines")
+        for it in (answer % 1, answer % 2, b"5\n"):
+            talk.saw("server", it)
+        offset = 2 * len(answer % 1)
+        self.assertEqual(
+            [it for it in summary_of(talk) if it.startswith("found: must")],
+            [
+                "found: must: server: not-owed (JSON-RPC 4.1, 5), 2 times, first in message 1 at byte 0",
+                f"found: must: server: object (JSON-RPC 4), once, first in message 3 at byte {offset}",
+            ],
+        )
 
     def test_links_lead_to_messages(self):
         ids = [it["id"] for _, it in self.page.tags if "id" in it]
@@ -210,25 +232,27 @@ class InABrowser(Case):
     def test_filters_and_links(self):
         if shutil.which("chromium") is None:
             self.skipTest("chromium isn't there: the report's filters aren't tried")
-        with tempfile.TemporaryDirectory() as room:
-            file = os.path.join(room, "talk.html")
-            with open(file, "w", encoding="utf-8") as it:
-                it.write(talked(*SESSION).replace("</body>", USED))
-            words = [
-                "chromium",
-                "--headless",
-                "--no-sandbox",
-                "--disable-gpu",
-                f"--user-data-dir={room}/profile",
-            ]
-            ended = subprocess.run(
-                [*words, "--virtual-time-budget=5000", "--dump-dom", f"file://{file}"],
-                env={**os.environ, "HOME": room},
-                stdout=subprocess.PIPE,
-                stderr=subprocess.DEVNULL,
-                timeout=120,
-                check=False,
-            )
+        room = tempfile.mkdtemp()
+        # (where a process of the browser's may still write as it ends)
+        self.addCleanup(shutil.rmtree, room, ignore_errors=True)
+        file = os.path.join(room, "talk.html")
+        with open(file, "w", encoding="utf-8") as it:
+            it.write(talked(*SESSION).replace("</body>", USED))
+        words = [
+            "chromium",
+            "--headless",
+            "--no-sandbox",
+            "--disable-gpu",
+            f"--user-data-dir={room}/profile",
+        ]
+        ended = subprocess.run(
+            [*words, "--virtual-time-budget=5000", "--dump-dom", f"file://{file}"],
+            env={**os.environ, "HOME": room},
+            stdout=subprocess.PIPE,
+            stderr=subprocess.DEVNULL,
+            timeout=patience(120),
+            check=False,
+        )
         (told,) = re.findall(r'data-told="([^"]*)"', ended.stdout.decode())
         whole = "c1 s1 c2 c3 c4 s2 s3 s4"
         self.assertEqual(
@@ -257,7 +281,3 @@ def contrast(one, other):
 
     high, low = sorted((light(one), light(other)), reverse=True)
     return (high + 0.05) / (low + 0.05)
-
-
-if __name__ == "__main__":
-    unittest.main()

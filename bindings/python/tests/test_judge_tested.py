@@ -1,9 +1,7 @@
 """`judged` of bullmyrtle.testing: a test fails where a side broke a rule."""
-import subprocess
 import sys
-import unittest
 
-from helping import environment, frame, notice, request
+from helping import frame, notice, ran, request, rows
 from judging import Case
 
 from bullmyrtle import Server
@@ -22,7 +20,7 @@ while os.read(0, 9999): pass
 
 
 def run(command, data):
-    subprocess.run(command, input=data, env=environment(), capture_output=True, check=False, timeout=60)
+    ran(command, data)
 
 
 class Processes(Case):
@@ -37,11 +35,11 @@ class Processes(Case):
         self.assertEqual([it.rule for it in raised.exception.findings], ["not-owed"])
         self.assertIn("must: server, message 1 at byte 22: not-owed (JSON-RPC 4.1, 5)", str(raised.exception))
 
-    def test_what_does_not_count(self):
+    @rows([{"besides": ["not-owed"]}, {"sides": ["client"]}])
+    def test_what_does_not_count(self, ways):
         server = [sys.executable, "-c", WRONG]
-        for ways in ({"besides": ["not-owed"]}, {"sides": ["client"]}):
-            with judged(server, **ways) as command:
-                run(command, frame(FIRST))
+        with judged(server, **ways) as command:
+            run(command, frame(FIRST))
 
     def test_level(self):
         data = frame(FIRST) + frame(request(1, "shutdown")) + frame(notice("exit"))
@@ -65,18 +63,15 @@ class Processes(Case):
 
 
 class InMemory(Case):
-    def test_well(self):
+    async def test_well(self):
         server = Server()
 
         @server.method("add")
         def add(params: list):
             return sum(params)
 
-        async def session():
-            async with judged(server) as client:
-                self.assertEqual(await client.call("add", [1, 2]), 3)
-
-        self.wait(session())
+        async with judged(server) as client:
+            self.assertEqual(await client.call("add", [1, 2]), 3)
 
     def test_life(self):
         """The client doesn't begin as LSP has it; without the protocol's rules nothing is wrong."""
@@ -94,18 +89,10 @@ class InMemory(Case):
         self.assertEqual([it.rule for it in raised.exception.findings], ["initialize-first"])
         self.wait(session(rules="jsonrpc"))
 
-    def test_wrong_kind(self):
+    async def test_wrong_kind(self):
         with self.assertRaisesRegex(TypeError, "async with judged"):
             with judged(Server()):
                 pass
-
-        async def session():
+        with self.assertRaisesRegex(TypeError, "with judged"):
             async with judged(["server"]):
                 pass
-
-        with self.assertRaisesRegex(TypeError, "with judged"):
-            self.wait(session())
-
-
-if __name__ == "__main__":
-    unittest.main()

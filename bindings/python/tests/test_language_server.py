@@ -5,19 +5,18 @@ import dataclasses
 import gc
 import os
 import signal
-import socket
 import subprocess
 import tempfile
 import threading
+import time
 import typing
-import unittest
 import warnings
 
-from helping import Case, command, environment, joined, logged
+from helping import SECONDS, Case, a_port, command, environment, joined, logged, patience, rows
 
 import bullmyrtle
 from bullmyrtle import Client, Error, InvalidParams
-from bullmyrtle._channels import Memory
+from bullmyrtle._streams import Memory
 from bullmyrtle.lsp import LanguageServer
 
 URI = "file:///tmp/notes.txt"
@@ -86,73 +85,9 @@ async def code_of(call):
 
 
 class Life(Case):
-    def run_life(self, server, *steps):
-        """What the requests of some steps are answered with, and the status at the end."""
-
-        async def main():
-            editor = Editor()
-            ours, theirs = Memory.pair()
-            serving = asyncio.ensure_future(server.serve_over(theirs))
-            editor.attach(ours)
-            codes = []
-            for method, is_request in steps:
-                params = {"capabilities": {}} if method == "initialize" else None
-                if is_request:
-                    codes.append(await code_of(editor.call(method, params)))
-                else:
-                    editor.notify(method, params)
-            if ("exit", False) not in steps:
-                await editor.close()
-            status = await serving
-            await editor.close()
-            return codes, status
-
-        return self.wait(main())
-
-    def server(self):
-        server = LanguageServer("life", "1")
-        self.came = []
-        server.feature("textDocument/hover")(lambda params: self.came.append("hover"))
-        server.feature("textDocument/didSave")(lambda params: self.came.append("didSave"))
-        return server
-
-    def test_a_whole_life(self):
-        steps = [("initialize", True), ("initialized", False), ("textDocument/hover", True)]
-        steps += [("textDocument/didSave", False), ("shutdown", True), ("exit", False)]
-        self.assertEqual(self.run_life(self.server(), *steps), ([0, 0, 0], 0))
-        self.assertEqual(self.came, ["hover", "didSave"])
-
-    def test_what_skips_initialize(self):
-        steps = [
-            ("textDocument/hover", True),
-            ("nothing", True),
-            ("shutdown", True),
-            ("textDocument/didSave", False),
-        ]
-        steps += [("initialize", True), ("nothing", True), ("textDocument/hover", True)]
-        codes, _ = self.run_life(self.server(), *steps)
-        self.assertEqual(codes, [-32002, -32002, -32002, 0, -32601, 0])
-        self.assertEqual(self.came, ["hover"])
-
-    def test_what_initializes_twice(self):
-        codes, _ = self.run_life(
-            self.server(), ("initialize", True), ("initialize", True), ("textDocument/hover", True)
-        )
-        self.assertEqual(codes, [0, -32600, 0])
-
-    def test_what_goes_on_after_shutdown(self):
-        steps = [("initialize", True), ("shutdown", True), ("textDocument/hover", True), ("nothing", True)]
-        steps += [("shutdown", True), ("initialize", True), ("textDocument/didSave", False), ("exit", False)]
-        self.assertEqual(self.run_life(self.server(), *steps), ([0, 0, -32600, -32600, -32600, -32600], 0))
-        self.assertEqual(self.came, [])
-
-    def test_what_exits_without_shutdown(self):
-        self.assertEqual(self.run_life(self.server(), ("initialize", True), ("exit", False)), ([0], 1))
-        self.assertEqual(self.run_life(self.server(), ("exit", False)), ([], 1))
-
-    def test_features_of_its_life(self):
-        server = self.server()
-        told = []
+    async def test_features_of_its_life(self):
+        server, told = LanguageServer("life", "1"), []
+        server.feature("textDocument/hover")(lambda params: None)
 
         @server.feature("initialize")
         async def initialize(params, request):
@@ -169,35 +104,42 @@ class Life(Case):
             return "ignored"
 
         server.feature("exit")(lambda: told.append("exit"))
-
-        async def main():
-            editor = Editor()
-            ours, theirs = Memory.pair()
-            serving = asyncio.ensure_future(server.serve_over(theirs))
-            editor.attach(ours)
-            first = editor.call("initialize", {"capabilities": {}})
-            early = editor.call("textDocument/hover")
-            self.assertEqual(await code_of(early), -32002)
-            self.assertEqual((await first)["capabilities"]["experimental"], {"a": 1})
-            self.assertEqual((await first)["serverInfo"], {"name": "life", "version": "1"})
-            editor.notify("initialized", {})
-            self.assertIsNone(await editor.call("shutdown"))
-            editor.notify("exit")
-            self.assertEqual(await serving, 0)
-            await editor.close()
-
-        self.wait(main())
+        editor = Editor()
+        ours, theirs = Memory.pair()
+        serving = asyncio.ensure_future(server.serve_over(theirs))
+        editor.attach(ours)
+        first = editor.call("initialize", {"capabilities": {}})
+        early = editor.call("textDocument/hover")
+        self.assertEqual(await code_of(early), -32002)
+        self.assertEqual((await first)["capabilities"]["experimental"], {"a": 1})
+        self.assertEqual((await first)["serverInfo"], {"name": "life", "version": "1"})
+        editor.notify("initialized", {})
+        self.assertIsNone(await editor.call("shutdown"))
+        editor.notify("exit")
+        self.assertEqual(await serving, 0)
+        await editor.close()
         self.assertEqual(told, [({}, True), "initialized", "shutdown", "exit"])
 
-    def test_initialize_that_fails_may_come_again(self):
-        for function in (self.fails, self.fails_later):
-            server = LanguageServer("life")
-            self.times = 0
-            server.feature("initialize")(function)
-            codes, _ = self.run_life(server, ("initialize", True), ("shutdown", True), ("initialize", True))
-            self.assertEqual(codes, [-32001, -32002, 0])
+    @rows(["plain", "async"])
+    async def test_initialize_that_fails_may_come_again(self, kind):
+        server, tries = LanguageServer("life"), []
 
-    def test_initialize_that_is_cancelled_may_come_again(self):
+        def initialize(params):
+            tries.append(params)
+            if len(tries) == 1:
+                raise Error(-32001, "not yet")
+
+        async def later(params):
+            await asyncio.sleep(0)
+            initialize(params)
+
+        server.feature("initialize")(initialize if kind == "plain" else later)
+        methods = ("initialize", "shutdown", "initialize", "initialize")
+        async with joined(server, Editor()) as editor:
+            codes = [await code_of(editor.call(it, {"capabilities": {}})) for it in methods]
+        self.assertEqual(codes, [-32001, -32002, 0, -32600])
+
+    async def test_initialize_that_is_cancelled_may_come_again(self):
         """Once its task has begun, and before the task's first step."""
         server = LanguageServer("life")
 
@@ -206,31 +148,19 @@ class Life(Case):
             loop = asyncio.get_running_loop()
             how = params.get("how")
             if how == "at once":
-                loop.call_soon(request.session._cancel, request)
+                loop.call_soon(request.session._incoming.cancel, request)
             elif how == "later":
-                loop.call_later(0.01, request.session._cancel, request)
+                loop.call_later(0.01, request.session._incoming.cancel, request)
             return loop.create_future() if how else None
 
-        async def main():
+        with warnings.catch_warnings():
+            warnings.simplefilter("ignore", RuntimeWarning)  # (a coroutine that never began)
             for how in ("at once", "later"):
                 async with joined(server, Editor()) as editor:
                     call = editor.call("initialize", {"capabilities": {}, "how": how})
                     self.assertEqual(await code_of(call), -32800)
                     self.assertEqual(await code_of(editor.call("initialize", {"capabilities": {}})), 0, how)
-
-        with warnings.catch_warnings():
-            warnings.simplefilter("ignore", RuntimeWarning)  # (a coroutine that never began)
-            self.wait(main())
             gc.collect()
-
-    def fails(self, params):
-        self.times += 1
-        if self.times == 1:
-            raise Error(-32001, "not yet")
-
-    async def fails_later(self, params):
-        await asyncio.sleep(0)
-        self.fails(params)
 
 
 class Capabilities(Case):
@@ -320,23 +250,19 @@ class Capabilities(Case):
         ({"workspace/symbol": None, "my/method": None}, {"workspaceSymbolProvider": True}),
     ]
 
-    def told(self, server, capabilities=None):
-        async def main():
-            editor = Editor()
-            async with joined(server, editor):
-                return await editor.begin(capabilities)
+    async def told(self, server, capabilities=None):
+        editor = Editor()
+        async with joined(server, editor):
+            return await editor.begin(capabilities)
 
-        return self.wait(main())
+    @rows(TABLE)
+    async def test_the_table(self, features, expected):
+        server = LanguageServer()
+        for name, options in features.items():
+            server.feature(name, options)(lambda params: None)
+        self.assertEqual(await self.told(server), {**self.ALWAYS, **expected})
 
-    def test_the_table(self):
-        for features, expected in self.TABLE:
-            with self.subTest(list(features)):
-                server = LanguageServer()
-                for name, options in features.items():
-                    server.feature(name, options)(lambda params: None)
-                self.assertEqual(self.told(server), {**self.ALWAYS, **expected})
-
-    def test_commands_and_what_is_given_by_hand(self):
+    async def test_commands_and_what_is_given_by_hand(self):
         server = LanguageServer(sync="full", capabilities={"experimental": {"x": 1}, "hoverProvider": False})
         server.feature("textDocument/hover")(lambda params: None)
         server.command("b")(lambda: None)
@@ -347,21 +273,24 @@ class Capabilities(Case):
             "experimental": {"x": 1},
             "hoverProvider": False,
         }
-        self.assertEqual(self.told(server), {**self.ALWAYS, "textDocumentSync": sync, **more})
+        self.assertEqual(await self.told(server), {**self.ALWAYS, "textDocumentSync": sync, **more})
 
-    def test_the_encoding(self):
-        for given, known, expected in (
-            (None, None, None),
-            (["utf-8", "utf-16"], None, "utf-8"),
-            (["utf-32", "utf-8"], None, "utf-32"),
-            (["utf-8", "utf-16"], ["utf-16"], "utf-16"),
-            (["utf-7"], None, "utf-16"),
-        ):
-            server = LanguageServer() if known is None else LanguageServer(position_encodings=known)
-            about = {} if given is None else {"general": {"positionEncodings": given}}
-            self.assertEqual(self.told(server, about).get("positionEncoding"), expected)
+    @rows(
+        [
+            (None, {}, None),
+            (["utf-8", "utf-16"], {}, "utf-8"),
+            (["utf-32", "utf-8"], {}, "utf-32"),
+            (["utf-8", "utf-16"], {"position_encodings": ["utf-16"]}, "utf-16"),
+            (["utf-7"], {}, "utf-16"),
+        ]
+    )
+    async def test_the_encoding(self, given, settings, expected):
+        about = {} if given is None else {"general": {"positionEncodings": given}}
+        self.assertEqual(
+            (await self.told(LanguageServer(**settings), about)).get("positionEncoding"), expected
+        )
 
-    def test_what_only_options_tell_may_be_given_by_hand(self):
+    async def test_what_only_options_tell_may_be_given_by_hand(self):
         legend = {"legend": {"tokenTypes": [], "tokenModifiers": []}}
         create = {"filters": [{"pattern": {"glob": "*"}}]}
         server = LanguageServer(
@@ -374,7 +303,7 @@ class Capabilities(Case):
         for name in ("semanticTokens/full", "semanticTokens/range", "onTypeFormatting"):
             server.feature(f"textDocument/{name}")(lambda params: None)
         server.feature("workspace/didCreateFiles")(lambda params: None)
-        told = self.told(server)
+        told = await self.told(server)
         self.assertEqual(told["semanticTokensProvider"], {"full": True, "range": True, **legend})
         self.assertEqual(told["documentOnTypeFormattingProvider"], {"firstTriggerCharacter": ";"})
         self.assertEqual(told["workspace"]["fileOperations"], {"didCreate": create})
@@ -382,11 +311,12 @@ class Capabilities(Case):
     def test_what_can_not_be_registered(self):
         server = LanguageServer()
         server.feature("textDocument/hover")(lambda params: None)
-        for name in (
+        names = (
             "textDocument/onTypeFormatting",
             "textDocument/semanticTokens/full",
             "workspace/willRenameFiles",
-        ):
+        )
+        for name in names:
             with self.assertRaises(TypeError):
                 server.feature(name)
         for name in ("textDocument/hover", "workspace/executeCommand"):
@@ -398,58 +328,9 @@ class Capabilities(Case):
 
 
 class Documents(Case):
-    def test_they_are_kept(self):
+    async def test_what_does_not_fit(self):
         server = LanguageServer()
-        told = []
-
-        @server.feature("textDocument/didChange")
-        def did_change(ls, params):
-            told.append((ls.document(params).text, ls.document(params).version))
-
-        @server.feature("textDocument/didClose")
-        def did_close(ls, params):
-            told.append(params["textDocument"]["uri"] in ls.workspace.documents)
-
-        @server.feature("textDocument/hover")
-        def hover(ls, params):
-            return ls.document(params).word_at(params["position"])
-
-        async def main():
-            async with editing(server) as editor:
-                editor.notify("textDocument/didOpen", opened("one\r\ntwo \U0001f600 three"))
-                self.assertEqual(await editor.call("textDocument/hover", at(1, 8)), "three")
-                first, second = change((0, 0), (0, 3), "1"), change((0, 1), (1, 3), "+")
-                editor.notify("textDocument/didChange", changed(2, first, second))
-                self.assertEqual(await editor.call("textDocument/hover", at(0, 0)), "1")
-                editor.notify("textDocument/didChange", changed(3, {"text": "whole"}))
-                editor.notify("textDocument/didClose", DOCUMENT)
-                self.assertEqual(await code_of(editor.call("textDocument/hover", at(0, 0))), -32602)
-
-        self.wait(main())
-        self.assertEqual(told, [("1+ \U0001f600 three", 2), ("whole", 3), False])
-
-    def test_each_encoding(self):
-        for encoding, column in {"utf-8": 5, "utf-16": 3, "utf-32": 2}.items():
-            server = LanguageServer()
-            server.feature("textDocument/hover")(
-                lambda ls, params: ls.document(params).word_at(params["position"])
-            )
-
-            async def main():
-                async with editing(
-                    server, capabilities={"general": {"positionEncodings": [encoding]}}
-                ) as editor:
-                    editor.notify("textDocument/didOpen", opened("\U0001f600 word"))
-                    self.assertEqual(await editor.call("textDocument/hover", at(0, column)), "word")
-                    self.assertEqual(await editor.call("textDocument/hover", at(0, column - 2)), "")
-                    self.assertEqual(server.position_encoding, encoding)
-
-            self.wait(main())
-
-    def test_what_does_not_fit(self):
-        server = LanguageServer()
-
-        async def main():
+        with logged() as log:
             async with editing(server) as editor:
                 editor.notify("textDocument/didChange", changed(2, {"text": "x"}))
                 editor.notify("textDocument/didClose", DOCUMENT)
@@ -466,13 +347,10 @@ class Documents(Case):
                     await editor.call("nothing")
                 document = server.document(URI)
                 self.assertEqual((document.text, document.version), ("Second!", 1))
-
-        with logged() as log:
-            self.wait(main())
         self.assertEqual(len(log.texts), 6, log.texts)
         self.assertTrue(log.texts[-1].endswith("version 1 comes after version 2"))
 
-    def test_a_thread_sees_a_snapshot(self):
+    async def test_a_thread_sees_a_snapshot(self):
         server = LanguageServer()
         inside, go_on = threading.Event(), threading.Event()
 
@@ -480,27 +358,23 @@ class Documents(Case):
         def hover(ls, params):
             document = ls.document(params)
             inside.set()
-            go_on.wait(10)
+            go_on.wait(SECONDS)
             return [document.text, document.version]
 
-        async def main():
-            async with editing(server) as editor:
-                editor.notify("textDocument/didOpen", opened("old"))
-                call = editor.call("textDocument/hover", at(0, 0))
-                await self.until(inside.is_set)
-                editor.notify("textDocument/didChange", changed(2, {"text": "new"}))
-                await self.until(lambda: server.document(URI).text == "new")
-                go_on.set()
-                self.assertEqual(await call, ["old", 1])
+        async with editing(server) as editor:
+            editor.notify("textDocument/didOpen", opened("old"))
+            call = editor.call("textDocument/hover", at(0, 0))
+            await self.until(inside.is_set)
+            editor.notify("textDocument/didChange", changed(2, {"text": "new"}))
+            await self.until(lambda: server.document(URI).text == "new")
+            go_on.set()
+            self.assertEqual(await call, ["old", 1])
 
-        self.wait(main())
-
-    def test_files_and_folders(self):
+    async def test_files_and_folders(self):
         from bullmyrtle.lsp import uri_of
 
         server = LanguageServer()
-
-        async def main(room):
+        with tempfile.TemporaryDirectory() as room:
             folder = {"uri": "file:///a", "name": "a"}
             root = {"rootUri": "file:///a%20b", "workspaceFolders": [folder]}
             async with editing(server, **root) as editor:
@@ -516,13 +390,11 @@ class Documents(Case):
                 self.assertEqual(server.workspace.get_text_document(uri_of(file)).text, "open")
                 self.assertEqual(list(server.workspace.folders), ["file:///c"])
                 self.assertEqual(server.workspace.root_path, "/a b")
+                self.assertEqual(server.position_encoding, "utf-16")
                 with self.assertRaises(InvalidParams):
                     server.workspace.get_text_document("untitled:1")
 
-        with tempfile.TemporaryDirectory() as room:
-            self.wait(main(room))
-
-    def test_two_editors_at_once(self):
+    async def test_two_editors_at_once(self):
         server = LanguageServer()
         server.feature("textDocument/hover")(lambda ls, params: ls.document(params).text)
 
@@ -531,43 +403,33 @@ class Documents(Case):
             await asyncio.sleep(0.01)
             ls.show_message(ls.document(params).text)
 
-        async def main():
-            async with editing(server) as one, editing(server) as other:
-                for editor, text in ((one, "one"), (other, "other")):
-                    editor.notify("textDocument/didOpen", opened(text))
-                for editor, text in ((one, "one"), (other, "other")):
-                    self.assertEqual(await editor.call("textDocument/hover", at(0, 0)), text)
-                await asyncio.gather(*(it.call("textDocument/definition", at(0, 0)) for it in (one, other)))
-                for editor, text in ((one, "one"), (other, "other")):
-                    self.assertEqual(editor.of("window/showMessage"), [{"type": 3, "message": text}])
-                with self.assertRaises(RuntimeError):
-                    server.show_message("to whom?")
-
-        self.wait(main())
+        async with editing(server) as one, editing(server) as other:
+            for editor, text in ((one, "one"), (other, "other")):
+                editor.notify("textDocument/didOpen", opened(text))
+            for editor, text in ((one, "one"), (other, "other")):
+                self.assertEqual(await editor.call("textDocument/hover", at(0, 0)), text)
+            await asyncio.gather(*(it.call("textDocument/definition", at(0, 0)) for it in (one, other)))
+            for editor, text in ((one, "one"), (other, "other")):
+                self.assertEqual(editor.of("window/showMessage"), [{"type": 3, "message": text}])
+            with self.assertRaises(RuntimeError):
+                server.show_message("to whom?")
 
 
 class Asking(Case):
     """What the editor is asked and told, as the specification has it."""
 
-    def asked(self, what, replies=None, capabilities=None, thread=False, **more):
+    async def asked(self, what, replies=None, capabilities=None, thread=False, **more):
         """What an editor is asked and told by one command, and the command's result."""
         server = LanguageServer()
-        if thread:
-            server.command("do", thread=True)(what)
-        else:
-            server.command("do")(what)
+        server.command("do", thread=thread)(what)
+        editor = Editor(**(replies or {}))
+        async with editing(server, editor, capabilities, **more):
+            editor.notify("textDocument/didOpen", opened("text", 7))
+            result = await editor.call("workspace/executeCommand", {"command": "do"})
+            await asyncio.sleep(0.01)
+        return editor.asked, editor.told, result
 
-        async def main():
-            editor = Editor(**(replies or {}))
-            async with editing(server, editor, capabilities, **more):
-                editor.notify("textDocument/didOpen", opened("text", 7))
-                result = await editor.call("workspace/executeCommand", {"command": "do"})
-                await asyncio.sleep(0.01)
-            return editor.asked, editor.told, result
-
-        return self.wait(main())
-
-    def test_notifications(self):
+    async def test_notifications(self):
         def tell(ls):
             ls.show_message("a")
             ls.show_message("b", "error")
@@ -576,7 +438,6 @@ class Asking(Case):
             ls.publish_diagnostics(URI, [])
             ls.publish_diagnostics("file:///other", [{"message": "x"}])
             ls.publish_diagnostics(ls.document(URI), [], 3)
-            ls.log_trace("e", "more")
 
         expected = [
             ("window/showMessage", {"type": 3, "message": "a"}),
@@ -587,25 +448,15 @@ class Asking(Case):
             ("textDocument/publishDiagnostics", {"uri": "file:///other", "diagnostics": [{"message": "x"}]}),
             ("textDocument/publishDiagnostics", {"uri": URI, "diagnostics": [], "version": 3}),
         ]
-        for trace, last in (
-            ("off", []),
-            ("messages", [("$/logTrace", {"message": "e"})]),
-            ("verbose", [("$/logTrace", {"message": "e", "verbose": "more"})]),
-        ):
-            self.assertEqual(self.asked(tell, trace=trace)[1], expected + last)
+        self.assertEqual((await self.asked(tell))[1], expected)
 
-    def test_requests(self):
+    async def test_requests(self):
         async def ask(ls):
-            return [
-                await ls.show_message_request("a", ["Yes", "No"], "warning"),
-                await ls.show_document("file:///x", takeFocus=True),
-                await ls.apply_edit({"changes": {}}, "label"),
-                await ls.configuration("words.label"),
-                await ls.configuration(scope_uri="file:///x"),
-                await ls.workspace_folders(),
-                await ls.refresh("codeLens"),
-                await ls.refresh("diagnostics"),
-            ]
+            await ls.unregister_capability(await ls.register_capability("textDocument/hover"))
+            await ls.show_document("file:///x", takeFocus=True)
+            await ls.refresh("diagnostics")
+            chosen = await ls.show_message_request("a", ["Yes", "No"], "warning")
+            return [chosen, await ls.workspace_folders(), await ls.configuration(scope_uri="file:///x")]
 
         def ask_in_thread(ls):
             return [ls.configuration("words.label"), ls.apply_edit({"changes": {}})]
@@ -617,88 +468,79 @@ class Asking(Case):
             "workspace_configuration": lambda params: [len(params["items"])],
             "workspace_workspaceFolders": [],
         }
-        asked, _, result = self.asked(ask, replies)
-        self.assertEqual(
-            result, [{"title": "Yes"}, {"success": True}, {"applied": True}, 1, 1, [], None, None]
-        )
+        asked, _, result = await self.asked(ask, replies)
+        self.assertEqual(result, [{"title": "Yes"}, [], 1])
+        methods = [method.rpartition("/")[2] for method, _ in asked[:2]]
+        self.assertEqual(methods, ["registerCapability", "unregisterCapability"])
         actions = [{"title": "Yes"}, {"title": "No"}]
         self.assertEqual(
-            asked,
+            asked[2:],
             [
-                ("window/showMessageRequest", {"type": 2, "message": "a", "actions": actions}),
                 ("window/showDocument", {"uri": "file:///x", "takeFocus": True}),
-                ("workspace/applyEdit", {"label": "label", "edit": {"changes": {}}}),
-                ("workspace/configuration", {"items": [{"section": "words.label"}]}),
-                ("workspace/configuration", {"items": [{"scopeUri": "file:///x"}]}),
-                ("workspace/workspaceFolders", None),
-                ("workspace/codeLens/refresh", None),
                 ("workspace/diagnostic/refresh", None),
+                ("window/showMessageRequest", {"type": 2, "message": "a", "actions": actions}),
+                ("workspace/workspaceFolders", None),
+                ("workspace/configuration", {"items": [{"scopeUri": "file:///x"}]}),
             ],
         )
-        asked, _, result = self.asked(ask_in_thread, replies, thread=True)
-        self.assertEqual(result, [1, {"applied": True}])
+        self.assertEqual((await self.asked(ask_in_thread, replies, thread=True))[2], [1, {"applied": True}])
 
-    def test_what_is_no_message(self):
-        def tell(ls):
+    async def test_what_is_no_message(self):
+        async def tell(ls):
+            for call, given in ((ls.show_message, ("a", "loud")), (ls.refresh, ("hover",))):
+                with self.assertRaises(ValueError):
+                    call(*given)
             with self.assertRaises(ValueError):
-                ls.show_message("a", "loud")
-            with self.assertRaises(ValueError):
-                ls.refresh("hover")
+                await ls.unregister_capability("nobody's")
 
-        self.assertEqual(self.asked(tell)[:2], ([], []))
+        self.assertEqual((await self.asked(tell))[:2], ([], []))
 
-    def test_dynamic_registration(self):
-        async def register(ls):
-            id_ = await ls.register_capability("textDocument/hover", {"documentSelector": None})
-            await ls.unregister_capability(id_)
-            try:
-                await ls.unregister_capability(id_)
-            except ValueError:
-                return id_
-
-        asked, _, id_ = self.asked(register)
-        about = {"id": id_, "method": "textDocument/hover"}
-        (one, other) = asked
-        registered = {"registrations": [{**about, "registerOptions": {"documentSelector": None}}]}
-        self.assertEqual(one, ("client/registerCapability", registered))
-        self.assertEqual(other, ("client/unregisterCapability", {"unregisterations": [about]}))
-
-    def test_registered_by_itself(self):
+    @rows([False, True])
+    async def test_registered_by_itself(self, able):
         watchers = {"watchers": [{"globPattern": "**/*.txt"}]}
-        for able in (False, True):
-            server = LanguageServer()
-            server.feature("workspace/didChangeWatchedFiles", watchers)(lambda params: None)
-            about = {"workspace": {"didChangeWatchedFiles": {"dynamicRegistration": able}}}
-
-            async def main():
-                async with editing(server, capabilities=about) as editor:
-                    with contextlib.suppress(Error):
-                        await editor.call("nothing")
-                    await asyncio.sleep(0.01)
-                    return editor.asked
-
-            asked = self.wait(main())
-            self.assertEqual(len(asked), int(able))
-            for method, params in asked:
-                self.assertEqual(method, "client/registerCapability")
-                self.assertEqual(params["registrations"][0]["registerOptions"], watchers)
-
-    def test_trace(self):
         server = LanguageServer()
-        server.command("do")(lambda ls: ls.log_trace("m"))
+        server.feature("workspace/didChangeWatchedFiles", watchers)(lambda params: None)
+        about = {"workspace": {"didChangeWatchedFiles": {"dynamicRegistration": able}}}
+        async with editing(server, capabilities=about) as editor:
+            with contextlib.suppress(Error):
+                await editor.call("nothing")
+            await asyncio.sleep(0.01)
+        self.assertEqual([method for method, _ in editor.asked], ["client/registerCapability"] * able)
+        for _, params in editor.asked:
+            self.assertEqual(params["registrations"][0]["registerOptions"], watchers)
 
-        async def main():
-            async with editing(server) as editor:
-                for value in ("off", "messages", "off", "wrong"):
-                    editor.notify("$/setTrace", {"value": value})
-                    await editor.call("workspace/executeCommand", {"command": "do"})
-                return editor.of("$/logTrace")
-
+    @rows(
+        [
+            ("off", []),
+            ("messages", [{"message": "m"}]),
+            ("verbose", [{"message": "m", "verbose": "more"}]),
+            ("wrong", [{"message": "m"}]),
+        ]
+    )
+    async def test_trace(self, value, told):
+        server = LanguageServer()
+        server.command("do")(lambda ls: ls.log_trace("m", "more"))
         with logged() as log:
-            self.assertEqual(self.wait(main()), [{"message": "m"}])
-        self.assertEqual(len(log.texts), 1)
+            async with editing(server, trace="messages") as editor:
+                editor.notify("$/setTrace", {"value": value})
+                await editor.call("workspace/executeCommand", {"command": "do"})
+                self.assertEqual(editor.of("$/logTrace"), told)
+        self.assertEqual(len(log.texts), int(value == "wrong"))
 
-    def test_commands(self):
+    @rows(
+        [
+            ("one", None, 5),
+            ("one", [7], 7),
+            ("two", [1], [1, 2]),
+            ("two", [], -32602),
+            ("all", [1, 2], [1, 2]),
+            ("all", None, []),
+            ("typed", [3], 3),
+            ("typed", ["3"], -32602),
+            ("none", [], -32602),
+        ]
+    )
+    async def test_commands(self, name, arguments, result):
         server = LanguageServer()
         server.command("one")(lambda ls, seconds=5: seconds)
         server.command("two")(lambda a, b=2: [a, b])
@@ -708,28 +550,12 @@ class Asking(Case):
         async def typed(ls: LanguageServer, count: int):
             return count
 
-        async def main():
-            async with editing(server) as editor:
-                results = []
-                for name, arguments in (
-                    ("one", None),
-                    ("one", [7]),
-                    ("two", [1]),
-                    ("two", []),
-                    ("all", [1, 2]),
-                    ("all", None),
-                    ("typed", [3]),
-                    ("typed", ["3"]),
-                    ("none", []),
-                ):
-                    about = {"command": name, **({} if arguments is None else {"arguments": arguments})}
-                    try:
-                        results.append(await editor.call("workspace/executeCommand", about))
-                    except Error as error:
-                        results.append(error.code)
-                return results
-
-        self.assertEqual(self.wait(main()), [5, 7, [1, 2], -32602, [1, 2], [], 3, -32602, -32602])
+        about = {"command": name, **({} if arguments is None else {"arguments": arguments})}
+        async with editing(server) as editor:
+            try:
+                self.assertEqual(await editor.call("workspace/executeCommand", about), result)
+            except Error as error:
+                self.assertEqual(error.code, result)
 
 
 class Progress(Case):
@@ -738,25 +564,21 @@ class Progress(Case):
     def kinds(self, editor):
         return [it["value"]["kind"] for it in editor.of("$/progress")]
 
-    def served(self, function, editor, capabilities=None, params=None, thread=False, act=None):
+    async def served(self, function, editor, capabilities=None, params=None, thread=False, act=None):
         """What one request that shows progress is answered with."""
         server = LanguageServer()
         server.behind = self.behind = []
         server.feature("my/work", thread=thread)(function)
-
-        async def main():
-            async with editing(server, editor, capabilities):
-                call = editor.call("my/work", params or {})
-                if act is not None:
-                    await act(editor, call)
-                try:
-                    result = await call
-                except Error as error:
-                    result = error.code
-                await asyncio.sleep(0.02)
-                return result
-
-        return self.wait(main())
+        async with editing(server, editor, capabilities):
+            call = editor.call("my/work", params or {})
+            if act is not None:
+                await act(editor, call)
+            try:
+                result = await call
+            except Error as error:
+                result = error.code
+            await asyncio.sleep(0.02)
+            return result
 
     @staticmethod
     async def work(ls, params):
@@ -774,30 +596,21 @@ class Progress(Case):
                 threading.Event().wait(0.005)
         return progress.is_cancelled
 
-    def test_a_token_that_is_made(self):
+    async def test_the_requests_own_token(self):
         editor = Editor()
-        self.assertIs(self.served(self.work, editor, self.ABLE), False)
-        ((method, params),) = editor.asked
-        self.assertEqual(method, "window/workDoneProgress/create")
+        self.assertIs(await self.served(self.work, editor, self.ABLE, {"workDoneToken": 7}), False)
+        self.assertEqual(editor.asked, [])
         begin = {"kind": "begin", "title": "Work", "message": "m", "percentage": 0, "cancellable": True}
         values = [begin, {"kind": "report", "message": "half", "percentage": 50}, {"kind": "end"}]
-        self.assertEqual(editor.of("$/progress"), [{"token": params["token"], "value": it} for it in values])
+        self.assertEqual(editor.of("$/progress"), [{"token": 7, "value": it} for it in values])
 
-    def test_the_requests_own_token(self):
-        editor = Editor()
-        self.assertIs(self.served(self.work, editor, self.ABLE, {"workDoneToken": 7}), False)
-        self.assertEqual(editor.asked, [])
-        self.assertEqual({it["token"] for it in editor.of("$/progress")}, {7})
-        self.assertEqual(self.kinds(editor), ["begin", "report", "end"])
-
-    def test_none(self):
+    @rows([({}, {}), ({"window_workDoneProgress_create": Error(-32603, "no")}, ABLE)])
+    async def test_none(self, replies, able):
         """An editor without progress, and one that refuses a token."""
-        refused = {"window_workDoneProgress_create": Error(-32603, "no")}
-        for replies, able in (({}, {}), (refused, self.ABLE)):
-            for function, thread in ((self.work, False), (self.work_in_thread, True)):
-                editor = Editor(**replies)
-                self.assertIs(self.served(function, editor, able, thread=thread), False)
-                self.assertEqual(self.kinds(editor), [])
+        for function, thread in ((self.work, False), (self.work_in_thread, True)):
+            editor = Editor(**replies)
+            self.assertIs(await self.served(function, editor, able, thread=thread), False)
+            self.assertEqual(self.kinds(editor), [])
 
     async def cancel_the_progress(self, editor, call):
         await self.until(lambda: "report" in self.kinds(editor))
@@ -809,45 +622,37 @@ class Progress(Case):
         await self.until(lambda: "report" in self.kinds(editor))
         editor.notify("$/cancelRequest", {"id": call.key})
 
-    def test_it_is_cancelled(self):
-        editor = Editor()
-        given = {"seconds": 60}
-        self.assertIs(self.served(self.work, editor, self.ABLE, given, act=self.cancel_the_progress), True)
+    async def test_it_is_cancelled(self):
+        editor, cancel = Editor(), self.cancel_the_progress
+        self.assertIs(await self.served(self.work, editor, self.ABLE, {"seconds": 60}, act=cancel), True)
         self.assertEqual(self.kinds(editor), ["begin", "report", "end"])
         self.assertEqual(self.behind, ["behind the block"])
-        editor = Editor()
-        given = {"times": 10_000}
-        result = self.served(self.work_in_thread, editor, self.ABLE, given, True, self.cancel_the_progress)
-        self.assertIs(result, True)
-        self.assertEqual((self.kinds(editor)[0], self.kinds(editor)[-1]), ("begin", "end"))
-        self.assertEqual(self.kinds(editor).count("end"), 1)
+        editor, given = Editor(), {"times": 10_000}
+        self.assertIs(
+            await self.served(self.work_in_thread, editor, self.ABLE, given, True, act=cancel), True
+        )
+        begin, *_, end = kinds = self.kinds(editor)
+        self.assertEqual((begin, end, kinds.count("end")), ("begin", "end", 1))
 
-    def test_its_request_is_cancelled(self):
+    @rows([({}, ["begin", "report", "end"]), ({"workDoneToken": "t"}, ["begin", "report"])])
+    async def test_its_request_is_cancelled(self, params, kinds):
         """A token that was made is ended; one that came with the request has no meaning behind its answer."""
-        for params, kinds in (
-            ({}, ["begin", "report", "end"]),
-            ({"workDoneToken": "t"}, ["begin", "report"]),
-        ):
-            editor = Editor()
-            given = {"seconds": 60, **params}
-            self.assertEqual(
-                self.served(self.work, editor, self.ABLE, given, act=self.cancel_the_request), -32800
-            )
-            self.assertEqual(self.kinds(editor), kinds)
-            self.assertEqual(self.behind, [])
+        editor, given = Editor(), {"seconds": 60, **params}
+        code = await self.served(self.work, editor, self.ABLE, given, act=self.cancel_the_request)
+        self.assertEqual((code, self.kinds(editor), self.behind), (-32800, kinds, []))
 
-    def test_a_plain_function_can_not_wait(self):
+    async def test_a_plain_function_can_not_wait(self):
         def work(ls, params):
             with ls.progress("Work", params):
                 return "done"
 
         with logged():
-            self.assertEqual(self.served(work, Editor(), self.ABLE), -32603)
+            self.assertEqual(await self.served(work, Editor(), self.ABLE), -32603)
         editor = Editor()
-        self.assertEqual(self.served(work, editor, self.ABLE, {"workDoneToken": 1}), "done")
+        self.assertEqual(await self.served(work, editor, self.ABLE, {"workDoneToken": 1}), "done")
         self.assertEqual(self.kinds(editor), ["begin", "end"])
 
-    def test_of_no_request(self):
+    async def test_of_no_request(self):
         server = LanguageServer()
         done = []
 
@@ -857,32 +662,21 @@ class Progress(Case):
             done.append(progress.is_cancelled)
 
         server.feature("initialized")(lambda ls: done.append(asyncio.ensure_future(index(ls))) and None)
+        async with editing(server, capabilities=self.ABLE) as editor:
+            await self.until(lambda: self.kinds(editor) == ["begin"])
+            token = editor.of("$/progress")[0]["token"]
+            editor.notify("window/workDoneProgress/cancel", {"token": token})
+            await self.until(lambda: self.kinds(editor) == ["begin", "end"])
+            await self.until(lambda: done[1:] == [True])
 
-        async def main():
-            async with editing(server, capabilities=self.ABLE) as editor:
-                await self.until(lambda: self.kinds(editor) == ["begin"])
-                token = editor.of("$/progress")[0]["token"]
-                editor.notify("window/workDoneProgress/cancel", {"token": token})
-                await self.until(lambda: self.kinds(editor) == ["begin", "end"])
-                await self.until(lambda: done[1:] == [True])
-
-        self.wait(main())
-
-    def test_partial_results(self):
+    @rows([({}, [1]), ({"partialResultToken": "p"}, []), ({"partialResultToken": [1]}, -32602)])
+    async def test_partial_results(self, params, result):
         async def find(ls, params):
             async with ls.partial(params) as partial:
-                for it in range(3):
-                    partial.send([it])
-                    await asyncio.sleep(0)
+                partial.send([1])
             return partial.result
 
-        editor = Editor()
-        self.assertEqual(self.served(find, editor), [0, 1, 2])
-        self.assertEqual(editor.of("$/progress"), [])
-        editor = Editor()
-        self.assertEqual(self.served(find, editor, params={"partialResultToken": "p"}), [])
-        self.assertEqual(editor.of("$/progress"), [{"token": "p", "value": [it]} for it in range(3)])
-        self.assertEqual(self.served(find, Editor(), params={"partialResultToken": [1]}), -32602)
+        self.assertEqual(await self.served(find, Editor(), params=params), result)
 
 
 @dataclasses.dataclass
@@ -927,23 +721,18 @@ class Converter:
 
 
 class Types(Case):
-    def test_dataclasses(self):
+    async def test_dataclasses(self):
         server = LanguageServer()
 
         @server.feature("textDocument/hover")
         def hover(ls, params: HoverParams):
             return params.position
 
-        async def main():
-            async with editing(server) as editor:
-                self.assertEqual(
-                    await editor.call("textDocument/hover", at(1, 2)), {"line": 1, "character": 2}
-                )
-                self.assertEqual(await code_of(editor.call("textDocument/hover", at("1", 2))), -32602)
+        async with editing(server) as editor:
+            self.assertEqual(await editor.call("textDocument/hover", at(1, 2)), {"line": 1, "character": 2})
+            self.assertEqual(await code_of(editor.call("textDocument/hover", at("1", 2))), -32602)
 
-        self.wait(main())
-
-    def test_over_tcp(self):
+    async def test_over_tcp(self):
         """`start_tcp`, in a process of its own, with two editors at once; Ctrl-C ends it."""
         script = (
             "import signal\nimport sys\nfrom bullmyrtle.lsp import LanguageServer\nserver = LanguageServer()\n"
@@ -952,14 +741,13 @@ class Types(Case):
             'server.feature("my/text")(lambda ls, params: ls.document(params).text)\n'
             'server.start_tcp("127.0.0.1", int(sys.argv[1]))\n'
         )
-        with socket.create_server(("127.0.0.1", 0)) as free:
-            port = free.getsockname()[1]
 
-        async def edit(text):
-            for _ in range(500):
+        async def edit(text, port):
+            streams, end = None, time.monotonic() + SECONDS
+            while streams is None:
+                self.assertLess(time.monotonic(), end, "nobody listens in time")
                 try:
                     streams = await asyncio.open_connection("127.0.0.1", port)
-                    break
                 except ConnectionError:
                     await asyncio.sleep(0.02)
             async with Editor() as editor:
@@ -972,23 +760,21 @@ class Types(Case):
                 editor.notify("exit")
             return result
 
-        async def main():
-            self.assertEqual(await asyncio.gather(edit("one"), edit("other")), ["one", "other"])
-
-        with tempfile.TemporaryDirectory() as room:
+        with tempfile.TemporaryDirectory() as room, a_port() as port:
             file = os.path.join(room, "tcp.py")
             with open(file, "w", encoding="utf-8") as it:
                 it.write(script)
             process = subprocess.Popen(command(file, str(port)), env=environment())
             try:
-                self.wait(main())
+                edited = await asyncio.gather(edit("one", port), edit("other", port))
+                self.assertEqual(edited, ["one", "other"])
                 process.send_signal(signal.SIGINT)
-                self.assertEqual(process.wait(20), 0)
+                self.assertEqual(process.wait(SECONDS), 0)
             finally:
                 process.kill()
                 process.wait()
 
-    def test_members_that_are_left_out(self):
+    async def test_members_that_are_left_out(self):
         """What is None, and by default is None, isn't there: LSP has null in few places."""
         server = LanguageServer()
 
@@ -997,18 +783,17 @@ class Types(Case):
             ls.notify("my/told", {"all": [Hover("a"), (Hover("b", {"x": 1}, None),)], "none": None})
             return [Hover("c", places=[Place(1, 2)]), {"deep": {"er": Hover("d")}}, None]
 
-        async def main():
-            async with editing(server) as editor:
-                c = {"contents": "c", "version": 0, "places": [{"line": 1, "character": 2}]}
-                d = {"contents": "d", "version": 0, "places": []}
-                self.assertEqual(await editor.call("textDocument/hover", {}), [c, {"deep": {"er": d}}, None])
-                a = {"contents": "a", "version": 0, "places": []}
-                b = {"contents": "b", "range": {"x": 1}, "version": None, "places": []}
-                self.assertEqual(editor.of("my/told"), [{"all": [a, [b]], "none": None}])
+        async with editing(server) as editor:
+            c = {"contents": "c", "version": 0, "places": [{"line": 1, "character": 2}]}
+            d = {"contents": "d", "version": 0, "places": []}
+            self.assertEqual(
+                await editor.call("textDocument/hover", at(0, 0)), [c, {"deep": {"er": d}}, None]
+            )
+            a = {"contents": "a", "version": 0, "places": []}
+            b = {"contents": "b", "range": {"x": 1}, "version": None, "places": []}
+            self.assertEqual(editor.of("my/told"), [{"all": [a, [b]], "none": None}])
 
-        self.wait(main())
-
-    def test_a_converter(self):
+    async def test_a_converter(self):
         server = LanguageServer(converter=Converter())
 
         @server.feature("my/plain")
@@ -1025,19 +810,15 @@ class Types(Case):
             return Outside(params.word.upper())
 
         server.feature("my/json")(lambda params: params)
+        async with editing(server) as editor:
+            self.assertEqual(await editor.call("my/plain", {"word": "a"}), [{"word": "aa"}])
+            self.assertEqual(await editor.call("my/async", {"word": "a"}), {"word": "amy/async"})
+            self.assertEqual(await editor.call("my/thread", {"word": "a"}), {"word": "A"})
+            self.assertEqual(await editor.call("my/json", {"word": "a"}), {"word": "a"})
+            self.assertEqual(await code_of(editor.call("my/plain", {})), -32602)
+            self.assertEqual(editor.of("my/told"), [{"word": "told"}])
 
-        async def main():
-            async with editing(server) as editor:
-                self.assertEqual(await editor.call("my/plain", {"word": "a"}), [{"word": "aa"}])
-                self.assertEqual(await editor.call("my/async", {"word": "a"}), {"word": "amy/async"})
-                self.assertEqual(await editor.call("my/thread", {"word": "a"}), {"word": "A"})
-                self.assertEqual(await editor.call("my/json", {"word": "a"}), {"word": "a"})
-                self.assertEqual(await code_of(editor.call("my/plain", {})), -32602)
-                self.assertEqual(editor.of("my/told"), [{"word": "told"}])
-
-        self.wait(main())
-
-    def test_where_the_server_goes(self):
+    async def test_where_the_server_goes(self):
         server = LanguageServer()
 
         class Mine(LanguageServer):
@@ -1056,21 +837,18 @@ class Types(Case):
         def e(ls):
             return threading.current_thread() is threading.main_thread()
 
-        async def main():
-            async with editing(server) as editor:
-                self.assertEqual(await editor.call("a", [1]), [1])
-                self.assertEqual(await editor.call("b", [1]), [1])
-                self.assertEqual(await editor.call("c", {"a": 1, "b": 2}), [True, 1, 2])
-                self.assertEqual(await editor.call("d", {}), [True, {}, "d"])
-                self.assertIs(await editor.call("e"), False)
-
-        self.wait(main())
+        async with editing(server) as editor:
+            self.assertEqual(await editor.call("a", [1]), [1])
+            self.assertEqual(await editor.call("b", [1]), [1])
+            self.assertEqual(await editor.call("c", {"a": 1, "b": 2}), [True, 1, 2])
+            self.assertEqual(await editor.call("d", {}), [True, {}, "d"])
+            self.assertIs(await editor.call("e"), False)
 
 
 class Limits(Case):
     """Time limits (-32803, RequestFailed), middleware, and features in a class."""
 
-    def test_they_are_kept(self):
+    async def test_they_are_kept(self):
         server = LanguageServer()
         ended = []
 
@@ -1092,19 +870,16 @@ class Limits(Case):
         async def wait(ls, seconds):
             await asyncio.sleep(seconds)
 
-        async def main():
+        with logged():
             editor = Editor(workspace_configuration=lambda params: asyncio.sleep(60))
             async with editing(server, editor):
-                self.assertEqual(await code_of(editor.call("textDocument/hover", {})), -32803)
-                self.assertEqual(await code_of(editor.call("textDocument/definition", {})), -32803)
-                wait = {"command": "wait", "arguments": [60]}
-                self.assertEqual(await code_of(editor.call("workspace/executeCommand", wait)), -32803)
+                self.assertEqual(await code_of(editor.call("textDocument/hover", at(0, 0))), -32803)
+                self.assertEqual(await code_of(editor.call("textDocument/definition", at(0, 0))), -32803)
+                about = {"command": "wait", "arguments": [60]}
+                self.assertEqual(await code_of(editor.call("workspace/executeCommand", about)), -32803)
                 await self.until(lambda: ended == ["hover", "definition"])
 
-        with logged():
-            self.wait(main())
-
-    def test_middleware(self):
+    async def test_middleware(self):
         """It is around whatever comes, also at a wrong time."""
         server = LanguageServer()
         seen = []
@@ -1122,41 +897,29 @@ class Limits(Case):
 
         server.feature("textDocument/hover")(lambda ls, params: ls.document(params).text)
         server.feature("textDocument/definition")(lambda params: None)
-
-        async def main():
-            async with joined(server, Editor()) as editor:
-                self.assertEqual(await code_of(editor.call("textDocument/hover", DOCUMENT)), -32002)
-                await editor.begin()
-                editor.notify("textDocument/didOpen", opened("text"))
-                self.assertEqual(await editor.call("textDocument/hover", DOCUMENT), "text")
-                self.assertEqual(await code_of(editor.call("textDocument/definition", DOCUMENT)), -32001)
-
-        self.wait(main())
+        async with joined(server, Editor()) as editor:
+            self.assertEqual(await code_of(editor.call("textDocument/hover", DOCUMENT)), -32002)
+            await editor.begin()
+            editor.notify("textDocument/didOpen", opened("text"))
+            self.assertEqual(await editor.call("textDocument/hover", at(0, 0)), "text")
+            self.assertEqual(await code_of(editor.call("textDocument/definition", DOCUMENT)), -32001)
         names = ["initialize", "initialized", "textDocument/didOpen", "textDocument/hover"]
         self.assertEqual(seen, [("textDocument/hover", -32002), *names])
 
-    def test_features_in_a_class(self):
+    async def test_features_in_a_class(self):
         class Words:
             @bullmyrtle.method("textDocument/hover")
             def hover(self, ls, params):
                 return ls.document(params).text
 
-            @bullmyrtle.method("words/sum", timeout=5)
+            @bullmyrtle.method("words/sum", timeout=patience(5))
             async def sum(self, a: int, b: int):
                 return a + b
 
         server = LanguageServer()
         server.register(Words())
-
-        async def main():
-            async with joined(server, Editor()) as editor:
-                self.assertIs((await editor.begin())["hoverProvider"], True)
-                editor.notify("textDocument/didOpen", opened("text"))
-                self.assertEqual(await editor.call("textDocument/hover", DOCUMENT), "text")
-                self.assertEqual(await editor.call("words/sum", {"a": 1, "b": 2}), 3)
-
-        self.wait(main())
-
-
-if __name__ == "__main__":
-    unittest.main()
+        async with joined(server, Editor()) as editor:
+            self.assertIs((await editor.begin())["hoverProvider"], True)
+            editor.notify("textDocument/didOpen", opened("text"))
+            self.assertEqual(await editor.call("textDocument/hover", at(0, 0)), "text")
+            self.assertEqual(await editor.call("words/sum", {"a": 1, "b": 2}), 3)

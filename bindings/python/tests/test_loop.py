@@ -4,9 +4,8 @@ import json
 import os
 import threading
 import time
-import unittest
 
-from helping import Case, by_the_clock, frame, logged, messages, notice, request
+from helping import SECONDS, Case, by_the_clock, frame, logged, messages, notice, request, rows
 
 from bullmyrtle import Server, _loop
 from bullmyrtle._channels import Channel, Descriptors
@@ -69,7 +68,7 @@ class OfOurs(Piped):
         self.assertIs(type(loop), Other)
 
     def test_a_message_is_read_without_a_turn_of_the_loop(self):
-        server, turns = Server(), [0]
+        server, turns, begins = Server(), [0], threading.Event()
         server.method("echo")(lambda params: params)
         before = self.loop._run_once
 
@@ -89,7 +88,12 @@ class OfOurs(Piped):
                     self.send(request(it, "echo", [it]))
                     self.assertEqual(self.read(1)[0]["result"], [it])
                 self.assertEqual(turns[0] - began, 0, seconds)
-                self.loop.call_soon_threadsafe(self.loop.call_later, 20, print)
+                # (a timer begins, which is a turn, and behind that the loop waits again)
+                self.loop.call_soon_threadsafe(lambda: begins.set() or self.loop.call_later(SECONDS, print))
+                self.assertTrue(begins.wait(SECONDS))
+                begins.clear()
+                self.send(request(0, "echo", []))
+                self.read(1)
                 time.sleep(0.1)
             return "all"
 
@@ -137,17 +141,17 @@ class Order(Piped):
         class Turns(Channel):
             takes_turns = True
 
-            def start(self, session):
+            def start(self, transport):
                 # (the second call of the first turn begins in the second turn)
                 first = frame(notice("async", [0])) + frame(notice("async", [1]))
-                session.loop.call_soon(self.turn, session, first, frame(notice("plain", [2])), None)
+                transport.loop.call_soon(self.turn, transport, first, frame(notice("plain", [2])), None)
 
-            def turn(self, session, data, *more):
+            def turn(self, transport, data, *more):
                 if data is None:
-                    session.input_ended(False)
+                    transport.input_ended(False)
                 else:
-                    session.received(data)
-                    session.loop.call_soon(self.turn, session, *more)
+                    transport.received(data)
+                    transport.loop.call_soon(self.turn, transport, *more)
 
         self.assertEqual(self.wait(server.serve_over(Turns())), 0)
         self.assertEqual(began, [0, 1, 2])
@@ -218,11 +222,14 @@ class Others(Piped):
             return ticks
 
         def talk():
-            for it in (0.2, 0.1):
-                self.send(request(1, "soon", [it]))
-                self.read(1)
-            time.sleep(0.4)
-            self.send(request(2, "ticks"))
+            # (in one piece, so that nothing comes between that makes the first one sooner)
+            self.send(request(1, "soon", [0.2]), request(2, "soon", [0.1]))
+            self.read(2)
+            end = time.monotonic() + SECONDS
+            while len(ticks) < 2:  # (and no message comes meanwhile)
+                self.assertLess(time.monotonic(), end, ticks)
+                time.sleep(0.01)
+            self.send(request(3, "ticks"))
             return self.read(1)[0]["result"]
 
         self.assertEqual(self.served(server, talk), (0, [0.1, 0.2]))
@@ -252,7 +259,7 @@ class Others(Piped):
                 done.clear()
                 self.send(request(1, "ask", [it]))
                 self.read(1)
-                if done.wait(5):
+                if done.wait(SECONDS):
                     in_time.append(it)
             return in_time
 
@@ -353,7 +360,7 @@ class Others(Piped):
             self.send(request(1, "stop"))
             self.read(1)
             # (the end of the input makes one turn that isn't stopped in time)
-            in_time.append(is_stopped.wait(5))
+            in_time.append(is_stopped.wait(SECONDS))
             os.close(self.theirs)
 
         thread = threading.Thread(target=talk)
@@ -404,36 +411,31 @@ class Pipes(Case):
         asyncio.run(channel.close(0))
         os.close(ours)
 
-    def test_all_that_is_said_goes_out_by_both(self):
-        for is_plain in (True, False):
-            with self.subTest(is_plain=is_plain):
-                given, theirs = os.pipe()
-                ours, taken = os.pipe()
-                server = Server()
-                server.method("much")(lambda params: "x" * params[0])
-                sizes, opened = [1, 100_000, 65_000, 70_000, 300_000, 4096, 4095], os.open
-                if not is_plain:
-                    os.open = lambda *_, **__: (_ for _ in ()).throw(OSError())
-                try:
-                    channel = Descriptors(given, taken)
-                finally:
-                    os.open = opened
-                self.assertEqual(channel._is_plain, is_plain)
-                os.write(theirs, b"".join(frame(request(at, "much", [it])) for at, it in enumerate(sizes)))
-                os.close(theirs)
-                found = []
+    @rows([True, False])
+    def test_all_that_is_said_goes_out_by_both(self, is_plain):
+        given, theirs = os.pipe()
+        ours, taken = os.pipe()
+        server = Server()
+        server.method("much")(lambda params: "x" * params[0])
+        sizes, opened = [1, 100_000, 65_000, 70_000, 300_000, 4096, 4095], os.open
+        if not is_plain:
+            os.open = lambda *_, **__: (_ for _ in ()).throw(OSError())
+        try:
+            channel = Descriptors(given, taken)
+        finally:
+            os.open = opened
+        self.assertEqual(channel._is_plain, is_plain)
+        os.write(theirs, b"".join(frame(request(at, "much", [it])) for at, it in enumerate(sizes)))
+        os.close(theirs)
+        found = []
 
-                def read(ours=ours, found=found):
-                    while data := os.read(ours, 1 << 20):
-                        found.append(data)
+        def read(ours=ours, found=found):
+            while data := os.read(ours, 1 << 20):
+                found.append(data)
 
-                thread = threading.Thread(target=read)
-                thread.start()
-                self.assertEqual(self.wait(server.serve_over(channel)), 0)
-                thread.join()
-                os.close(ours)
-                self.assertEqual([len(it["result"]) for it in messages(b"".join(found))], sizes)
-
-
-if __name__ == "__main__":
-    unittest.main()
+        thread = threading.Thread(target=read)
+        thread.start()
+        self.assertEqual(self.wait(server.serve_over(channel)), 0)
+        thread.join()
+        os.close(ours)
+        self.assertEqual([len(it["result"]) for it in messages(b"".join(found))], sizes)

@@ -1,104 +1,89 @@
 """Several sessions on one server, and the ways to serve them in a loop that runs already."""
 import asyncio
+import contextlib
 import importlib
 import json
-import os
-import subprocess
 import sys
-import tempfile
-import unittest
 
-from helping import Case, command, environment, frame, joined, logged, messages, request
+from helping import Case, InAFolder, command, frame, joined, logged, messages, ran, request, rows
 
 from bullmyrtle import Client, Server
 
 
 class Sessions(Case):
-    def test_each_has_its_own_state(self):
-        async def main():
-            server = Server()
+    async def test_each_has_its_own_state(self):
+        server = Server()
 
-            @server.method("open")
-            def opened(params, request):
-                request.session.state.setdefault("texts", []).append(params[0])
+        @server.method("open")
+        def opened(params, request):
+            request.session.state.setdefault("texts", []).append(params[0])
 
-            @server.method("texts")
-            def texts(params, request):
-                return request.session.state["texts"]
+        @server.method("texts")
+        def texts(params, request):
+            return request.session.state["texts"]
 
-            self.assertEqual(server.sessions, ())
-            async with joined(server) as one, joined(server) as other:
-                await one.call("open", ["a"])
-                await other.call("open", ["b"])
-                await one.call("open", ["c"])
-                self.assertEqual(await one.call("texts"), ["a", "c"])
-                self.assertEqual(await other.call("texts"), ["b"])
-                self.assertEqual([it.state["texts"] for it in server.sessions], [["a", "c"], ["b"]])
-            self.assertEqual(server.sessions, ())
+        self.assertEqual(server.sessions, ())
+        async with joined(server) as one, joined(server) as other:
+            await one.call("open", ["a"])
+            await other.call("open", ["b"])
+            await one.call("open", ["c"])
+            self.assertEqual(await one.call("texts"), ["a", "c"])
+            self.assertEqual(await other.call("texts"), ["b"])
+            self.assertEqual([it.state["texts"] for it in server.sessions], [["a", "c"], ["b"]])
+        self.assertEqual(server.sessions, ())
 
-        self.wait(main())
+    async def test_one_of_several_is_spoken_to(self):
+        server, heard = Server(), {}
 
-    def test_one_of_several_is_spoken_to(self):
-        async def main():
-            server, heard = Server(), {}
+        @server.method("tell")
+        def tell(params, request):
+            request.session.notify("told", params)
 
-            @server.method("tell")
-            def tell(params, request):
-                request.session.notify("told", params)
+        @server.method("ask")
+        async def ask(params, request):
+            return [await request.session.call("name"), *await request.session.call_batch([("name", None)])]
 
-            @server.method("ask")
-            async def ask(params, request):
-                return [
-                    await request.session.call("name"),
-                    *await request.session.call_batch([("name", None)]),
-                ]
+        @server.method("stop")
+        def stop(params, request):
+            request.session.stop()
 
-            @server.method("stop")
-            def stop(params, request):
-                request.session.stop()
+        def a_client(name):
+            client = Client()
+            client.method("name")(lambda params: name)
+            client.method("told")(lambda params: heard.setdefault(name, []).append(params))
+            return client
 
-            def a_client(name):
-                client = Client()
-                client.method("name")(lambda params: name)
-                client.method("told")(lambda params: heard.setdefault(name, []).append(params))
-                return client
+        async with joined(server, a_client("one")) as one, joined(server, a_client("other")) as other:
+            await one.call("tell", [1])
+            await other.call("tell", [2])
+            self.assertEqual(await one.call("ask"), ["one"] * 2)
+            self.assertEqual(await other.call("ask"), ["other"] * 2)
+            for it in server.sessions:
+                it.notify("told", [3])
+            await one.call("tell", [4])
+            await other.call("tell", [5])
+            self.assertEqual(heard, {"one": [[1], [3], [4]], "other": [[2], [3], [5]]})
+            await one.call("stop")
+            await self.until(lambda: len(server.sessions) == 1)
+            server.notify("told", [6])
+            await other.call("tell", [7])
+            self.assertEqual(heard["other"][-2:], [[6], [7]])
 
-            async with joined(server, a_client("one")) as one, joined(server, a_client("other")) as other:
-                await one.call("tell", [1])
-                await other.call("tell", [2])
-                self.assertEqual(await one.call("ask"), ["one"] * 2)
-                self.assertEqual(await other.call("ask"), ["other"] * 2)
-                for it in server.sessions:
-                    it.notify("told", [3])
-                await one.call("tell", [4])
-                await other.call("tell", [5])
-                self.assertEqual(heard, {"one": [[1], [3], [4]], "other": [[2], [3], [5]]})
-                await one.call("stop")
-                await self.until(lambda: len(server.sessions) == 1)
-                server.notify("told", [6])
-                await other.call("tell", [7])
-                self.assertEqual(heard["other"][-2:], [[6], [7]])
-
-        self.wait(main())
-
-    def test_where_none_is_single_it_says_what_to_do(self):
-        async def main():
-            server = Server()
-            async with joined(server), joined(server):
-                for call, words in (
-                    (lambda: server.notify("x"), ("2 sessions", "request.notify(..)", "server.sessions")),
-                    (lambda: server.call("x"), ("2 sessions", "request.call(..)", "server.sessions")),
-                    (lambda: server.call_batch([]), ("request.call_batch(..)",)),
-                    (lambda: server.in_thread(len, ""), ("request.in_thread(..)",)),
-                    (server.stop, ("request.session.stop(..)",)),
-                    (lambda: server.session, ("request.session", "server.sessions")),
-                ):
-                    with self.assertRaises(RuntimeError) as caught:
-                        call()
-                    for it in words:
-                        self.assertIn(it, str(caught.exception))
-
-        self.wait(main())
+    async def test_where_none_is_single_it_says_what_to_do(self):
+        server = Server()
+        async with joined(server), joined(server):
+            for call, words in (
+                (lambda: server.notify("x"), ("2 sessions", "request.notify(..)", "server.sessions")),
+                (lambda: server.call("x"), ("2 sessions", "request.call(..)", "server.sessions")),
+                (lambda: server.call_batch([]), ("request.call_batch(..)",)),
+                (lambda: server.in_thread(len, ""), ("request.in_thread(..)",)),
+                (server.stop, ("request.session.stop(..)",)),
+                (lambda: server.session, ("request.session", "server.sessions")),
+            ):
+                with self.assertRaises(RuntimeError) as caught:
+                    call()
+                for it in words:
+                    self.assertIn(it, str(caught.exception))
 
 
 STDIO = """
@@ -119,17 +104,9 @@ sys.exit(asyncio.run(main()))
 """
 
 
-class Stdio(Case):
-    def setUp(self):
-        room = tempfile.TemporaryDirectory()
-        self.addCleanup(room.cleanup)
-        self.file = os.path.join(room.name, "server.py")
-
+class Stdio(InAFolder):
     def run_server(self, text, given):
-        with open(self.file, "w", encoding="utf-8") as it:
-            it.write(text)
-        how = {"env": environment(), "capture_output": True, "timeout": 60, "check": False}
-        return subprocess.run(command(self.file), input=given, **how)
+        return ran(command(self.file("server.py", text)), given)
 
     def test_in_a_loop_that_runs(self):
         got = self.run_server(STDIO, frame(request(1, "tasks")))
@@ -212,21 +189,18 @@ class WebSockets(Case):
         await socket.send(given if isinstance(given, str) else json.dumps(given))
         return json.loads(await socket.recv())
 
-    def serve(self, use, **how):
-        """What a server's session gives, while `use` has the other end."""
-
-        async def main():
-            server = how.get("server") or a_server()
-            ours, its = Socket.pair()
-            serving = asyncio.ensure_future(server.serve_websocket(its))
-            await use(ours, its, server)
-            return await serving
-
+    @contextlib.asynccontextmanager
+    async def serve(self, status=0, server=None):
+        """The other end of a server's session, which gives this status."""
+        server = server or a_server()
+        ours, its = Socket.pair()
         with logged():
-            return self.wait(main())
+            serving = asyncio.ensure_future(server.serve_websocket(its))
+            yield ours, its, server
+            self.assertEqual(await serving, status)
 
-    def test_messages(self):
-        async def use(socket, its, server):
+    async def test_messages(self):
+        async with self.serve() as (socket, its, _):
             self.assertEqual(
                 await self.ask(socket, request(1, "echo", [1, "\u00e9"])),
                 {"id": 1, "jsonrpc": "2.0", "result": [1, "\u00e9"]},
@@ -250,40 +224,26 @@ class WebSockets(Case):
             self.assertEqual(json.loads(await socket.recv())["error"]["code"], -32800)
             await its.inbox.put(ConnectionClosedOK())
 
-        self.assertEqual(self.serve(use), 0)
+    @rows(
+        [(ConnectionClosedOK(), 0), (EOFError(), 0), (None, 0), (ConnectionClosedError(), 1), (OSError(), 1)]
+    )
+    async def test_ends(self, end, status):
+        async with self.serve(status) as (socket, its, _):
+            await self.ask(socket, request(1, "echo", [1]))
+            await its.inbox.put(end)
 
-    def test_ends(self):
-        for end, status in (
-            (ConnectionClosedOK(), 0),
-            (EOFError(), 0),
-            (None, 0),
-            (ConnectionClosedError(), 1),
-            (OSError(), 1),
-        ):
-
-            async def use(socket, its, server, end=end):
-                await self.ask(socket, request(1, "echo", [1]))
-                await its.inbox.put(end)
-
-            with self.subTest(end):
-                self.assertEqual(self.serve(use), status)
-
-    def test_nobody_reads(self):
-        async def use(socket, its, server):
+    async def test_nobody_reads(self):
+        async with self.serve(1) as (socket, its, _):
             its.other = ConnectionClosedError()
             await socket.send(json.dumps(request(1, "echo", [1])))
 
-        self.assertEqual(self.serve(use), 1)
-
-    def test_stop(self):
-        async def use(socket, its, server):
+    async def test_stop(self):
+        async with self.serve(5) as (socket, _, server):
             await self.ask(socket, request(1, "echo", [1]))
             server.stop(5)
 
-        self.assertEqual(self.serve(use), 5)
-
-    def test_reading_stops_while_much_is_to_be_written(self):
-        async def use(socket, its, server):
+    async def test_reading_stops_while_much_is_to_be_written(self):
+        async with self.serve() as (socket, its, _):
             its.may_send.clear()
             large = json.dumps(request(1, "echo", ["x" * 300_000]))
             for _ in range(40):
@@ -295,24 +255,20 @@ class WebSockets(Case):
                 await socket.recv()
             await its.inbox.put(ConnectionClosedOK())
 
-        self.assertEqual(self.serve(use), 0)
-
-    def test_tool_servers_too(self):
-        async def use(socket, its, server):
-            await socket.send(json.dumps(request(1, "wait")))
-            await socket.send('{"jsonrpc":"2.0","method":"notifications/cancelled","params":{"requestId":1}}')
-            self.assertEqual(json.loads(await socket.recv())["error"]["code"], -32800)
-            await its.inbox.put(ConnectionClosedOK())
-
+    async def test_tool_servers_too(self):
         server = Server(framing="lines")
 
         @server.method("wait")
         async def wait(params):
             await asyncio.sleep(20)
 
-        self.assertEqual(self.serve(use, server=server), 0)
+        async with self.serve(server=server) as (socket, its, _):
+            await socket.send(json.dumps(request(1, "wait")))
+            await socket.send('{"jsonrpc":"2.0","method":"notifications/cancelled","params":{"requestId":1}}')
+            self.assertEqual(json.loads(await socket.recv())["error"]["code"], -32800)
+            await its.inbox.put(ConnectionClosedOK())
 
-    def test_over_the_network(self):
+    async def test_over_the_network(self):
         sys.path.append("/usr/lib/python3/dist-packages")
         try:
             websockets = importlib.import_module("websockets")
@@ -320,8 +276,7 @@ class WebSockets(Case):
             self.skipTest("python3-websockets isn't there: no web socket over the network")
         finally:
             sys.path.remove("/usr/lib/python3/dist-packages")
-
-        async def main():
+        with logged():
             server, statuses = a_server(), []
 
             async def serve(ws, *_):
@@ -343,10 +298,3 @@ class WebSockets(Case):
                 port = listening.sockets[0].getsockname()[1]
                 async with websockets.connect(f"ws://127.0.0.1:{port}") as ws:
                     self.assertEqual((await self.ask(ws, request(1, "echo", [1])))["result"], [1])
-
-        with logged():
-            self.wait(main())
-
-
-if __name__ == "__main__":
-    unittest.main()

@@ -2,15 +2,13 @@
 import asyncio
 import dataclasses
 import enum
-import functools
 import math
 import threading
 import time
 import typing
-import unittest
 import uuid
 
-from helping import MANY, Case, joined, logged
+from helping import MANY, SECONDS, Case, joined, logged, patience, rows
 
 from bullmyrtle import (
     LATER,
@@ -105,116 +103,81 @@ def a_server():
 
 
 class Results(Case):
-    async def check(self, method, params, result):
-        async with joined(a_server()) as client:
-            self.assertEqual(await client.call(method, params), result)
+    HERE = {"uri": "x", "position": {"line": 1}}
+    GIVEN = {**HERE, "unknown": 1, "near": {"uri": "y", "position": {"line": 2}}}
+    DEFAULTS = {"tags": [], "near": None, "kind": "read", "more": {}}
+    PLACE = {"uri": "x", "position": {"line": 1, "character": 0}, **DEFAULTS, "tags": ["a"]}
+    NEAR = {"uri": "y", "position": {"line": 2, "character": 0}, **DEFAULTS}
 
-    async def refused(self, method, params, code, *words):
+    async def refused(self, method, params, code, words):
         async with joined(a_server()) as client:
             with self.assertRaises(Error) as caught:
                 await client.call(method, params)
             self.assertEqual(caught.exception.code, code, caught.exception)
-            for it in words:
-                self.assertIn(it, caught.exception.message)
+            self.assertIn(words, caught.exception.message)
 
-    def test_results(self):
-        self.wait(self.check("sum", [1, 2], 3))
-        self.wait(
-            self.check(
-                "echo",
-                {"a": [1, 2.5, None, True, "\u00e9/\U0001f600\0"]},
-                {"a": [1, 2.5, None, True, "\u00e9/\U0001f600\0"]},
-            )
-        )
-        self.wait(self.check("echo", None, None))
-        self.wait(self.check("echo", (1, Position(2)), [1, {"line": 2, "character": 0}]))
-        self.wait(self.check("echo", [10**30], [10**30]))
-        self.wait(self.check("no parameter", [1], 1))
-        self.wait(self.check("slow", [0], [0]))
-        self.wait(self.check("thread", [], False))
-        self.wait(self.check("who", [], [1, "who", False, 1]))
+    @rows(
+        [
+            ("sum", [1, 2], 3),
+            ("echo", *[{"a": [1, 2.5, None, True, "\u00e9/\U0001f600\0"]}] * 2),
+            ("echo", None, None),
+            ("echo", (1, Position(2)), [1, {"line": 2, "character": 0}]),
+            ("echo", [10**30], [10**30]),
+            ("no parameter", [1], 1),
+            ("slow", [0], [0]),
+            ("thread", [], False),
+            ("who", [], [1, "who", False, 1]),
+            ("place", PLACE, PLACE),
+            ("place", GIVEN, {**PLACE, "tags": [], "near": NEAR}),
+            ("object", {"a": 1}, 1),
+            ("nothing", None, "none"),
+            ("maybe", None, None),
+            ("maybe", {"line": 3}, {"line": 3, "character": 0}),
+            ("typed", {"name": "x"}, "x"),
+        ]
+    )
+    async def test_results(self, method, params, result):
+        async with joined(a_server()) as client:
+            self.assertEqual(await client.call(method, params), result)
 
-    def test_annotations(self):
-        place = {
-            "uri": "x",
-            "position": {"line": 1, "character": 0},
-            "tags": ["a"],
-            "near": None,
-            "kind": "read",
-            "more": {},
-        }
-        self.wait(self.check("place", place, place))
-        given = {
-            "uri": "x",
-            "position": {"line": 1},
-            "unknown": 1,
-            "near": {"uri": "y", "position": {"line": 2}},
-        }
-        near = {
-            "uri": "y",
-            "position": {"line": 2, "character": 0},
-            "tags": [],
-            "near": None,
-            "kind": "read",
-            "more": {},
-        }
-        self.wait(self.check("place", given, {**place, "tags": [], "near": near}))
-        self.wait(self.check("object", {"a": 1}, 1))
-        self.wait(self.check("nothing", None, "none"))
-        self.wait(self.check("maybe", None, None))
-        self.wait(self.check("maybe", {"line": 3}, {"line": 3, "character": 0}))
-        self.wait(self.check("typed", {"name": "x"}, "x"))
-
-    def test_params_that_dont_fit(self):
-        position = {"line": 1}
-        for method, params, words in (
+    @rows(
+        [
             ("sum", {"a": 1}, "params has to be an array, and is an object"),
             ("sum", None, "params has to be an array, and is null"),
             ("object", [], "params has to be an object"),
             ("nothing", [], "params has to be null"),
             ("typed", [], "params has to be an object"),
-            ("maybe", {"line": "1"}, "params.line has to be a whole number, and is a string"),
-            ("maybe", {"line": True}, "params.line has to be a whole number, and is true or false"),
+            ("maybe", {"line": "1"}, "params.line has to be an integer, and is a string"),
+            ("maybe", {"line": True}, "params.line has to be an integer, and is true or false"),
             ("maybe", [], "params has to be"),
             ("place", {"uri": "x"}, "params lacks position"),
-            ("place", {"uri": 1, "position": position}, "params.uri has to be a string"),
+            ("place", {"uri": 1, "position": {"line": 1}}, "params.uri has to be a string"),
             ("place", {"uri": "x", "position": {}}, "params.position lacks line"),
-            (
-                "place",
-                {"uri": "x", "position": position, "tags": ["a", 1]},
-                "params.tags[1] has to be a string",
-            ),
-            ("place", {"uri": "x", "position": position, "kind": "run"}, "params.kind has to be one of"),
-            (
-                "place",
-                {"uri": "x", "position": position, "more": {"n": None}},
-                "params.more.n has to be a whole number",
-            ),
-            ("place", {"uri": "x", "position": position, "near": {"uri": "y"}}, "params.near lacks position"),
-        ):
-            with self.subTest(method=method, params=params):
-                self.wait(self.refused(method, params, -32602, words))
+            ("place", {**HERE, "tags": ["a", 1]}, "params.tags[1] has to be a string"),
+            ("place", {**HERE, "kind": "run"}, "params.kind has to be one of"),
+            ("place", {**HERE, "more": {"n": None}}, "params.more.n has to be an integer"),
+            ("place", {**HERE, "near": {"uri": "y"}}, "params.near lacks position"),
+        ]
+    )
+    async def test_params_that_dont_fit(self, method, params, words):
+        await self.refused(method, params, -32602, words)
 
-    def test_an_unknown_method(self):
-        self.wait(self.refused("nope", None, -32601, "Method not found: nope"))
+    async def test_an_unknown_method(self):
+        await self.refused("nope", None, -32601, "Method not found: nope")
 
-    def test_unknown_notifications_are_closed(self):
-        async def main():
+    async def test_unknown_notifications_are_closed(self):
+        with logged() as log:
             async with joined(a_server()) as client:
                 client.notify("nope", [1])
                 client.notify("sum", {"a": 1})
                 self.assertEqual(await client.call("sum", [1]), 1)
-
-        with logged() as log:
-            self.wait(main())
         self.assertEqual(log.texts, ["sum: Invalid params: params has to be an array, and is an object"])
 
 
 class Errors(Case):
-    def errors(self, raised, thread=False):
+    async def errors(self, raised, thread=False):
         """What a method gets answered that raises something, and what is logged."""
-
-        async def main():
+        with logged() as log:
             server = Server()
 
             def method(params):
@@ -233,36 +196,30 @@ class Errors(Case):
                         await client.call(name)
                     found.append((caught.exception.code, caught.exception.message, caught.exception.data))
             self.assertEqual(found[0], found[1])
-            return found[0]
+            return found[0], len(log.errors)
 
-        with logged() as log:
-            return self.wait(main()), len(log.errors)
+    @rows(
+        [
+            (Error(7, "seven", {"a": [1]}), (7, "seven", {"a": [1]}), 0),
+            (Error(7, "seven"), (7, "seven", None), 0),
+            (InvalidParams(), (-32602, "Invalid params", None), 0),
+            (InvalidParams("no file", "x"), (-32602, "no file", "x"), 0),
+            (KeyError("a"), (-32603, "Internal error: KeyError: 'a'", None), 2),
+            (ValueError(), (-32603, "Internal error: ValueError", None), 2),
+            (ValueError("\ud800"), (-32603, "Internal error: ValueError: \\ud800", None), 2),
+        ]
+    )
+    async def test_raised(self, error, told, logs):
+        for thread in (False, True):
+            self.assertEqual(await self.errors(error, thread), (told, logs))
 
-    def test_raised(self):
-        self.assertEqual(self.errors(Error(7, "seven", {"a": [1]})), ((7, "seven", {"a": [1]}), 0))
-        self.assertEqual(self.errors(Error(7, "seven")), ((7, "seven", None), 0))
-        self.assertEqual(self.errors(InvalidParams()), ((-32602, "Invalid params", None), 0))
-        self.assertEqual(self.errors(InvalidParams("no file", "x")), ((-32602, "no file", "x"), 0))
-        self.assertEqual(self.errors(KeyError("a")), ((-32603, "Internal error: KeyError: 'a'", None), 2))
-        self.assertEqual(self.errors(ValueError()), ((-32603, "Internal error: ValueError", None), 2))
-        self.assertEqual(
-            self.errors(ValueError("\ud800")), ((-32603, "Internal error: ValueError: \\ud800", None), 2)
-        )
+    @rows([Error("x", "y"), Error(1 << 63, "y"), Error(1, "y", object()), Error(1, "y", math.nan)])
+    async def test_errors_that_are_no_json(self, error):
+        (code, message, _), logs = await self.errors(error)
+        self.assertEqual((code, logs), (-32603, 2), message)
+        self.assertIn("the error isn't JSON", message)
 
-    def test_raised_in_a_thread(self):
-        self.assertEqual(self.errors(Error(7, "seven"), thread=True), ((7, "seven", None), 0))
-        self.assertEqual(
-            self.errors(ZeroDivisionError("x"), thread=True),
-            ((-32603, "Internal error: ZeroDivisionError: x", None), 2),
-        )
-
-    def test_errors_that_are_no_json(self):
-        for error in (Error("x", "y"), Error(1 << 63, "y"), Error(1, "y", object()), Error(1, "y", math.nan)):
-            (code, message, _), logs = self.errors(error)
-            self.assertEqual((code, logs), (-32603, 2), message)
-            self.assertIn("the error isn't JSON", message)
-
-    def test_a_result_that_is_no_json(self):
+    async def test_a_result_that_is_no_json(self):
         ring = []
         ring.append(ring)
         deep = []
@@ -281,8 +238,7 @@ class Errors(Case):
             {(1, 2): 3},
             Position,
         ]
-
-        async def main():
+        with logged() as log:
             server = Server()
             server.method("x")(lambda params: bad[params[0]])
             server.method("z", thread=True)(lambda params: bad[params[0]])
@@ -302,141 +258,60 @@ class Errors(Case):
                     (await client.call_batch([("x", [0]), ("x", [1])], return_exceptions=True))[1].code,
                     -32603,
                 )
-
-        with logged() as log:
-            self.wait(main())
         self.assertEqual(len(log.errors), 3 * len(bad) + 2)
 
-    def test_results_that_json_has_no_word_for(self):
-        async def main():
-            server = Server()
-            given = [Colour.RED, uuid.UUID(int=1), Position(1), (1, 2), {1: 2, True: 3, None: 4}]
-            server.method("x")(lambda params: given)
-            async with joined(server) as client:
-                self.assertEqual(
-                    await client.call("x"),
-                    ["red", str(uuid.UUID(int=1)), {"line": 1, "character": 0}, [1, 2], {"1": 3, "null": 4}],
-                )
-
-        self.wait(main())
+    async def test_results_that_json_has_no_word_for(self):
+        server = Server()
+        given = [Colour.RED, uuid.UUID(int=1), Position(1), (1, 2), {1: 2, True: 3, None: 4}]
+        server.method("x")(lambda params: given)
+        async with joined(server) as client:
+            self.assertEqual(
+                await client.call("x"),
+                ["red", str(uuid.UUID(int=1)), {"line": 1, "character": 0}, [1, 2], {"1": 3, "null": 4}],
+            )
 
 
 class Registering(Case):
-    def test_what_a_method_may_be(self):
-        class Thing:
-            def method(self, params, request):
-                return [params, request.method]
-
-            async def __call__(self, params):
-                return params
-
-        async def main():
-            server = Server()
-            server.method("bound")(Thing().method)
-            server.method("callable")(Thing())
-            server.method("partial")(functools.partial(lambda a, params: [a, params], 1))
-            server.method("default")(lambda params, more=5: [params, more])
-            server.method("named")(lambda params, request=None: request.method)
-            server.method("star")(lambda *all_: list(all_))
-            server.method("awaitable")(lambda params: Thing()(params))
-            async with joined(server) as client:
-                self.assertEqual(await client.call("bound", [1]), [[1], "bound"])
-                self.assertEqual(await client.call("callable", [1]), [1])
-                self.assertEqual(await client.call("partial", [1]), [1, [1]])
-                self.assertEqual(await client.call("default", [1]), [[1], 5])
-                self.assertEqual(await client.call("named", [1]), "named")
-                self.assertEqual(await client.call("star", [1]), [1])
-                self.assertEqual(await client.call("awaitable", [1]), [1])
-
-        self.wait(main())
-
-    def test_what_it_may_not_be(self):
-        server = Server()
-
-        async def later(params):
-            pass
-
-        with self.assertRaises(TypeError):
-            server.method("x", thread=True)(later)
-        with self.assertRaises(TypeError):
-            server.method("x")(lambda params, b, c: None)
-        with self.assertRaises(TypeError):
-            server.method(5)(lambda a: None)
-
-        def odd(params: set):
-            pass
-
-        def unknown(params: "Nowhere"):  # noqa: F821
-            pass
-
-        def request_unknown(params: list, request: "Nowhere"):  # noqa: F821
-            pass
-
-        for function in (odd, unknown):
-            with self.assertRaises(TypeError):
-                server.method("x")(function)
-        server.method("x")(request_unknown)
-        with self.assertRaises(ValueError):
-            server.method("x")(lambda params: None)
-
-    def test_the_decorator_gives_the_function(self):
-        server = Server()
-
-        @server.method("x")
-        def x(params):
-            return 5
-
-        self.assertEqual(x(None), 5)
-
-    def test_settings(self):
+    async def test_settings(self):
         with self.assertRaises(ValueError):
             Server(cancel_by="$/stop")
         for more in ({"framing": "pipes"}, {"framing": "contents"}, {"order": "soon"}):
             with self.assertRaises(BadSettings):
                 Client(**more)
+        with self.assertRaises(BadSettings):
+            async with joined(Server(content=0), Client()):
+                pass
 
-        async def main():
-            with self.assertRaises(BadSettings):
-                async with joined(Server(content=0), Client()):
-                    pass
+    async def test_without_cancels(self):
+        server, seen = Server(cancel_by=None), []
+        server.method("$/cancelRequest")(seen.append)
+        async with joined(server) as client:
+            client.notify("$/cancelRequest", {"id": 1})
+            with self.assertRaises(Error):
+                await client.call("nope")
+        self.assertEqual(seen, [{"id": 1}])
 
-        self.wait(main())
+    async def test_a_tool_server_may_hear_of_cancels_itself(self):
+        server, seen = Server(framing="lines"), []
+        server.method("notifications/cancelled")(seen.append)
 
-    def test_without_cancels(self):
-        async def main():
-            server, seen = Server(cancel_by=None), []
-            server.method("$/cancelRequest")(seen.append)
-            async with joined(server) as client:
-                client.notify("$/cancelRequest", {"id": 1})
-                with self.assertRaises(Error):
-                    await client.call("nope")
-            self.assertEqual(seen, [{"id": 1}])
+        @server.method("x")
+        async def x(params):
+            await asyncio.sleep(20)
 
-        self.wait(main())
+        async with joined(server) as client:
+            call = client.call("x")
+            client.notify("notifications/cancelled", {"requestId": call.key})
+            with self.assertRaises(Error) as caught:
+                await call
+            self.assertEqual((caught.exception.code, seen), (-32800, [{"requestId": 1}]))
 
-    def test_a_tool_server_may_hear_of_cancels_itself(self):
-        async def main():
-            server, seen = Server(framing="lines"), []
-            server.method("notifications/cancelled")(seen.append)
-
-            @server.method("x")
-            async def x(params):
-                await asyncio.sleep(20)
-
-            async with joined(server) as client:
-                call = client.call("x")
-                client.notify("notifications/cancelled", {"requestId": call.key})
-                with self.assertRaises(Error) as caught:
-                    await call
-                self.assertEqual((caught.exception.code, seen), (-32800, [{"requestId": 1}]))
-
-        self.wait(main())
-
-    def test_no_memory(self):
+    @rows(["fed", "answer_quickly"])
+    async def test_no_memory(self, name):
         def refuse(*_):
             raise NoMemory()
 
-        async def main(name):
+        with logged() as log:
             server = Server(grace=0.1)
             server.method("x")(lambda params: params)
             statuses = []
@@ -447,153 +322,124 @@ class Registering(Case):
             server.serve_over = serve
             async with joined(server) as client:
                 self.assertEqual(await client.call("x", [1]), [1])
-                setattr(
-                    server.session if name == "_answer_quickly" else server.session._connection, name, refuse
-                )
+                session = server.session
+                setattr(session._transport.connection if name == "fed" else session._incoming, name, refuse)
                 with self.assertRaises((Unanswered, Error)):
                     await client.call("x", [2])
             self.assertEqual(statuses, [1])
-
-        for name in ("fed", "_answer_quickly"):
-            with self.subTest(name), logged() as log:
-                self.wait(main(name))
-                self.assertEqual(len([it for it in log.texts if "memory" in it]), 1)
-
-    def test_nothing_runs(self):
-        with self.assertRaises(Closed):
-            Server().notify("x")
-        with self.assertRaises(Closed):
-            Client().call("x")
+            self.assertEqual(len([it for it in log.texts if "memory" in it]), 1)
 
 
 class Ordering(Case):
-    def test_changes_are_seen_in_order_before_a_hover(self):
-        async def main():
-            server, seen = Server(), []
+    async def test_changes_are_seen_in_order_before_a_hover(self):
+        server, seen = Server(), []
 
-            @server.method("textDocument/didChange")
-            def changed(params: dict):
-                seen.append(params["version"])
+        @server.method("textDocument/didChange")
+        def changed(params: dict):
+            seen.append(params["version"])
 
-            @server.method("textDocument/hover")
-            async def hover(params):
-                return seen[:]
+        @server.method("textDocument/hover")
+        async def hover(params):
+            return seen[:]
 
-            async with joined(server) as client:
-                for version in range(1000):
-                    client.notify("textDocument/didChange", {"version": version})
-                self.assertEqual(await client.call("textDocument/hover"), list(range(1000)))
+        async with joined(server) as client:
+            for version in range(1000):
+                client.notify("textDocument/didChange", {"version": version})
+            self.assertEqual(await client.call("textDocument/hover"), list(range(1000)))
 
-        self.wait(main())
+    async def test_kinds_start_in_the_order_in_which_they_came(self):
+        server, seen = Server(), []
 
-    def test_kinds_start_in_the_order_in_which_they_came(self):
-        async def main():
-            server, seen = Server(), []
+        @server.method("plain")
+        def plain(params):
+            seen.append(params[0])
 
-            @server.method("plain")
-            def plain(params):
-                seen.append(params[0])
+        @server.method("async")
+        async def later(params):
+            seen.append(params[0])
+            await asyncio.sleep(0.01)
 
-            @server.method("async")
-            async def later(params):
-                seen.append(params[0])
-                await asyncio.sleep(0.01)
+        @server.method("thread", thread=True)
+        def thread(params):
+            pass
 
-            @server.method("thread", thread=True)
-            def thread(params):
-                pass
+        async with joined(server) as client:
+            calls = [
+                client.call(["plain", "async", "async", "thread"][it * it % 4], [it]) for it in range(200)
+            ]
+            await asyncio.gather(*calls)
+        kinds = ["plain", "async", "async", "thread"]
+        self.assertEqual(seen, [it for it in range(200) if kinds[it * it % 4] != "thread"])
 
-            async with joined(server) as client:
-                calls = [
-                    client.call(["plain", "async", "async", "thread"][it * it % 4], [it]) for it in range(200)
-                ]
-                await asyncio.gather(*calls)
-            kinds = ["plain", "async", "async", "thread"]
-            self.assertEqual(seen, [it for it in range(200) if kinds[it * it % 4] != "thread"])
+    async def test_a_slow_method_holds_up_no_other(self):
+        server, free = a_server(), threading.Event()
 
-        self.wait(main())
+        @server.method("blocked", thread=True)
+        def blocked(params):
+            return free.wait(SECONDS)
 
-    def test_a_slow_method_holds_up_no_other(self):
-        async def main():
-            server, free = a_server(), threading.Event()
+        async with joined(server) as client:
+            slow, thread = client.call("slow", [patience(20)]), client.call("blocked")
+            began = time.monotonic()
+            for it in range(100):
+                self.assertEqual(await client.call("sum", [it, 1]), it + 1)
+            self.assertFalse(await client.call("thread", []))
+            self.assertLess(time.monotonic() - began, patience(10))
+            self.assertFalse(slow.done() or thread.done())
+            free.set()
+            self.assertTrue(await thread)
+            slow.cancel()
 
-            @server.method("blocked", thread=True)
-            def blocked(params):
-                return free.wait(20)
+    async def test_as_came(self):
+        server = Server(order="as-came")
+        out = []
 
-            async with joined(server) as client:
-                slow, thread = client.call("slow", [20]), client.call("blocked")
-                began = time.monotonic()
-                for it in range(100):
-                    self.assertEqual(await client.call("sum", [it, 1]), it + 1)
-                self.assertFalse(await client.call("thread", []))
-                self.assertLess(time.monotonic() - began, 10)
-                self.assertFalse(slow.done() or thread.done())
-                free.set()
-                self.assertTrue(await thread)
-                slow.cancel()
+        @server.method("wait")
+        async def wait(params):
+            await asyncio.sleep(params[0])
+            return params
 
-        self.wait(main())
+        async with joined(server, Client()) as client:
+            first, second = client.call("wait", [0.05]), client.call("wait", [0])
+            for name, it in (("first", first), ("second", second)):
+                it.add_done_callback(lambda _, name=name: out.append(name))
+            await asyncio.gather(first, second)
+        self.assertEqual(out, ["first", "second"])
 
-    def test_as_came(self):
-        async def main():
-            server = Server(order="as-came")
-            out = []
+    async def test_many_are_open_at_once(self):
+        server, began = Server(), 0
+        free = asyncio.Event()
 
-            @server.method("wait")
-            async def wait(params):
-                await asyncio.sleep(params[0])
-                return params
+        @server.method("hold")
+        async def hold(params):
+            nonlocal began
+            began += 1
+            await free.wait()
+            return params[0]
 
-            async with joined(server, Client()) as client:
-                first, second = client.call("wait", [0.05]), client.call("wait", [0])
-                for name, it in (("first", first), ("second", second)):
-                    it.add_done_callback(lambda _, name=name: out.append(name))
-                await asyncio.gather(first, second)
-            self.assertEqual(out, ["first", "second"])
+        @server.method("open")
+        def is_open(params, request):
+            return request.session._transport.connection.counts().open - 1
 
-        self.wait(main())
+        async with joined(server) as client:
+            calls = [client.call("hold", [it]) for it in range(MANY)]
+            self.assertEqual(await client.call("open"), MANY)
+            self.assertEqual(began, MANY)
+            free.set()
+            self.assertEqual(await asyncio.gather(*calls), list(range(MANY)))
 
-    def test_many_are_open_at_once(self):
-        async def main():
-            server, began = Server(), 0
-            free = asyncio.Event()
-
-            @server.method("hold")
-            async def hold(params):
-                nonlocal began
-                began += 1
-                await free.wait()
-                return params[0]
-
-            @server.method("open")
-            def is_open(params, request):
-                return request.session._connection.counts().open - 1
-
-            async with joined(server) as client:
-                calls = [client.call("hold", [it]) for it in range(MANY)]
-                self.assertEqual(await client.call("open"), MANY)
-                self.assertEqual(began, MANY)
-                free.set()
-                self.assertEqual(await asyncio.gather(*calls), list(range(MANY)))
-
-        self.wait(main(), 120)
-
-    def test_a_batch(self):
-        async def main():
-            async with joined(a_server()) as client:
-                found = await client.call_batch([("sum", [1]), ("slow", [0.01]), ("sum", [2])])
-                self.assertEqual(found, [1, [0.01], 2])
-                with self.assertRaises(Error):
-                    await client.call_batch([("sum", [1]), ("nope", None)])
-                found = await client.call_batch([("sum", [1]), ("nope", None)], return_exceptions=True)
-                self.assertEqual((found[0], found[1].code), (1, -32601))
-
-        self.wait(main())
+    async def test_a_batch(self):
+        async with joined(a_server()) as client:
+            found = await client.call_batch([("sum", [1]), ("slow", [0.01]), ("sum", [2])])
+            self.assertEqual(found, [1, [0.01], 2])
+            with self.assertRaises(Error):
+                await client.call_batch([("sum", [1]), ("nope", None)])
+            found = await client.call_batch([("sum", [1]), ("nope", None)], return_exceptions=True)
+            self.assertEqual((found[0], found[1].code), (1, -32601))
 
 
 class OneThread(Case):
-    def test_a_session_answers_quickly_and_closes_in_the_thread_of_its_loop(self):
+    async def test_a_session_answers_quickly_and_closes_in_the_thread_of_its_loop(self):
         server, threads = Server(grace=0.05), []
 
         @server.method("thread", thread=True)
@@ -619,8 +465,8 @@ class OneThread(Case):
             time.sleep(0.02)
 
         def watch():
-            connection = server.session._connection
-            answer, close = server.session._answer_quickly, connection.close
+            connection = server.session._transport.connection
+            answer, close = server.session._incoming.answer_quickly, connection.close
 
             def answered(*words):
                 threads.append(("answer", threading.get_ident()))
@@ -630,23 +476,20 @@ class OneThread(Case):
                 threads.append(("close", threading.get_ident()))
                 close()
 
-            server.session._answer_quickly, connection.close = answered, closed
+            server.session._incoming.answer_quickly, connection.close = answered, closed
 
-        async def main():
-            async with joined(server, Client()) as client:
-                watch()
-                for name in ("thread", "by hand", "plain", "async"):
-                    self.assertEqual(await client.call(name, [1]), [1])
-                client.notify("stop")
-                await self.until(lambda: not server._sessions)
-
-        self.wait(main())
+        async with joined(server, Client()) as client:
+            watch()
+            for name in ("thread", "by hand", "plain", "async"):
+                self.assertEqual(await client.call(name, [1]), [1])
+            client.notify("stop")
+            await self.until(lambda: not server._sessions)
         self.assertEqual(threads, [(it, threading.get_ident()) for it in ("answer", "close")])
 
 
 class Later(Case):
-    def test_an_answer_that_comes_later(self):
-        async def main():
+    async def test_an_answer_that_comes_later(self):
+        with logged() as log:
             server, kept = Server(), []
 
             @server.method("x")
@@ -685,13 +528,10 @@ class Later(Case):
                         request.answer(1)
                     with self.assertRaises(NotOpen):
                         request.fail(Error(1, "x"))
-
-        with logged() as log:
-            self.wait(main())
         self.assertEqual(log.texts, [])
 
-    def test_answered_by_hand_and_again_by_a_result(self):
-        async def main():
+    async def test_answered_by_hand_and_again_by_a_result(self):
+        with logged() as log:
             server = Server()
 
             def twice(params, request):
@@ -714,48 +554,39 @@ class Later(Case):
                     self.assertEqual(await client.call(name, ["again"]), "first")
                     self.assertEqual(await client.call(name), "first")
                 self.assertEqual(await client.call("raises"), "first")
-
-        with logged() as log:
-            self.wait(main())
         self.assertEqual(len(log.errors), 4, log.texts)
 
-    def test_no_json_by_hand_is_refused_and_may_be_answered_again(self):
-        async def main():
-            server = Server()
+    async def test_no_json_by_hand_is_refused_and_may_be_answered_again(self):
+        server = Server()
 
-            @server.method("x")
-            async def x(params, request):
-                for bad in (object(), math.nan, "\ud800"):
-                    with self.assertRaises(NotJson):
-                        request.answer(bad)
-                    with self.assertRaises(NotJson):
-                        request.notify("x", [bad])
-                    with self.assertRaises(NotJson):
-                        request.call("x", [bad])
-                    with self.assertRaises(NotJson):
-                        request.fail(Error(1, "x", bad))
+        @server.method("x")
+        async def x(params, request):
+            for bad in (object(), math.nan, "\ud800"):
                 with self.assertRaises(NotJson):
-                    request.notify("x", 5)
-                request.answer("good")
+                    request.answer(bad)
+                with self.assertRaises(NotJson):
+                    request.notify("x", [bad])
+                with self.assertRaises(NotJson):
+                    request.call("x", [bad])
+                with self.assertRaises(NotJson):
+                    request.fail(Error(1, "x", bad))
+            with self.assertRaises(NotJson):
+                request.notify("x", 5)
+            request.answer("good")
 
-            async with joined(server) as client:
-                self.assertEqual(await client.call("x"), "good")
+        async with joined(server) as client:
+            self.assertEqual(await client.call("x"), "good")
 
-        self.wait(main())
-
-    def test_later_without_the_request(self):
-        async def main():
+    async def test_later_without_the_request(self):
+        with logged() as log:
             server = Server()
             server.method("x")(lambda params: LATER)
             async with joined(server) as client:
                 self.assertIsNone(await client.call("x"))
-
-        with logged() as log:
-            self.wait(main())
         self.assertEqual(len(log.errors), 1)
 
-    def test_never_answered(self):
-        async def main():
+    async def test_never_answered(self):
+        with logged() as log:
             server = Server(grace=0.05)
             server.method("x")(lambda params, request: LATER)
 
@@ -771,15 +602,12 @@ class Later(Case):
                 with self.assertRaises(Error) as caught:
                     await it
                 self.assertEqual(caught.exception.code, -32800)
-
-        with logged() as log:
-            self.wait(main())
         # (one for each of the two calls, and one for the session's end)
         self.assertEqual(len(log.errors), 3, log.texts)
         self.assertIn("2 calls came to no end", log.texts[-1])
 
-    def test_answered_when_all_is_over(self):
-        async def main():
+    async def test_answered_when_all_is_over(self):
+        with logged():
             server, kept = Server(grace=0.01), []
 
             @server.method("x")
@@ -798,10 +626,3 @@ class Later(Case):
                 kept[0].notify("x")
             with self.assertRaises(Closed):
                 kept[0].session.call("x")
-
-        with logged():
-            self.wait(main())
-
-
-if __name__ == "__main__":
-    unittest.main()

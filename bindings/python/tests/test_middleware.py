@@ -2,9 +2,8 @@
 import asyncio
 import threading
 import time
-import unittest
 
-from helping import Case, joined, logged
+from helping import SECONDS, Case, joined, logged, patience
 
 import bullmyrtle
 from bullmyrtle import Client, Error, Server
@@ -50,21 +49,18 @@ class Middleware(Case):
         server.method("given")(lambda params, request: server.in_thread(time.sleep, 0))
         return server
 
-    def run_with(self, server, *calls):
-        async def main():
-            async with joined(server) as client:
-                codes = []
-                for name, params in calls:
-                    codes.append(await code_of(client.call(name, params)))
-                client.notify("plain", ["n"])
-                await code_of(client.call("unknown"))
-            return codes
+    async def run_with(self, server, *calls):
+        async with joined(server) as client:
+            codes = []
+            for name, params in calls:
+                codes.append(await code_of(client.call(name, params)))
+            client.notify("plain", ["n"])
+            await code_of(client.call("unknown"))
+        return codes
 
-        return self.wait(main())
-
-    def test_around_each_kind(self):
+    async def test_around_each_kind(self):
         calls = [("plain", {"a": 1}), ("fails", None), ("waits", [1]), ("threaded", None), ("given", None)]
-        codes = self.run_with(self.server(), *calls)
+        codes = await self.run_with(self.server(), *calls)
         self.assertEqual(codes, [0, -32001, 0, 0, 0])
         expected = []
         for (name, params), last in zip(
@@ -78,11 +74,13 @@ class Middleware(Case):
         expected += [("before", "unknown", None, False), ("Error", "unknown")]
         self.assertEqual(self.seen, expected)
 
-    def test_params_that_do_not_fit_are_seen(self):
-        self.assertEqual(self.run_with(self.server(), ("waits", []), ("waits", [1, 2, 3])), [-32602, -32602])
+    async def test_params_that_do_not_fit_are_seen(self):
+        self.assertEqual(
+            await self.run_with(self.server(), ("waits", []), ("waits", [1, 2, 3])), [-32602, -32602]
+        )
         self.assertEqual(self.seen[:2], [("before", "waits", [], False), ("InvalidParams", "waits")])
 
-    def test_it_forbids(self):
+    async def test_it_forbids(self):
         server = self.server()
 
         @server.middleware
@@ -91,11 +89,11 @@ class Middleware(Case):
                 raise Error(-32000, "forbidden")
             yield
 
-        self.assertEqual(self.run_with(server, ("plain", []), ("waits", [1])), [-32000, 0])
+        self.assertEqual(await self.run_with(server, ("plain", []), ("waits", [1])), [-32000, 0])
         # (the outer one sees that)
         self.assertEqual(self.seen[1], ("Error", "plain"))
 
-    def test_the_first_is_outermost(self):
+    async def test_the_first_is_outermost(self):
         server, order = Server(), []
 
         def around(name):
@@ -109,12 +107,12 @@ class Middleware(Case):
         for name in "abc":
             server.middleware(around(name))
         server.method("plain")(lambda params: order.append("method"))
-        self.run_with(server)
+        await self.run_with(server)
         names = ["a before", "b before", "c before", "method", "c after", "b after", "a after"]
         # (and once more around what nobody knows, which raises)
         self.assertEqual(order, [*names, "a before", "b before", "c before"])
 
-    def test_another_error_in_its_place(self):
+    async def test_another_error_in_its_place(self):
         server = self.server()
 
         @server.middleware
@@ -128,34 +126,26 @@ class Middleware(Case):
         async def raises():
             raise ValueError("secret")
 
-        self.assertEqual(self.run_with(server, ("raises", None)), [-32005])
+        self.assertEqual(await self.run_with(server, ("raises", None)), [-32005])
         self.assertEqual(self.seen[1], ("Error", "raises"))
 
-    def test_a_cancel_is_seen(self):
+    async def test_a_cancel_is_seen(self):
         server = self.server()
         server.method("sleeps")(lambda: asyncio.sleep(60))
-
-        async def main():
-            async with joined(server) as client:
-                call = client.call("sleeps")
-                await self.until(lambda: self.seen)
-                client.notify("$/cancelRequest", {"id": call.key})
-                self.assertEqual(await code_of(call), -32800)
-
-        self.wait(main())
+        async with joined(server) as client:
+            call = client.call("sleeps")
+            await self.until(lambda: self.seen)
+            client.notify("$/cancelRequest", {"id": call.key})
+            self.assertEqual(await code_of(call), -32800)
         self.assertEqual(self.seen[1], ("CancelledError", "sleeps"))
 
-    def test_notifications_that_nobody_knows(self):
+    async def test_notifications_that_nobody_knows(self):
         server = self.server()
-
-        async def main():
+        with logged() as log:
             async with joined(server) as client:
                 for name in ("unknown", "$/unknown"):
                     client.notify(name, [])
                     self.assertEqual(await code_of(client.call(name)), -32601)
-
-        with logged() as log:
-            self.wait(main())
         expected = []
         for name in ("unknown", "$/unknown"):
             expected += [("before", name, [], True), ("after", name, None)]
@@ -163,13 +153,13 @@ class Middleware(Case):
         self.assertEqual(self.seen, expected)
         self.assertEqual(log.texts, [])
 
-    def test_around_a_fallback(self):
+    async def test_around_a_fallback(self):
         server = self.server()
         server.fallback(lambda params, request: request.method)
-        self.run_with(server, ("another", [1]))
+        await self.run_with(server, ("another", [1]))
         self.assertEqual(self.seen[:2], [("before", "another", [1], False), ("after", "another", "another")])
 
-    def test_what_is_none(self):
+    async def test_what_is_none(self):
         server = Server()
         with self.assertRaises(TypeError):
             server.middleware(lambda request, params: None)
@@ -181,7 +171,7 @@ class Middleware(Case):
 
         server.method("plain")(lambda params: params)
         with logged() as log:
-            self.assertEqual(self.run_with(server, ("plain", [])), [-32603])
+            self.assertEqual(await self.run_with(server, ("plain", [])), [-32603])
         self.assertIn("yielded twice", str(log.errors[0].exc_info[1]))
         server = Server()
 
@@ -192,15 +182,15 @@ class Middleware(Case):
 
         server.method("plain")(lambda params: params)
         with logged():
-            self.assertEqual(self.run_with(server, ("plain", [])), [-32603])
+            self.assertEqual(await self.run_with(server, ("plain", [])), [-32603])
 
 
 class Limits(Case):
-    def test_they_are_kept(self):
+    async def test_they_are_kept(self):
         server = Server()
         ended = []
 
-        @server.method("waits", timeout=0.05)
+        @server.method("waits", timeout=patience(1))
         async def waits(params, request):
             try:
                 await asyncio.sleep(params[0])
@@ -208,41 +198,39 @@ class Limits(Case):
                 ended.append(request.is_cancelled)
             return "done"
 
-        @server.method("threaded", thread=True, timeout=0.05)
+        @server.method("threaded", thread=True, timeout=patience(1))
         def threaded(params, request):
             while params[0] and not request.is_cancelled:
                 time.sleep(0.001)
             ended.append(request.is_cancelled)
             return "done"
 
-        @server.method("asks", thread=True, timeout=0.05)
+        @server.method("asks", thread=True, timeout=patience(1))
         def asks(params, request):
             try:
                 request.call("never")
             except bullmyrtle.Closed:
                 ended.append("closed")
 
-        async def main():
+        with logged() as log:
             client = Client()
-            client.method("never")(lambda: asyncio.sleep(60))
+            client.method("never")(lambda: asyncio.sleep(patience(60)))
             async with joined(server, client):
                 for name in ("waits", "threaded"):
                     self.assertEqual(await client.call(name, [0]), "done")
                     with self.assertRaises(Error) as caught:
-                        await client.call(name, [60])
+                        await client.call(name, [patience(60)])
                     self.assertEqual(caught.exception.code, -32803)
-                    self.assertIn("0.05 seconds", caught.exception.message)
+                    self.assertIn(f"{patience(1)} seconds", caught.exception.message)
                 self.assertEqual(await code_of(client.call("asks", [])), -32803)
-                client.notify("waits", [60])
+                await self.until(lambda: len(ended) == 5)
+                client.notify("waits", [patience(60)])
                 await self.until(lambda: len(ended) == 6)
-
-        with logged() as log:
-            self.wait(main())
         self.assertEqual(ended, [False, True, False, True, "closed", True])
         self.assertEqual(len(log.texts), 4, log.texts)
-        self.assertTrue(all("longer than 0.05 seconds" in it for it in log.texts))
+        self.assertTrue(all(f"longer than {patience(1)} seconds" in it for it in log.texts))
 
-    def test_what_never_ends(self):
+    async def test_what_never_ends(self):
         """A task that doesn't let itself be cancelled, and a thread that never looks: each is answered all the same."""
         server = Server(grace=0.1)
         go_on = threading.Event()
@@ -255,21 +243,17 @@ class Limits(Case):
                 except asyncio.CancelledError:
                     pass
 
-        server.method("blocked", thread=True, timeout=0.05)(lambda: go_on.wait(20))
-
-        async def main():
+        server.method("blocked", thread=True, timeout=0.05)(lambda: go_on.wait(SECONDS))
+        with logged():
             async with joined(server) as client:
                 start = time.monotonic()
                 for name in ("deaf", "blocked"):
                     self.assertEqual(await code_of(client.call(name)), -32803)
-                self.assertLess(time.monotonic() - start, 5)
+                self.assertLess(time.monotonic() - start, patience(5))
                 self.assertEqual(await code_of(client.call("unknown")), -32601)
                 go_on.set()
 
-        with logged():
-            self.wait(main())
-
-    def test_under_a_middleware(self):
+    async def test_under_a_middleware(self):
         server = Server()
         seen = []
 
@@ -282,36 +266,29 @@ class Limits(Case):
                 raise
 
         server.method("waits", timeout=0.02)(sleeps)
-
-        async def main():
+        with logged():
             async with joined(server) as client:
                 self.assertEqual(await code_of(client.call("waits")), -32803)
-
-        with logged():
-            self.wait(main())
         self.assertEqual(seen, ["CancelledError"])
 
-    def test_many_leave_no_timers(self):
+    async def test_many_leave_no_timers(self):
         server = Server()
 
         @server.method("quick", timeout=60)
         async def quick():
             return 1
 
-        async def main():
-            async with joined(server) as client:
-                await asyncio.gather(*(client.call("quick") for _ in range(1_000)))
-                timers = [it for it in asyncio.get_running_loop()._scheduled if not it.cancelled()]
-                self.assertLess(len(timers), 10)
-
-        self.wait(main())
+        async with joined(server) as client:
+            await asyncio.gather(*(client.call("quick") for _ in range(1_000)))
+            timers = [it for it in asyncio.get_running_loop()._scheduled if not it.cancelled()]
+            self.assertLess(len(timers), 10)
 
     def test_a_plain_function_has_none(self):
         with self.assertRaises(TypeError) as caught:
             Server().method("plain", timeout=1)(lambda: None)
         self.assertIn("thread=True", str(caught.exception))
 
-    def test_in_a_class(self):
+    async def test_in_a_class(self):
         class Methods:
             @bullmyrtle.method("waits", timeout=0.02)
             async def waits(self):
@@ -319,18 +296,10 @@ class Limits(Case):
 
         server = Server()
         server.register(Methods())
-
-        async def main():
-            async with joined(server) as client:
-                return await code_of(client.call("waits"))
-
         with logged():
-            self.assertEqual(self.wait(main()), -32803)
+            async with joined(server) as client:
+                self.assertEqual(await code_of(client.call("waits")), -32803)
 
 
 async def sleeps():
     await asyncio.sleep(60)
-
-
-if __name__ == "__main__":
-    unittest.main()

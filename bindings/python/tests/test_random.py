@@ -4,7 +4,7 @@ import random
 import sys
 import unittest
 
-from helping import HAS_OPEN, OVER, TOP, Case
+from helping import TOP, Case
 
 from bullmyrtle import Connection, Refused, events
 
@@ -13,7 +13,7 @@ if sys.version_info < (3, 9):
 sys.path.append(os.path.join(TOP, "checks"))
 from support import connection_model as model  # noqa: E402
 
-SESSIONS, STEPS = (120, 120) if OVER == "library" else (25, 100)
+SESSIONS, STEPS = 120, 120
 NAMES = {
     "NotOpen": "not_open",
     "NotWaiting": "not_waiting",
@@ -51,6 +51,7 @@ class Side:
 
     def __init__(self, case, chance, settings):
         self.case, self.chance = case, chance
+        self.framing = settings["framing"]
         self.real = Connection(**settings)
         ways = (settings["framing"], settings["order"], settings["cancels"])
         self.model = model.Model(model.Settings(*ways, tells_broken=settings["broken"]))
@@ -124,8 +125,7 @@ class Side:
         self.case.assertEqual(self.real.pending, self.model.pending())
         self.case.assertEqual(self.real.is_done, self.model.is_done())
         self.case.assertEqual(tuple(self.real.counts()), tuple(self.model.report()))
-        if HAS_OPEN:
-            self.case.assertEqual(self.real.fault_offset, self.model.fault_place())
+        self.case.assertEqual(self.real.fault_offset, self.model.fault_place())
 
     def give(self, other):
         """Gives the other side what is written, cut anyhow, and now and then damaged."""
@@ -135,7 +135,7 @@ class Side:
         if data and self.chance.random() < 0.02:
             # (a frame, too, is as long as before)
             data = data.replace(b'"jsonrpc"', b'"jsonrpx"')
-        if data or self.real._framing != "contents":
+        if data or self.framing != "contents":
             other.feed(data)
 
     def feed(self, data):
@@ -155,8 +155,8 @@ class Traffic(Case):
         settings = {
             "framing": chance.choice(["frames", "lines", "contents"]),
             "order": chance.choice(["as-answered", "as-came"]),
-            "cancels": chance.choice(["lsp", "mcp" if HAS_OPEN else "lsp", None]),
-            "broken": HAS_OPEN and chance.random() < 0.5,
+            "cancels": chance.choice(["lsp", "mcp", None]),
+            "broken": chance.random() < 0.5,
         }
         one, other = Side(self, chance, settings), Side(self, chance, settings)
         for _ in range(STEPS):
@@ -180,7 +180,3 @@ class Traffic(Case):
             side.listen()
             side.same()
             side.real.close()
-
-
-if __name__ == "__main__":
-    unittest.main()

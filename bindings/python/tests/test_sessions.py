@@ -1,13 +1,12 @@
 """Random sessions of a server and a client that call each other and cancel: each call ends, and nothing is kept of it."""
 import asyncio
 import random
-import unittest
 
-from helping import OVER, Case, joined, logged
+from helping import SECONDS, Case, joined, logged
 
 from bullmyrtle import LATER, Client, Closed, Error, Server
 
-SESSIONS, CALLS = (30, 150) if OVER == "library" else (8, 60)
+SESSIONS, CALLS = 30, 150
 KINDS = ["plain", "async", "thread", "later", "raises", "nope", "back", "deep", "batch", "stubborn"]
 
 
@@ -80,11 +79,12 @@ class Sessions(Case):
     def test_random_sessions(self):
         for seed in range(SESSIONS):
             with self.subTest(seed=seed):
-                self.wait(self.session(random.Random(seed)), 60)
+                self.wait(self.session(random.Random(seed)), SECONDS / 2)
 
     async def session(self, chance):
         # (as they came, two sides that call each other may wait for each other for ever)
-        server, client = Server(framing=self.framing, grace=20), Client(framing=self.framing, grace=20)
+        how = {"framing": self.framing, "grace": SECONDS / 6}
+        server, client = Server(**how), Client(**how)
         with_methods(server, chance)
         with_methods(client, chance)
         async with joined(server, client):
@@ -95,10 +95,12 @@ class Sessions(Case):
             kinds = await asyncio.gather(*ends)
             for side in (server, client):
                 self.assertEqual(await side.call("plain", [1]), [1])
-            await self.until(lambda: not any(it._tasks or it._open for it in sides))
+            # (a thread that got its reply may take a moment to say so)
+            await self.until(lambda: all(it._incoming.is_idle and not it._outgoing.blocked for it in sides))
             for it in sides:
-                self.assertEqual((it._replies, it._by_id, it._blocked), ({}, {}, set()))
-                counts = it._connection.counts()
+                outgoing = it._outgoing
+                self.assertEqual((outgoing.replies, it._incoming._by_id, outgoing.blocked), ({}, {}, set()))
+                counts = it._transport.connection.counts()
                 self.assertEqual(
                     (counts.open, counts.waiting, counts.unreadable, counts.invalid), (0, 0, 0, 0)
                 )
@@ -145,9 +147,5 @@ class Quietly(Case):
     def test_nothing_is_logged_that_nobody_meant(self):
         with logged() as log:
             case = Sessions("test_random_sessions")
-            case.wait(case.session(random.Random(99)), 60)
+            case.wait(case.session(random.Random(99)), SECONDS / 2)
         self.assertEqual(log.texts, [])
-
-
-if __name__ == "__main__":
-    unittest.main()

@@ -12,10 +12,9 @@ import struct
 import sys
 import tempfile
 import threading
-import unittest
 
 import misbehaving
-from helping import OVER, Case, joined, logged, notice, request
+from helping import SECONDS, Case, joined, logged, notice, request
 
 from bullmyrtle import LATER, Client, Error, Server
 
@@ -28,14 +27,22 @@ def line(value):
     return json.dumps(value).encode() + b"\n"
 
 
-@unittest.skipIf(OVER != "library", "storms: the model isn't made for so much")
 class Storms(Case):
     def left(self):
         """How many descriptors and threads there are."""
         return len(os.listdir("/proc/self/fd")), threading.active_count()
 
-    def served(self, listen, connect):
-        async def main():
+    async def settled(self):
+        """The same, once the transports are gone too: as soon as it stays for some turns of the loop."""
+        seen = [self.left()]
+        while seen.count(seen[-1]) < 20:
+            await asyncio.sleep(0.01)
+            now = self.left()
+            seen = [*seen, now] if now == seen[-1] else [now]
+        return seen[-1]
+
+    async def served(self, listen, connect):
+        with logged() as log:
             server = misbehaving.a_server(open=40)
             server._grace = 0.5
 
@@ -62,22 +69,20 @@ class Storms(Case):
             # (what a loop makes once stays, so one connection goes first)
             await self.connection(random.Random(-1), await connect(address), 0)
             await self.until(lambda: not server.sessions and len(asyncio.all_tasks()) == tasks)
-            await asyncio.sleep(0.2)  # (until the transports are gone too)
-            before, gate = self.left(), asyncio.Semaphore(AT_ONCE)
+            before, gate = await self.settled(), asyncio.Semaphore(AT_ONCE)
 
             async def one(seed):
                 async with gate:
                     await self.connection(random.Random(seed), await connect(address), seed % 12)
 
             await asyncio.gather(*(one(it) for it in range(CONNECTIONS)))
-            await self.until(lambda: not server.sessions and len(asyncio.all_tasks()) == tasks, 60)
+            await self.until(lambda: not server.sessions and len(asyncio.all_tasks()) == tasks, SECONDS)
             with contextlib.suppress(AssertionError):
-                await self.until(lambda: self.left() == before, 20)  # (the last ones may take a moment)
+                await self.until(lambda: self.left() == before, 60)  # (the last ones may take a moment)
             self.assertEqual(self.left(), before)
+            said = (CONNECTIONS, *before, server._served)
+            print("%d connections: %d descriptors and %d threads before and after; %d sessions" % said)
             listening.close()
-
-        with logged() as log:
-            self.wait(main(), 60 + CONNECTIONS)
         last_resorts = (
             "the session ends, since",
             "what was put off, or is done at the end, failed",
@@ -122,13 +127,13 @@ class Storms(Case):
         try:
             if how < 4:  # (it reads until the last ping's answer, or a refusal of it)
                 while True:
-                    answer = await asyncio.wait_for(reader.readline(), 30)
+                    answer = await asyncio.wait_for(reader.readline(), SECONDS)
                     if b'"id":"last"' in answer or not answer:
                         self.assertIn(b'"id":"last"', answer)
                         break
                 if how < 2:
                     writer.write_eof()
-                    await asyncio.wait_for(reader.read(), 30)
+                    await asyncio.wait_for(reader.read(), SECONDS)
             elif how < 6:
                 await asyncio.sleep(chance.random() / 50)
             elif how < 8:  # (it is reset)
@@ -147,16 +152,16 @@ class Storms(Case):
         with contextlib.suppress(AttributeError):  # (asyncio's own, where it is closed already)
             writer.transport.abort()
 
-    def test_over_tcp(self):
+    async def test_over_tcp(self):
         async def listen(server):
             return await asyncio.start_server(server.serve_async, "127.0.0.1", 0)
 
         async def connect(address):
             return await asyncio.open_connection(*address, limit=1 << 24)
 
-        self.served(listen, connect)
+        await self.served(listen, connect)
 
-    def test_over_unix_sockets(self):
+    async def test_over_unix_sockets(self):
         with tempfile.TemporaryDirectory() as folder:
 
             async def listen(server):
@@ -165,10 +170,9 @@ class Storms(Case):
             async def connect(address):
                 return await asyncio.open_unix_connection(address, limit=1 << 24)
 
-            self.served(listen, connect)
+            await self.served(listen, connect)
 
 
-@unittest.skipIf(OVER != "library", "storms: the model isn't made for so much")
 class Races(Case):
     """Each kind of method, cancelled as it ends: the request has one answer, and nothing waits for ever."""
 
@@ -254,14 +258,14 @@ class Races(Case):
             return "given up"
         client.notify(name, {member: call.key})
         try:
-            self.assertEqual(await asyncio.wait_for(call, 30), params)
+            self.assertEqual(await asyncio.wait_for(call, SECONDS), params)
             return "answered"
         except Error as error:
             self.assertIn(error.code, (-32800, 1) if kind == "raises" else (-32800,), kind)
             return "cancelled" if error.code == -32800 else "raised"
 
-    def test_they_end(self):
-        async def main():
+    async def test_they_end(self):
+        with logged() as log:
             server, client, chance = self.a_server(), Client(framing=self.framing), random.Random(7)
             client.method("echo")(lambda params: params)
             ends = {}
@@ -271,16 +275,15 @@ class Races(Case):
                         ends[it] = ends.get(it, 0) + 1
                 self.assertEqual(await client.call("plain", [1]), [1])
                 sides = [server.session, client.session]
-                await self.until(lambda: not any(it._tasks or it._open for it in sides))
+                await self.until(lambda: all(it._incoming.is_idle for it in sides))
                 for it in sides:
-                    counts = it._connection.counts()
+                    transport = it._transport
+                    counts = transport.connection.counts()
                     self.assertEqual((counts.open, counts.waiting if it is sides[0] else 0), (0, 0))
-                    self.assertEqual((it._gone, it._by_id, it._held, it._put_off), (set(), {}, it._held, []))
+                    self.assertEqual(
+                        (transport.gone, it._incoming._by_id, transport.put_off), (set(), {}, [])
+                    )
             self.assertEqual(set(ends), {"answered", "cancelled", "given up", "raised"})
-            return ends
-
-        with logged() as log:
-            ends = self.wait(main(), 60 + RACES // 20)
         self.assertEqual(log.texts, [])
         if os.environ.get("BULLMYRTLE_RACES"):
             print(self.framing, ends, file=sys.stderr)
@@ -288,7 +291,3 @@ class Races(Case):
 
 class ToolRaces(Races):
     framing = "lines"
-
-
-if __name__ == "__main__":
-    unittest.main()

@@ -1,4 +1,7 @@
-"""A tool server and its host in memory: what version 2025-06-18 of the protocol has, by its sections, and older ones."""
+"""A tool server and its host in memory: what version 2025-06-18 of the protocol has, by its sections, and older ones.
+
+test_tool_versions.py has what differs from version to version.
+"""
 import asyncio
 import base64
 import contextlib
@@ -7,12 +10,13 @@ import enum
 import threading
 import time
 import typing
-import unittest
 
-from helping import HAS_OPEN, Case, joined, logged
+from helping import SECONDS, Case, joined, logged, patience, rows
+from tool_wires import table
 
 from bullmyrtle import Client, Error, InvalidParams, Server, mcp
-from bullmyrtle.mcp import Context, Image, ToolClient, ToolError, ToolResult, ToolServer
+from bullmyrtle._signatures.checker import CHECKED, Checker
+from bullmyrtle.mcp import Context, Image, ToolClient, ToolResult, ToolServer
 
 PIXEL = b"\x89PNG"
 
@@ -67,55 +71,20 @@ async def fault_of(call):
 class Life(Case):
     """basic/lifecycle, basic/utilities/ping"""
 
-    def test_initialize(self):
-        server = ToolServer("words", "1.0", title="Words", instructions="Count.")
-
-        async def main():
-            async with hosting(server) as host:
-                self.assertEqual(
-                    host.begun,
-                    {
-                        "protocolVersion": "2025-06-18",
-                        "capabilities": {"logging": {}, "tools": {"listChanged": True}},
-                        "serverInfo": {"name": "words", "version": "1.0", "title": "Words"},
-                        "instructions": "Count.",
-                    },
-                )
-                self.assertEqual(await host.call("ping"), {})
-                self.assertEqual((await fault_of(host.begin()))[0], -32600)
-
-        self.wait(main())
-
-    def test_versions(self):
-        server = ToolServer("words", title="Words")
-        for asked, agreed in (
+    @rows(
+        [
+            ("2025-11-25", "2025-11-25"),
             ("2025-06-18", "2025-06-18"),
             ("2025-03-26", "2025-03-26"),
             ("2024-11-05", "2024-11-05"),
-            ("2030-01-01", "2025-06-18"),
-        ):
-
-            async def main():
-                async with hosting(server, version=asked) as host:
-                    self.assertEqual(host.begun["protocolVersion"], agreed)
-                    self.assertEqual("title" in host.begun["serverInfo"], agreed == "2025-06-18")
-
-            self.wait(main())
-
-    def test_what_skips_initialize(self):
-        server = ToolServer("words")
-
-        async def main():
-            async with joined(server, Host()) as host:
-                self.assertEqual(await host.call("ping"), {})
-                for method in ("tools/list", "nothing"):
-                    self.assertEqual((await fault_of(host.call(method)))[0], -32600)
-                self.assertEqual((await fault_of(host.call("initialize", {})))[0], -32602)
-                await host.begin()
-                self.assertEqual(await host.call("tools/list"), {"tools": []})
-                self.assertEqual((await fault_of(host.call("nothing")))[0], -32601)
-
-        self.wait(main())
+            ("2030-01-01", "2025-11-25"),
+        ]
+    )
+    async def test_versions(self, asked, agreed):
+        server = ToolServer("words", title="Words")
+        async with hosting(server, version=asked) as host:
+            self.assertEqual(host.begun["protocolVersion"], agreed)
+            self.assertEqual("title" in host.begun["serverInfo"], agreed >= "2025-06-18")
 
     def test_what_is_no_setting(self):
         for bad in ({"versions": ["2020-01-01"]}, {"versions": []}, {"page_size": 0}):
@@ -142,20 +111,20 @@ class Tree:
     parts: typing.List["Tree"] = dataclasses.field(default_factory=list)
 
 
+def wrapped(schema):
+    return {"type": "object", "properties": {"result": schema}, "required": ["result"]}
+
+
 class Schemas(Case):
     """server/tools: inputSchema, outputSchema"""
 
-    def tool_of(self, function, version="2025-06-18", **options):
+    async def tool_of(self, function, version="2025-06-18", **options):
         server = ToolServer("schemas")
         server.tool(**options)(function)
+        async with hosting(server, version=version) as host:
+            return (await host.call("tools/list"))["tools"][0]
 
-        async def main():
-            async with hosting(server, version=version) as host:
-                return (await host.call("tools/list"))["tools"][0]
-
-        return self.wait(main())
-
-    def test_of_annotations(self):
+    async def test_of_annotations(self):
         def everything(
             text: str,
             count: int,
@@ -177,7 +146,7 @@ class Schemas(Case):
                 count (int): how many
             """
 
-        tool = self.tool_of(everything)
+        tool = await self.tool_of(everything)
         self.assertEqual((tool["name"], tool["description"]), ("everything", "Does everything."))
         schema = tool["inputSchema"]
         point = {
@@ -208,7 +177,7 @@ class Schemas(Case):
             },
         )
 
-    def test_two_classes_of_one_name(self):
+    async def test_two_classes_of_one_name(self):
         @dataclasses.dataclass
         class Point:
             z: str
@@ -219,56 +188,43 @@ class Schemas(Case):
             return f"{one.x} {other.z}"
 
         function.__annotations__.update(one=first, other=Point)
-        schema = self.tool_of(function)["inputSchema"]
+        schema = (await self.tool_of(function))["inputSchema"]
         self.assertEqual(schema["properties"]["one"], {"$ref": "#/$defs/Point"})
         self.assertEqual(schema["properties"]["other"], {"$ref": "#/$defs/Point2"})
         self.assertEqual(sorted(schema["$defs"]["Point2"]["properties"]), ["z"])
 
-    def test_of_a_class_in_itself(self):
+    async def test_of_a_class_in_itself(self):
         def count(tree: Tree) -> int:
             return 1 + sum(count(it) for it in tree.parts)
 
         server = ToolServer("trees")
         server.tool(count)
+        async with hosting(server) as host:
+            tree = {"name": "a", "parts": [{"name": "b"}, {"name": "c", "parts": [{"name": "d"}]}]}
+            result = await host.call("tools/call", {"name": "count", "arguments": {"tree": tree}})
+            self.assertEqual(result["structuredContent"], {"result": 4})
+            tree["parts"][1]["parts"][0]["name"] = 5
+            fault = await fault_of(host.call("tools/call", {"name": "count", "arguments": {"tree": tree}}))
+            self.assertIn("arguments.tree.parts[1].parts[0].name", fault[1])
 
-        async def main():
-            async with hosting(server) as host:
-                tree = {"name": "a", "parts": [{"name": "b"}, {"name": "c", "parts": [{"name": "d"}]}]}
-                result = await host.call("tools/call", {"name": "count", "arguments": {"tree": tree}})
-                self.assertEqual(result["structuredContent"], {"result": 4})
-                tree["parts"][1]["parts"][0]["name"] = 5
-                fault = await fault_of(
-                    host.call("tools/call", {"name": "count", "arguments": {"tree": tree}})
-                )
-                self.assertIn("arguments.tree.parts[1].parts[0].name", fault[1])
-
-        self.wait(main())
-
-    def test_of_results(self):
-        def wrapped(schema):
-            return {"type": "object", "properties": {"result": schema}, "required": ["result"]}
-
-        for kind, expected in (
-            (str, None),
-            (None, None),
-            (typing.Any, None),
-            (Image, None),
-            (typing.List[Image], None),
-            (ToolResult, None),
+    @rows(
+        [
+            *((kind, None) for kind in (str, None, typing.Any, Image, typing.List[Image], ToolResult)),
             (int, wrapped({"type": "integer"})),
             (typing.List[int], wrapped({"type": "array", "items": {"type": "integer"}})),
             (typing.Dict[str, int], {"type": "object", "additionalProperties": {"type": "integer"}}),
             (dict, {"type": "object"}),
-        ):
+        ]
+    )
+    async def test_of_results(self, kind, expected):
+        def function():
+            pass
 
-            def function():
-                pass
+        function.__annotations__["return"] = kind
+        self.assertEqual((await self.tool_of(function)).get("outputSchema"), expected)
+        self.assertNotIn("outputSchema", await self.tool_of(function, version="2025-03-26"))
 
-            function.__annotations__["return"] = kind
-            self.assertEqual(self.tool_of(function).get("outputSchema"), expected, kind)
-            self.assertNotIn("outputSchema", self.tool_of(function, version="2025-03-26"))
-
-    def test_given_by_hand(self):
+    async def test_given_by_hand(self):
         schema = {"type": "object", "properties": {"n": {"type": "integer", "minimum": 1}}}
         options = {
             "title": "T",
@@ -276,92 +232,51 @@ class Schemas(Case):
             "annotations": {"readOnlyHint": True},
             "input_schema": schema,
         }
-        tool = self.tool_of(lambda arguments: str(arguments), name="it", **options)
+        tool = await self.tool_of(lambda arguments: str(arguments), name="it", **options)
         expected = {"name": "it", "title": "T", "description": "D", "annotations": {"readOnlyHint": True}}
         self.assertEqual(tool, {**expected, "inputSchema": schema})
-        older = self.tool_of(lambda arguments: str(arguments), "2024-11-05", name="it", **options)
+        older = await self.tool_of(lambda arguments: str(arguments), "2024-11-05", name="it", **options)
         self.assertEqual(older, {"name": "it", "description": "D", "inputSchema": schema})
 
-    def test_what_has_none(self):
-        for kind in (bytes, complex, typing.Callable[[], int]):
+    @rows([bytearray, complex, typing.Callable[[], int], [int]])
+    def test_what_has_none(self, kind):
+        def function(a):
+            pass
 
-            def function(a):
-                pass
+        function.__annotations__["a"] = kind
+        with self.assertRaisesRegex(TypeError, "'a'"):
+            ToolServer("s").tool(function)
 
-            function.__annotations__["a"] = kind
-            with self.assertRaises(TypeError) as caught:
-                ToolServer("s").tool(function)
-            self.assertIn("'a'", str(caught.exception))
+    def test_parameters_without_names_have_none(self):
         with self.assertRaises(TypeError):
             ToolServer("s").tool(lambda *many: None)
 
     # Words of JSON Schema, with values that each allows and forbids (draft 2020-12, validation vocabulary).
-    WORDS = [
-        ({"type": "integer"}, [1, 1.0, -3], [1.5, "1", True, None]),
-        ({"type": ["string", "null"]}, ["", None], [0, []]),
-        ({"type": "number"}, [1, 1.5], [True, "1"]),
-        ({"enum": [1, "a", None]}, [1, 1.0, "a", None], [True, "b", 2]),
-        ({"const": {"a": [1]}}, [{"a": [1.0]}], [{"a": [True]}, {}]),
-        ({"properties": {"a": {"type": "string"}}, "required": ["a"]}, [{"a": ""}, 7], [{}, {"a": 1}]),
-        ({"properties": {"a": {}}, "additionalProperties": False}, [{"a": 1}, {}], [{"b": 1}]),
-        ({"additionalProperties": {"type": "integer"}}, [{"b": 1}], [{"b": "1"}]),
-        ({"items": {"type": "integer"}}, [[], [1], "x"], [["1"]]),
-        ({"prefixItems": [{"type": "string"}], "items": False}, [[], ["a"]], [[1], ["a", 1]]),
-        ({"minItems": 1, "maxItems": 2}, [[1], [1, 2]], [[], [1, 2, 3]]),
-        ({"uniqueItems": True}, [[1, 2], [1, True]], [[1, 1.0], [{"a": 1}, {"a": 1}]]),
-        ({"minLength": 2, "maxLength": 3}, ["ab", "\U0001f600\U0001f600"], ["a", "abcd"]),
-        ({"pattern": "^a+$"}, ["aa", 7], ["ab", ""]),
-        ({"minimum": 1, "maximum": 2}, [1, 2, "x"], [0.5, 2.5]),
-        ({"exclusiveMinimum": 1, "exclusiveMaximum": 2}, [1.5], [1, 2]),
-        ({"multipleOf": 0.1}, [0.3, 1], [0.25]),
-        ({"minProperties": 1, "maxProperties": 1}, [{"a": 1}], [{}, {"a": 1, "b": 2}]),
-        ({"anyOf": [{"type": "string"}, {"minimum": 5}]}, ["", 5], [4]),
-        ({"oneOf": [{"type": "integer"}, {"minimum": 5}]}, [4, 5.5], [5, 4.5]),
-        ({"allOf": [{"minimum": 1}, {"maximum": 2}]}, [1, 2], [0, 3]),
-        ({"not": {"type": "string"}}, [1], ["a"]),
-        ({"$ref": "#/$defs/a", "$defs": {"a": {"type": "string"}}}, ["a"], [1]),
-    ]
+    WORDS = [tuple(it) for it in table("schemas")["words"]]
 
-    def test_the_words(self):
-        from bullmyrtle.mcp._schema import CHECKED, Checker
-
-        tried = set()
-        for schema, allowed, forbidden in self.WORDS:
-            check = Checker(schema)
-            tried |= set(schema)
-            for value in allowed:
+    @rows(WORDS)
+    def test_the_words(self, schema, allowed, forbidden):
+        check = Checker(schema)
+        for value in allowed:
+            check(value, "it")
+        for value in forbidden:
+            with self.assertRaises(InvalidParams, msg=value):
                 check(value, "it")
-            for value in forbidden:
-                with self.assertRaises(InvalidParams, msg=(schema, value)):
-                    check(value, "it")
-        self.assertEqual(tried - {"$defs"}, set(CHECKED))
+
+    def test_each_word_has_a_row(self):
+        self.assertEqual({word for schema, *_ in self.WORDS for word in schema} - {"$defs"}, set(CHECKED))
 
 
 class Tools(Case):
     """server/tools: tools/call"""
 
-    def called(
-        self,
-        server,
-        name,
-        arguments=None,
-        host=None,
-        version="2025-06-18",
-        act=None,
-        meta=None,
-        **capabilities,
-    ):
-        async def main():
-            async with hosting(server, host, version, **capabilities) as it:
-                params = {"name": name, **({} if arguments is None else {"arguments": arguments})}
-                call = it.call("tools/call", {**params, **({} if meta is None else {"_meta": meta})})
-                if act is not None:
-                    await act(it, call)
-                result = await fault_of(call)
-                await asyncio.sleep(0.02)
-                return result
-
-        return self.wait(main())
+    async def called(self, server, name, arguments=None, host=None, version="2025-06-18", meta=None):
+        async with hosting(server, host, version) as it:
+            params = {"name": name, **({} if arguments is None else {"arguments": arguments})}
+            call = it.call("tools/call", {**params, **({} if meta is None else {"_meta": meta})})
+            result = await fault_of(call)
+            await asyncio.sleep(0.02)
+            return result
 
     def server(self):
         server = ToolServer("tools")
@@ -383,80 +298,49 @@ class Tools(Case):
 
         return server
 
-    def test_each_kind(self):
-        server = self.server()
-        texts = {"content": [{"type": "text", "text": "a b red"}]}
-        self.assertEqual(self.called(server, "join", {"words": ["a", "b"]}), texts)
-        given = {"words": [], "point": {"x": 1}, "color": "blue"}
-        self.assertEqual(self.called(server, "join", given)["content"][0]["text"], " 1 blue")
-        self.assertEqual(self.called(server, "later")["content"][0]["text"], "late")
-        threaded = {"content": [{"type": "text", "text": "true"}], "structuredContent": {"result": True}}
-        self.assertEqual(self.called(server, "threaded", {}), threaded)
+    @rows(
+        [
+            ("join", {"words": ["a", "b"]}, "a b red"),
+            ("join", {"words": [], "point": {"x": 1}, "color": "blue"}, " 1 blue"),
+            ("later", None, "late"),
+            ("threaded", {}, "true"),
+        ]
+    )
+    async def test_each_kind(self, name, arguments, text):
+        self.assertEqual(
+            (await self.called(self.server(), name, arguments))["content"], [{"type": "text", "text": text}]
+        )
 
-    def test_wrong_arguments(self):
-        for arguments, words in (
+    @rows(
+        [
             ({}, "arguments lacks words"),
-            ({"words": "a"}, "arguments.words has to be an array, and is a string"),
-            ({"words": ["a", 7]}, "arguments.words[1] has to be a string, and is a whole number"),
+            ({"words": "a"}, "arguments.words must be an array, got string"),
+            ({"words": ["a", 7]}, "arguments.words[1] must be a string, got integer"),
             ({"words": [], "more": 1}, 'arguments has a member "more", which isn\'t allowed'),
-            ({"words": [], "color": "green"}, 'arguments.color has to be one of "red", "blue"'),
-            ({"words": [], "point": {"x": "1"}}, "arguments.point.x has to be a number, and is a string"),
-        ):
-            fault = self.called(self.server(), "join", arguments)
-            self.assertEqual(fault, (-32602, f"Invalid params: {words}"))
-        for params in ({"name": "nothing"}, {}, {"name": 7}, {"name": "join", "arguments": []}, None):
+            ({"words": [], "color": "green"}, 'arguments.color must be "red" or "blue", got "green"'),
+            ({"words": [], "point": {"x": "1"}}, "arguments.point.x must be a number, got string"),
+        ]
+    )
+    async def test_wrong_arguments(self, arguments, words):
+        fault = await self.called(self.server(), "join", arguments)
+        self.assertEqual(fault, (-32602, f"Invalid params: {words}"))
 
-            async def main():
-                async with hosting(self.server()) as host:
-                    return await fault_of(host.call("tools/call", params))
-
-            self.assertEqual(self.wait(main())[0], -32602, params)
-
-    def test_it_raises(self):
+    async def test_it_raises_what_nobody_meant(self):
         server = ToolServer("tools")
+        server.tool(name="unmeant")(lambda: {}["x"])
+        with logged() as log:
+            self.assertEqual(
+                await self.called(server, "unmeant"),
+                {"content": [{"type": "text", "text": "KeyError: 'x'"}], "isError": True},
+            )
+        self.assertEqual(len(log.texts), 1)
 
-        @server.tool
-        def told():
-            raise ToolError("no such city")
-
-        @server.tool
-        async def unmeant():
-            return {}["x"]
-
-        @server.tool(thread=True)
-        def refused():
-            raise Error(-32001, "no")
-
-        @server.tool
-        def wrong():
-            raise InvalidParams("Invalid params: arguments.a is odd")
-
-        for name, words in (("told", "no such city"), ("unmeant", "KeyError: 'x'"), ("refused", "no")):
-            with logged() as log:
-                result = self.called(server, name)
-            self.assertEqual(result, {"content": [{"type": "text", "text": words}], "isError": True})
-            self.assertEqual(len(log.texts), int(name == "unmeant"))
-        self.assertEqual(self.called(server, "wrong"), (-32602, "Invalid params: arguments.a is odd"))
-
-    def test_results(self):
+    async def test_results(self):
         server = ToolServer("tools")
         image = {"type": "image", "data": base64.b64encode(PIXEL).decode(), "mimeType": "image/png"}
-        audio = {"type": "audio", "data": base64.b64encode(b"wav").decode(), "mimeType": "audio/wav"}
-        link = {"type": "resource_link", "uri": "file:///a", "name": "a", "mimeType": "text/plain"}
-        embedded = {"type": "resource", "resource": {"uri": "x:1", "mimeType": "text/plain", "text": "t"}}
-        parts = [
-            "text",
-            Image(PIXEL, mime_type="image/png"),
-            mcp.Audio(b"wav", mime_type="audio/wav"),
-            mcp.ResourceLink("file:///a", "a", mime_type="text/plain"),
-            mcp.EmbeddedResource("x:1", "t"),
-        ]
-        server.tool(name="parts")(lambda: parts)
-        server.tool(name="image")(lambda: parts[1])
-        server.tool(name="nothing")(lambda: None)
-        server.tool(name="object")(lambda: {"a": 1})
-        server.tool(name="array")(lambda: [1, "a"])
-        server.tool(name="hand")(lambda: ToolResult(["no"], {"a": 1}, True, {"m": 1}))
+        server.tool(name="image")(lambda: Image(PIXEL, mime_type="image/png"))
+        embedded = mcp.EmbeddedResource("x:1", "t")
+        server.tool(name="hand")(lambda: ToolResult([embedded], {"a": 1}, True, {"m": 1}))
 
         @server.tool
         def point() -> Point:
@@ -466,123 +350,57 @@ class Tools(Case):
         def broken() -> int:
             return "not a number"
 
-        text = {"type": "text", "text": "text"}
-        self.assertEqual(self.called(server, "parts"), {"content": [text, image, audio, link, embedded]})
-        self.assertEqual(self.called(server, "image"), {"content": [image]})
-        self.assertEqual(self.called(server, "nothing"), {"content": []})
-        words = {"content": [{"type": "text", "text": '{"a":1}'}], "structuredContent": {"a": 1}}
-        self.assertEqual(self.called(server, "object"), words)
-        self.assertEqual(self.called(server, "array"), {"content": [{"type": "text", "text": '[1,"a"]'}]})
-        hand = {"content": [{"type": "text", "text": "no"}], "structuredContent": {"a": 1}, "isError": True}
-        self.assertEqual(self.called(server, "hand"), {**hand, "_meta": {"m": 1}})
-        result = self.called(server, "point")
+        self.assertEqual(await self.called(server, "image"), {"content": [image]})
+        part = {"type": "resource", "resource": {"uri": "x:1", "mimeType": "text/plain", "text": "t"}}
+        hand = {"content": [part], "structuredContent": {"a": 1}, "isError": True, "_meta": {"m": 1}}
+        self.assertEqual(await self.called(server, "hand"), hand)
+        result = await self.called(server, "point")
         self.assertEqual(result["structuredContent"], {"x": 1.5, "y": 0.0})
         self.assertEqual(result["content"], [{"type": "text", "text": '{"x":1.5,"y":0.0}'}])
         with logged() as log:
-            result = self.called(server, "broken")
+            result = await self.called(server, "broken")
         self.assertTrue(result["isError"])
-        self.assertIn("the result.result has to be a whole number", result["content"][0]["text"])
+        self.assertIn("the result.result must be an integer, got string", result["content"][0]["text"])
         self.assertEqual(len(log.texts), 1)
-        # (versions that lack structures, sounds and links)
-        older = self.called(server, "parts", version="2024-11-05")["content"]
-        self.assertEqual([it["type"] for it in older], ["text", "image", "text", "text", "resource"])
-        self.assertEqual(self.called(server, "object", version="2025-03-26"), {"content": words["content"]})
 
-    def test_progress(self):
-        """basic/utilities/progress"""
-        server = ToolServer("tools")
-
-        @server.tool
-        async def work(context: Context):
-            for progress in (1, 2, 2, 1, 3):
-                context.report_progress(progress, 3, "on")
-                await asyncio.sleep(0)
-
-        @server.tool(name="work_in_thread", thread=True)
-        def work_in_thread(ctx):
-            ctx.report_progress(0.5)
-
-        for version, more in (("2025-06-18", {"message": "on"}), ("2024-11-05", {})):
-            host = Host()
-            self.called(server, "work", host=host, version=version, meta={"progressToken": "t"})
-            told = [{"progressToken": "t", "progress": it, "total": 3, **more} for it in (1, 2, 3)]
-            self.assertEqual(host.of("notifications/progress"), told)
-        host = Host()
-        self.called(server, "work", host=host)
-        self.assertEqual(host.told, [])
-        host = Host()
-        self.called(server, "work_in_thread", host=host, meta={"progressToken": 7})
-        for token in ([1], None, True, 1.5):
-            other = Host()
-            self.called(server, "work_in_thread", host=other, meta={"progressToken": token})
-            self.assertEqual(other.told, [])
+    async def test_progress_of_a_thread(self):
+        server, host = ToolServer("tools"), Host()
+        server.tool(name="work", thread=True)(lambda ctx: ctx.report_progress(0.5))
+        await self.called(server, "work", host=host, meta={"progressToken": 7})
         self.assertEqual(host.of("notifications/progress"), [{"progressToken": 7, "progress": 0.5}])
 
-    def test_it_is_cancelled(self):
-        """basic/utilities/cancellation"""
-        server, ended = ToolServer("tools"), []
+    @rows(["waits", "looks"])
+    async def test_it_is_cancelled(self, name):
+        """There is no answer, and nothing of it is left."""
+        server, began, ended = ToolServer("tools"), [], []
 
         @server.tool
         async def waits():
+            began.append("waits")
             try:
                 await asyncio.sleep(60)
             finally:
                 ended.append("waits")
 
-        @server.tool
-        async def asks(context: Context):
-            await context.sample("?")
-
         @server.tool(thread=True)
         def looks(context: Context):
+            began.append("looks")
             while not context.is_cancelled:
                 time.sleep(0.001)
             ended.append("looks")
 
-        async def cancel(host, call):
-            await asyncio.sleep(0.02)
-            host.notify("notifications/cancelled", {"requestId": 99, "reason": "unknown"})
+        async with hosting(server) as host:
+            call = host.call("tools/call", {"name": name, "arguments": {}})
+            # (a thread may begin late, and one that has not begun never does)
+            await self.until(lambda: began)
             host.notify("notifications/cancelled", {"requestId": call.key, "reason": "no longer"})
+            await host.call("ping")
+            self.assertFalse(call.done())
+            await self.until(lambda: ended == [name])
+            counts = server.session._transport.connection.counts()
+            self.assertEqual((counts.open, counts.waiting), (0, 0))
 
-        def sleeps(params):
-            return asyncio.sleep(60)
-
-        for name in ("waits", "asks", "looks"):
-            host = Host(sampling_createMessage=sleeps)
-            self.assertEqual(self.cancelled(server, name, host, cancel), [] if HAS_OPEN else [-32800])
-        self.assertEqual(ended, ["waits", "looks"])
-
-    def cancelled(self, server, name, host, cancel):
-        """The codes of what a call is answered that is cancelled; no answer has come before another call's."""
-
-        async def main():
-            async with hosting(server, host, sampling={}) as it:
-                call = it.call("tools/call", {"name": name, "arguments": {}})
-                await cancel(it, call)
-                await it.call("ping")
-                found = [(await fault_of(call))[0]] if call.done() else []
-                await asyncio.sleep(0.02)
-                counts = server.session._connection.counts()
-                self.assertEqual((counts.open, counts.waiting), (0, 0))
-                return found
-
-        return self.wait(main())
-
-    def test_a_tool_that_asks_is_cancelled(self):
-        server, host = ToolServer("tools"), Host(sampling_createMessage=lambda params: asyncio.sleep(60))
-
-        @server.tool
-        async def asks(context: Context):
-            await context.sample("?")
-
-        async def cancel(it, call):
-            await self.until(lambda: it.asked)
-            it.notify("notifications/cancelled", {"requestId": call.key})
-
-        self.assertEqual(self.cancelled(server, "asks", host, cancel), [] if HAS_OPEN else [-32800])
-        self.assertEqual(len(host.of("notifications/cancelled")), 1)
-
-    def test_time_limits(self):
+    async def test_time_limits(self):
         server, ended = ToolServer("tools"), []
 
         @server.tool(timeout=0.05)
@@ -598,34 +416,30 @@ class Tools(Case):
             while not context.is_cancelled:
                 time.sleep(0.001)
 
-        self.assertEqual(self.called(server, "waits", {"seconds": 0})["content"][0]["text"], "in time")
-        late = {
-            "content": [{"type": "text", "text": "The tool took longer than 0.05 seconds"}],
-            "isError": True,
-        }
+        self.assertEqual(
+            (await self.called(server, "waits", {"seconds": 0}))["content"][0]["text"], "in time"
+        )
+        late = [{"type": "text", "text": "The tool took longer than 0.05 seconds"}]
         with logged():
-            self.assertEqual(self.called(server, "waits", {"seconds": 60}), late)
-            self.assertEqual(self.called(server, "looks"), late)
+            for name, arguments in (("waits", {"seconds": 60}), ("looks", {})):
+                self.assertEqual(
+                    await self.called(server, name, arguments), {"content": late, "isError": True}
+                )
         self.assertEqual(ended, ["waits", "waits"])
 
-    def test_what_never_ends(self):
+    async def test_what_never_ends(self):
         server = ToolServer("tools", grace=0.1)
         go_on = threading.Event()
-        server.tool(name="never", thread=True, timeout=0.05)(lambda: go_on.wait(20))
-
-        async def main():
+        server.tool(name="never", thread=True, timeout=0.05)(lambda: go_on.wait(SECONDS))
+        with logged():
             async with hosting(server) as host:
                 start = time.monotonic()
-                result = await host.call("tools/call", {"name": "never"})
-                self.assertTrue(result["isError"])
+                self.assertTrue((await host.call("tools/call", {"name": "never"}))["isError"])
                 self.assertEqual(await host.call("ping"), {})
-                self.assertLess(time.monotonic() - start, 5)
+                self.assertLess(time.monotonic() - start, patience(5))
                 go_on.set()
 
-        with logged():
-            self.wait(main())
-
-    def test_middleware(self):
+    async def test_middleware(self):
         server, seen = self.server(), []
 
         @server.middleware
@@ -635,49 +449,21 @@ class Tools(Case):
             result = yield
             seen.append((request.method, result))
 
-        self.assertEqual(self.called(server, "later"), (-32000, "forbidden"))
-        result = self.called(server, "threaded")
-        self.assertIn(("tools/call", result), seen)
+        self.assertEqual(await self.called(server, "later"), (-32000, "forbidden"))
+        self.assertIn(("tools/call", await self.called(server, "threaded")), seen)
 
-    def test_they_come_and_go(self):
+    def test_a_name_twice(self):
         server = self.server()
-
-        async def main():
-            async with hosting(server) as host:
-                server.tool(name="new")(lambda: None)
-                server.remove_tool("join")
-                names = [it["name"] for it in (await host.call("tools/list"))["tools"]]
-                self.assertEqual(names, ["later", "threaded", "new"])
-                self.assertEqual(len(host.of("notifications/tools/list_changed")), 2)
-                with self.assertRaises(ValueError):
-                    server.tool(name="new")(lambda: None)
-
-        self.wait(main())
-
-    def test_pages(self):
-        """server/utilities/pagination"""
-        server = ToolServer("tools", page_size=2)
-        for name in "abcde":
-            server.tool(name=name)(lambda: None)
-
-        async def main():
-            async with hosting(server) as host:
-                names, cursor, pages = [], None, 0
-                while cursor is not None or not pages:
-                    page = await host.call("tools/list", {} if cursor is None else {"cursor": cursor})
-                    names += [it["name"] for it in page["tools"]]
-                    cursor, pages = page.get("nextCursor"), pages + 1
-                self.assertEqual((names, pages), (list("abcde"), 3))
-                for cursor in ("x", "", "LTE=", "OTk=", 7):
-                    self.assertEqual((await fault_of(host.call("tools/list", {"cursor": cursor})))[0], -32602)
-
-        self.wait(main())
+        with self.assertRaises(ValueError):
+            server.tool(name="join")(lambda: None)
+        server.remove_tool("join")
+        server.tool(name="join")(lambda: None)
 
 
 class Resources(Case):
     """server/resources"""
 
-    def test_they_are_read(self):
+    async def test_they_are_listed_and_read_by_a_tool(self):
         server = ToolServer("resources")
 
         @server.resource("config://app", title="Settings", mime_type="text/x-settings")
@@ -685,81 +471,63 @@ class Resources(Case):
             """The settings."""
             return "a=1"
 
+        @server.resource("notes://{name}")
+        def note(name, context: Context):
+            return {"name": name, "version": context.version}
+
+        @server.tool
+        async def reads(uri: str, context: Context) -> str:
+            return (await context.read_resource(uri))[0]["text"]
+
         @server.resource("data://pixel")
         async def pixel():
             return PIXEL
 
-        @server.resource("notes://{folder}/{name}", name="note")
-        def note(folder, name, context: Context):
-            return {"folder": folder, "name": name, "version": context.version}
-
-        @server.tool
-        async def reads(context: Context) -> str:
-            return (await context.read_resource("config://app"))[0]["text"]
-
-        async def main():
-            async with hosting(server) as host:
+        async with hosting(server) as host:
+            about = {"name": "config", "title": "Settings", "description": "The settings."}
+            first = {"uri": "config://app", **about, "mimeType": "text/x-settings"}
+            second = {"uri": "data://pixel", "name": "pixel"}
+            self.assertEqual((await host.call("resources/list"))["resources"], [first, second])
+            blob = {"mimeType": "application/octet-stream", "blob": base64.b64encode(PIXEL).decode()}
+            found = (await host.call("resources/read", {"uri": "data://pixel"}))["contents"]
+            self.assertEqual(found, [{"uri": "data://pixel", **blob}])
+            words = '{"name":"a","version":"2025-06-18"}'
+            for uri, text in (("config://app", "a=1"), ("notes://a", words)):
                 self.assertEqual(
-                    host.begun["capabilities"]["resources"], {"subscribe": True, "listChanged": True}
+                    (await host.call("tools/call", {"name": "reads", "arguments": {"uri": uri}}))["content"][
+                        0
+                    ]["text"],
+                    text,
                 )
-                listed = (await host.call("resources/list"))["resources"]
-                about = {"name": "config", "title": "Settings", "description": "The settings."}
-                first = {"uri": "config://app", **about, "mimeType": "text/x-settings"}
-                self.assertEqual(listed, [first, {"uri": "data://pixel", "name": "pixel"}])
-                templates = (await host.call("resources/templates/list"))["resourceTemplates"]
-                self.assertEqual(templates, [{"uriTemplate": "notes://{folder}/{name}", "name": "note"}])
 
-                async def read(uri):
-                    return (await host.call("resources/read", {"uri": uri}))["contents"]
-
-                text = {"uri": "config://app", "mimeType": "text/x-settings", "text": "a=1"}
-                self.assertEqual(await read("config://app"), [text])
-                blob = {"mimeType": "application/octet-stream", "blob": base64.b64encode(PIXEL).decode()}
-                self.assertEqual(await read("data://pixel"), [{"uri": "data://pixel", **blob}])
-                note = {"uri": "notes://a%20b/c", "mimeType": "application/json"}
-                words = '{"folder":"a b","name":"c","version":"2025-06-18"}'
-                self.assertEqual(await read("notes://a%20b/c"), [{**note, "text": words}])
-                for uri in ("notes://a", "notes://a/b/c", "nothing"):
-                    with self.assertRaises(Error) as caught:
-                        await read(uri)
-                    self.assertEqual((caught.exception.code, caught.exception.data), (-32002, {"uri": uri}))
-                result = await host.call("tools/call", {"name": "reads"})
-                self.assertEqual(result["content"][0]["text"], "a=1")
-
-        self.wait(main())
-
-    def test_subscriptions(self):
+    async def test_subscriptions(self):
         server = ToolServer("resources")
         server.resource("a://1")(lambda: "1")
+        async with hosting(server) as host, hosting(server) as other:
+            self.assertEqual(await host.call("resources/subscribe", {"uri": "a://1"}), {})
+            self.assertEqual((await fault_of(host.call("resources/subscribe", {"uri": "b"})))[0], -32002)
+            server.resource_updated("a://1")
+            server.resource_updated("a://2")
+            self.assertEqual(await host.call("resources/unsubscribe", {"uri": "a://1"}), {})
+            server.resource_updated("a://1")
+            server.resource("a://3")(lambda: "3")
+            server.remove_resource("a://3")
+            await asyncio.gather(host.call("ping"), other.call("ping"))
+            self.assertEqual(host.of("notifications/resources/updated"), [{"uri": "a://1"}])
+            self.assertEqual(other.of("notifications/resources/updated"), [])
+            self.assertEqual(len(other.of("notifications/resources/list_changed")), 2)
 
-        async def main():
-            async with hosting(server) as host, hosting(server) as other:
-                self.assertEqual(await host.call("resources/subscribe", {"uri": "a://1"}), {})
-                self.assertEqual((await fault_of(host.call("resources/subscribe", {"uri": "b"})))[0], -32002)
-                server.resource_updated("a://1")
-                server.resource_updated("a://2")
-                self.assertEqual(await host.call("resources/unsubscribe", {"uri": "a://1"}), {})
-                server.resource_updated("a://1")
-                server.resource("a://3")(lambda: "3")
-                server.remove_resource("a://3")
-                await asyncio.gather(host.call("ping"), other.call("ping"))
-                self.assertEqual(host.of("notifications/resources/updated"), [{"uri": "a://1"}])
-                self.assertEqual(other.of("notifications/resources/updated"), [])
-                self.assertEqual(len(other.of("notifications/resources/list_changed")), 2)
-
-        self.wait(main())
-
-    def test_what_does_not_fit(self):
+    @rows([("a://{x}", lambda: 1), ("a://1", lambda x: 1)])
+    def test_what_does_not_fit(self, uri, function):
         server = ToolServer("resources")
-        for uri, function in (("a://{x}", lambda: 1), ("a://1", lambda x: 1)):
-            with self.assertRaises(TypeError):
-                server.resource(uri)(function)
+        with self.assertRaises(TypeError):
+            server.resource(uri)(function)
 
 
 class Prompts(Case):
     """server/prompts, server/utilities/completion"""
 
-    def server(self):
+    async def test_what_is_listed(self):
         server = ToolServer("prompts")
 
         @server.prompt(title="Review")
@@ -769,130 +537,70 @@ class Prompts(Case):
             Args:
                 code: what to review
             """
-            return f"Review this {language}: {code}"
 
         @server.prompt
         async def talk():
-            picture = {"role": "assistant", "content": Image(PIXEL, mime_type="image/png")}
-            return ["Hello", picture, {"role": "user", "content": {"type": "text", "text": "Bye"}}]
+            return "Hello"
 
-        server.completion("review", "language")(
-            lambda value: [it for it in ("python", "perl") if it.startswith(value)]
-        )
+        async with hosting(server) as host:
+            message = {"role": "user", "content": {"type": "text", "text": "Hello"}}
+            self.assertEqual(await host.call("prompts/get", {"name": "talk"}), {"messages": [message]})
+            self.assertEqual(host.begun["capabilities"]["prompts"], {"listChanged": True})
+            arguments = [{"name": "code", "description": "what to review", "required": True}]
+            arguments.append({"name": "language", "required": False})
+            about = {"name": "review", "title": "Review", "description": "Reviews code."}
+            self.assertEqual(
+                (await host.call("prompts/list"))["prompts"],
+                [{**about, "arguments": arguments}, {"name": "talk"}],
+            )
+
+    async def test_many_completions(self):
+        server = ToolServer("prompts")
+        server.prompt(name="review")(lambda code: code)
 
         @server.completion("review", "code")
         async def codes(value, arguments):
             return [f"{arguments.get('language')} {it}" for it in range(150)]
 
-        return server
-
-    def test_they_are_got(self):
-        async def main():
-            async with hosting(self.server()) as host:
-                self.assertEqual(host.begun["capabilities"]["prompts"], {"listChanged": True})
-                review, talk = (await host.call("prompts/list"))["prompts"]
-                arguments = [{"name": "code", "description": "what to review", "required": True}]
-                arguments.append({"name": "language", "required": False})
-                about = {"name": "review", "title": "Review", "description": "Reviews code."}
-                self.assertEqual(review, {**about, "arguments": arguments})
-                self.assertEqual(talk, {"name": "talk"})
-                result = await host.call("prompts/get", {"name": "review", "arguments": {"code": "x"}})
-                message = {"role": "user", "content": {"type": "text", "text": "Review this python: x"}}
-                self.assertEqual(result, {"description": "Reviews code.", "messages": [message]})
-                kinds = [
-                    (it["role"], it["content"]["type"])
-                    for it in (await host.call("prompts/get", {"name": "talk"}))["messages"]
-                ]
-                self.assertEqual(kinds, [("user", "text"), ("assistant", "image"), ("user", "text")])
-                for params in (
-                    {"name": "nothing"},
-                    {"name": "review"},
-                    {"name": "review", "arguments": {"code": 1}},
-                    {"name": "review", "arguments": {"code": "x", "more": "y"}},
-                ):
-                    self.assertEqual((await fault_of(host.call("prompts/get", params)))[0], -32602, params)
-
-        self.wait(main())
-
-    def test_completions(self):
-        ref = {"type": "ref/prompt", "name": "review"}
-
-        async def main():
-            async with hosting(self.server()) as host:
-                self.assertEqual(host.begun["capabilities"]["completions"], {})
-
-                async def complete(**params):
-                    return (await host.call("completion/complete", {"ref": ref, **params}))["completion"]
-
-                given = await complete(argument={"name": "language", "value": "py"})
-                self.assertEqual(given, {"values": ["python"], "total": 1, "hasMore": False})
-                context = {"arguments": {"language": "perl"}}
-                many = await complete(argument={"name": "code", "value": ""}, context=context)
-                self.assertEqual((len(many["values"]), many["total"], many["hasMore"]), (100, 150, True))
-                self.assertEqual(many["values"][0], "perl 0")
-                self.assertEqual((await complete(argument={"name": "other", "value": ""}))["values"], [])
-                for bad in ({"type": "ref/prompt", "name": "nothing"}, {"type": "ref/other"}, {}):
-                    params = {"ref": bad, "argument": {"name": "a", "value": ""}}
-                    self.assertEqual((await fault_of(host.call("completion/complete", params)))[0], -32602)
-
-        self.wait(main())
+        async with hosting(server) as host:
+            about = {
+                "ref": {"type": "ref/prompt", "name": "review"},
+                "argument": {"name": "code", "value": ""},
+            }
+            about["context"] = {"arguments": {"language": "perl"}}
+            many = (await host.call("completion/complete", about))["completion"]
+            self.assertEqual((len(many["values"]), many["total"], many["hasMore"]), (100, 150, True))
+            self.assertEqual(many["values"][0], "perl 0")
 
 
 class Asking(Case):
     """client/sampling, client/elicitation, client/roots, server/utilities/logging"""
 
-    def test_what_the_host_is_asked(self):
+    async def test_what_the_host_is_asked(self):
         server = ToolServer("asks")
 
         @server.tool
         async def asks(context: Context):
-            model = await context.sample("Name a town", 20, systemPrompt="Be brief")
             user = await context.elicit("Which one?", Point)
-            roots = await context.list_roots()
-            return {"model": model["content"]["text"], "user": [user.action, user.content], "roots": roots}
+            return [user.action, user.content]
 
         @server.tool(thread=True)
         def asks_in_thread(context: Context):
             return [context.sample(["a"])["role"], context.elicit("b", {"type": "object"}).action]
 
-        replies = {
-            "sampling_createMessage": {
-                "role": "assistant",
-                "model": "m",
-                "content": {"type": "text", "text": "Ys"},
-            },
-            "elicitation_create": {"action": "accept", "content": {"x": 1}},
-            "roots_list": {"roots": [{"uri": "file:///a"}]},
-        }
-        host = Host(**replies)
-
-        async def main():
-            async with hosting(server, host, sampling={}, elicitation={}, roots={}):
-                result = await host.call("tools/call", {"name": "asks"})
-                roots = [{"uri": "file:///a"}]
-                expected = {"model": "Ys", "user": ["accept", {"x": 1}], "roots": roots}
-                self.assertEqual(result["structuredContent"], expected)
-                result = await host.call("tools/call", {"name": "asks_in_thread"})
-                self.assertEqual(result["content"][0]["text"], '["assistant","accept"]')
-
-        self.wait(main())
-        message = {"role": "user", "content": {"type": "text", "text": "Name a town"}}
-        sampling = {"messages": [message], "maxTokens": 20, "systemPrompt": "Be brief"}
-        schema = {
-            "type": "object",
-            "properties": {"x": {"type": "number"}, "y": {"type": "number", "default": 0.0}},
-            "required": ["x"],
-        }
-        self.assertEqual(
-            host.asked[:3],
-            [
-                ("sampling/createMessage", sampling),
-                ("elicitation/create", {"message": "Which one?", "requestedSchema": schema}),
-                ("roots/list", None),
-            ],
+        model = {"role": "assistant", "model": "m", "content": {"type": "text", "text": "Ys"}}
+        host = Host(
+            sampling_createMessage=model, elicitation_create={"action": "accept", "content": {"x": 1}}
         )
+        async with hosting(server, host, sampling={}, elicitation={}):
+            for name, text in (("asks", '["accept",{"x":1}]'), ("asks_in_thread", '["assistant","accept"]')):
+                self.assertEqual((await host.call("tools/call", {"name": name}))["content"][0]["text"], text)
+        properties = {"x": {"type": "number"}, "y": {"type": "number", "default": 0.0}}
+        schema = {"type": "object", "properties": properties, "required": ["x"]}
+        asked = {"message": "Which one?", "requestedSchema": schema}
+        self.assertEqual(host.asked[0], ("elicitation/create", asked))
 
-    def test_what_can_not_be_elicited(self):
+    async def test_what_can_not_be_elicited(self):
         """Only texts, numbers, booleans and choices of them, side by side."""
         server = ToolServer("asks")
 
@@ -911,16 +619,12 @@ class Asking(Case):
             await context.elicit("?", Wish)
 
         host = Host(elicitation_create={"action": "cancel"})
-
-        async def main():
+        with logged():
             async with hosting(server, host, elicitation={}):
                 result = await host.call("tools/call", {"name": "asks"})
                 self.assertTrue(result["isError"])
                 self.assertIn("parts", result["content"][0]["text"])
                 await host.call("tools/call", {"name": "wishes"})
-
-        with logged():
-            self.wait(main())
         ((_, params),) = host.asked
         color = {"type": "string", "enum": ["red", "blue"], "default": "red"}
         properties = {
@@ -931,55 +635,25 @@ class Asking(Case):
         schema = {"type": "object", "properties": properties, "required": ["size"]}
         self.assertEqual(params["requestedSchema"], schema)
 
-    def test_a_host_that_can_not(self):
-        server = ToolServer("asks")
-
-        @server.tool
-        async def asks(context: Context):
-            await context.sample("Name a town")
-
-        async def main(**capabilities):
-            host = Host(sampling_createMessage=Error(-1, "User rejected sampling request"))
-            async with hosting(server, host, **capabilities):
-                result = await host.call("tools/call", {"name": "asks"})
-                return result["isError"], result["content"][0]["text"]
-
-        self.assertEqual(self.wait(main()), (True, "the host has no sampling"))
-        self.assertEqual(self.wait(main(sampling={})), (True, "User rejected sampling request"))
-
-    def test_logging(self):
+    async def test_logging(self):
         server = ToolServer("logs")
-
-        @server.tool
-        def logs(context: Context):
-            context.debug("a")
-            context.info({"b": 1})
-            context.log("alert", "c", "mine")
-
-        async def main():
-            async with hosting(server) as host:
-                await host.call("tools/call", {"name": "logs"})
-                first = list(host.of("notifications/message"))
-                self.assertEqual(await host.call("logging/setLevel", {"level": "error"}), {})
-                await host.call("tools/call", {"name": "logs"})
-                server.log("emergency", "d")
-                await host.call("ping")
-                for params in ({"level": "loud"}, {}):
-                    self.assertEqual((await fault_of(host.call("logging/setLevel", params)))[0], -32602)
-                return first, host.of("notifications/message")[len(first) :]
-
-        alert = {"level": "alert", "logger": "mine", "data": "c"}
-        first, second = self.wait(main())
-        self.assertEqual(first, [{"level": "info", "data": {"b": 1}}, alert])
-        self.assertEqual(second, [alert, {"level": "emergency", "data": "d"}])
-        with self.assertRaises(ValueError):
-            server.log("loud", "x")
+        server.tool(name="logs")(lambda context: context.debug("a"))
+        async with hosting(server) as host:
+            self.assertEqual(await host.call("logging/setLevel", {"level": "error"}), {})
+            server.log("info", "c")
+            await host.call("tools/call", {"name": "logs"})
+            server.log("emergency", "d")
+            await host.call("ping")
+            told = host.of("notifications/message")
+            self.assertEqual(told, [{"level": "emergency", "data": "d"}])
+            with self.assertRaises(ValueError):
+                server.log("loud", "x")
 
 
 class Hosts(Case):
     """What a `ToolClient` does with a server."""
 
-    def test_a_whole_session(self):
+    async def test_a_whole_session(self):
         server = ToolServer("words", "1", page_size=2)
         told = []
 
@@ -1006,62 +680,51 @@ class Hosts(Case):
         server.resource("b://{x}")(lambda x: x)
         server.prompt(name="hello")(lambda name: f"Hello {name}")
         server.completion("hello", "name")(lambda value: [value + "!"])
-
-        async def main():
-            client = ToolClient(
-                sampling=lambda params: "Flowers",
-                elicitation=lambda message, schema: {},
-                roots=["file:///work"],
-                log=told.append,
+        client = ToolClient(
+            sampling=lambda params: "Flowers",
+            elicitation=lambda message, schema: {},
+            roots=["file:///work"],
+            log=told.append,
+        )
+        async with joined(server, client):
+            about = await client.initialize()
+            self.assertEqual((about["serverInfo"]["name"], client.protocol_version), ("words", "2025-11-25"))
+            names = [it["name"] for it in await client.list_tools()]
+            self.assertEqual(names, ["count", "title", "waits"])
+            reached = []
+            result = await client.call_tool(
+                "count", {"text": "a b c"}, progress=lambda *it: reached.append(it)
             )
-            async with joined(server, client):
-                about = await client.initialize()
-                self.assertEqual(
-                    (about["serverInfo"]["name"], client.protocol_version), ("words", "2025-06-18")
-                )
-                names = [it["name"] for it in await client.list_tools()]
-                self.assertEqual(names, ["count", "title", "waits"])
-                reached = []
-                result = await client.call_tool(
-                    "count", {"text": "a b c"}, progress=lambda *it: reached.append(it)
-                )
-                self.assertEqual(
-                    (result.text, result.structured, result.is_error), ("3", {"result": 3}, False)
-                )
-                self.assertEqual(reached, [(1, 3, None), (2, 3, None), (3, 3, None)])
-                self.assertEqual(told, [{"level": "info", "data": "counted"}])
-                result = await client.call_tool("title", {"text": "roses"})
-                self.assertEqual(result.text, "Flowers accept file:///work")
-                with self.assertRaises(asyncio.TimeoutError):
-                    await asyncio.wait_for(client.call_tool("waits"), 0.05)
-                with self.assertRaises(Error):
-                    await client.call_tool("nothing")
-                self.assertEqual([it["uri"] for it in await client.list_resources()], ["a://1"])
-                self.assertEqual(len(await client.list_resource_templates()), 1)
-                self.assertEqual((await client.read_resource("b://x"))[0]["text"], "x")
-                await client.subscribe_resource("a://1")
-                await client.unsubscribe_resource("a://1")
-                self.assertEqual([it["name"] for it in await client.list_prompts()], ["hello"])
-                prompt = await client.get_prompt("hello", {"name": "Ys"})
-                self.assertEqual(prompt["messages"][0]["content"]["text"], "Hello Ys")
-                ref = {"type": "ref/prompt", "name": "hello"}
-                self.assertEqual((await client.complete(ref, "name", "a"))["values"], ["a!"])
-                await client.set_logging_level("error")
-                await client.send_ping()
-                client.roots_changed(["file:///other"])
+            self.assertEqual((result.text, result.structured, result.is_error), ("3", {"result": 3}, False))
+            self.assertEqual(reached, [(1, 3, None), (2, 3, None), (3, 3, None)])
+            self.assertEqual(told, [{"level": "info", "data": "counted"}])
+            self.assertEqual(
+                (await client.call_tool("title", {"text": "roses"})).text, "Flowers accept file:///work"
+            )
+            with self.assertRaises(asyncio.TimeoutError):
+                await asyncio.wait_for(client.call_tool("waits"), 0.05)
+            with self.assertRaises(Error):
+                await client.call_tool("nothing")
+            self.assertEqual([it["uri"] for it in await client.list_resources()], ["a://1"])
+            self.assertEqual(len(await client.list_resource_templates()), 1)
+            self.assertEqual((await client.read_resource("b://x"))[0]["text"], "x")
+            await client.subscribe_resource("a://1")
+            await client.unsubscribe_resource("a://1")
+            self.assertEqual([it["name"] for it in await client.list_prompts()], ["hello"])
+            prompt = await client.get_prompt("hello", {"name": "Ys"})
+            self.assertEqual(prompt["messages"][0]["content"]["text"], "Hello Ys")
+            ref = {"type": "ref/prompt", "name": "hello"}
+            self.assertEqual((await client.complete(ref, "name", "a"))["values"], ["a!"])
+            await client.set_logging_level("error")
+            await client.send_ping()
+            client.roots_changed(["file:///other"])
 
-        self.wait(main())
-
-    def test_pages_that_go_round(self):
+    async def test_pages_that_go_round(self):
         server = Server(framing="lines")
         server.method("tools/list")(lambda params: {"tools": [], "nextCursor": "again"})
-
-        async def main():
-            async with joined(server, ToolClient()) as client:
-                with self.assertRaises(ValueError):
-                    await client.list_tools()
-
-        self.wait(main())
+        async with joined(server, ToolClient()) as client:
+            with self.assertRaises(ValueError):
+                await client.list_tools()
 
     def test_a_version_that_is_not_known(self):
         server = ToolServer("old", versions=["2024-11-05"])
@@ -1076,7 +739,7 @@ class Hosts(Case):
         with self.assertRaises(mcp.UnknownVersion):
             self.wait(main(versions=["2025-06-18"]))
 
-    def test_a_user_that_declines(self):
+    async def test_a_user_that_declines(self):
         server = ToolServer("asks")
 
         @server.tool
@@ -1085,32 +748,8 @@ class Hosts(Case):
             reply = await context.sample("?")
             return f"{said.action} {reply}"
 
-        async def main():
-            client = ToolClient(sampling=lambda params: None, elicitation=lambda message, schema: None)
-            async with joined(server, client):
-                await client.initialize()
-                return await client.call_tool("asks")
-
-        result = self.wait(main())
+        client = ToolClient(sampling=lambda params: None, elicitation=lambda message, schema: None)
+        async with joined(server, client):
+            await client.initialize()
+            result = await client.call_tool("asks")
         self.assertEqual((result.is_error, result.text), (True, "User rejected sampling request"))
-
-
-class Batches(Case):
-    """basic, of version 2025-03-26: batches"""
-
-    def test_a_batch(self):
-        server = ToolServer("batches")
-        server.tool(name="echo", input_schema={"type": "object"})(lambda arguments: arguments["text"])
-
-        async def main():
-            async with hosting(server, version="2025-03-26") as host:
-                calls = [("tools/call", {"name": "echo", "arguments": {"text": it}}) for it in "ab"]
-                results = await host.call_batch([*calls, ("ping", None)])
-                self.assertEqual([it["content"][0]["text"] for it in results[:2]], ["a", "b"])
-                self.assertEqual(results[2], {})
-
-        self.wait(main())
-
-
-if __name__ == "__main__":
-    unittest.main()

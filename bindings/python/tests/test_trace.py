@@ -5,7 +5,6 @@ import json
 import os
 import tempfile
 import time
-import unittest
 
 from helping import Case, joined, logged
 
@@ -28,10 +27,9 @@ def message(**members):
 
 
 class Lines(Case):
-    def test_a_session(self):
+    async def test_a_session(self):
         ours, theirs = [], []
-
-        async def main():
+        with logged():
             server = Server(trace=ours.append)
             client = Client(trace=theirs.append)
             client.method("ask")(lambda params: 2 * params[0])
@@ -64,9 +62,6 @@ class Lines(Case):
                 client.notify("$/cancelRequest", {"id": call.key})
                 with self.assertRaises(Error):
                     await call
-
-        with logged():
-            self.wait(main())
         self.assertEqual(
             told(ours)[:-1],
             [
@@ -136,51 +131,37 @@ class Lines(Case):
         self.wait(main(kept))
         self.assertEqual(len(told(kept.getvalue().splitlines())), 3)
 
-    def test_a_log_that_cant_be_written(self):
+    async def test_a_log_that_cant_be_written(self):
         said = []
 
         def write(line):
             said.append(line)
             raise OSError("full")
 
-        async def main():
+        with logged() as log:
             server = Server(trace=write)
             server.method("x")(lambda params: params)
             async with joined(server, Client()) as client:
                 self.assertEqual([await client.call("x", [it]) for it in range(3)], [[0], [1], [2]])
-
-        with logged() as log:
-            self.wait(main())
         self.assertEqual((len(said), log.texts), (1, ["the trace ends here: OSError: full"]))
 
-    def test_from_threads(self):
+    async def test_from_threads(self):
         lines = []
+        server = Server(trace=lines.append)
 
-        async def main():
-            server = Server(trace=lines.append)
+        @server.method("x", thread=True)
+        def x(params, request):
+            request.notify("note", params)
+            return [request.call("twice", params)]
 
-            @server.method("x", thread=True)
-            def x(params, request):
-                request.notify("note", params)
-                return [request.call("twice", params)]
-
-            client = Client()
-            client.method("twice")(lambda params: 2 * params[0])
-            async with joined(server, client):
-                found = await asyncio.gather(*(client.call("x", [it]) for it in range(40)))
-                self.assertEqual(found, [[2 * it] for it in range(40)])
-
-        self.wait(main())
+        client = Client()
+        client.method("twice")(lambda params: 2 * params[0])
+        async with joined(server, client):
+            found = await asyncio.gather(*(client.call("x", [it]) for it in range(40)))
+            self.assertEqual(found, [[2 * it] for it in range(40)])
         self.assertEqual(len(told(lines)), 40 * 5 + 1)
 
-    def test_it_costs_nothing_when_off(self):
-        async def main():
-            server = Server()
-            async with joined(server):
-                self.assertIs(type(server.session._connection), Connection)
-
-        self.wait(main())
-
-
-if __name__ == "__main__":
-    unittest.main()
+    async def test_it_costs_nothing_when_off(self):
+        server = Server()
+        async with joined(server):
+            self.assertIs(type(server.session._transport.connection), Connection)

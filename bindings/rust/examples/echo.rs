@@ -1,4 +1,4 @@
-//! The smallest host: it serves standard input, a content a line, and answers each request with its params.
+//! The smallest host: it serves standard input, a content a line, and has one method, which gives its params back.
 use bullmyrtle::{Connection, Ended, Event, Framing, Settings};
 use std::io::{self, Read};
 
@@ -12,7 +12,9 @@ fn main() -> Result<(), Box<dyn std::error::Error>> {
         }
         while let Some(event) = connection.next_event()? {
             match event {
-                Event::Request { number, params: Some(params), .. } => connection.answer(number, &params)?,
+                Event::Request { number, method, params: Some(params), .. } if method == "echo" => {
+                    connection.answer(number, &params)?;
+                }
                 Event::Request { number, .. } => connection.fail(number, -32601, "Method not found", None)?,
                 Event::Notification { number, .. } => connection.close(number)?,
                 _ => {}

@@ -68,6 +68,10 @@ impl Server {
 
     fn answer(&mut self, number: u64, method: &str, params: Option<&str>) -> Result<(), Refusal> {
         match (self.stage, method) {
+            // (the params are compact, and what begins so is an object)
+            (Stage::New, "initialize") if !params.unwrap_or("").starts_with('{') => {
+                self.connection.fail(number, INVALID_PARAMS, "params: expected an object", None)
+            }
             (Stage::New, "initialize") => {
                 self.stage = Stage::Initialized;
                 self.connection.answer(number, r#"{"capabilities":{"definitionProvider":true}}"#)

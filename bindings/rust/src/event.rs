@@ -236,6 +236,13 @@ pub struct ErrorObject {
     pub data: Option<String>,
 }
 
+impl ErrorObject {
+    /// An error without data.
+    pub fn new(code: i64, message: impl Into<String>) -> Self {
+        ErrorObject { code, message: message.into(), data: None }
+    }
+}
+
 impl Display for ErrorObject {
     fn fmt(&self, formatter: &mut Formatter<'_>) -> fmt::Result {
         write!(formatter, "{} ({})", self.message, self.code)
@@ -249,17 +256,17 @@ impl Error for ErrorObject {}
 pub enum Close {
     /// [`end`](crate::Connection::end) said that it was closed.
     Clean,
-    /// A line of a head isn't a field.
+    /// A header line isn't a field.
     BadHead,
     /// A `Content-Length` isn't a number.
     BadLength,
-    /// A head has two of them.
+    /// A header has two of them.
     TwoLengths,
     /// A content is longer than the setting allows.
     TooLarge,
-    /// A head has no `Content-Length`.
+    /// A header has no `Content-Length`.
     NoLength,
-    /// A head has more than 4,096 bytes.
+    /// A header has more than 4,096 bytes.
     HeadTooLong,
     /// The input was closed inside a frame.
     Truncated,
@@ -273,12 +280,12 @@ impl Display for Close {
     fn fmt(&self, formatter: &mut Formatter<'_>) -> fmt::Result {
         formatter.write_str(match self {
             Close::Clean => "the input was closed",
-            Close::BadHead => "a line of a head isn't a field",
+            Close::BadHead => "a header line isn't a field",
             Close::BadLength => "a Content-Length isn't a number",
-            Close::TwoLengths => "a head has two Content-Lengths",
+            Close::TwoLengths => "a header has two Content-Lengths",
             Close::TooLarge => "a content is longer than the setting allows",
-            Close::NoLength => "a head has no Content-Length",
-            Close::HeadTooLong => "a head has more than 4,096 bytes",
+            Close::NoLength => "a header has no Content-Length",
+            Close::HeadTooLong => "a header has more than 4,096 bytes",
             Close::Truncated => "the input was closed inside a frame",
             Close::Read => "a read failed",
             Close::Full => "more calls came than the setting allows",

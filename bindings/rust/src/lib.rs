@@ -1,4 +1,13 @@
-//! One end of a JSON-RPC 2.0 conversation whose methods are your own code: a [`Connection`].
+//! JSON-RPC 2.0 servers and clients whose methods are your own code.
+//!
+//! - [`Server`], [`Client`] and [`Life`] run on threads: messages come one by one, in the order of the stream, and are
+//!   answered from any thread.
+//! - With the feature `tokio` the module `tasks` has them as async functions by name, which begin in that order; with
+//!   `serde` params and results have types, and with `lsp` there are those of LSP 3.17. The repository's page
+//!   `docs/rust.md` describes all of it.
+//! - A [`Connection`] is one end of a conversation by itself.
+//!
+//! # A connection
 //!
 //! A connection does no input and no output, starts no thread and reads no clock. You feed it the bytes that you have
 //! read, ask it for events, answer and call, and take the bytes that are to be written, in whatever order you like. The
@@ -42,21 +51,48 @@
 //! What is to be written isn't limited. Stop reading while [`pending`](Connection::pending) is large.
 #![deny(missing_docs, unsafe_op_in_unsafe_fn)]
 
+mod cancel;
+mod client;
 mod connection;
+mod end;
 mod event;
+mod incoming;
 mod json;
+mod life;
+#[cfg(feature = "lsp")]
+#[rustfmt::skip]
+pub mod lsp;
+mod peer;
 mod refusal;
+mod reply;
 mod report;
+mod server;
+mod session;
 mod settings;
+mod streams;
 // (`bm_new` isn't called: `bm_open` does all that it does)
 #[allow(dead_code, non_camel_case_types)]
 mod sys;
+#[cfg(feature = "tokio")]
+pub mod tasks;
 mod together;
+#[cfg(feature = "serde")]
+mod typed;
 
+pub use cancel::{CancelToken, Cancelled};
+pub use client::Client;
 pub use connection::{Connection, Ended, NOBODY};
+pub use end::End;
 pub use event::{Close, Defect, ErrorObject, ErrorRef, Event, EventRef, EventRefs, Events};
+pub use incoming::{codes, Incoming, Notification, Request, Responder};
 pub use json::{Json, Outgoing};
+pub use life::Life;
+pub use peer::Peer;
 pub use refusal::Refusal;
+pub use reply::{CallError, Reply, Response};
 pub use report::Report;
+pub use server::{Messages, Server};
 pub use settings::{Cancels, Framing, Order, Settings};
 pub use together::{Room, Sayings, Stop};
+#[cfg(feature = "serde")]
+pub use typed::{params_of, ReplyAs};

@@ -82,6 +82,18 @@ impl Settings {
         Self::default()
     }
 
+    /// Those of the Language Server Protocol: frames, and its cancels.
+    #[must_use]
+    pub fn lsp() -> Self {
+        Self::new().cancels(Cancels::Lsp)
+    }
+
+    /// Those of the standard streams of the Model Context Protocol: lines, and its cancels.
+    #[must_use]
+    pub fn mcp() -> Self {
+        Self::new().framing(Framing::Lines).cancels(Cancels::Mcp)
+    }
+
     /// How contents are framed.
     #[must_use]
     pub fn framing(self, framing: Framing) -> Self {
@@ -133,6 +145,10 @@ impl Settings {
 
     pub(crate) fn has_contents(self) -> bool {
         self.framing == Framing::Contents
+    }
+
+    pub(crate) fn is_mcp(self) -> bool {
+        self.cancels == Cancels::Mcp
     }
 
     /// (A limit of 0 stands for the usual one in C, and is refused here.)

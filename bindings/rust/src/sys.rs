@@ -116,6 +116,8 @@ pub const BM_RULE_CANCEL_INITIALIZE: u32 = 25;
 pub const BM_RULE_AFTER_CANCEL: u32 = 26;
 pub const BM_RULE_UNANSWERED: u32 = 27;
 pub const BM_RULE_NOT_JUDGED: u32 = 28;
+pub const BM_RULE_BOTH_KINDS: u32 = 29;
+pub const BM_RULE_TWICE: u32 = 30;
 
 #[repr(C)]
 #[derive(Clone, Copy, Debug, Default)]

@@ -33,9 +33,8 @@ mod place;
 mod report;
 mod settings;
 
-use event_rooms::EventHead;
 use handle::Handle;
-use host_calls::{AllSaid, Outlet, Saying, Told, code_of, code_of_got};
+use host_calls::{AllSaid, EventHead, Outlet, Saying, Told, code_of, code_of_got};
 use place::Place;
 use report::Report;
 use settings::{Options, Settings};
@@ -47,7 +46,7 @@ const INTERFACE: u32 = 1;
 /// The version of these calls.
 #[unsafe(no_mangle)]
 pub extern "C" fn bm_interface() -> u32
-    ensures { result ≡ INTERFACE }
+    ensures { result ≡ 1 }
 {
     INTERFACE
 }

@@ -23,7 +23,7 @@ use Rattle.connection_steps.specs.Steps.{leaving, owed_with}
 use Rattle.connection_desk.specs.Desks.{Desk, after_unit, after_end, answer_texts}
 use Rattle.connection.specs.Settings.{Chosen, rules_of}
 use Rattle.connection.specs.Connections.{Connection, IsStreamOf, HasEnded, was_full, had_ended, StandsAfter, SamePieces, Step, comes, is_full, ends, GoesOn, stays, goes, IsStill, HasStepped, HasGoneOn, read, origin_of, content_came, calls_of, close_of}
-use Rattle.connection.specs.Inner.{IsNext, HasMoved, HasStayed, HasGone}
+use Rattle.connection.specs.Inner.{IsNext, HasMoved, HasStayed, HasGone, HasCome}
 use Rattle.connection.proofs.Moves.{desk_came, desk_ended}
 use Rattle.connection.proofs.Fed.{over_is, unclosed, all_told}
 use Rattle.connection.proofs.Stands.{full_more, still}
@@ -98,6 +98,7 @@ frame_moves places_are c placed broken going next defect few =
             step = comes placed all here (next_placed_is c past told stands ∙ next) fits;
             stands = record {
               lawful = (may_come past (is_over past) here, stands.lawful);
+              typed = (tt, stands.typed);
               calls = subst (λ n. n ≤ c.settings.calls) (sym (counts past from u)) fits;
               stream = taken_stream places_are c.settings past c.stream placed stands.stream next;
               ended = λ close closed. (let none : close_in past ≡ None = unclosed past here in absurd (cc));
@@ -146,6 +147,7 @@ ended_stands : (c : Connection) (past : History) (told : List Event) (close : Cl
     → StandsAfter (with_end c close) (ended close ∷ past) told
 ended_stands c past told close going so stands = record {
   lawful = (may_come past (is_over past) (sym (over_is c past told stands) ∙ going), stands.lawful);
+  typed = (tt, stands.typed);
   calls = subst (λ us. length (calls_in (entries_along us)) ≤ c.settings.calls) (sym (append-nil (units_of past))) stands.calls;
   stream = ended_stream c.settings past c.stream close stands.stream;
   ended = ended_so c.settings c.stream past close (sym (over_is c past told stands) ∙ going) so;
@@ -234,7 +236,7 @@ step_from before now told past next pieces settings step =
 pub gone_more : (before now next : Connection) → HasGone before now → now.desk.untold ≡ [] → HasMoved now next → HasGone before next
 gone_more before now next gone none moved = record {
   gone = λ past told stands.
-      (let g : HasGoneOn before now past told = gone.gone past told stands in
+      (let g : HasCome before now past told = gone.gone past told stands in
       let m : HasStepped now next g.history told = moved.stepped g.history told g.stands (all_told now g.history told g.stands none) in
       record {
         history = m.history;
@@ -256,10 +258,22 @@ pub gone_on : (before current next now : Connection) → HasGone before current 
 gone_on before current next now gone same none moved =
     gone_more before next now (subst (λ c. HasGone before c) (sym same) gone) (ap (λ (c : Connection). c.desk.untold) same ∙ none) moved
 
+-- where it is refused, all that came is told
+pub refused_there : (before current next now : Connection) (history : History) (told : List Event) → HasGone before current → next ≡ current → current.desk.untold ≡ [] → now ≡ next
+    → StandsAfter before history told → HasGoneOn before now history told
+refused_there before current next now history told gone same none as_was stands =
+    let g : HasCome before current history told = gone.gone history told stands in
+    record {
+      history = g.history;
+      steps = g.steps;
+      stands = subst (λ c. StandsAfter c g.history told) (sym (as_was ∙ same)) g.stands;
+      all_told = all_told current g.history told g.stands none;
+    }
+
 pub stays_still : (before current next now : Connection) (history : History) (told : List Event) → HasGone before current → next ≡ current → current.desk.untold ≡ [] → HasStayed next now
     → StandsAfter before history told → (x : History) × GoesOn before told history x × StandsAfter now x told × IsStill now x told
 stays_still before current next now history told gone same none stayed stands =
-    let g : HasGoneOn before current history told = gone.gone history told stands in
+    let g : HasCome before current history told = gone.gone history told stands in
     let here : StandsAfter next g.history told = subst (λ c. StandsAfter c g.history told) (sym same) g.stands in
     let all : events_of g.history ≡ told = all_told current g.history told g.stands none in
     let still : IsStill next g.history told = stayed.still g.history told here all in

@@ -31,7 +31,7 @@ use Rattle.connection_steps.specs.Steps.{withdrawn_by}
 use Rattle.connection_steps.proofs.TheirFound.{cancelled_found}
 use Rattle.connection_desk.specs.Desks.{Desk, answer_refused, wanted_keys, may_leave, withdrawals_in, is_cancelled as is_cancelled_call, after_saying, after_withdrawal, after_answer, after_cancel}
 use Rattle.connection.specs.Settings.{Chosen}
-use Rattle.connection.specs.Connections.{Connection, IsDeskOf, StandsAfter}
+use Rattle.connection.specs.Connections.{Connection, IsGiven, AreTyped, IsDeskOf, StandsAfter}
 use Rattle.connection.proofs.Moves.{desk_withdrew, desk_answered}
 use Rattle.connection.proofs.Stands.{full_more, closed_is, no_more, ended_still}
 
@@ -189,6 +189,15 @@ withdrew_all cancels n past lowest (k ∷ ks) lawful are =
       others = rest.others ∙ others_kept n past by k (caller_is n past k are.1);
     }
 
+-- what is said is such as its types hold: of withdrawals that is nothing
+typed_still : (by : Cancels) (past : History) (ks : List ℕ) → AreTyped past → AreTyped (after past (map (withdrew by) ks))
+typed_still by past [] typed = typed
+typed_still by past (k ∷ ks) typed = typed_still by (withdrew by k ∷ past) ks (tt, typed)
+
+cancel_typed : (b : Bool) → IsGiven (if b then None else Some cancel)
+cancel_typed true = tt
+cancel_typed false = tt
+
 -- the calls with these keys are withdrawn
 abbrev pub all_withdrawn : Cancels → List ℕ → List (ℕ × OwnCall) → List (ℕ × OwnCall)
 all_withdrawn by [] waiting = waiting
@@ -325,6 +334,7 @@ stands_cancelled c history told n stands allowed =
     let said = after_saying (withdrawals_in c.desk.cancels n c.desk.state) c.desk in
     record {
       lawful = allowed_still cancels n a history now only allowed;
+      typed = (cancel_typed (may_be_left cancels n history), typed_still (by_of cancels) history ks stands.typed);
       calls = subst (λ m. m ≤ c.settings.calls) (sym (ap (λ us. length (calls_in (entries_along us))) units)) stands.calls;
       stream = record {
         framing = stands.stream.framing;

@@ -56,6 +56,7 @@ stream_stands : (c : Connection) (history : History) (told : List Event) (now : 
     → ((close : Close) → close_in history ≡ Some close → HasEnded c.settings now history close) → StandsAfter (record c { stream = now }) history told
 stream_stands c history told now stands is so = record {
   lawful = stands.lawful;
+  typed = stands.typed;
   calls = stands.calls;
   stream = is;
   ended = so;

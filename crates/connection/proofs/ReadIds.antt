@@ -153,7 +153,7 @@ params_safe told (Some (json.string s)) safe = tt
 params_safe told (Some (array js)) safe = given_again told (json_text (array js)) (again (array js) safe.0 safe.1 (array_structured js))
 params_safe told (Some (object ms)) safe = given_again told (json_text (object ms)) (again (object ms) safe.0 safe.1 (object_structured ms))
 
-last_is : (p : Option (Json × List Token)) (j : Json) → option_and_then (λ p. if_last p.0 p.1) p ≡ Some j → p ≡ Some (j, [])
+pub last_is : (p : Option (Json × List Token)) (j : Json) → option_and_then (λ p. if_last p.0 p.1) p ≡ Some j → p ≡ Some (j, [])
 last_is None j e = cc
 last_is (Some (i, [])) j e = cc
 last_is (Some (i, t ∷ ts)) j e = cc

@@ -1,5 +1,5 @@
 -- A host that keeps the rules is refused only where it can't know better.
-use Rattle.std.proofs.Common.{◌≡◌, inl, inr, ℕ, zero, suc, ◌+◌, ◌<◌, ◌==◌, ◌&&◌, ◌||◌, not, nat_lt, Bool, true, false, List, [], ◌∷◌, length, Option, Some, None, refl, sym, ap, subst, ◌∙◌, arith}
+use Rattle.std.proofs.Common.{◌≡◌, ℕ, zero, suc, ◌+◌, ◌<◌, ◌==◌, ◌&&◌, ◌||◌, not, nat_lt, Bool, true, false, List, [], ◌∷◌, length, Option, Some, None, refl, sym, ap, subst, ◌∙◌, arith}
 use Rattle.std.proofs.lemmas.Bool.Decides.{nat_tests}
 use Rattle.std.specs.Prelude.{is_some}
 use Rattle.std.specs.Option.{option_map_or, is_none}
@@ -12,7 +12,7 @@ use Rattle.connection_messages.specs.declared.cancels.Cancels.TheVariants.{Lsp, 
 use Rattle.connection_messages.specs.declared.reply.Reply.{Reply}
 use Rattle.connection_history.specs.declared.event.Event.{Event}
 use Rattle.connection_history.specs.declared.refused.Refused.{Refused}
-use Rattle.connection_history.specs.declared.refused.Refused.TheVariants.{NotOpen, NotWaiting, Over, Empty, Full}
+use Rattle.connection_history.specs.declared.refused.Refused.TheVariants.{Memory, NotOpen, NotWaiting, Over, Empty, Full}
 use Rattle.connection_history.specs.History.{Happening, came, called, called_all, noticed, withdrew, answered, ended, History, answer_to, caller_of, reply_to, ends_wait, gives_up, is_given_up, is_open, is_over, withdraws, is_withdrawn, key_count}
 use Rattle.connection_history.specs.Refusals.{first_of, most_keys, has_cancels, may_be_left, call_refusal, refusal}
 use Rattle.connection_history.specs.Told.{IsTold}
@@ -140,6 +140,11 @@ excused_by laws cancels history told (answered n None) why keeps is =
     (left_allowed (is_open n history) (n == 0) (may_be_left cancels n history) (laws.answer_allowed cancels history told n keeps.0.call (Standard Cancelled) keeps.0.is_told keeps.0.unanswered) keeps.1) is
 excused_by laws cancels history told (ended close) why keeps is = absurd keeps
 
+-- a refusal is for memory only where no rule refuses
+by_rule_or_memory : (rule : Option Refused) (why : Refused) (P : Refused → Type 0) → IsRefusal why rule → P Memory → (rule ≡ Some why → P why) → P why
+by_rule_or_memory None why P is at_memory by_rule = subst P (sym is) at_memory
+by_rule_or_memory (Some r) why P is at_memory by_rule = by_rule (ap Some (sym is))
+
 pub excused : RuleLaws → (cancels : Option Cancels) (history : History) (told : List Event) (h : Happening) (why : Refused) → KeepsRules cancels history told h → IsRefusal why (refusal cancels history h) → IsExcused history h why
-excused laws cancels history told h why keeps (inl is) = subst (IsExcused history h) (sym is) (memory h)
-excused laws cancels history told h why keeps (inr is) = excused_by laws cancels history told h why keeps is
+excused laws cancels history told h why keeps is =
+    by_rule_or_memory (refusal cancels history h) why (IsExcused history h) is (memory h) (excused_by laws cancels history told h why keeps)

@@ -6,7 +6,6 @@ use Rattle.std.proofs.lemmas.Option.{slice_get_within}
 use Rattle.std.specs.Prelude.{⊤, flat_map}
 use Rattle.std.specs.Option.{option_map_or, is_none}
 use Rattle.message_ids.specs.declared.id.Id.{Id}
-use Rattle.connection_messages.specs.Envelope.{cancels_by}
 use Rattle.connection_messages.specs.ReadBack.{IsSayable, AreSayable, IsId, IsAnswer, AreAnswers}
 use Rattle.connection_messages.specs.declared.answer.Answer.{Answer}
 use Rattle.connection_messages.specs.declared.call.Call.{Call as Came}
@@ -25,14 +24,15 @@ use Rattle.connection_history.specs.Items.{answers_at}
 use Rattle.connection_history.specs.Refusals.{first_of, most_keys, same_cancels, has_cancels, call_refusal, refusal, IsLawful}
 use Rattle.connection_history.specs.Written.{places_in}
 use Rattle.connection.specs.BackToBack as back
-use Rattle.connection.specs.BackToBack.{Message, call, calls, notice, withdrawal, answer, answers, said_at, given_to, answer_in, answers_in, in_one, answer_of, answers_along, messages_at, messages_of, IsGiven, CanBeSaid, AllCanBeSaid}
+use Rattle.connection.specs.BackToBack.{Message, call, calls, notice, withdrawal, answer, answers, said_at, given_to, answer_in, answers_in, in_one, answer_of, answers_along, messages_at, messages_of}
+use Rattle.connection.specs.Connections.{IsGiven, IsTyped, AreTyped}
 
 -- What the laws of texts ask for, where the reader has these cancels.
 abbrev pub IsSound : Option Cancels → Message → Type 0
 IsSound cancels (call key o) = (key < 2 ^ 64) × IsSayable o
 IsSound cancels (calls key []) = ⊥
 IsSound cancels (calls key (o ∷ os)) = (key + length (o ∷ os) ≤ 2 ^ 64) × AreSayable (o ∷ os)
-IsSound cancels (notice o) = IsSayable o × (cancels_by cancels o.method ≡ None)
+IsSound cancels (notice o) = IsSayable o
 IsSound cancels (withdrawal by key) = (key < 2 ^ 64) × (cancels ≡ Some by)
 IsSound cancels (answer id a) = IsId id × IsAnswer a
 IsSound cancels (answers []) = ⊥
@@ -118,7 +118,7 @@ batch_sound : (cancels : Option Cancels) (key : ℕ) (os : List Outgoing) → (l
 batch_sound cancels key [] some few are = absurd (cc)
 batch_sound cancels key (o ∷ os) some few are = (few, are)
 
-said_sound : (cancels : Option Cancels) (past : History) (h : Happening) → IsLawful cancels (h ∷ past) → CanBeSaid cancels h → AreSound cancels (said_at past h)
+said_sound : (cancels : Option Cancels) (past : History) (h : Happening) → IsLawful cancels (h ∷ past) → IsTyped h → AreSound cancels (said_at past h)
 said_sound cancels past (came o u) lawful can = tt
 said_sound cancels past (called n o) lawful can =
     let room = (called_room past n 1 lawful.0).1 in
@@ -157,27 +157,27 @@ units-first : (us more : List Unit) → UnitsHaveIds (us ++ more) → UnitsHaveI
 units-first [] more have = tt
 units-first (u ∷ us) more have = (have.0, units-first us more have.1)
 
-given_at : (cancels : Option Cancels) (n : ℕ) (h : Happening) (a : Option Answer) → CanBeSaid cancels h → answer_at n h ≡ Some a → IsGiven a
-given_at cancels n (came o u) a can is = absurd (cc)
-given_at cancels n (called m o) a can is = absurd (cc)
-given_at cancels n (called_all m os) a can is = absurd (cc)
-given_at cancels n (noticed o) a can is = absurd (cc)
-given_at cancels n (withdrew by k) a can is = absurd (cc)
-given_at cancels n (answered m b) a can is = go (m == n) is
+given_at : (n : ℕ) (h : Happening) (a : Option Answer) → IsTyped h → answer_at n h ≡ Some a → IsGiven a
+given_at n (came o u) a can is = absurd (cc)
+given_at n (called m o) a can is = absurd (cc)
+given_at n (called_all m os) a can is = absurd (cc)
+given_at n (noticed o) a can is = absurd (cc)
+given_at n (withdrew by k) a can is = absurd (cc)
+given_at n (answered m b) a can is = go (m == n) is
   where
     go : (t : Bool) → cond t (Some b) None ≡ Some a → IsGiven a
     go true same = let it : b ≡ a = cc in subst IsGiven it can
     go false same = absurd (cc)
-given_at cancels n (ended close) a can is = absurd (cc)
+given_at n (ended close) a can is = absurd (cc)
 
-given_by : (cancels : Option Cancels) (n : ℕ) (h : Happening) (earlier : Option (Option Answer)) (a : Option Answer) → ((b : Option Answer) → earlier ≡ Some b → IsGiven b) → CanBeSaid cancels h
+given_by : (n : ℕ) (h : Happening) (earlier : Option (Option Answer)) (a : Option Answer) → ((b : Option Answer) → earlier ≡ Some b → IsGiven b) → IsTyped h
     → or_else earlier (answer_at n h) ≡ Some a → IsGiven a
-given_by cancels n h None a before can is = given_at cancels n h a can is
-given_by cancels n h (Some b) a before can is = before a is
+given_by n h None a before can is = given_at n h a can is
+given_by n h (Some b) a before can is = before a is
 
-given_is : (cancels : Option Cancels) (n : ℕ) (history : History) (a : Option Answer) → AllCanBeSaid cancels history → answer_to n history ≡ Some a → IsGiven a
-given_is cancels n [] a can is = absurd (cc)
-given_is cancels n (h ∷ past) a can is = given_by cancels n h (answer_to n past) a (λ b before. given_is cancels n past b can.1 before) can.0 is
+given_is : (n : ℕ) (history : History) (a : Option Answer) → AreTyped history → answer_to n history ≡ Some a → IsGiven a
+given_is n [] a can is = absurd (cc)
+given_is n (h ∷ past) a can is = given_by n h (answer_to n past) a (λ b before. given_is n past b can.1 before) can.0 is
 
 answers-append : (xs ys : List (Id × Answer)) → AreAnswers xs → AreAnswers ys → AreAnswers (xs ++ ys)
 answers-append [] ys first second = second
@@ -197,9 +197,9 @@ ids-append (Reply k r ∷ es) more have = ids-append es more have
 ids-append (Stray ∷ es) more have = ids-append es more have
 ids-append (Invalid ∷ es) more have = ids-append es more have
 
-module _ (cancels : Option Cancels) (history : History) (can : AllCanBeSaid cancels history) where
+module _ (cancels : Option Cancels) (history : History) (can : AreTyped history) where
   entry_are : (n : ℕ) (e : Entry) → HaveIds (calls_in (e ∷ [])) → AreAnswers (answer_in history n e)
-  entry_are n (Call c) have = given_are c.id (answer_to n history) have.0 (λ a is. given_is cancels n history a can is)
+  entry_are n (Call c) have = given_are c.id (answer_to n history) have.0 (λ a is. given_is n history a can is)
   entry_are n (Cancel id) have = tt
   entry_are n (Reply k r) have = tt
   entry_are n Stray have = tt
@@ -224,22 +224,22 @@ module _ (cancels : Option Cancels) (history : History) (can : AllCanBeSaid canc
   unit_sound n (Single e) have = each_sound (answer_in history n e) (entry_are n e have)
   unit_sound n (Batch es) have = one_sound (answers_in history n es) (all_are n es have)
 
-along_sound : (cancels : Option Cancels) (history : History) → AllCanBeSaid cancels history → (n : ℕ) (us : List Unit) (place : ℕ) → UnitsHaveIds us
+along_sound : (cancels : Option Cancels) (history : History) → AreTyped history → (n : ℕ) (us : List Unit) (place : ℕ) → UnitsHaveIds us
     → AreSound cancels (get_or (answers_along history n us) place [])
 along_sound cancels history can n [] place have = tt
 along_sound cancels history can n (u ∷ us) zero have = unit_sound cancels history can n u have.0
 along_sound cancels history can n (u ∷ us) (suc place) have = along_sound cancels history can (n + length (calls_in (entries_in u))) us place have.1
 
-answer_sound : (cancels : Option Cancels) (history : History) (place : ℕ) → AllCanBeSaid cancels history → UnitsHaveIds (units_of history) → AreSound cancels (back.answer_at history place)
+answer_sound : (cancels : Option Cancels) (history : History) (place : ℕ) → AreTyped history → UnitsHaveIds (units_of history) → AreSound cancels (back.answer_at history place)
 answer_sound cancels history place can have = along_sound cancels history can 1 (units_of history) place have
 
-places_sound : (cancels : Option Cancels) (history : History) (places : List ℕ) → AllCanBeSaid cancels history → UnitsHaveIds (units_of history) → AreSound cancels (flat_map (back.answer_at history) places)
+places_sound : (cancels : Option Cancels) (history : History) (places : List ℕ) → AreTyped history → UnitsHaveIds (units_of history) → AreSound cancels (flat_map (back.answer_at history) places)
 places_sound cancels history [] can have = tt
 places_sound cancels history (place ∷ places) can have =
     sound-append cancels (back.answer_at history place) (flat_map (back.answer_at history) places) (answer_sound cancels history place can have) (places_sound cancels history places can have)
 
 -- all that is said can be read, where the ids that came are such as ids are
-pub messages_sound : (cancels : Option Cancels) (order : Order) (history : History) → IsLawful cancels history → AllCanBeSaid cancels history → UnitsHaveIds (units_of history) → AreSound cancels (messages_of order history)
+pub messages_sound : (cancels : Option Cancels) (order : Order) (history : History) → IsLawful cancels history → AreTyped history → UnitsHaveIds (units_of history) → AreSound cancels (messages_of order history)
 messages_sound cancels order [] lawful can have = tt
 messages_sound cancels order (h ∷ past) lawful can have =
     sound-append cancels (messages_of order past) (messages_at order past h) (messages_sound cancels order past lawful.1 can.1 (units-first (units_of past) (units_at h) have))

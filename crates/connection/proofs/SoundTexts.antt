@@ -20,6 +20,7 @@ use Rattle.connection_messages.specs.declared.rules.Rules.{Rules}
 use Rattle.connection_messages.specs.declared.unit.Unit.TheVariants.{Single, Batch}
 use Rattle.content_streams.specs.Lines.{ends_in_cr, is_blank}
 use Rattle.connection.specs.BackToBack.{Message, call, calls, notice, withdrawal, answer, answers, text_of, as_read, IsWithin}
+use Rattle.connection.proofs.OwnNames.{HasOwnName}
 use Rattle.connection.proofs.SaidSound.{IsSound}
 
 -- What the laws of connection_messages say of what is read.
@@ -44,21 +45,21 @@ pub record LineLaws : Type 0 where
 
 -- ---- read
 
-pub message_reads : ReadLaws → (rules : Rules) (m : Message) → IsSound rules.cancels m → IsWithin rules.most_entries m → unit_of rules false (text_of m) ≡ as_read m
-message_reads laws rules (call key o) sound kept = laws.call_reads rules key o sound.0 sound.1
-message_reads laws rules (calls key []) sound kept = absurd sound
-message_reads laws rules (calls key (o ∷ os)) sound kept = laws.calls_read rules key o os sound.0 kept sound.1
-message_reads laws rules (notice o) sound kept = laws.notice_reads rules o sound.0 sound.1
-message_reads laws rules (withdrawal by key) sound kept = laws.withdrawal_reads rules by key sound.1 sound.0
-message_reads laws rules (answer id a) sound kept = laws.answer_reads rules id a sound.0 sound.1
-message_reads laws rules (answers []) sound kept = absurd sound
-message_reads laws rules (answers (a ∷ more)) sound kept = laws.answers_read rules a more kept sound
+pub message_reads : ReadLaws → (rules : Rules) (m : Message) → IsSound rules.cancels m → HasOwnName rules.cancels m → IsWithin rules.most_entries m → unit_of rules false (text_of m) ≡ as_read m
+message_reads laws rules (call key o) sound named kept = laws.call_reads rules key o sound.0 sound.1
+message_reads laws rules (calls key []) sound named kept = absurd sound
+message_reads laws rules (calls key (o ∷ os)) sound named kept = laws.calls_read rules key o os sound.0 kept sound.1
+message_reads laws rules (notice o) sound named kept = laws.notice_reads rules o sound named
+message_reads laws rules (withdrawal by key) sound named kept = laws.withdrawal_reads rules by key sound.1 sound.0
+message_reads laws rules (answer id a) sound named kept = laws.answer_reads rules id a sound.0 sound.1
+message_reads laws rules (answers []) sound named kept = absurd sound
+message_reads laws rules (answers (a ∷ more)) sound named kept = laws.answers_read rules a more kept sound
 
 pub message_line : LineLaws → (cancels : Option Cancels) (m : Message) → IsSound cancels m → IsLine (text_of m)
 message_line laws cancels (call key o) sound = laws.call_line key o sound.0 sound.1
 message_line laws cancels (calls key []) sound = absurd sound
 message_line laws cancels (calls key (o ∷ os)) sound = laws.calls_line key (o ∷ os) sound.0 sound.1
-message_line laws cancels (notice o) sound = laws.notice_line o sound.0
+message_line laws cancels (notice o) sound = laws.notice_line o sound
 message_line laws cancels (withdrawal by key) sound = laws.withdrawal_line by key sound.0
 message_line laws cancels (answer id a) sound = laws.answer_line id a sound.0 sound.1
 message_line laws cancels (answers []) sound = absurd sound

@@ -2,8 +2,9 @@
 use Rattle.std.proofs.Common.{◌≡◌, ℕ, zero, suc, ◌+◌, ◌≤◌, ◌==◌, ◌&&◌, ◌||◌, not, nat_lt, Bool, true, false, cond, List, [], ◌∷◌, ◌++◌, length, Option, Some, None, Result, Ok, Err, ◌<◌, refl, sym, ap, subst, ◌∙◌, arith}
 use Rattle.std.proofs.lemmas.List.{append-nil, length-append}
 use Rattle.std.proofs.lemmas.Grind.{flat_map-append}
-use Rattle.std.specs.Prelude.{is_some, slice_get, OnOk, IfErr}
+use Rattle.std.specs.Prelude.{is_some, slice_get, OnOk, OnErr, IfErr}
 use Rattle.std.specs.Option.{option_map_or}
+use Rattle.connection_messages.specs.ReadBack.{IsSayable, AreSayable}
 use Rattle.connection_messages.specs.Texts.{call_text, calls_text, notice_text, withdrawal_text}
 use Rattle.connection_messages.specs.declared.answer.Answer.{Answer}
 use Rattle.connection_messages.specs.declared.cancels.Cancels.{Cancels}
@@ -31,7 +32,7 @@ use Rattle.connection_steps.proofs.TheirFound.{found, seen-at, is_among}
 use Rattle.connection_steps.proofs.TheirSites.{sites_of, theirs-seen, all-numbers}
 use Rattle.connection_desk.specs.Desks.{Desk, with_texts, has_call, call_refused, isnt_withdrawn, withdraw_refused, answer_refused, after_call, after_calls, after_notice, after_withdrawal, after_answer}
 use Rattle.connection.specs.Settings.{Chosen, rules_of}
-use Rattle.connection.specs.Connections.{Connection, IsDeskOf, HasEnded, was_full, had_ended, StandsAfter, IsRefusal, read, calls_of, next_after}
+use Rattle.connection.specs.Connections.{Connection, IsGiven, IsTyped, IsDeskOf, HasEnded, was_full, had_ended, StandsAfter, IsRefusal, read, calls_of, next_after}
 use Rattle.connection.proofs.Moves.{desk_called, desk_called_all, desk_noticed, desk_withdrew, desk_answered}
 
 abbrev pub with_desk : Connection → Desk → Connection
@@ -142,13 +143,14 @@ pub ended_still : (settings : Chosen) (s : Stream) (past now : History) → unit
 ended_still settings s past now units closes ended close is = still settings s past now close units (ended close (sym closes ∙ is))
 
 pub stands_said : (c : Connection) (history : History) (told : List Event) (h : Happening) (texts : List (List ℕ)) (d : Desk) → StandsAfter c history told
-    → refusal c.settings.cancels history h ≡ None → IsSaid h → IsDeskOf c.settings (h ∷ history) told d → d.out ≡ with_texts texts c.desk.out
+    → IsTyped h → refusal c.settings.cancels history h ≡ None → IsSaid h → IsDeskOf c.settings (h ∷ history) told d → d.out ≡ with_texts texts c.desk.out
     → StandsAfter (with_desk c d) (h ∷ history) told
-stands_said c history told h texts d stands allowed said desk out =
+stands_said c history told h texts d stands typed allowed said desk out =
     let same : units_of (h ∷ history) ≡ units_of history = ap (λ us. units_of history ++ us) said.unit ∙ append-nil (units_of history) in
     let closes : close_in (h ∷ history) ≡ close_in history = ap (or_else (close_in history)) said.close ∙ or_else-none (close_in history) in
     record {
       lawful = (allowed, stands.lawful);
+      typed = (typed, stands.typed);
       calls = subst (λ us. length (calls_in (entries_along us)) ≤ c.settings.calls) (sym same) stands.calls;
       stream = record {
         framing = stands.stream.framing;
@@ -162,33 +164,33 @@ stands_said c history told h texts d stands allowed said desk out =
       taken = subst IsWithin (sym out) (full_more c.desk.out.framing c.desk.out.written texts c.desk.out.taken stands.taken);
     }
 
-pub stands_called : (c : Connection) (history : History) (told : List Event) (n : ℕ) (o : Outgoing) → StandsAfter c history told → refusal c.settings.cancels history (called n o) ≡ None
+pub stands_called : (c : Connection) (history : History) (told : List Event) (n : ℕ) (o : Outgoing) → IsSayable o → StandsAfter c history told → refusal c.settings.cancels history (called n o) ≡ None
     → StandsAfter (with_desk c (after_call n o c.desk)) (called n o ∷ history) told
-stands_called c history told n o stands allowed =
-    stands_said c history told (called n o) (call_text (c.desk.state.own.made + 1) o ∷ []) (after_call n o c.desk) stands allowed (record { unit = refl; origin = refl; close = refl })
+stands_called c history told n o typed stands allowed =
+    stands_said c history told (called n o) (call_text (c.desk.state.own.made + 1) o ∷ []) (after_call n o c.desk) stands typed allowed (record { unit = refl; origin = refl; close = refl })
     (desk_called c.settings.cancels c.settings history told n o c.desk stands.desk (allowed, stands.lawful)) refl
 
-pub stands_called_all : (c : Connection) (history : History) (told : List Event) (n : ℕ) (os : List Outgoing) → StandsAfter c history told → refusal c.settings.cancels history (called_all n os) ≡ None
+pub stands_called_all : (c : Connection) (history : History) (told : List Event) (n : ℕ) (os : List Outgoing) → AreSayable os → StandsAfter c history told → refusal c.settings.cancels history (called_all n os) ≡ None
     → StandsAfter (with_desk c (after_calls n os c.desk)) (called_all n os ∷ history) told
-stands_called_all c history told n os stands allowed =
-    stands_said c history told (called_all n os) (calls_text (c.desk.state.own.made + 1) os ∷ []) (after_calls n os c.desk) stands allowed (record { unit = refl; origin = refl; close = refl })
+stands_called_all c history told n os typed stands allowed =
+    stands_said c history told (called_all n os) (calls_text (c.desk.state.own.made + 1) os ∷ []) (after_calls n os c.desk) stands typed allowed (record { unit = refl; origin = refl; close = refl })
     (desk_called_all c.settings.cancels c.settings history told n os c.desk stands.desk (allowed, stands.lawful)) refl
 
-pub stands_noticed : (c : Connection) (history : History) (told : List Event) (o : Outgoing) → StandsAfter c history told
+pub stands_noticed : (c : Connection) (history : History) (told : List Event) (o : Outgoing) → IsSayable o → StandsAfter c history told
     → StandsAfter (with_desk c (after_notice o c.desk)) (noticed o ∷ history) told
-stands_noticed c history told o stands =
-    stands_said c history told (noticed o) (notice_text o ∷ []) (after_notice o c.desk) stands refl (record { unit = refl; origin = refl; close = refl }) (desk_noticed c.settings history told o c.desk stands.desk) refl
+stands_noticed c history told o typed stands =
+    stands_said c history told (noticed o) (notice_text o ∷ []) (after_notice o c.desk) stands typed refl (record { unit = refl; origin = refl; close = refl }) (desk_noticed c.settings history told o c.desk stands.desk) refl
 
 pub stands_withdrew : (c : Connection) (history : History) (told : List Event) (k : ℕ) → StandsAfter c history told → refusal c.settings.cancels history (withdrew (by_of c.settings.cancels) k) ≡ None
     → StandsAfter (with_desk c (after_withdrawal k c.desk)) (withdrew (by_of c.settings.cancels) k ∷ history) told
 stands_withdrew c history told k stands allowed =
-    stands_said c history told (withdrew (by_of c.settings.cancels) k) (withdrawal_text (by_of c.desk.cancels) k ∷ []) (after_withdrawal k c.desk) stands allowed (record { unit = refl; origin = refl; close = refl })
+    stands_said c history told (withdrew (by_of c.settings.cancels) k) (withdrawal_text (by_of c.desk.cancels) k ∷ []) (after_withdrawal k c.desk) stands tt allowed (record { unit = refl; origin = refl; close = refl })
     (desk_withdrew c.settings history told k c.desk stands.desk) refl
 
-pub stands_answered : (c : Connection) (history : History) (told : List Event) (n : ℕ) (a : Option Answer) → StandsAfter c history told → refusal c.settings.cancels history (answered n a) ≡ None
+pub stands_answered : (c : Connection) (history : History) (told : List Event) (n : ℕ) (a : Option Answer) → IsGiven a → StandsAfter c history told → refusal c.settings.cancels history (answered n a) ≡ None
     → StandsAfter (with_desk c (after_answer n a c.desk)) (answered n a ∷ history) told
-stands_answered c history told n a stands allowed =
-    stands_said c history told (answered n a) _ (after_answer n a c.desk) stands allowed (record { unit = refl; origin = refl; close = refl })
+stands_answered c history told n a typed stands allowed =
+    stands_said c history told (answered n a) _ (after_answer n a c.desk) stands typed allowed (record { unit = refl; origin = refl; close = refl })
     (desk_answered c.settings.cancels c.settings history told n a c.desk stands.desk (allowed, stands.lawful)) refl
 
 -- ---- what the calls promise
@@ -196,6 +198,10 @@ stands_answered c history told n a stands allowed =
 pub on_ok : {T E : Type 0} (r : Result T E) (P Q : Type 0) → (P → Q) → OnOk r P → OnOk r Q
 on_ok (Ok value) P Q f p = f p
 on_ok (Err why) P Q f p = tt
+
+pub on_err : {T E P : Type 0} (r : Result T E) → P → OnErr r P
+on_err (Ok value) p = tt
+on_err (Err why) p = p
 
 if_err : {T E : Type 0} (r : Result T E) (P Q : E → Type 0) → ((why : E) → P why → Q why) → IfErr r P → IfErr r Q
 if_err (Ok value) P Q f p = tt

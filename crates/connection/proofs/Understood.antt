@@ -9,9 +9,10 @@ use Rattle.connection_history.specs.History.{History, units_of}
 use Rattle.content_streams.specs.Streams.{contents, contents_of, plain}
 use Rattle.content_streams.specs.declared.ending.HowEnded.{HowEnded}
 use Rattle.outbox.specs.Output.{full_count}
-use Rattle.connection.specs.BackToBack.{Message, text_of, as_read, messages_of, AllCanBeSaid, AreFirst, AllFit, AllWithin, IsEndedWhole, whole_count, AreJoined, Understands}
+use Rattle.connection.specs.BackToBack.{Message, text_of, as_read, messages_of, NoCancelNoticed, AreFirst, AllFit, AllWithin, IsEndedWhole, whole_count, AreJoined, Understands}
 use Rattle.connection.specs.Settings.{rules_of}
 use Rattle.connection.specs.Connections.{Connection, StandsAfter, read, next_content}
+use Rattle.connection.proofs.OwnNames.{HaveOwnNames, first_named, messages_named}
 use Rattle.connection.proofs.ReadIds.{came_have_ids}
 use Rattle.connection.proofs.SaidSound.{AreSound, messages_sound}
 use Rattle.connection.proofs.SoundTexts.{ReadLaws, message_reads}
@@ -21,14 +22,14 @@ use Rattle.connection.proofs.WrittenBytes.{all_taken}
 -- What the law of written contents says.
 abbrev pub AreContents : Type 0
 AreContents =
-    (c : Connection) (history : History) (told : List Event) (limit : ℕ) (pieces : List (List ℕ)) (ended : Option HowEnded) → StandsAfter c history told → AllCanBeSaid c.settings.cancels history → AllFit limit c.desk.out.written
+    (c : Connection) (history : History) (told : List Event) (limit : ℕ) (pieces : List (List ℕ)) (ended : Option HowEnded) → StandsAfter c history told → AllFit limit c.desk.out.written
     → (n : ℕ) → IsEndedWhole c.settings.framing n c.desk.out.written ended → AreFirst c.settings.framing n c.desk.out.written pieces
     → contents_of c.settings.framing limit pieces ended ≡ map plain (take (whole_count c.settings.framing n c.desk.out.written) c.desk.out.written)
 
 -- texts that are read are the messages
-all_read : ReadLaws → (rules : Rules) (ms : List Message) → AreSound rules.cancels ms → AllWithin rules.most_entries ms → map (read rules) (map plain (map text_of ms)) ≡ map as_read ms
-all_read laws rules [] sound kept = refl
-all_read laws rules (m ∷ ms) sound kept = λ i. message_reads laws rules m sound.0 kept.0 i ∷ all_read laws rules ms sound.1 kept.1 i
+all_read : ReadLaws → (rules : Rules) (ms : List Message) → AreSound rules.cancels ms → HaveOwnNames rules.cancels ms → AllWithin rules.most_entries ms → map (read rules) (map plain (map text_of ms)) ≡ map as_read ms
+all_read laws rules [] sound named kept = refl
+all_read laws rules (m ∷ ms) sound named kept = λ i. message_reads laws rules m sound.0 named.0 kept.0 i ∷ all_read laws rules ms sound.1 named.1 kept.1 i
 
 first_sound : (cancels : Option Cancels) (n : ℕ) (ms : List Message) → AreSound cancels ms → AreSound cancels (take n ms)
 first_sound cancels zero ms sound = tt
@@ -46,7 +47,7 @@ none_left (x ∷ xs) zero none = absurd (cc)
 none_left (x ∷ xs) (suc n) none = let few = none_left xs n none in omega (arith, few)
 
 module _ (laws : ReadLaws) (are : AreContents) (n : ℕ) (writer reader : Connection) (said heard : History) (told other : List Event)
-    (speaks : StandsAfter writer said told) (hears : StandsAfter reader heard other) (can : AllCanBeSaid writer.settings.cancels said) (joined : AreJoined n writer reader)
+    (speaks : StandsAfter writer said told) (hears : StandsAfter reader heard other) (none_cancels : NoCancelNoticed writer.settings.cancels said) (joined : AreJoined n writer reader)
     (kept : AllWithin reader.settings.most_entries (messages_of writer.settings.order said)) where
   abbrev messages : List Message
   messages = messages_of writer.settings.order said
@@ -58,13 +59,16 @@ module _ (laws : ReadLaws) (are : AreContents) (n : ℕ) (writer reader : Connec
   rules = rules_of reader.settings
 
   sound : AreSound reader.settings.cancels messages
-  sound = subst (λ c. AreSound c messages) (sym joined.cancels) (messages_sound writer.settings.cancels writer.settings.order said speaks.lawful can (came_have_ids writer said told speaks))
+  sound = subst (λ c. AreSound c messages) (sym joined.cancels) (messages_sound writer.settings.cancels writer.settings.order said speaks.lawful speaks.typed (came_have_ids writer said told speaks))
+
+  named : HaveOwnNames reader.settings.cancels messages
+  named = subst (λ c. HaveOwnNames c messages) (sym joined.cancels) (messages_named writer.settings.cancels writer.settings.order said none_cancels)
 
   -- the reader's contents are the texts that came whole
   texts_came : contents reader.stream ≡ map plain (map text_of (take whole messages))
   texts_came =
       (λ i. contents_of (((hears.stream.framing ∙ joined.framing) i)) (hears.stream.limit i) reader.stream.pieces reader.stream.ended)
-      ∙ are writer said told reader.settings.content reader.stream.pieces reader.stream.ended speaks can joined.fits n joined.ended joined.fed
+      ∙ are writer said told reader.settings.content reader.stream.pieces reader.stream.ended speaks joined.fits n joined.ended joined.fed
       ∙ ap (λ ts. map plain (take whole ts)) (written_is writer said told speaks)
       ∙ ap (map plain) (take-map text_of whole messages)
 
@@ -76,6 +80,7 @@ module _ (laws : ReadLaws) (are : AreContents) (n : ℕ) (writer reader : Connec
       ∙ (λ i. map (read rules) (take (hears.stream.taken i) (texts_came i)))
       ∙ ap (map (read rules)) (take-map plain count (map text_of (take whole messages)) ∙ ap (map plain) (take-map text_of count (take whole messages)))
       ∙ all_read laws rules (take count (take whole messages)) (first_sound rules.cancels count (take whole messages) (first_sound rules.cancels whole messages sound))
+      (first_named rules.cancels count (take whole messages) (first_named rules.cancels whole messages named))
       (first_kept rules.most_entries count (take whole messages) (first_kept rules.most_entries whole messages kept))
 
   size : length (units_of heard) ≤ length (take whole messages)

@@ -8,7 +8,7 @@ use Rattle.content_streams.specs.declared.ending.HowEnded.{HowEnded}
 use Rattle.content_streams.specs.declared.framing.Framing.{Framing}
 use Rattle.content_streams.specs.declared.framing.Framing.TheVariants.{Frames, Lines, Contents}
 use Rattle.outbox.specs.Output.{full_count}
-use Rattle.connection.specs.BackToBack.{Message, AreLines, text_of, messages_of, AllCanBeSaid, AreFirst, whole_count, AllFit, IsEndedWhole}
+use Rattle.connection.specs.BackToBack.{Message, AreLines, text_of, messages_of, AreFirst, whole_count, AllFit, IsEndedWhole}
 use Rattle.connection.specs.Connections.{Connection, StandsAfter}
 use Rattle.connection.proofs.AnswersSaid.{texts_are}
 use Rattle.connection.proofs.ReadIds.{came_have_ids}
@@ -28,12 +28,12 @@ are_contents laws Lines limit n ts pieces ended whole fit unclosed fed = lines_a
 are_contents laws Contents limit n ts pieces ended whole fit unclosed fed = contents_are_texts limit n ts pieces ended whole fed
 
 module _ (frames : FrameLaws) (lines : LineLaws) (c : Connection) (history : History) (told : List Event) (limit : ℕ) (pieces : List (List ℕ)) (ended : Option HowEnded)
-    (stands : StandsAfter c history told) (can : AllCanBeSaid c.settings.cancels history) (fit : AllFit limit c.desk.out.written) (n : ℕ) where
+    (stands : StandsAfter c history told) (fit : AllFit limit c.desk.out.written) (n : ℕ) where
   texts_whole : AreWhole limit c.desk.out.written
   texts_whole =
       let is = written_is c history told stands in
       subst (AreWhole limit) (sym is)
-      (messages_whole lines c.settings.cancels limit (messages_of c.settings.order history) (messages_sound c.settings.cancels c.settings.order history stands.lawful can (came_have_ids c history told stands)) (subst (AllFit limit) is fit))
+      (messages_whole lines c.settings.cancels limit (messages_of c.settings.order history) (messages_sound c.settings.cancels c.settings.order history stands.lawful stands.typed (came_have_ids c history told stands)) (subst (AllFit limit) is fit))
 
   pub front_contents : IsEndedWhole c.settings.framing n c.desk.out.written ended → AreFirst c.settings.framing n c.desk.out.written pieces
       → contents_of c.settings.framing limit pieces ended ≡ map plain (take (whole_count c.settings.framing n c.desk.out.written) c.desk.out.written)
@@ -46,7 +46,7 @@ messages_are_lines : LineLaws → (cancels : Option Cancels) (ms : List Message)
 messages_are_lines lines cancels [] sound = tt
 messages_are_lines lines cancels (m ∷ ms) sound = (message_line lines cancels m sound.0, messages_are_lines lines cancels ms sound.1)
 
-pub written_are_lines : LineLaws → (c : Connection) (history : History) (told : List Event) → StandsAfter c history told → AllCanBeSaid c.settings.cancels history → AreLines c.desk.out.written
-written_are_lines lines c history told stands can =
+pub written_are_lines : LineLaws → (c : Connection) (history : History) (told : List Event) → StandsAfter c history told → AreLines c.desk.out.written
+written_are_lines lines c history told stands =
     subst AreLines (sym (written_is c history told stands))
-    (messages_are_lines lines c.settings.cancels (messages_of c.settings.order history) (messages_sound c.settings.cancels c.settings.order history stands.lawful can (came_have_ids c history told stands)))
+    (messages_are_lines lines c.settings.cancels (messages_of c.settings.order history) (messages_sound c.settings.cancels c.settings.order history stands.lawful stands.typed (came_have_ids c history told stands)))

@@ -4,7 +4,7 @@ use Rattle.message_ids.specs.declared.id.Id.{Id}
 use Rattle.message_ids.specs.declared.id.Id.TheVariants.{Null, Unsigned}
 use Rattle.message_ids.specs.declared.standard.Standard.TheVariants.{ParseError, InvalidRequest}
 use Rattle.connection_messages.specs.Envelope.{cancels_by}
-use Rattle.connection_messages.specs.ReadBack.{IsSayable, AreSayable, IsAnswer, IsLine, answer_texts, call_as_read, calls_as_read, notice_as_read, answer_as_read, answers_as_read}
+use Rattle.connection_messages.specs.ReadBack.{IsLine, answer_texts, call_as_read, calls_as_read, notice_as_read, answer_as_read, answers_as_read}
 use Rattle.connection_messages.specs.Reading.{are_too_many}
 use Rattle.connection_messages.specs.Texts.{call_text, calls_text, notice_text, withdrawal_text, answer_text, batch_text}
 use Rattle.connection_messages.specs.declared.answer.Answer.{Answer}
@@ -134,27 +134,21 @@ abbrev pub messages_of : Order → History → List Message
 messages_of order [] = []
 messages_of order (h ∷ past) = messages_of order past ++ messages_at order past h
 
--- ---- what a host can say
+-- ---- what is a line, and what is a notification
 
--- an answer, or none
-abbrev pub IsGiven : Option Answer → Type 0
-IsGiven None = ⊤
-IsGiven (Some a) = IsAnswer a
+-- a notification hasn't the name of a cancel
+abbrev pub IsNoCancel : Option Cancels → Happening → Type 0
+IsNoCancel cancels (came o u) = ⊤
+IsNoCancel cancels (called n o) = ⊤
+IsNoCancel cancels (called_all n os) = ⊤
+IsNoCancel cancels (noticed o) = cancels_by cancels o.method ≡ None
+IsNoCancel cancels (withdrew by key) = ⊤
+IsNoCancel cancels (answered n a) = ⊤
+IsNoCancel cancels (ended close) = ⊤
 
--- What is said is such as its types hold: names and messages are UTF-8, params, results and data are JSON texts, and codes have
--- 64 bits. A notification hasn't the name of a cancel.
-abbrev pub CanBeSaid : Option Cancels → Happening → Type 0
-CanBeSaid cancels (came o u) = ⊤
-CanBeSaid cancels (called n o) = IsSayable o
-CanBeSaid cancels (called_all n os) = AreSayable os
-CanBeSaid cancels (noticed o) = IsSayable o × (cancels_by cancels o.method ≡ None)
-CanBeSaid cancels (withdrew by key) = ⊤
-CanBeSaid cancels (answered n a) = IsGiven a
-CanBeSaid cancels (ended close) = ⊤
-
-abbrev pub AllCanBeSaid : Option Cancels → History → Type 0
-AllCanBeSaid cancels [] = ⊤
-AllCanBeSaid cancels (h ∷ past) = CanBeSaid cancels h × AllCanBeSaid cancels past
+abbrev pub NoCancelNoticed : Option Cancels → History → Type 0
+NoCancelNoticed cancels [] = ⊤
+NoCancelNoticed cancels (h ∷ past) = IsNoCancel cancels h × NoCancelNoticed cancels past
 
 -- no text has a line feed
 abbrev pub AreLines : List (List ℕ) → Type 0

@@ -1,14 +1,16 @@
 -- A connection, and what holds of it after a history: what came, what the host was told, and what is written.
-use Rattle.std.specs.Prelude.{◌≡◌, ◌≤◌, ◌<◌, ℕ, zero, suc, ◌+◌, List, ◌∷◌, ◌++◌, Bool, true, false, map, length, take, slice_get, Option, Some, None, option_map, is_some, if◌then◌else◌}
+use Rattle.std.specs.Prelude.{◌≡◌, ◌≤◌, ◌<◌, ℕ, zero, suc, ◌+◌, List, [], ◌∷◌, ◌++◌, Bool, true, false, map, length, take, slice_get, Option, Some, None, option_map, is_some, ⊤, if◌then◌else◌}
 use Rattle.lsp_frames.specs.declared.frame.Frame.{Frame}
+use Rattle.connection_messages.specs.ReadBack.{IsSayable, AreSayable, IsAnswer}
 use Rattle.connection_messages.specs.Reading.{unit_of}
+use Rattle.connection_messages.specs.declared.answer.Answer.{Answer}
 use Rattle.connection_messages.specs.declared.rules.Rules.{Rules}
 use Rattle.connection_messages.specs.declared.unit.Unit.{Unit}
 use Rattle.connection_history.specs.declared.close.Close.{Close}
 use Rattle.connection_history.specs.declared.close.Close.TheVariants as close
 use Rattle.connection_history.specs.declared.event.Event.{Event}
 use Rattle.connection_history.specs.Stream.{entries_in, calls_in, request_id}
-use Rattle.connection_history.specs.History.{Origin, Happening, came, ended, History, stream as stream_of, units_of, origins_of, is_over, is_open, close_of as close_in}
+use Rattle.connection_history.specs.History.{Origin, Happening, came, called, called_all, noticed, withdrew, answered, ended, History, stream as stream_of, units_of, origins_of, is_over, is_open, close_of as close_in}
 use Rattle.connection_history.specs.Refusals.{IsLawful}
 use Rattle.connection_history.specs.Events.{events_of, call_count}
 use Rattle.connection_history.specs.Items.{items_of, text_of}
@@ -95,6 +97,27 @@ close_of stream.Clean = close.Clean
 close_of (stream.Fault fault) = close.Fault fault
 close_of stream.ReadFailed = close.ReadFailed
 
+-- ---- what the types hold of what is said
+
+-- an answer, or none
+abbrev pub IsGiven : Option Answer → Type 0
+IsGiven None = ⊤
+IsGiven (Some a) = IsAnswer a
+
+-- names and messages are UTF-8, params, results and data are JSON texts, and codes have 64 bits
+abbrev pub IsTyped : Happening → Type 0
+IsTyped (came o u) = ⊤
+IsTyped (called n o) = IsSayable o
+IsTyped (called_all n os) = AreSayable os
+IsTyped (noticed o) = IsSayable o
+IsTyped (withdrew by key) = ⊤
+IsTyped (answered n a) = IsGiven a
+IsTyped (ended close) = ⊤
+
+abbrev pub AreTyped : History → Type 0
+AreTyped [] = ⊤
+AreTyped (h ∷ past) = IsTyped h × AreTyped past
+
 -- ---- what holds
 
 -- The desk is what the history makes of it. What was told, and then what isn't told yet, are the events of the history. All
@@ -127,6 +150,7 @@ pub data HasEnded (settings : Chosen) (stream : Stream) (history : History) : Cl
 pub record StandsAfter (c : Connection) (history : History) (told : List Event) : Type 0 where
   -- nothing in the history was refused
   pub lawful : IsLawful c.settings.cancels history
+  pub typed : AreTyped history
   -- no more calls came than the settings say
   pub calls : call_count history ≤ c.settings.calls
   pub stream : IsStreamOf c.settings history c.stream
@@ -175,10 +199,12 @@ pub record HasStepped (before now : Connection) (past : History) (told : List Ev
   pub pieces : SamePieces before.stream now.stream
   pub settings : now.settings ≡ before.settings
 
+-- It has gone on by no step or several, and what came tells nothing that wasn't told.
 pub record HasGoneOn (before now : Connection) (past : History) (told : List Event) : Type 0 where
   pub history : History
   pub steps : GoesOn before told past history
   pub stands : StandsAfter now history told
+  pub all_told : events_of history ≡ told
 
 -- ---- done
 

@@ -8,7 +8,7 @@ use Rattle.connection_history.specs.declared.broken.Broken.{Broken}
 use Rattle.connection_history.specs.Events.{broken_in, events_of}
 use Rattle.content_streams.specs.Streams as streams
 use Rattle.connection.specs.Settings.{rules_of}
-use Rattle.connection.specs.Connections.{Connection, contents, read, origin_of, StandsAfter, IsStill, HasStepped, HasGoneOn, SamePieces, output}
+use Rattle.connection.specs.Connections.{Connection, contents, read, origin_of, GoesOn, StandsAfter, IsStill, HasStepped, SamePieces, output}
 
 -- how often the connection can go on before more is fed: each content that wasn't taken, and the end
 abbrev pub left : Connection → ℕ
@@ -34,9 +34,15 @@ pub record HasStayed (before now : Connection) : Type 0 where
   pub same : now ≡ before
   pub still : (history : History) (told : List Event) → StandsAfter before history told → events_of history ≡ told → IsStill before history told
 
+-- so far, where the last step may have brought what isn't told yet
+pub record HasCome (before now : Connection) (past : History) (told : List Event) : Type 0 where
+  pub history : History
+  pub steps : GoesOn before told past history
+  pub stands : StandsAfter now history told
+
 -- it has gone on since, by no step or several, and nothing was told
 pub record HasGone (before now : Connection) : Type 0 where
-  pub gone : (history : History) (told : List Event) → StandsAfter before history told → HasGoneOn before now history told
+  pub gone : (history : History) (told : List Event) → StandsAfter before history told → HasCome before now history told
   pub pieces : SamePieces before.stream now.stream
   pub settings : now.settings ≡ before.settings
   pub taken : (output now).taken ≡ (output before).taken

@@ -12,7 +12,7 @@ ghost use Rattle.connection_history.specs.declared.refused.Refused.{Refused};
 ghost use Rattle.content_streams.specs.Streams.{contents_of, plain};
 ghost use Rattle.content_streams.specs.declared.ending.HowEnded.{HowEnded};
 ghost use Rattle.outbox.specs.Output.{full_count};
-ghost use Rattle.connection.specs.BackToBack.{AreLines, text_of, messages_of, AllCanBeSaid, AreFirst, AllFit, AllWithin, IsEndedWhole, whole_count, AreJoined, Understands};
+ghost use Rattle.connection.specs.BackToBack.{AreLines, text_of, messages_of, NoCancelNoticed, AreFirst, AllFit, AllWithin, IsEndedWhole, whole_count, AreJoined, Understands};
 ghost use Rattle.connection.specs.Connections.{Connection as Seen, IsDone, IsRefusal, StandsAfter, output};
 ghost use Rattle.connection.specs.Conversations.{IsConversation, IsConversationCutShort};
 ghost use Rattle.connection.specs.Reports.{report_of};
@@ -49,20 +49,17 @@ pub fn contents_of_what_is_written_are_its_texts()
         StandsAfter connection history told →
         (output connection).written ≡ map text_of (messages_of connection.settings.order history) }
     ensures lines { (connection : Seen) (history : History) (told : List Event) →
-        StandsAfter connection history told → AllCanBeSaid connection.settings.cancels history →
-        AreLines (output connection).written }
+        StandsAfter connection history told → AreLines (output connection).written }
     ensures whole { (connection : Seen) (history : History) (told : List Event) (limit : ℕ)
         (pieces : List (List ℕ)) (ended : Option HowEnded) →
-        StandsAfter connection history told → AllCanBeSaid connection.settings.cancels history →
-        AllFit limit (output connection).written →
+        StandsAfter connection history told → AllFit limit (output connection).written →
         (n : ℕ) → full_count connection.settings.framing (output connection).written ≤ n →
         AreFirst connection.settings.framing n (output connection).written pieces →
         contents_of connection.settings.framing limit pieces ended
         ≡ map plain (output connection).written }
     ensures front { (connection : Seen) (history : History) (told : List Event) (limit : ℕ)
         (pieces : List (List ℕ)) (ended : Option HowEnded) →
-        StandsAfter connection history told → AllCanBeSaid connection.settings.cancels history →
-        AllFit limit (output connection).written →
+        StandsAfter connection history told → AllFit limit (output connection).written →
         (n : ℕ) → IsEndedWhole connection.settings.framing n (output connection).written ended →
         AreFirst connection.settings.framing n (output connection).written pieces →
         contents_of connection.settings.framing limit pieces ended
@@ -80,11 +77,11 @@ pub fn contents_of_what_is_written_are_its_texts()
 
 /// Where what one connection wrote, or a front of it, is what another was fed, the units that came to the other are just the
 /// calls, batches, notifications, withdrawals and answers that the one said, in their order: where the other takes batches of
-/// so many entries.
+/// so many entries, and no notification has the name of a cancel, as which it would be read.
 pub fn two_connections_understand_each_other()
     ensures { (n : ℕ) (writer reader : Seen) (said heard : History) (told other : List Event) →
         StandsAfter writer said told → StandsAfter reader heard other →
-        AllCanBeSaid writer.settings.cancels said → AreJoined n writer reader →
+        NoCancelNoticed writer.settings.cancels said → AreJoined n writer reader →
         AllWithin reader.settings.most_entries (messages_of writer.settings.order said) →
         Understands n writer reader said heard }
 {

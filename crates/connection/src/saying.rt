@@ -29,6 +29,7 @@ impl Connection {
         ensures stream { self.new.stream ≡ self.old.stream }
         ensures taken { (output self.new).taken ≡ (output self.old).taken }
     {
+        outgoing.is_sayable();
         self.desk.call(number, outgoing)
     }
 
@@ -47,6 +48,7 @@ impl Connection {
         ensures stream { self.new.stream ≡ self.old.stream }
         ensures taken { (output self.new).taken ≡ (output self.old).taken }
     {
+        Outgoing::are_sayable(outgoings);
         self.desk.call_batch(number, outgoings)
     }
 
@@ -59,6 +61,7 @@ impl Connection {
         ensures stream { self.new.stream ≡ self.old.stream }
         ensures taken { (output self.new).taken ≡ (output self.old).taken }
     {
+        outgoing.is_sayable();
         self.desk.notify(outgoing)
     }
 
@@ -93,6 +96,7 @@ impl Connection {
         ensures stream { self.new.stream ≡ self.old.stream }
         ensures taken { (output self.new).taken ≡ (output self.old).taken }
     {
+        answer.is_answer();
         self.desk.answer(number, answer)
     }
 

@@ -1,5 +1,5 @@
 -- A desk: what stands open, what isn't told yet, what was written, and what is counted.
-use Rattle.std.specs.Prelude.{ℕ, ◌+◌, ◌≡◌, ◌⊎◌, ◌==◌, ◌&&◌, ◌||◌, not, nat_lt, List, [], ◌∷◌, ◌++◌, Bool, true, false, filter, map, length, Option, Some, None, is_some, option_to_list, if◌then◌else◌}
+use Rattle.std.specs.Prelude.{ℕ, ◌+◌, ◌≡◌, ◌==◌, ◌&&◌, ◌||◌, not, nat_lt, List, [], ◌∷◌, ◌++◌, Bool, true, false, filter, map, length, Option, Some, None, is_some, option_to_list, unwrap_or, if◌then◌else◌}
 use Rattle.std.specs.Option.{option_map_or}
 use Rattle.message_ids.specs.declared.standard.Standard.TheVariants.{Cancelled}
 use Rattle.connection_messages.specs.Texts.{call_text, calls_text, notice_text, withdrawal_text}
@@ -112,9 +112,9 @@ withdraw_refused cancels k s = first_of ((not (can_withdraw cancels k s), NotWai
 abbrev pub answer_refused : ℕ → State → Option Refused
 answer_refused n s = first_of ((not (is_some (at n s.theirs.calls)), NotOpen) ∷ [])
 
--- A refusal is for memory, or this one.
+-- What is refused by a rule is refused for just that, whatever memory does. Anything else is refused for memory alone.
 abbrev pub IsRefusal : Refused → Option Refused → Type 0
-IsRefusal why refusal = (why ≡ Memory) ⊎ (refusal ≡ Some why)
+IsRefusal why refusal = why ≡ unwrap_or refusal Memory
 
 -- ---- what happens
 

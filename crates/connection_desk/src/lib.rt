@@ -1,5 +1,5 @@
-//! What stands open between a connection and its host, and what each happening does to it: what is told, written, refused
-//! and counted. Each public call is one equation on a plain state.
+//! What stands open between a connection and its host, and what each happening does to it: what is reported, written,
+//! refused and counted. Each public call is one equation on a plain state.
 #![tactic(auto)]
 
 mod answering;

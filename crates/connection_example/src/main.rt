@@ -12,13 +12,18 @@ fn main(rt: HostRuntime) -> io::Result<()> {
     let Some(settings) = settings else {
         return Err(ErrorKind::InvalidInput.into());
     };
-    let mut connection = Connection::new(rt.alloc(), settings);
+    let mut connection = movable(Connection::new(rt.alloc(), settings));
     serve(
         rt.alloc(),
         &mut connection,
         &mut rt.stdin(),
         &mut rt.stdout(),
     )
+}
+
+/// A connection may go to another thread, and be lent to several.
+fn movable<T: Send + Sync>(connection: T) -> T {
+    connection
 }
 
 fn serve<I: Read, W: Write>(

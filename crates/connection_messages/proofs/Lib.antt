@@ -1,3 +1,4 @@
+mod Sayable
 pub mod AnswersBack
 pub mod Batched
 pub mod CallRows

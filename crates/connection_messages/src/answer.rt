@@ -18,3 +18,34 @@ pub struct AnswerError {
     pub message: Text,
     pub data: Option<JsonText>,
 }
+
+impl Answer {
+    ghost use Rattle.connection_messages.specs.ReadBack.{IsAnswer};
+
+    /// That results and data are JSON texts, messages are UTF-8 and codes have 64 bits: a law, which does nothing.
+    #[inline]
+    pub fn is_answer(&self)
+        ensures { IsAnswer self.now }
+    {
+        match self {
+            Answer::Result(text) => text.is_json_text(),
+            Answer::Error(error) => error.is_failure(),
+            Answer::Standard(_) => {}
+        }
+    }
+}
+
+impl AnswerError {
+    ghost use Rattle.connection_messages.specs.ReadBack.{IsFailure};
+
+    #[inline]
+    fn is_failure(&self)
+        ensures { IsFailure self.now }
+    {
+        let _code = self.code;
+        let _message = self.message.as_str().as_bytes();
+        if let Some(data) = &self.data {
+            data.is_json_text();
+        }
+    }
+}

@@ -1,5 +1,6 @@
 ghost use Rattle.std.specs.Prelude.{◌≡◌, Some, None, if◌then◌else◌};
 ghost use Rattle.connection_messages.specs.Params.{is_structured};
+ghost use Rattle.connection_messages.specs.ReadBack.{AreParams};
 
 use json_texts::JsonText;
 use std::marker::Model;
@@ -37,5 +38,14 @@ impl OutgoingParams {
         ensures { result.now ≡ self.now }
     {
         self.text.as_str()
+    }
+
+    /// That the text is a JSON value's, as are all params: a law, which does nothing.
+    #[inline]
+    pub(crate) fn are_params(&self)
+        ensures { AreParams (Some self.now) }
+    {
+        let text = &self.text;
+        text.is_json_text();
     }
 }

@@ -21,6 +21,3 @@ pub use law::{
     greater_limits_read_the_same, lines_are_those_of_the_bytes, placed_contents_are_the_contents,
     places_stay,
 };
-
-#[cfg(test)]
-mod tests;

@@ -11,7 +11,7 @@ use Rattle.conversation_dues.specs.Found.{first_of, index_of, target_at, target_
 use Rattle.conversation_dues.specs.declared.targets.Place.{Place}
 use Rattle.conversation_dues.specs.declared.targets.Place.TheVariants as places
 use Rattle.conversation_open.specs.Open.{contents_of, settled_at, and_removed, is_empty, IsNoneBetween, IsNoneBehind}
-use Rattle.conversation_owed.specs.Marks.{due_has}
+use Rattle.conversation_ids.specs.OwedMarks.{due_has}
 use Rattle.conversation_rules.specs.Dues.{settled, settled_entry, with_entries, fit_in, found}
 use Rattle.conversation_rules.specs.Matching.{oldest, place_in, later}
 use Rattle.conversation_rules.specs.Owed.{Owed, Due}

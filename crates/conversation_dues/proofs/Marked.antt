@@ -11,16 +11,16 @@ use Rattle.conversation_dues.specs.declared.batches.Answer.{Answer}
 use Rattle.conversation_dues.specs.declared.batches.Answer.TheVariants.{Just, Possible}
 use Rattle.conversation_ids.specs.Marks.{mark_of, null_mark}
 use Rattle.conversation_ids.proofs.OneMark.{one_mark}
-use Rattle.conversation_owed.specs.Marks.{has_mark, entry_has, content_has, due_has}
+use Rattle.conversation_ids.specs.OwedMarks.{has_mark, entry_has, content_has, due_has}
 use Rattle.conversation_reading.specs.declared.entry.WrittenId.{WrittenId}
 use Rattle.conversation_reading.specs.declared.entry.WrittenId.TheVariants.{Null, Text, Number}
 use Rattle.conversation_rules.specs.Amounts.{same_id, is_null}
 use Rattle.conversation_rules.specs.Dues.{ids_read}
-use Rattle.conversation_rules.specs.Matching.{place_in, taken_by, left_by, nulls_last, same_ids, without_id, is_just, can_be_answered, leaves_no_request, expects_null, is_null_request, is_null_other, is_request_for}
+use Rattle.conversation_rules.specs.Matching.{place_in, taken_by, left_by, nulls_last, same_ids, without_id, is_just, can_be_answered, leaves_no_request, expects_null, is_null_request, is_null_other, is_unnamed, is_request_for}
 use Rattle.conversation_rules.specs.Owed.{Owed, Due, has_id, is_expected, may_have}
-use Rattle.conversation_owed.specs.Ways.{fits}
-use Rattle.conversation_owed.specs.declared.ways.Way.{Way}
-use Rattle.conversation_owed.specs.declared.ways.Way.TheVariants.{Asks, Expects, MayHave, MustHave, AsksWithNull, ExpectsNull, MayBeNull}
+use Rattle.conversation_ids.specs.Ways.{fits}
+use Rattle.conversation_ids.specs.declared.ways.Way.{Way}
+use Rattle.conversation_ids.specs.declared.ways.Way.TheVariants.{Asks, Expects, MayHave, MustHave, AsksWithNull, ExpectsNull, Unnamed, MayBeNull}
 
 or_first : (a b : Bool) → a ≡ true → (a || b) ≡ true
 or_first true b is = refl
@@ -47,10 +47,15 @@ same_found : (id : WrittenId) (e : Option WrittenId) → has_id id e ≡ true �
 same_found id None same = same
 same_found id (Some other) same = eq-eqb (mark_of other) (mark_of id) (sym (one_mark id other same))
 
+-- by another mark than that of the id that stands first
+behind_first : (m : ℕ) (owed : Owed) → (has_mark m owed.own || (has_mark m owed.expected || (owed.may_be_null && (null_mark == m)))) ≡ true → entry_has m owed ≡ true
+behind_first m owed is = or_second (has_mark m owed.first) (has_mark m owed.own || (has_mark m owed.expected || (owed.may_be_null && (null_mark == m)))) is
+
 pub expected_found : (id : WrittenId) (owed : Owed) → is_expected id owed ≡ true → entry_has (mark_of id) owed ≡ true
 expected_found id owed is =
-    or_second (has_mark (mark_of id) owed.own) (has_mark (mark_of id) owed.expected || (owed.may_be_null && (null_mark == mark_of id)))
-    (or_first (has_mark (mark_of id) owed.expected) (owed.may_be_null && (null_mark == mark_of id)) (same_found id owed.expected is))
+    behind_first (mark_of id) owed
+    (or_second (has_mark (mark_of id) owed.own) (has_mark (mark_of id) owed.expected || (owed.may_be_null && (null_mark == mark_of id)))
+    (or_first (has_mark (mark_of id) owed.expected) (owed.may_be_null && (null_mark == mark_of id)) (same_found id owed.expected is)))
 
 null_found : (owed : Owed) (id : WrittenId) → (owed.may_be_null && is_null id) ≡ true → (owed.may_be_null && (null_mark == mark_of id)) ≡ true
 null_found owed Null is = by owed.may_be_null is
@@ -62,10 +67,14 @@ null_found owed (Number n) is = absurd (let e : (owed.may_be_null && false) ≡ 
 
 pub may_found : (id : WrittenId) (owed : Owed) → may_have id owed ≡ true → entry_has (mark_of id) owed ≡ true
 may_found id owed is =
-    either_of (has_id id owed.own) (owed.may_be_null && is_null id) (entry_has (mark_of id) owed ≡ true) is
+    either_of (has_id id owed.first) (has_id id owed.own || (owed.may_be_null && is_null id)) (entry_has (mark_of id) owed ≡ true) is
+    (λ first. or_first (has_mark (mark_of id) owed.first) (has_mark (mark_of id) owed.own || (has_mark (mark_of id) owed.expected || (owed.may_be_null && (null_mark == mark_of id))))
+    (same_found id owed.first first))
+    (λ other. behind_first (mark_of id) owed
+    (either_of (has_id id owed.own) (owed.may_be_null && is_null id) ((has_mark (mark_of id) owed.own || (has_mark (mark_of id) owed.expected || (owed.may_be_null && (null_mark == mark_of id)))) ≡ true) other
     (λ own. or_first (has_mark (mark_of id) owed.own) (has_mark (mark_of id) owed.expected || (owed.may_be_null && (null_mark == mark_of id))) (same_found id owed.own own))
     (λ null. or_second (has_mark (mark_of id) owed.own) (has_mark (mark_of id) owed.expected || (owed.may_be_null && (null_mark == mark_of id)))
-    (or_second (has_mark (mark_of id) owed.expected) (owed.may_be_null && (null_mark == mark_of id)) (null_found owed id null)))
+    (or_second (has_mark (mark_of id) owed.expected) (owed.may_be_null && (null_mark == mark_of id)) (null_found owed id null)))))
 
 expects_by : (e : Option WrittenId) → option_map_or is_null e false ≡ true → has_mark null_mark e ≡ true
 expects_by None is = is
@@ -75,13 +84,15 @@ expects_by (Some (Number n)) is = cc
 
 pub null_expected : (owed : Owed) → expects_null owed ≡ true → entry_has null_mark owed ≡ true
 null_expected owed is =
-    or_second (has_mark null_mark owed.own) (has_mark null_mark owed.expected || (owed.may_be_null && (null_mark == null_mark)))
-    (or_first (has_mark null_mark owed.expected) (owed.may_be_null && (null_mark == null_mark)) (expects_by owed.expected is))
+    behind_first null_mark owed
+    (or_second (has_mark null_mark owed.own) (has_mark null_mark owed.expected || (owed.may_be_null && (null_mark == null_mark)))
+    (or_first (has_mark null_mark owed.expected) (owed.may_be_null && (null_mark == null_mark)) (expects_by owed.expected is)))
 
 pub null_allowed : (owed : Owed) → owed.may_be_null ≡ true → entry_has null_mark owed ≡ true
 null_allowed owed is =
-    or_second (has_mark null_mark owed.own) (has_mark null_mark owed.expected || (owed.may_be_null && (null_mark == null_mark)))
-    (or_second (has_mark null_mark owed.expected) (owed.may_be_null && (null_mark == null_mark)) (by owed.may_be_null is))
+    behind_first null_mark owed
+    (or_second (has_mark null_mark owed.own) (has_mark null_mark owed.expected || (owed.may_be_null && (null_mark == null_mark)))
+    (or_second (has_mark null_mark owed.expected) (owed.may_be_null && (null_mark == null_mark)) (by owed.may_be_null is)))
   where
     by : (b : Bool) → b ≡ true → (b && (null_mark == null_mark)) ≡ true
     by true is = refl
@@ -195,7 +206,11 @@ way_mark MayHave id = mark_of id
 way_mark MustHave id = mark_of id
 way_mark AsksWithNull id = null_mark
 way_mark ExpectsNull id = null_mark
+way_mark Unnamed id = null_mark
 way_mark MayBeNull id = null_mark
+
+other_none : (owed : Owed) → entry_has null_mark owed ≡ false → is_null_other owed ≡ false
+other_none owed none = unless (entry_has null_mark owed) (is_null_other owed) (λ is. null_expected owed (and_second (not owed.is_request) (expects_null owed) is)) none
 
 pub way_none : (way : Way) (id : WrittenId) (owed : Owed) → entry_has (way_mark way id) owed ≡ false → fits way id owed ≡ false
 way_none Asks id owed none = unless (entry_has (mark_of id) owed) (is_request_for id owed) (λ is. expected_found id owed (and_second owed.is_request (is_expected id owed) is)) none
@@ -203,7 +218,8 @@ way_none Expects id owed none = unless (entry_has (mark_of id) owed) (is_expecte
 way_none MayHave id owed none = unless (entry_has (mark_of id) owed) (may_have id owed) (may_found id owed) none
 way_none MustHave id owed none = unless (entry_has (mark_of id) owed) (owed.must && is_expected id owed) (λ is. expected_found id owed (and_second owed.must (is_expected id owed) is)) none
 way_none AsksWithNull id owed none = unless (entry_has null_mark owed) (is_null_request owed) (λ is. null_expected owed (and_second owed.is_request (expects_null owed) is)) none
-way_none ExpectsNull id owed none = unless (entry_has null_mark owed) (is_null_other owed) (λ is. null_expected owed (and_second (not owed.is_request) (expects_null owed) is)) none
+way_none ExpectsNull id owed none = other_none owed none
+way_none Unnamed id owed none = ap (λ b. b && option_map_or is_null owed.own true) (other_none owed none)
 way_none MayBeNull id owed none = unless (entry_has null_mark owed) owed.may_be_null (null_allowed owed) none
 
 pub asked_none : (id : WrittenId) (due : Due) → due_has (mark_of id) due ≡ false → list_any (is_request_for id) due.entries ≡ false

@@ -6,7 +6,7 @@ use Rattle.conversation_dues.specs.declared.sought.Sought.{Sought}
 use Rattle.conversation_dues.specs.declared.sought.Sought.TheVariants.{Single, InBatch, Asked, Cancelled, Unreadable, Huge, Batch}
 use Rattle.conversation_dues.specs.declared.targets.Place.{Place}
 use Rattle.conversation_dues.specs.declared.targets.Place.TheVariants as places
-use Rattle.conversation_owed.specs.Ways.{fits}
+use Rattle.conversation_ids.specs.Ways.{fits}
 use Rattle.conversation_reading.specs.declared.entry.WrittenId.{WrittenId}
 use Rattle.conversation_reading.specs.declared.entry.WrittenId.TheVariants.{Null}
 use Rattle.conversation_rules.specs.Matching.{place_in, is_request_for}

@@ -8,10 +8,9 @@ ghost use Rattle.conversation_rules.specs.Dues.{ids_read, array_fits, fits_of, f
 ghost use Rattle.conversation_rules.specs.Matching.{taken_by, left_by, nulls_last, leaves_no_request, same_ids, is_just, can_be_answered};
 ghost use Rattle.conversation_rules.specs.Owed.{Owed as OwedValue, is_expected, may_have};
 ghost use Rattle.conversation_dues.specs.Left.{IsLeftOf, IsTaken, all_taken, choice, ids_of, is_of, expects_any, expected_of, left_after, left_of};
-ghost use Rattle.conversation_owed.specs.Ways.{fits};
+ghost use Rattle.conversation_ids.specs.Ways.{fits};
 
-use conversation_ids::is_null;
-use conversation_owed::{Due, Owed, Way};
+use conversation_ids::{Due, Owed, Way, is_null};
 use conversation_reading::WrittenId;
 use conversation_rules::Fit;
 use std::alloc::{AllocError, Global};

@@ -7,15 +7,14 @@ ghost use Rattle.conversation_dues.specs.Answered.{is_answered};
 ghost use Rattle.conversation_dues.specs.Found.{first_of, index_of, whole_if};
 ghost use Rattle.conversation_dues.specs.declared.batches.Answer.{Answer as AnswerValue};
 ghost use Rattle.conversation_open.specs.Open.{open_entries, contents_of, IsOpen};
-ghost use Rattle.conversation_owed.specs.Marks.{due_has};
+ghost use Rattle.conversation_ids.specs.OwedMarks.{due_has};
 ghost use Rattle.conversation_rules.specs.Dues.{array_target};
 ghost use Rattle.conversation_rules.specs.Owed.{Due as DueValue};
 ghost use Rattle.number_windows.specs.Numbered.{at};
 
 use crate::arrays::{can_be_answered, is_just};
-use conversation_ids::{mark_of, null_mark};
+use conversation_ids::{Due, mark_of, null_mark};
 use conversation_open::OpenContents;
-use conversation_owed::Due;
 use conversation_reading::WrittenId;
 use std::alloc::{AllocError, Global};
 

@@ -7,8 +7,8 @@ use crate::settling::{
     settle_batch, settle_named, settle_null, settle_parse_error, settle_unreadable,
 };
 use crate::sought::{Sought, is_there};
+use conversation_ids::Owed;
 use conversation_open::OpenContents;
-use conversation_owed::Owed;
 use conversation_reading::WrittenId;
 use conversation_rules::{Fit, Found, Unanswered};
 use std::alloc::{AllocError, Global};

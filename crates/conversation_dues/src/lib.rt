@@ -9,6 +9,3 @@ mod sought;
 mod targets;
 
 pub use dues::Dues;
-
-#[cfg(test)]
-mod tests;

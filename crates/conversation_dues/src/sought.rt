@@ -3,16 +3,15 @@
 ghost use Rattle.std.specs.Prelude.{◌≡◌, false, Some, None, is_some, option_and_then, if◌then◌else◌};
 ghost use Rattle.conversation_dues.specs.Found.{place_of, first_of};
 ghost use Rattle.conversation_open.specs.Open.{open_entries, IsOpen};
-ghost use Rattle.conversation_owed.specs.Marks.{due_has, entry_has};
-ghost use Rattle.conversation_owed.specs.Ways.{fits};
+ghost use Rattle.conversation_ids.specs.OwedMarks.{due_has, entry_has};
+ghost use Rattle.conversation_ids.specs.Ways.{fits};
 ghost use Rattle.conversation_reading.specs.declared.entry.WrittenId.{WrittenId as IdValue};
 ghost use Rattle.conversation_rules.specs.Matching.{place_in};
 ghost use Rattle.conversation_rules.specs.Owed.{Due as DueValue, Owed as OwedValue};
 ghost use Rattle.number_windows.specs.Numbered.{at};
 
-use conversation_ids::{mark_of, null_mark};
+use conversation_ids::{Due, Way, batch_mark, huge_mark, mark_of, null_mark, unreadable_mark};
 use conversation_open::OpenContents;
-use conversation_owed::{Due, Way, batch_mark, huge_mark, unreadable_mark};
 use conversation_reading::WrittenId;
 
 #[derive(Clone, Copy)]
@@ -118,6 +117,7 @@ fn mark_of_way(way: Way, id: &WrittenId) -> u128
         Way::MustHave => mark_of(id),
         Way::AsksWithNull => null_mark(),
         Way::ExpectsNull => null_mark(),
+        Way::Unnamed => null_mark(),
         Way::MayBeNull => null_mark(),
     }
 }

@@ -3,14 +3,14 @@
 ghost use Rattle.std.specs.Prelude.{◌≡◌, false, true, position, option_map};
 ghost use Rattle.conversation_dues.specs.Found.{target_at, whole_target};
 ghost use Rattle.conversation_open.specs.Open.{open_entries, contents_of, IsOpen};
-ghost use Rattle.conversation_owed.specs.Ways.{fits};
+ghost use Rattle.conversation_ids.specs.Ways.{fits};
 ghost use Rattle.conversation_rules.specs.Dues.{unreadable_target};
-ghost use Rattle.conversation_rules.specs.Matching.{oldest, or_else, is_null_request, named_in, named_target, null_in, null_target, parse_error_target, refused_batch};
+ghost use Rattle.conversation_rules.specs.Matching.{oldest, or_else, is_null_request, is_unnamed, named_in, named_target, null_in, null_target, parse_error_target, refused_batch};
 ghost use Rattle.conversation_rules.specs.declared.found.Target.TheVariants.{WholeOf};
 
 use crate::sought::{Sought, first};
+use conversation_ids::Way;
 use conversation_open::OpenContents;
-use conversation_owed::Way;
 use conversation_reading::WrittenId;
 
 /// What an answer is for, by the number of a content.
@@ -110,21 +110,25 @@ pub(crate) fn parse_error_target(contents: &OpenContents, may_refuse: bool) -> O
     if let Some(target) = unreadable_target(contents) {
         return Some(target);
     }
-    if let Some(target) = null_request(contents) {
+    if let Some(target) = oldest(contents, false, Way::AsksWithNull, &WrittenId::Null) {
         return Some(target);
     }
-    match huge_content(contents) {
+    if let Some(target) = huge_content(contents) {
+        return Some(target);
+    }
+    match oldest(contents, false, Way::Unnamed, &WrittenId::Null) {
         Some(target) => Some(target),
-        None => refused_batch(contents, may_refuse),
+        None => unreadable_batch(contents, may_refuse),
     }
 }
 
-fn null_request(contents: &OpenContents) -> Option<Place>
+/// What a single -32700 is for, where nothing fits that stands alone.
+fn unreadable_batch(contents: &OpenContents, may_refuse: bool) -> Option<Place>
     requires { IsOpen contents.now }
-    ensures { or_else (oldest false is_null_request (contents_of (open_entries contents.now))) (oldest true is_null_request (contents_of (open_entries contents.now)))
+    ensures { or_else (refused_batch may_refuse (contents_of (open_entries contents.now))) (oldest true is_null_request (contents_of (open_entries contents.now)))
         ≡ target_at (open_entries contents.now) result }
 {
-    match oldest(contents, false, Way::AsksWithNull, &WrittenId::Null) {
+    match refused_batch(contents, may_refuse) {
         Some(target) => Some(target),
         None => oldest(contents, true, Way::AsksWithNull, &WrittenId::Null),
     }

@@ -4,13 +4,13 @@ ghost use Rattle.std.specs.Prelude.{◌≡◌, ◌++◌, OnOk, Some, false};
 ghost use Rattle.std.specs.Option.{option_map_or};
 ghost use Rattle.conversation_entries.specs.Said.{said};
 ghost use Rattle.conversation_rules.specs.Entries as rules;
-ghost use Rattle.conversation_rules.specs.Entries.{fault_findings, code_of, code_findings, name_findings, is_cancel, target_findings, cancel_findings, unknown_level};
+ghost use Rattle.conversation_rules.specs.Entries.{fault_findings, both_findings, twice_findings, has_first_method, is_first_cancel, code_of, code_findings, name_findings, is_cancel, target_findings, cancel_findings, unknown_level};
 ghost use Rattle.conversation_rules.specs.Protocols as protocols;
 ghost use Rattle.conversation_rules.specs.Speakers.{found, found_if};
 
 use crate::protocols::{is_lsp, is_mcp};
 use crate::speaker::Speaker;
-use conversation_reading::{Entry, Faults, Kind, Whole, WrittenId, whole_of};
+use conversation_reading::{Entry, Faults, First, Kind, Whole, WrittenId, whole_of};
 use conversation_rules::{Finding, Level, Message, Protocol, Rule};
 use std::alloc::AllocError;
 
@@ -99,6 +99,35 @@ pub(crate) fn put_faults(
         Rule::Error,
         Level::Must,
     )
+}
+
+/// Whether it is a request by its method, and an answer by what stands beside (JSON-RPC 2.0, sections 4 and 5).
+pub(crate) fn put_both(
+    findings: &mut Vec<Finding>,
+    message: Message,
+    at: u64,
+    entry: &Entry,
+) -> Result<(), AllocError>
+    ensures { OnOk result (findings.new.items
+        ≡ findings.old.items ++ both_findings message at entry.now) }
+{
+    let there = entry.there;
+    let is_both = there.method && there.id && (there.result || there.error);
+    put_if(is_both, findings, message, at, Rule::BothKinds, Level::Must)
+}
+
+/// A member that stands twice (RFC 8259, section 4).
+pub(crate) fn put_twice(
+    findings: &mut Vec<Finding>,
+    message: Message,
+    at: u64,
+    entry: &Entry,
+) -> Result<(), AllocError>
+    ensures { OnOk result (findings.new.items
+        ≡ findings.old.items ++ twice_findings message at entry.now) }
+{
+    let has_twice = entry.first.is_some();
+    put_if(has_twice, findings, message, at, Rule::Twice, Level::Should)
 }
 
 pub(crate) fn is_request(kind: Kind) -> bool
@@ -250,6 +279,29 @@ fn has_cancel_method(protocol: Protocol, entry: &Entry) -> bool
         Protocol::JsonRpc => false,
         Protocol::Lsp => has_method("$/cancelRequest", entry),
         Protocol::Mcp | Protocol::McpWithBatches => has_method("notifications/cancelled", entry),
+    }
+}
+
+/// Whether it is one by the members that stand first.
+pub(crate) fn is_first_cancel(protocol: Protocol, first: &First) -> bool
+    ensures { result ≡ is_first_cancel protocol first.now }
+{
+    match protocol {
+        Protocol::JsonRpc => false,
+        Protocol::Lsp => has_first_method("$/cancelRequest", first),
+        Protocol::Mcp | Protocol::McpWithBatches => has_first_method(
+            "notifications/cancelled",
+            first,
+        ),
+    }
+}
+
+pub(crate) fn has_first_method(method: &str, first: &First) -> bool
+    ensures { result ≡ has_first_method method.now first.now }
+{
+    match first.method() {
+        Some(its) => method == its.as_str(),
+        None => false,
     }
 }
 

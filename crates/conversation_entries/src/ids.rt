@@ -1,20 +1,21 @@
 //! What the id of a request breaks, and what is kept of an entry.
 
-ghost use Rattle.std.specs.Prelude.{◌≡◌, ◌++◌, OnOk, IfOk};
+ghost use Rattle.std.specs.Option.{option_map_or};
+ghost use Rattle.std.specs.Prelude.{◌≡◌, ◌++◌, OnOk, IfOk, codes, false};
 ghost use Rattle.conversation_entries.specs.Said.{said};
-ghost use Rattle.conversation_rules.specs.Entries.{number_findings, form_findings, again_findings, request_findings, id_findings, part_findings, plain_findings, fills_id, with_id_of, with_notification, with_owed, entry_findings, behind_entry};
+ghost use Rattle.conversation_rules.specs.Entries as rules;
+ghost use Rattle.conversation_rules.specs.Entries.{cancelled_by, owed_after_first, is_exit, number_findings, form_findings, again_findings, request_findings, id_findings, part_findings, plain_findings, fills_id, with_id_of, with_notification, with_owed, entry_findings, behind_entry};
 ghost use Rattle.conversation_rules.specs.Protocols as protocols;
 ghost use Rattle.conversation_rules.specs.Speakers.{found, found_if};
 
 use crate::entries::{
-    has_method, is_answer, is_cancel, is_notification, is_request, put_cancel, put_code,
-    put_faults, put_if, put_name,
+    has_first_method, has_method, is_answer, is_cancel, is_first_cancel, is_notification,
+    is_request, put_both, put_cancel, put_code, put_faults, put_if, put_name, put_twice,
 };
 use crate::protocols::{is_lsp, is_mcp};
 use crate::speaker::Speaker;
-use conversation_ids::{is_null, is_plain};
-use conversation_owed::Owed;
-use conversation_reading::{Entry, WrittenId, is_whole};
+use conversation_ids::{Owed, is_null, is_plain};
+use conversation_reading::{Entry, First, WrittenId, is_whole};
 use conversation_rules::{Finding, Level, Message, Protocol, Rule};
 use std::alloc::AllocError;
 
@@ -22,8 +23,8 @@ fn odd_id_level(protocol: Protocol) -> Level
     ensures { result ≡ protocols.odd_id_level protocol }
 {
     match protocol {
-        Protocol::Mcp | Protocol::McpWithBatches => Level::Must,
-        Protocol::JsonRpc | Protocol::Lsp => Level::Should,
+        Protocol::Lsp | Protocol::Mcp | Protocol::McpWithBatches => Level::Must,
+        Protocol::JsonRpc => Level::Should,
     }
 }
 
@@ -52,7 +53,7 @@ fn put_number(
     }
 }
 
-/// How it is written (JSON-RPC 2.0, section 4; MCP, messages).
+/// How it is written (JSON-RPC 2.0, section 4; LSP, Request Message; MCP, messages).
 fn put_form(
     protocol: Protocol,
     findings: &mut Vec<Finding>,
@@ -159,6 +160,8 @@ fn put_parts(
         ≡ findings.old.items ++ part_findings protocol message at entry.now) }
 {
     put_faults(findings, message, at, entry.faults)?;
+    put_both(findings, message, at, entry)?;
+    put_twice(findings, message, at, entry)?;
     put_code(protocol, findings, message, at, entry)?;
     put_name(findings, message, at, entry)
 }
@@ -204,13 +207,48 @@ fn keep_id(protocol: Protocol, own: &mut Speaker, entry: &Entry) -> Result<bool,
 fn take_notification(protocol: Protocol, own: &mut Speaker, entry: &Entry)
     ensures { said own.new ≡ with_notification protocol entry.now (said own.old) }
 {
-    if is_lsp(protocol) && is_notification(entry.kind) && has_method("exit", entry) {
+    if is_exit(protocol, entry) {
         own.has_exited = true;
     }
     if is_cancel(protocol, entry) {
-        if let Some(id) = &entry.target {
-            own.owed.cancel(id, is_mcp(protocol));
+        take_cancel(protocol, own, &entry.target);
+    }
+    take_first_cancel(protocol, own, &entry.first);
+}
+
+/// By the members that stand first it may be a cancel too.
+fn take_first_cancel(protocol: Protocol, own: &mut Speaker, first: &Option<First>)
+    ensures { said own.new ≡ (let was = said own.old in record was { owed = owed_after_first protocol first.now was.owed }) }
+{
+    if let Some(first) = first {
+        if is_first_cancel(protocol, first) {
+            take_cancel(protocol, own, first.target());
         }
+    }
+}
+
+fn is_exit(protocol: Protocol, entry: &Entry) -> bool
+    ensures { result ≡ is_exit protocol entry.now }
+{
+    let is_one = is_notification(entry.kind) && has_method("exit", entry);
+    is_lsp(protocol) && (is_one || is_first_exit(&entry.first))
+}
+
+fn is_first_exit(first: &Option<First>) -> bool
+    ensures { result ≡ option_map_or (rules.has_first_method (codes "exit")) first.now false }
+{
+    match first {
+        Some(first) => has_first_method("exit", first),
+        None => false,
+    }
+}
+
+/// A cancel reaches the requests that it names.
+fn take_cancel(protocol: Protocol, own: &mut Speaker, target: &Option<WrittenId>)
+    ensures { said own.new ≡ (let was = said own.old in record was { owed = cancelled_by protocol target.now was.owed }) }
+{
+    if let Some(id) = target {
+        own.owed.cancel(id, is_mcp(protocol));
     }
 }
 

@@ -1,6 +1,7 @@
+mod OwedSteps
 pub mod Having
-pub mod OneMark
 pub mod Numbers
+pub mod OneMark
 pub mod Running
 pub mod Steps
 pub mod Values

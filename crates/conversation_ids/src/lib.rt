@@ -1,20 +1,26 @@
-//! Ids by their value, and those that a side's requests had, as far as there is room for them.
+//! Ids by their value; those that a side's requests had, as far as there is room for them; and what a content of a side may
+//! be answered by: its entries, and in which way an entry fits an answer.
 #![tactic(auto)]
 
 mod amounts;
+mod content_marks;
 mod digits;
+mod due;
 mod ids;
 mod law;
 mod marks;
 mod odd;
+mod owed;
 mod runs;
 mod used;
+mod ways;
 
 pub use amounts::{is_plain, same_amount};
+pub use content_marks::{batch_mark, huge_mark, unreadable_mark};
+pub use due::Due;
 pub use ids::{is_null, is_odd, same_id};
 pub use law::{equal_ids_have_one_mark, runs_have_what_was_put_in, worked_runs};
 pub use marks::{mark_of, null_mark};
+pub use owed::Owed;
 pub use used::UsedIds;
-
-#[cfg(test)]
-mod tests;
+pub use ways::Way;

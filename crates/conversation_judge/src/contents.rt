@@ -13,7 +13,7 @@ use crate::answers::{put_single, reply_of};
 use crate::arrays::put_answers;
 use conversation_dues::Dues;
 use conversation_entries::{Speaker, is_answer, owe, put_if, say_entry, take_entry};
-use conversation_owed::Owed;
+use conversation_ids::Owed;
 use conversation_reading::{Entry, Reading, StrictReader, WrittenId};
 use conversation_rules::{Finding, Level, Message, Protocol, Reply, Rule, Side, Sight};
 use json_values::{Items, Text};

@@ -2,6 +2,7 @@
 
 ghost use Rattle.std.specs.Prelude.{◌≡◌, ◌++◌, OnOk, IfOk, None, Some, is_some, map};
 ghost use Rattle.content_streams.specs.Streams.{next_placed, close_of};
+ghost use Rattle.conversation_entries.specs.Said.{said};
 ghost use Rattle.conversation_judge.specs.Said.{pair, next_findings, behind_next, stream_behind_next, ended_as, state};
 ghost use Rattle.conversation_rules.specs.Judging as rules;
 ghost use Rattle.conversation_rules.specs.Judging.{contents_findings, behind_contents, new_contents, all_taken, fault_findings, fed, wrote_findings, behind_wrote, ended_stream, unanswered_findings, ended_findings, behind_ended};
@@ -9,7 +10,7 @@ ghost use Rattle.conversation_rules.specs.Judging.{contents_findings, behind_con
 use crate::answers::or_note;
 use crate::contents::take_content;
 use content_streams::{ContentStream, HowEnded, StreamEnd, placed_contents_are_the_contents};
-use conversation_entries::{Speaker, put_if};
+use conversation_entries::{Speaker, is_mcp, put_if};
 use conversation_reading::StrictReader;
 use conversation_rules::{Finding, Level, Message, Protocol, Rule, Side, Unanswered};
 use lsp_frames::FrameFault;
@@ -226,8 +227,19 @@ fn put_each_unanswered(
     Ok(())
 }
 
+/// Whether it is the client, and ends the session: in LSP it sent `exit`, and in MCP it does so by its end.
+fn ends_session(protocol: Protocol, side: Side, own: &Speaker) -> bool
+    ensures { result ≡ rules.ends_session protocol side (said own.now) }
+{
+    match side {
+        Side::Client => own.has_exited || is_mcp(protocol),
+        Side::Server => false,
+    }
+}
+
 /// What a side still owes when it ends.
 fn put_unanswered(
+    protocol: Protocol,
     side: Side,
     how: HowEnded,
     findings: &mut Vec<Finding>,
@@ -235,9 +247,9 @@ fn put_unanswered(
     other: &Speaker,
 ) -> Result<(), AllocError>
     ensures { OnOk result (findings.new.items ≡ findings.old.items
-        ++ unanswered_findings side how (pair own.now other.now)) }
+        ++ unanswered_findings protocol side how (pair own.now other.now)) }
 {
-    if other.has_ended || other.has_exited {
+    if other.has_ended || other.has_exited || ends_session(protocol, side, own) {
         return Ok(());
     }
     let requests = other.owed.unanswered()?;
@@ -269,7 +281,7 @@ fn take_end(
         alloc, protocol, reader, side, true, findings, stream, own, other,
     )?;
     put_fault(side, findings, stream, own, other)?;
-    put_unanswered(side, how, findings, own, other)?;
+    put_unanswered(protocol, side, how, findings, own, other)?;
     own.has_ended = true;
     other.owed.clear();
     Ok(())

@@ -13,7 +13,7 @@ use Rattle.conversation_open.specs.Marked.{has_number, Keeps, IsSameBut, StandsU
 use Rattle.conversation_ids.proofs.OneMark.{one_mark}
 use Rattle.conversation_open.specs.Open.{IsIndexed, IsNoneBetween, IsNoneBehind, and_owed, and_removed}
 use Rattle.conversation_open.specs.declared.numbers_by_mark.NumbersByMark.{NumbersByMark}
-use Rattle.conversation_owed.specs.Marks.{has_mark, entry_has, content_has, due_has}
+use Rattle.conversation_ids.specs.OwedMarks.{has_mark, entry_has, content_has, due_has}
 use Rattle.conversation_reading.specs.declared.entry.WrittenId.{WrittenId}
 use Rattle.conversation_rules.specs.Amounts.{same_id}
 use Rattle.conversation_rules.specs.Dues.{cancelled, cancelled_in, maybe_answered}
@@ -119,10 +119,15 @@ same_found : (id : WrittenId) (e : Option WrittenId) → option_map_or (same_id 
 same_found id None same = same
 same_found id (Some other) same = eq-eqb (mark_of other) (mark_of id) (sym (one_mark id other same))
 
+-- by another mark than that of the id that stands first
+behind_first : (m : ℕ) (owed : Owed) → (has_mark m owed.own || (has_mark m owed.expected || (owed.may_be_null && (null_mark == m)))) ≡ true → entry_has m owed ≡ true
+behind_first m owed is = or_second (has_mark m owed.first) (has_mark m owed.own || (has_mark m owed.expected || (owed.may_be_null && (null_mark == m)))) is
+
 pub request_found : (id : WrittenId) (owed : Owed) → is_request_for id owed ≡ true → entry_has (mark_of id) owed ≡ true
 request_found id owed is =
-    or_second (has_mark (mark_of id) owed.own) (has_mark (mark_of id) owed.expected || (owed.may_be_null && (null_mark == mark_of id)))
-    (or_first (has_mark (mark_of id) owed.expected) (owed.may_be_null && (null_mark == mark_of id)) (same_found id owed.expected (second_of owed.is_request _ is)))
+    behind_first (mark_of id) owed
+    (or_second (has_mark (mark_of id) owed.own) (has_mark (mark_of id) owed.expected || (owed.may_be_null && (null_mark == mark_of id)))
+    (or_first (has_mark (mark_of id) owed.expected) (owed.may_be_null && (null_mark == mark_of id)) (same_found id owed.expected (second_of owed.is_request _ is))))
   where
     second_of : (a b : Bool) → (a && b) ≡ true → b ≡ true
     second_of true b both = both

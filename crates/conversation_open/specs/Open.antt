@@ -4,7 +4,7 @@ use Rattle.std.specs.Option.{option_map_or}
 use Rattle.conversation_open.specs.Marked.{has_number}
 use Rattle.conversation_open.specs.declared.numbers_by_mark.NumbersByMark.{NumbersByMark}
 use Rattle.conversation_open.specs.declared.open_contents.OpenContents.{OpenContents}
-use Rattle.conversation_owed.specs.Marks.{due_has}
+use Rattle.conversation_ids.specs.OwedMarks.{due_has}
 use Rattle.conversation_rules.specs.Dues.{is_open, unanswered_of}
 use Rattle.conversation_rules.specs.Owed.{Owed, Due}
 use Rattle.conversation_rules.specs.declared.found.Unanswered.{Unanswered}

@@ -6,7 +6,7 @@ ghost use Rattle.conversation_rules.specs.Dues.{cancelled_in, maybe_answered};
 ghost use Rattle.number_windows.specs.Numbered.{at, changed_at};
 ghost use Rattle.number_windows.specs.Windows.{window_entries, IsWindow};
 
-use conversation_owed::{Due, Owed};
+use conversation_ids::{Due, Owed};
 use conversation_reading::WrittenId;
 use number_windows::NumberWindow;
 use std::alloc::{AllocError, Global};

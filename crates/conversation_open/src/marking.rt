@@ -1,12 +1,12 @@
 //! What is kept of a content in the index.
 
-ghost use Rattle.std.specs.Prelude.{◌≡◌, ℕ, OnOk, OnErr, true};
+ghost use Rattle.std.specs.Option.{option_map_or};
+ghost use Rattle.std.specs.Prelude.{◌≡◌, ◌==◌, ℕ, OnOk, OnErr, true, false};
 ghost use Rattle.conversation_open.specs.Marked.{has_number, Keeps, IsSameBut, StandsUnder};
-ghost use Rattle.conversation_owed.specs.Marks.{content_has, entry_has, due_has};
+ghost use Rattle.conversation_ids.specs.OwedMarks.{content_has, entry_has, due_has};
 
 use crate::numbers_by_mark::NumbersByMark;
-use conversation_ids::null_mark;
-use conversation_owed::{Due, Owed, batch_mark, huge_mark, unreadable_mark};
+use conversation_ids::{Due, Owed, batch_mark, huge_mark, null_mark, unreadable_mark};
 use std::alloc::AllocError;
 
 /// Notes a number under a mark, where it has that.
@@ -49,7 +49,16 @@ pub(crate) fn note_entry(
     ensures kept { Keeps marks.new marks.old }
 {
     note_if(owed.is_marked_null(), marks, null_mark(), number)?;
-    match owed.own_mark() {
+    note_some(owed.first_mark(), marks, number)?;
+    note_some(owed.own_mark(), marks, number)
+}
+
+/// Notes a number under a mark, where there is one.
+fn note_some(mark: Option<u128>, marks: &mut NumbersByMark, number: u64) -> Result<(), AllocError>
+    ensures noted { OnOk result (StandsUnder (λ m. option_map_or (λ mark. mark == m) mark false) number marks.new) }
+    ensures kept { Keeps marks.new marks.old }
+{
+    match mark {
         Some(mark) => note_if(true, marks, mark, number),
         None => Ok(()),
     }
@@ -61,6 +70,9 @@ pub(crate) fn forget_entry(marks: &mut NumbersByMark, owed: &Owed, due: &Due, nu
     ensures left { (mark : ℕ) → due_has mark due.now ≡ true → has_number marks.new mark number ≡ has_number marks.old mark number }
 {
     forget_unless_left(marks, null_mark(), due, number);
+    if let Some(mark) = owed.first_mark() {
+        forget_unless_left(marks, mark, due, number);
+    }
     if let Some(mark) = owed.own_mark() {
         forget_unless_left(marks, mark, due, number);
     }
@@ -84,8 +96,15 @@ pub(crate) fn forget_content(marks: &mut NumbersByMark, due: &Due, number: u64)
     marks.remove(batch_mark(), number);
     marks.remove(null_mark(), number);
     for owed in due.entries() {
-        if let Some(mark) = owed.own_mark() {
-            marks.remove(mark, number);
-        }
+        forget_some(marks, owed.first_mark(), number);
+        forget_some(marks, owed.own_mark(), number);
+    }
+}
+
+fn forget_some(marks: &mut NumbersByMark, mark: Option<u128>, number: u64)
+    ensures { IsSameBut number marks.new marks.old }
+{
+    if let Some(mark) = mark {
+        marks.remove(mark, number);
     }
 }

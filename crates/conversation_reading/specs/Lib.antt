@@ -1,7 +1,10 @@
+pub mod First
 pub mod Fronts
 pub mod Huge
+pub mod Inner
 pub mod Numbers
 pub mod Rows
 pub mod Strictly
 pub mod Targets
+pub mod Twice
 pub mod Wholes

@@ -8,9 +8,11 @@ use Rattle.json_texts.specs.Texts.{json_text, value_of}
 use Rattle.conversation_reading.specs.Fronts.{is_json, front_of}
 use Rattle.conversation_reading.specs.Huge.{has_huge}
 use Rattle.conversation_reading.specs.Numbers.{is_whole}
-use Rattle.conversation_reading.specs.Targets.{target_in}
+use Rattle.conversation_reading.specs.Targets.{target_by, target_in}
+use Rattle.conversation_reading.specs.Twice.{has_twice, first_of}
 use Rattle.conversation_reading.specs.declared.entry.Entry.{Entry}
 use Rattle.conversation_reading.specs.declared.entry.Faults.{Faults}
+use Rattle.conversation_reading.specs.First.{First}
 use Rattle.conversation_reading.specs.declared.entry.Kind.{Kind}
 use Rattle.conversation_reading.specs.declared.entry.Kind.TheVariants.{Request, Notification, Answer, BrokenAnswer, Invalid}
 use Rattle.conversation_reading.specs.declared.entry.There.{There}
@@ -91,6 +93,22 @@ faults_of j = if is_object j then (if has (codes "method") j then call_faults j 
 abbrev pub has_fault : Faults → Bool
 has_fault f = f.object || f.version || f.method || f.params || f.id || f.outcome || f.error
 
+-- ---- by the members that stand first
+
+abbrev pub first_method : Json → Option (List ℕ)
+first_method j = option_and_then as_str (first_of (codes "method") j)
+
+abbrev pub first_target : Json → Option WrittenId
+first_target j = option_and_then (λ method. option_and_then (target_by method) (first_of (codes "params") j)) (first_method j)
+
+-- what else an entry may be to its reader, where a member stands twice in it
+abbrev pub first_by : Bool → Json → Option First
+first_by false j = None
+first_by true j = Some (record { id = option_and_then written_id (first_of (codes "id") j); method = first_method j; target = first_target j })
+
+abbrev pub first_in : Json → Option First
+first_in j = first_by (has_twice j) j
+
 -- ---- entries
 
 abbrev pub call_kind : Bool → Bool → Kind
@@ -98,8 +116,9 @@ call_kind true has_id = Invalid
 call_kind false true = Request
 call_kind false false = Notification
 
-abbrev pub kind_of : There → Bool → Kind
-kind_of there is_faulty = if there.method then call_kind is_faulty there.id else (if there.result || there.error then (if is_faulty then BrokenAnswer else Answer) else Invalid)
+-- an answer with a member that stands twice is broken, since it may have been another
+abbrev pub kind_of : There → Bool → Bool → Kind
+kind_of there is_faulty is_twice = if there.method then call_kind is_faulty there.id else (if there.result || there.error then (if is_faulty || is_twice then BrokenAnswer else Answer) else Invalid)
 
 abbrev pub is_message : Kind → Bool
 is_message Request = true
@@ -109,7 +128,7 @@ is_message BrokenAnswer = false
 is_message Invalid = false
 
 abbrev pub entry_of : Json → Entry
-entry_of j = record { kind = kind_of (there_in j) (has_fault (faults_of j)); there = there_in j; faults = faults_of j; id = id_in j; method = method_in j; params = option_map json_text (get (codes "params") j); code = option_and_then code_in (get (codes "error") j); target = target_in j; has_huge = has_huge j }
+entry_of j = record { kind = kind_of (there_in j) (has_fault (faults_of j)) (has_twice j); there = there_in j; faults = faults_of j; id = id_in j; method = method_in j; params = option_map json_text (get (codes "params") j); code = option_and_then code_in (get (codes "error") j); target = target_in j; first = first_in j; has_huge = has_huge j || has_twice j }
 
 abbrev pub entries_of : Items → List Entry
 entries_of no_items = []

@@ -1,3 +1,4 @@
+use crate::first::First;
 use json_values::Text;
 
 /// An id as it is written (JSON-RPC 2.0, section 4).
@@ -15,7 +16,7 @@ pub enum Kind {
     Request,
     Notification,
     Answer,
-    /// An object without a method that has a result or an error, and is no answer.
+    /// An object without a method that has a result or an error, and is no answer; or one in which a member stands twice.
     BrokenAnswer,
     /// Anything else.
     Invalid,
@@ -68,6 +69,9 @@ pub struct Entry {
     /// `notifications/cancelled` (MCP) their `requestId`, where a `reason` is a string or isn't there. It is a string or a
     /// whole number; there is none where its params aren't a cancel's.
     pub target: Option<WrittenId>,
-    /// Whether a number in it is beyond a float's range, as 1e400.
+    /// Where a member of it stands twice, what the first ones say.
+    pub first: Option<First>,
+    /// Whether a reader may refuse it all: a number in it is beyond a float's range, as 1e400, or a member of it stands
+    /// twice (RFC 8259, sections 4 and 6).
     pub has_huge: bool,
 }

@@ -1,16 +1,19 @@
 //! What the definitions say of worked rows, and what holds of all entries. Each law is the contract of a function that does
 //! nothing.
 
-ghost use Rattle.std.specs.Prelude.{◌≡◌, ◌∷◌, [], true, false, not, codes};
+ghost use Rattle.std.specs.Prelude.{◌≡◌, ◌∷◌, ◌&&◌, ◌||◌, [], true, false, not, codes, Some, option_and_then};
 ghost use Rattle.json.specs.Json.{Json as JsonValue, null, number, string, array, no_items};
 ghost use Rattle.conversation_reading.specs.Numbers.{is_whole};
 ghost use Rattle.conversation_reading.specs.Rows.{message, method, id, outcome, failure};
-ghost use Rattle.conversation_reading.specs.Strictly.{entry_of, faults_of, has_fault, is_message};
+ghost use Rattle.conversation_reading.specs.Strictly.{entry_of, faults_of, has, has_fault, is_message};
+ghost use Rattle.conversation_reading.specs.Twice.{has_twice};
 ghost use Rattle.conversation_reading.specs.declared.entry.Kind.TheVariants as kinds;
+ghost use Rattle.conversation_reading.specs.declared.entry.WrittenId.TheVariants.{Number};
 
-/// An entry is a message exactly where it breaks no rule.
+/// An entry is a message exactly where it breaks no rule, and where it is no answer in which a member stands twice.
 pub fn messages_break_no_rule()
-    ensures { (j : JsonValue) → is_message (entry_of j).kind ≡ not (has_fault (faults_of j)) }
+    ensures { (j : JsonValue) → is_message (entry_of j).kind ≡
+        not (has_fault (faults_of j) || (not (has (codes "method") j) && has_twice j)) }
 {}
 
 /// Numbers that are whole by their value (RFC 8259, section 6).
@@ -52,6 +55,22 @@ pub fn members()
     ensures last_version { (faults_of (message (method ∷ (codes "jsonrpc", null) ∷ []))).version ≡ true }
     ensures last_id { (faults_of (message (method ∷ (codes "id", array no_items) ∷ id (codes "7") ∷ []))).id
         ≡ false }
+{}
+
+/// Members that stand twice (RFC 8259, section 4), of a message and not of what is inside them.
+pub fn members_twice()
+    ensures once { has_twice (message (method ∷ id (codes "7") ∷ outcome ∷ [])) ≡ false }
+    ensures same_value { has_twice (message (id (codes "7") ∷ method ∷ id (codes "7") ∷ [])) ≡ true }
+    ensures version { has_twice (message (method ∷ (codes "jsonrpc", null) ∷ [])) ≡ true }
+    ensures in_a_result { has_twice (message (id (codes "7") ∷ (codes "result", message ((codes "jsonrpc", null) ∷ [])) ∷ [])) ≡ false }
+    ensures other_name { has_twice (message (method ∷ (codes "Id", null) ∷ (codes "Id", null) ∷ [])) ≡ false }
+    ensures request { (entry_of (message (method ∷ id (codes "7") ∷ id (codes "8") ∷ []))).kind ≡ kinds.Request }
+    ensures answer { (entry_of (message (id (codes "7") ∷ outcome ∷ id (codes "8") ∷ []))).kind ≡ kinds.BrokenAnswer }
+    ensures first_id { option_and_then (λ first. first.id) (entry_of (message (method ∷ id (codes "7") ∷ id (codes "8") ∷ []))).first
+        ≡ Some (Number (codes "7")) }
+    ensures last_id { (entry_of (message (method ∷ id (codes "7") ∷ id (codes "8") ∷ []))).id ≡ Some (Number (codes "8")) }
+    ensures first_method { option_and_then (λ first. first.method) (entry_of (message (method ∷ (codes "method", string (codes "b")) ∷ []))).first
+        ≡ Some (codes "a") }
 {}
 
 /// What is no message.

@@ -1,16 +1,21 @@
 //! From values to entries.
 
-ghost use Rattle.std.specs.Prelude.{◌≡◌, IfOk, Some, codes, false, is_some, option_map, option_and_then};
+ghost use Rattle.std.specs.Prelude.{◌≡◌, ◌||◌, IfOk, Some, codes, false, is_some, option_map, option_and_then};
 ghost use Rattle.std.specs.Option.{ForSome, option_map_or};
 ghost use Rattle.json.specs.Find.{get, as_str};
+ghost use Rattle.std.specs.Str.{bytes_eq};
 ghost use Rattle.json.specs.Tree.{HasNumbers, ItemsHaveNumbers};
 ghost use Rattle.json.specs.Value.{value_view, items_view};
 ghost use Rattle.json_texts.specs.Texts.{json_text};
+ghost use Rattle.conversation_reading.specs.Huge.{has_huge};
+ghost use Rattle.conversation_reading.specs.Inner.{AreMembers};
 ghost use Rattle.conversation_reading.specs.Numbers.{is_whole};
-ghost use Rattle.conversation_reading.specs.Strictly.{has, there_in, is_object, is_version_2, written_id, id_in, method_in, are_unfit, code_in, is_error, is_unfit_error, call_faults, answer_faults, faults_of, has_fault, kind_of, entry_of, entries_of};
+ghost use Rattle.conversation_reading.specs.Strictly.{there_in, is_object, written_id, are_unfit, code_in, is_error, is_unfit_error, call_faults, answer_faults, faults_of, has_fault, first_by, kind_of, entry_of, entries_of};
 
 use crate::entry::{Entry, Faults, Kind, There, WrittenId};
+use crate::first::First;
 use crate::huge::has_huge;
+use crate::lookup::{Members, first_of, members_of};
 use crate::number::is_whole;
 use crate::target::read_target;
 use json::Value;
@@ -35,37 +40,54 @@ pub(crate) fn read_entry(alloc: Global, value: &Value<'_>) -> Result<Entry, Allo
     requires { HasNumbers (value_view value.now) }
     ensures { IfOk result (λ entry. entry ≡ entry_of (value_view value.now)) }
 {
-    let there = there_in(value);
-    let faults = faults_of(value);
+    let members = members_of(value);
+    let there = there_among(value, &members);
+    let faults = faults_of(value, &members);
     Ok(Entry {
-        kind: kind_of(&there, has_fault(&faults)),
+        kind: kind_of(&there, has_fault(&faults), members.is_twice),
         there,
         faults,
-        id: read_id(alloc, value.get("id"))?,
-        method: copied(alloc, method_in(value))?,
-        params: read_params(alloc, value.get("params"))?,
-        code: copied(alloc, error_code(value))?,
-        target: read_target(alloc, value)?,
-        has_huge: has_huge(value),
+        id: read_id(alloc, members.id)?,
+        method: copied(alloc, text_in(members.method))?,
+        params: read_params(alloc, members.params)?,
+        code: copied(alloc, code_among(members.error))?,
+        target: read_target(alloc, members.method, members.params)?,
+        first: read_first(alloc, value, members.is_twice)?,
+        has_huge: may_be_refused(value, members.is_twice),
     })
 }
 
-fn there_in(value: &Value<'_>) -> There
+/// What else it may be to its reader, where a member stands twice in it.
+fn read_first(alloc: Global, value: &Value<'_>, is_twice: bool) -> Result<Option<First>, AllocError>
+    ensures { IfOk result (λ first. first ≡ first_by is_twice (value_view value.now)) }
+{
+    if !is_twice {
+        return Ok(None);
+    }
+    let id = read_id(alloc, first_of(value, "id"))?;
+    let method = first_of(value, "method");
+    let target = read_target(alloc, method, first_of(value, "params"))?;
+    Ok(Some(First::new(alloc, id, copied(alloc, text_in(method))?, target)?))
+}
+
+/// Whether a reader may refuse it all.
+fn may_be_refused(value: &Value<'_>, is_twice: bool) -> bool
+    ensures { result ≡ (has_huge (value_view value.now) || is_twice) }
+{
+    has_huge(value) || is_twice
+}
+
+fn there_among(value: &Value<'_>, members: &Members<'_, '_>) -> There
+    requires { AreMembers members.now (value_view value.now) }
     ensures { result ≡ there_in (value_view value.now) }
 {
     There {
-        id: has(value, "id"),
-        method: has(value, "method"),
-        params: has(value, "params"),
-        result: has(value, "result"),
-        error: has(value, "error"),
+        id: members.id.is_some(),
+        method: members.method.is_some(),
+        params: members.params.is_some(),
+        result: members.result.is_some(),
+        error: members.error.is_some(),
     }
-}
-
-fn has(value: &Value<'_>, name: &str) -> bool
-    ensures { result ≡ has name.now (value_view value.now) }
-{
-    value.get(name).is_some()
 }
 
 fn is_object(value: &Value<'_>) -> bool
@@ -78,7 +100,8 @@ fn is_object(value: &Value<'_>) -> bool
 }
 
 /// Why a value is no message.
-fn faults_of(value: &Value<'_>) -> Faults
+fn faults_of(value: &Value<'_>, members: &Members<'_, '_>) -> Faults
+    requires { AreMembers members.now (value_view value.now) }
     ensures { result ≡ faults_of (value_view value.now) }
 {
     if !is_object(value) {
@@ -92,38 +115,42 @@ fn faults_of(value: &Value<'_>) -> Faults
             error: false,
         };
     }
-    if has(value, "method") {
-        call_faults(value)
+    if members.method.is_some() {
+        call_faults(value, members)
     } else {
-        answer_faults(value, &there_in(value))
+        answer_faults(value, members)
     }
 }
 
-fn call_faults(value: &Value<'_>) -> Faults
+fn call_faults(value: &Value<'_>, members: &Members<'_, '_>) -> Faults
+    requires { AreMembers members.now (value_view value.now) }
     ensures { result ≡ call_faults (value_view value.now) }
 {
     Faults {
         object: false,
-        version: !is_version_2(value),
-        method: method_in(value).is_none(),
-        params: are_unfit(value.get("params")),
-        id: has(value, "id") && !has_id(value),
+        version: !is_version_2(members.version),
+        method: text_in(members.method).is_none(),
+        params: are_unfit(members.params),
+        id: members.id.is_some() && !has_id(members.id),
         outcome: false,
         error: false,
     }
 }
 
-fn answer_faults(value: &Value<'_>, there: &There) -> Faults
-    ensures { result ≡ answer_faults (value_view value.now) there.now }
+fn answer_faults(value: &Value<'_>, members: &Members<'_, '_>) -> Faults
+    requires { AreMembers members.now (value_view value.now) }
+    ensures { result ≡ answer_faults (value_view value.now) (there_in (value_view value.now)) }
 {
+    let has_result = members.result.is_some();
+    let has_error = members.error.is_some();
     Faults {
         object: false,
-        version: !is_version_2(value),
+        version: !is_version_2(members.version),
         method: false,
         params: false,
-        id: !has_id(value) && (there.id || there.result || there.error),
-        outcome: (there.result && there.error) || !(there.result || there.error),
-        error: is_unfit_error(value.get("error"), value.get("result")),
+        id: !has_id(members.id) && (members.id.is_some() || has_result || has_error),
+        outcome: (has_result && has_error) || !(has_result || has_error),
+        error: is_unfit_error(members.error, members.result),
     }
 }
 
@@ -139,8 +166,8 @@ fn has_fault(faults: &Faults) -> bool
         || faults.error
 }
 
-fn kind_of(there: &There, is_faulty: bool) -> Kind
-    ensures { result ≡ kind_of there.now is_faulty }
+fn kind_of(there: &There, is_faulty: bool, is_twice: bool) -> Kind
+    ensures { result ≡ kind_of there.now is_faulty is_twice }
 {
     if there.method {
         match (is_faulty, there.id) {
@@ -149,7 +176,7 @@ fn kind_of(there: &There, is_faulty: bool) -> Kind
             (false, false) => Kind::Notification,
         }
     } else if there.result || there.error {
-        if is_faulty {
+        if is_faulty || is_twice {
             Kind::BrokenAnswer
         } else {
             Kind::Answer
@@ -160,29 +187,30 @@ fn kind_of(there: &There, is_faulty: bool) -> Kind
 }
 
 /// Whether the member `jsonrpc` is exactly "2.0".
-fn is_version_2(value: &Value<'_>) -> bool
-    ensures { result ≡ is_version_2 (value_view value.now) }
+fn is_version_2(version: Option<&Value<'_>>) -> bool
+    ensures { result ≡ option_map_or (bytes_eq (codes "2.0")) (option_and_then as_str (option_map (λ v. value_view v.now) version.entry)) false }
 {
-    match value.get("jsonrpc") {
+    match version {
         Some(version) => version.as_str() == Some("2.0"),
         None => false,
     }
 }
 
-/// Whether there is an id that can be read.
-fn has_id(value: &Value<'_>) -> bool
-    ensures { result ≡ is_some (id_in (value_view value.now)) }
+/// Whether a member is an id that can be read.
+fn has_id(id: Option<&Value<'_>>) -> bool
+    ensures { result ≡ is_some (option_and_then written_id (option_map (λ v. value_view v.now) id.entry)) }
 {
-    match value.get("id") {
+    match id {
         Some(Value::Null | Value::String(_) | Value::Number(_)) => true,
         _ => false,
     }
 }
 
-pub(crate) fn method_in<'v>(value: &'v Value<'_>) -> Option<&'v str>
-    ensures { option_map (λ s. s.now) result ≡ method_in (value_view value.now) }
+/// The text of a member that is a string.
+pub(crate) fn text_in<'v>(member: Option<&'v Value<'_>>) -> Option<&'v str>
+    ensures { option_map (λ s. s.now) result ≡ option_and_then as_str (option_map (λ v. value_view v.now) member.entry) }
 {
-    value.get("method")?.as_str()
+    member?.as_str()
 }
 
 /// Whether params are there, and are neither an array nor an object.
@@ -236,10 +264,10 @@ fn code_in<'v>(error: &'v Value<'_>) -> Option<&'v str>
     error.get("code")?.as_number()
 }
 
-fn error_code<'v>(value: &'v Value<'_>) -> Option<&'v str>
-    ensures { option_map (λ s. s.now) result ≡ option_and_then code_in (get (codes "error") (value_view value.now)) }
+fn code_among<'v>(error: Option<&'v Value<'_>>) -> Option<&'v str>
+    ensures { option_map (λ s. s.now) result ≡ option_and_then code_in (option_map (λ v. value_view v.now) error.entry) }
 {
-    code_in(value.get("error")?)
+    code_in(error?)
 }
 
 fn read_id(alloc: Global, member: Option<&Value<'_>>) -> Result<Option<WrittenId>, AllocError>

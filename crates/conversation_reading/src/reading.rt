@@ -101,24 +101,10 @@ impl StrictReader {
 fn read_json(alloc: Global, text: &str, scratch: &mut Scratch) -> Result<Reading, AllocError>
     ensures { IfOk result (λ reading. reading ≡ json_reading text.now (value_of MOST_DEPTH_IN text.now)) }
 {
-    match read_readable(alloc, text, scratch)? {
-        Some(reading) => Ok(reading),
-        None => read_unreadable(alloc, text.as_bytes(), scratch),
+    if let Some(value) = read_str(alloc, text, MOST_DEPTH_IN, scratch)? {
+        return read_value(alloc, &value);
     }
-}
-
-/// What a content with a value is.
-fn read_readable(
-    alloc: Global,
-    text: &str,
-    scratch: &mut Scratch,
-) -> Result<Option<Reading>, AllocError>
-    ensures { IfOk result (λ reading. reading ≡ option_map value_reading (value_of MOST_DEPTH_IN text.now)) }
-{
-    match read_str(alloc, text, MOST_DEPTH_IN, scratch)? {
-        Some(value) => Ok(Some(read_value(alloc, &value)?)),
-        None => Ok(None),
-    }
+    read_unreadable(alloc, text.as_bytes(), scratch)
 }
 
 /// Why a content has no value.

@@ -1,21 +1,27 @@
 //! The id that a cancel names.
 
 ghost use Rattle.std.specs.Prelude.{◌≡◌, IfOk, codes, option_map, option_and_then};
+ghost use Rattle.json.specs.Find.{as_str};
 ghost use Rattle.json.specs.Value.{value_view};
-ghost use Rattle.conversation_reading.specs.Targets.{target_as, target_named, has_fit_reason, target_by, target_in};
+ghost use Rattle.conversation_reading.specs.Targets.{target_as, target_named, has_fit_reason, target_by};
 
 use crate::entry::WrittenId;
 use crate::number::is_whole;
-use crate::read::method_in;
+use crate::read::text_in;
 use json::Value;
 use json_values::Text;
 use std::alloc::{AllocError, Global};
 
 /// The id that an entry cancels, by its method. There is none where its params aren't a cancel's.
-pub(crate) fn read_target(alloc: Global, value: &Value<'_>) -> Result<Option<WrittenId>, AllocError>
-    ensures { IfOk result (λ target. target ≡ target_in (value_view value.now)) }
+pub(crate) fn read_target(
+    alloc: Global,
+    method: Option<&Value<'_>>,
+    params: Option<&Value<'_>>,
+) -> Result<Option<WrittenId>, AllocError>
+    ensures { IfOk result (λ target. target ≡ option_and_then (λ method. option_and_then (target_by method)
+        (option_map (λ v. value_view v.now) params.entry)) (option_and_then as_str (option_map (λ v. value_view v.now) method.entry))) }
 {
-    match (method_in(value), value.get("params")) {
+    match (text_in(method), params) {
         (Some(method), Some(params)) => target_by(alloc, method, params),
         _ => Ok(None),
     }

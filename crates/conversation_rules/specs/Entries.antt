@@ -6,14 +6,16 @@ use Rattle.conversation_reading.specs.Numbers.{is_whole}
 use Rattle.conversation_reading.specs.Wholes.{whole_of}
 use Rattle.conversation_reading.specs.declared.entry.Entry.{Entry}
 use Rattle.conversation_reading.specs.declared.entry.Faults.{Faults}
+use Rattle.conversation_reading.specs.First.{First}
 use Rattle.conversation_reading.specs.declared.entry.Kind.{Kind}
 use Rattle.conversation_reading.specs.declared.entry.Kind.TheVariants.{Request, Notification, Answer, BrokenAnswer, Invalid}
+use Rattle.conversation_reading.specs.declared.entry.There.{There}
 use Rattle.conversation_reading.specs.declared.entry.WrittenId.{WrittenId}
 use Rattle.conversation_reading.specs.declared.entry.WrittenId.TheVariants.{Null, Text, Number}
 use Rattle.conversation_reading.specs.declared.whole.Whole.{Whole}
 use Rattle.conversation_rules.specs.Amounts.{is_plain, is_null}
 use Rattle.conversation_rules.specs.Dues.{owed_more, is_asked, cancelled_in}
-use Rattle.conversation_rules.specs.Owed.{Due, owed_on}
+use Rattle.conversation_rules.specs.Owed.{Due, has_twice, owed_on}
 use Rattle.conversation_rules.specs.Protocols.{cancel_method, is_lsp, is_mcp, odd_id_level}
 use Rattle.conversation_rules.specs.Speakers.{Speaker, found, found_if}
 use Rattle.conversation_rules.specs.Used.{is_used, use_id, fills}
@@ -65,6 +67,20 @@ fault_findings message at faults =
     ++ found_if faults.method (found message at rules.Method Must) ++ found_if faults.params (found message at rules.Params Must)
     ++ found_if faults.id (found message at rules.Id Must) ++ found_if faults.outcome (found message at rules.Outcome Must)
     ++ found_if faults.error (found message at rules.Error Must)
+
+-- ---- both-kinds: a request has a method, and an answer a result or an error (JSON-RPC 2.0, sections 4 and 5). With an id it
+-- could be either; it is read as a request.
+
+abbrev pub is_both : There → Bool
+is_both there = there.method && (there.id && (there.result || there.error))
+
+abbrev pub both_findings : Message → ℕ → Entry → List Finding
+both_findings message at entry = found_if (is_both entry.there) (found message at rules.BothKinds Must)
+
+-- ---- twice: the names of an object should be unique (RFC 8259, section 4). Of a message they are its members; the last counts.
+
+abbrev pub twice_findings : Message → ℕ → Entry → List Finding
+twice_findings message at entry = found_if (has_twice entry) (found message at rules.Twice Should)
 
 -- ---- code: JSON-RPC 2.0, section 5.1; LSP 3.17, ErrorCodes
 
@@ -120,10 +136,24 @@ abbrev pub cancelled_by : Protocol → Option WrittenId → List Due → List Du
 cancelled_by protocol None owed = owed
 cancelled_by protocol (Some id) owed = map (cancelled_in (is_mcp protocol) id) owed
 
-abbrev pub owed_after_cancel : Protocol → Entry → List Due → List Due
-owed_after_cancel protocol entry owed = if is_cancel protocol entry then cancelled_by protocol entry.target owed else owed
+abbrev pub owed_after_last : Protocol → Entry → List Due → List Due
+owed_after_last protocol entry owed = if is_cancel protocol entry then cancelled_by protocol entry.target owed else owed
 
--- ---- id-null, id-fraction, id-form, id-again: JSON-RPC 2.0, sections 4 and 6; MCP, messages
+-- by the members that stand first it may be a cancel too
+abbrev pub has_first_method : List ℕ → First → Bool
+has_first_method method first = option_map_or (bytes_eq method) first.method false
+
+abbrev pub is_first_cancel : Protocol → First → Bool
+is_first_cancel protocol first = option_map_or (λ method. has_first_method method first) (cancel_method protocol) false
+
+abbrev pub owed_after_first : Protocol → Option First → List Due → List Due
+owed_after_first protocol None owed = owed
+owed_after_first protocol (Some first) owed = if is_first_cancel protocol first then cancelled_by protocol first.target owed else owed
+
+abbrev pub owed_after_cancel : Protocol → Entry → List Due → List Due
+owed_after_cancel protocol entry owed = owed_after_first protocol entry.first (owed_after_last protocol entry owed)
+
+-- ---- id-null, id-fraction, id-form, id-again: JSON-RPC 2.0, sections 4 and 6; LSP, Request Message; MCP, messages
 
 abbrev pub number_findings : Protocol → Message → ℕ → List ℕ → List Finding
 number_findings protocol message at number =
@@ -170,7 +200,7 @@ with_id_of protocol entry own = record own {
 -- ---- all of an entry
 
 abbrev pub part_findings : Protocol → Message → ℕ → Entry → List Finding
-part_findings protocol message at entry = fault_findings message at entry.faults ++ code_findings protocol message at entry ++ name_findings message at entry
+part_findings protocol message at entry = fault_findings message at entry.faults ++ both_findings message at entry ++ twice_findings message at entry ++ code_findings protocol message at entry ++ name_findings message at entry
 
 abbrev pub plain_findings : Protocol → Message → Bool → ℕ → Entry → Speaker → List Finding
 plain_findings protocol message in_batch at entry own = part_findings protocol message at entry ++ cancel_findings protocol message at own entry ++ id_findings protocol message at in_batch own entry
@@ -178,8 +208,9 @@ plain_findings protocol message in_batch at entry own = part_findings protocol m
 abbrev pub entry_findings : Protocol → Message → Bool → ℕ → Entry → Speaker → List Finding
 entry_findings protocol message in_batch at entry own = plain_findings protocol message in_batch at entry own ++ full_findings message at own entry
 
+-- `exit`, or what may be read as it by the members that stand first
 abbrev pub is_exit : Protocol → Entry → Bool
-is_exit protocol entry = is_lsp protocol && is_notification entry.kind && has_method (codes "exit") entry
+is_exit protocol entry = is_lsp protocol && ((is_notification entry.kind && has_method (codes "exit") entry) || option_map_or (has_first_method (codes "exit")) entry.first false)
 
 -- what a notification says beside
 abbrev pub with_notification : Protocol → Entry → Speaker → Speaker

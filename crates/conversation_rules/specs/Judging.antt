@@ -13,6 +13,7 @@ use Rattle.content_streams.specs.declared.framing.Framing.{Framing}
 use Rattle.conversation_rules.specs.Answers.{or_note}
 use Rattle.conversation_rules.specs.Contents.{Outcome, content_outcome, next_message}
 use Rattle.conversation_rules.specs.Dues.{unanswered}
+use Rattle.conversation_rules.specs.Protocols.{is_mcp}
 use Rattle.conversation_rules.specs.Speakers.{Speaker, Pair, new_speaker, found}
 use Rattle.conversation_rules.specs.declared.finding.Finding.{Finding}
 use Rattle.conversation_rules.specs.declared.finding.Limits.{Limits}
@@ -145,17 +146,23 @@ unanswered_level how.Closed is_broken request = if request.may_be_answered then 
 abbrev pub unanswered_finding : Side → HowEnded → Bool → Unanswered → Finding
 unanswered_finding side how is_broken request = record { side = side; rule = rules.Unanswered; level = unanswered_level how is_broken request; number = request.number; offset = request.offset; entry = request.entry }
 
--- the other one had ended before, or sent `exit`
-abbrev pub is_excused : Pair → Bool
-is_excused pair = pair.other.has_ended || pair.other.has_exited
+-- The client ends the session: in LSP it sent `exit`, and in MCP it does so by its end (LSP 3.17, Exit Notification; MCP,
+-- lifecycle, Shutdown).
+abbrev pub ends_session : Protocol → Side → Speaker → Bool
+ends_session protocol Client own = own.has_exited || is_mcp protocol
+ends_session protocol Server own = false
 
-abbrev pub unanswered_findings : Side → HowEnded → Pair → List Finding
-unanswered_findings side how pair = if is_excused pair then [] else map (unanswered_finding side how (pair.own.is_over || pair.other.is_over)) (unanswered pair.other.owed)
+-- the other one had ended before, or sent `exit`; or the session ends
+abbrev pub is_excused : Protocol → Side → Pair → Bool
+is_excused protocol side pair = pair.other.has_ended || (pair.other.has_exited || ends_session protocol side pair.own)
+
+abbrev pub unanswered_findings : Protocol → Side → HowEnded → Pair → List Finding
+unanswered_findings protocol side how pair = if is_excused protocol side pair then [] else map (unanswered_finding side how (pair.own.is_over || pair.other.is_over)) (unanswered pair.other.owed)
 
 abbrev pub ended_findings : Protocol → Side → HowEnded → Stream → Pair → List Finding
 ended_findings protocol side how stream pair =
     let last = behind_contents protocol side true (new_contents stream) pair in
-    contents_findings protocol side true (new_contents stream) pair ++ fault_findings side stream last ++ unanswered_findings side how last
+    contents_findings protocol side true (new_contents stream) pair ++ fault_findings side stream last ++ unanswered_findings protocol side how last
 
 abbrev pub ended_pair : Pair → Pair
 ended_pair pair = record { own = record pair.own { has_ended = true }; other = record pair.other { owed = [] } }

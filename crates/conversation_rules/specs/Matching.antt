@@ -50,6 +50,10 @@ is_null_request owed = owed.is_request && expects_null owed
 abbrev pub is_null_other : Owed → Bool
 is_null_other owed = not owed.is_request && expects_null owed
 
+-- such an entry that has no id, or null
+abbrev pub is_unnamed : Owed → Bool
+is_unnamed owed = is_null_other owed && option_map_or is_null owed.own true
+
 -- -32600 says that an entry is invalid; all else is rather an answer to a request
 abbrev pub null_in : Bool → Bool → List Due → Option Target
 null_in true batches dues = or_else (oldest batches is_null_other dues) (or_else (oldest batches is_null_request dues) (oldest batches (λ owed. owed.may_be_null) dues))
@@ -64,12 +68,15 @@ abbrev pub null_target : Bool → Bool → List Due → Option Target
 null_target says_invalid may_refuse dues = or_else (null_in says_invalid false dues) (or_else (refused_batch may_refuse dues) (null_in says_invalid true dues))
 
 -- -32700: an unreadable content, else a request with the id null, else a content with a number beyond a float's range (RFC
--- 8259, section 6: a reader may have limits), else a batch that is refused
+-- 8259, section 6: a reader may have limits), else what is invalid and has no id but null, and needn't be answered; all these
+-- alone. Then a batch that is refused, or a request with the id null in one.
 abbrev pub parse_error_target : Bool → List Due → Option Target
 parse_error_target may_refuse dues =
     or_else (option_map WholeOf (position (λ due. due.is_unreadable) dues))
-    (or_else (or_else (oldest false is_null_request dues) (oldest true is_null_request dues))
-    (or_else (option_map WholeOf (position (λ due. due.has_huge) dues)) (refused_batch may_refuse dues)))
+    (or_else (oldest false is_null_request dues)
+    (or_else (option_map WholeOf (position (λ due. due.has_huge) dues))
+    (or_else (oldest false is_unnamed dues)
+    (or_else (refused_batch may_refuse dues) (oldest true is_null_request dues)))))
 
 -- ---- the answers in an array
 

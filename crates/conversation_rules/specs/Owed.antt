@@ -1,5 +1,5 @@
 -- What a side owes on what the other one wrote (JSON-RPC 2.0, sections 4 to 6).
-use Rattle.std.specs.Prelude.{ℕ, suc, ◌&&◌, ◌||◌, not, List, [], ◌∷◌, Bool, true, false, Option, Some, None, if◌then◌else◌, codes}
+use Rattle.std.specs.Prelude.{ℕ, suc, ◌&&◌, ◌||◌, not, List, [], ◌∷◌, Bool, true, false, Option, Some, None, option_and_then, is_some, if◌then◌else◌, codes}
 use Rattle.std.specs.Option.{option_map_or, option_to_list}
 use Rattle.std.specs.Str.{bytes_eq}
 use Rattle.conversation_reading.specs.declared.entry.Entry.{Entry}
@@ -22,6 +22,8 @@ pub record Owed : Type 0 where
   pub expected : Option WrittenId
   -- the entry's own id, which its answer may have
   pub own : Option WrittenId
+  -- and the one that stands first in it, where a member stands twice
+  pub first : Option WrittenId
   -- whether its answer may have the id null
   pub may_be_null : Bool
   pub is_request : Bool
@@ -35,7 +37,7 @@ pub record Due : Type 0 where
   pub entries : List Owed
   pub is_batch : Bool
   pub is_unreadable : Bool
-  -- whether a number in it is beyond a float's range
+  -- whether it may be refused whole: a number in it is beyond a float's range, or a member stands twice
   pub has_huge : Bool
   -- whether a content that couldn't be read came behind it, which may have been its answer
   pub may_be_answered : Bool
@@ -47,19 +49,19 @@ abbrev pub is_expected : WrittenId → Owed → Bool
 is_expected id owed = has_id id owed.expected
 
 abbrev pub may_have : WrittenId → Owed → Bool
-may_have id owed = has_id id owed.own || (owed.may_be_null && is_null id)
+may_have id owed = has_id id owed.first || (has_id id owed.own || (owed.may_be_null && is_null id))
 
 -- ---- entries
 
 -- a request; one whose id is a number that isn't plain may be refused by null
 abbrev pub request_owed : Protocol → ℕ → Option WrittenId → Owed
 request_owed rules place id =
-    if option_map_or is_odd id false then record { place = place; must = false; expected = Some Null; own = id; may_be_null = true; is_request = false; is_cancelled = false }
-    else record { place = place; must = not (may_leave_null rules && option_map_or is_null id false); expected = id; own = id; may_be_null = false; is_request = true; is_cancelled = false }
+    if option_map_or is_odd id false then record { place = place; must = false; expected = Some Null; own = id; first = None; may_be_null = true; is_request = false; is_cancelled = false }
+    else record { place = place; must = not (may_leave_null rules && option_map_or is_null id false); expected = id; own = id; first = None; may_be_null = false; is_request = true; is_cancelled = false }
 
--- what needn't be answered, and may be by null or by its own id
-abbrev pub may_be_left : ℕ → Option WrittenId → Option WrittenId → Owed
-may_be_left place expected own = record { place = place; must = false; expected = expected; own = own; may_be_null = true; is_request = false; is_cancelled = false }
+-- what needn't be answered, and may be by null, or by its own id or the one that stands first
+abbrev pub may_be_left : ℕ → Option WrittenId → Option WrittenId → Option WrittenId → Owed
+may_be_left place expected own first = record { place = place; must = false; expected = expected; own = own; first = first; may_be_null = true; is_request = false; is_cancelled = false }
 
 abbrev pub only_params : Faults → Bool
 only_params f = f.params && not (f.object || f.version || f.method || f.id || f.outcome || f.error)
@@ -72,14 +74,22 @@ has_null_params entry = only_params entry.faults && option_map_or (bytes_eq (cod
 abbrev pub expected_without_params : Option WrittenId → Option WrittenId
 expected_without_params id = if option_map_or is_odd id false then Some Null else id
 
-abbrev pub invalid_owed : ℕ → Entry → Owed
-invalid_owed place entry = may_be_left place (if has_null_params entry then expected_without_params entry.id else Some Null) entry.id
+-- A member stands twice in it: its reader may have taken either one, or refused it (RFC 8259, section 4).
+abbrev pub has_twice : Entry → Bool
+has_twice entry = is_some entry.first
 
+abbrev pub first_id : Entry → Option WrittenId
+first_id entry = option_and_then (λ first. first.id) entry.first
+
+abbrev pub invalid_owed : ℕ → Entry → Owed
+invalid_owed place entry = may_be_left place (if has_null_params entry then expected_without_params entry.id else Some Null) entry.id (first_id entry)
+
+-- a call in which a member stands twice is expected to be answered by the last one, and may be left or refused
 abbrev pub owed_as : Protocol → ℕ → Entry → Kind → Option Owed
-owed_as rules place entry Request = Some (request_owed rules place entry.id)
-owed_as rules place entry Notification = None
+owed_as rules place entry Request = Some (if has_twice entry then may_be_left place (expected_without_params entry.id) entry.id (first_id entry) else request_owed rules place entry.id)
+owed_as rules place entry Notification = if has_twice entry then Some (may_be_left place None None None) else None
 owed_as rules place entry Answer = None
-owed_as rules place entry BrokenAnswer = Some (may_be_left place None entry.id)
+owed_as rules place entry BrokenAnswer = Some (may_be_left place None entry.id (first_id entry))
 owed_as rules place entry Invalid = Some (invalid_owed place entry)
 
 abbrev pub owed_on : Protocol → ℕ → Entry → Option Owed
@@ -104,7 +114,7 @@ single_due number offset huge rules entry = record (new_due number offset false 
 
 -- `[]` is one entry, which is invalid
 abbrev pub empty_array_owed : Owed
-empty_array_owed = may_be_left 0 (Some Null) None
+empty_array_owed = may_be_left 0 (Some Null) None None
 
 abbrev pub array_due : ℕ → ℕ → Bool → Protocol → List Entry → Due
 array_due number offset huge rules [] = record (new_due number offset false huge) { entries = empty_array_owed ∷ [] }

@@ -19,10 +19,10 @@ has_batches Lsp = false
 has_batches Mcp = false
 has_batches McpWithBatches = true
 
--- how bad an id is that is null or has a fraction (JSON-RPC 4; MCP, messages)
+-- how bad an id is that is null or has a fraction (JSON-RPC 4; LSP, Request Message; MCP, messages)
 abbrev pub odd_id_level : Protocol → Level
 odd_id_level JsonRpc = Should
-odd_id_level Lsp = Should
+odd_id_level Lsp = Must
 odd_id_level Mcp = Must
 odd_id_level McpWithBatches = Must
 

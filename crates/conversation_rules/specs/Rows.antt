@@ -1,5 +1,5 @@
 -- Worked rows: what is owed on small contents.
-use Rattle.std.specs.Prelude.{ℕ, List, [], ◌∷◌, ◌++◌, Bool, false, Option, option_map, codes}
+use Rattle.std.specs.Prelude.{ℕ, List, [], ◌∷◌, ◌++◌, Bool, true, false, Option, option_map, codes}
 use Rattle.std.specs.Option.{option_map_or}
 use Rattle.json.specs.Json.{Json, Items, no_items, item, null, object, string, array}
 use Rattle.content_streams.specs.declared.ending.HowEnded.{HowEnded}
@@ -27,15 +27,30 @@ request digits = message (method ∷ id digits ∷ [])
 abbrev pub old_request : List ℕ → Json
 old_request digits = object (members_of (method ∷ id digits ∷ []))
 
+-- one whose method is null, and whose id is a text
+abbrev pub no_method : List ℕ → Json
+no_method text = message ((codes "method", null) ∷ (codes "id", string text) ∷ [])
+
+-- a request with two ids
+abbrev pub two_ids : Json
+two_ids = message (method ∷ id (codes "7") ∷ id (codes "8") ∷ [])
+
 abbrev pub single : Json → Due
 single j = single_due 1 0 false JsonRpc (strictly.entry_of j)
+
+-- with a number beyond a float's range
+abbrev pub huge : Json → Due
+huge j = single_due 1 0 true JsonRpc (strictly.entry_of j)
 
 abbrev pub batch : Json → Json → Due
 batch a b = array_due 1 0 false JsonRpc (strictly.entry_of a ∷ strictly.entry_of b ∷ [])
 
--- a request with the id null, and one whose params are null
+-- a request with the id null, one whose params are null too, and one whose params alone are
 abbrev pub null_request : Json
 null_request = message (method ∷ (codes "id", null) ∷ [])
+
+abbrev pub null_call : Json
+null_call = message (method ∷ (codes "id", null) ∷ (codes "params", null) ∷ [])
 
 abbrev pub request_without_params : List ℕ → Json
 request_without_params digits = message (method ∷ id digits ∷ (codes "params", null) ∷ [])
@@ -71,7 +86,7 @@ both_with Server pair = record { client = pair.other; server = pair.own }
 abbrev pub said_outcome : Protocol → Said → Both → Outcome
 said_outcome protocol (says side j) both = reading_outcome protocol false (next_message side 0 (pair_in side both)) (counted (pair_in side both)) (strictly.value_reading j)
 said_outcome protocol (babbles side) both = reading_outcome protocol false (next_message side 0 (pair_in side both)) (counted (pair_in side both)) NotJson
-said_outcome protocol (ends side how) both = record { findings = unanswered_findings side how (pair_in side both); pair = ended_pair (pair_in side both) }
+said_outcome protocol (ends side how) both = record { findings = unanswered_findings protocol side how (pair_in side both); pair = ended_pair (pair_in side both) }
 
 abbrev pub side_of : Said → Side
 side_of (says side j) = side

@@ -16,6 +16,8 @@ pub enum Rule {
     Id,
     Outcome,
     Error,
+    BothKinds,
+    Twice,
     EmptyArray,
     Batch,
     NotOwed,

@@ -14,7 +14,7 @@ ghost use Rattle.conversation_rules.specs.Matching.{IsFor, takes, named_target, 
 ghost use Rattle.conversation_rules.specs.Owed.{Due, unreadable_due};
 ghost use Rattle.conversation_rules.specs.declared.protocol.Protocol.TheVariants.{JsonRpc, Lsp, Mcp};
 ghost use Rattle.conversation_rules.specs.declared.found.Target.TheVariants.{EntryOf, WholeOf};
-ghost use Rattle.conversation_rules.specs.Rows.{request, old_request, null_request, request_without_params, must_be_answered, expected_of, single, batch};
+ghost use Rattle.conversation_rules.specs.Rows.{request, old_request, null_request, null_call, request_without_params, must_be_answered, expected_of, single, huge, batch};
 
 /// A single answer with an id that isn't null is for an entry that may have this id, by its value and its type; or for
 /// nothing.
@@ -82,7 +82,19 @@ pub fn null_answers()
         (single (request (codes "7")) ∷ single (number (codes "1")) ∷ []) ≡ Some (EntryOf 1 0) }
     ensures request_is_named { null_target false false (single (request (codes "7")) ∷ []) ≡ None }
     ensures unreadable { parse_error_target false (unreadable_due 1 0 ∷ []) ≡ Some (WholeOf 0) }
-    ensures good_json { parse_error_target false (single (number (codes "1")) ∷ []) ≡ None }
+    ensures good_json { parse_error_target true (single (old_request (codes "7")) ∷ []) ≡ None }
+    ensures unnamed { parse_error_target false (single (number (codes "1")) ∷ []) ≡ Some (EntryOf 0 0) }
+    ensures null_call { parse_error_target false (single null_call ∷ []) ≡ Some (EntryOf 0 0) }
+    ensures null_request_first { parse_error_target false
+        (single (number (codes "1")) ∷ single null_request ∷ []) ≡ Some (EntryOf 1 0) }
+    ensures huge_first { parse_error_target false
+        (single (number (codes "1")) ∷ huge (request (codes "7")) ∷ []) ≡ Some (WholeOf 1) }
+    ensures batch_last { parse_error_target false
+        (batch null_request (request (codes "7")) ∷ single (number (codes "1")) ∷ []) ≡ Some (EntryOf 1 0) }
+    ensures in_a_batch { parse_error_target false (batch (request (codes "7")) null_request ∷ [])
+        ≡ Some (EntryOf 0 1) }
+    ensures unreadable_batch { parse_error_target true (batch (request (codes "7")) null_request ∷ [])
+        ≡ Some (WholeOf 0) }
     ensures refused_batch { null_target true true
         (batch (request (codes "7")) (request (codes "8")) ∷ []) ≡ Some (WholeOf 0) }
     ensures batches_are_known { null_target true false

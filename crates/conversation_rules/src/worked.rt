@@ -3,7 +3,7 @@
 ghost use Rattle.std.specs.Prelude.{◌≡◌, ◌∷◌, [], codes};
 ghost use Rattle.json.specs.Json.{null, number, string};
 ghost use Rattle.conversation_reading.specs.Rows.{id, message, method, outcome};
-ghost use Rattle.conversation_rules.specs.Rows.{request, old_request, null_request, request_without_params, answer, null_answer, error_answer, notification, call, lsp_cancel, mcp_cancel, array_of, says, babbles, ends, told, tells};
+ghost use Rattle.conversation_rules.specs.Rows.{request, old_request, no_method, null_request, null_call, request_without_params, two_ids, answer, null_answer, error_answer, notification, call, lsp_cancel, mcp_cancel, array_of, says, babbles, ends, told, tells};
 ghost use Rattle.content_streams.specs.declared.ending.HowEnded.TheVariants.{Closed, ReadFailed};
 ghost use Rattle.conversation_rules.specs.declared.finding.Rule.TheVariants as rules;
 ghost use Rattle.conversation_rules.specs.declared.level.Level.TheVariants.{Must, Should, Note};
@@ -46,14 +46,21 @@ pub fn answers_that_may_come()
         ≡ tells Client rules.NotJson Must 1 0 ∷ tells Server rules.NotOwed Note 1 0 ∷ tells Server rules.NotOwed Must 2 0 ∷ [] }
     ensures null_id { told JsonRpc (says Client null_request ∷ says Server (null_answer (codes "5")) ∷ ends Server Closed ∷ [])
         ≡ tells Client rules.IdNull Should 1 0 ∷ [] }
+    ensures null_id_and_params { told JsonRpc (says Client null_call ∷ says Server (null_answer (codes "-32700")) ∷ [])
+        ≡ tells Client rules.Params Must 1 0 ∷ [] }
+    ensures null_id_by_any_code { told JsonRpc (says Client (number (codes "1")) ∷ says Client null_request
+        ∷ says Server (null_answer (codes "-32700")) ∷ ends Server Closed ∷ [])
+        ≡ tells Client rules.Object Must 1 0 ∷ tells Client rules.IdNull Should 2 0 ∷ [] }
     ensures both { told JsonRpc (says Client (request (codes "7")) ∷ says Server (message (id (codes "7") ∷ outcome ∷ (codes "error", null) ∷ [])) ∷ ends Server Closed ∷ [])
         ≡ tells Server rules.Outcome Must 1 0 ∷ [] }
 {}
 
-/// What is JSON isn't answered as unreadable.
+/// What is JSON and has an id isn't answered as unreadable.
 pub fn good_json()
-    ensures { told JsonRpc (says Client (string (codes "1")) ∷ says Server (null_answer (codes "-32700")) ∷ [])
-        ≡ tells Client rules.Object Must 1 0 ∷ tells Server rules.NotOwed Must 1 0 ∷ [] }
+    ensures invalid { told JsonRpc (says Client (no_method (codes "7")) ∷ says Server (null_answer (codes "-32700")) ∷ [])
+        ≡ tells Client rules.Method Must 1 0 ∷ tells Server rules.NotOwed Must 1 0 ∷ [] }
+    ensures request { told JsonRpc (says Client (message (method ∷ (codes "id", string (codes "7")) ∷ [])) ∷ says Server (null_answer (codes "-32700")) ∷ [])
+        ≡ tells Server rules.NotOwed Must 1 0 ∷ [] }
 {}
 
 /// The answers of a batch are one array (JSON-RPC 2.0, section 6).
@@ -94,7 +101,7 @@ pub fn answers_in_arrays()
         ≡ tells Client rules.Batch Must 1 0 ∷ [] }
 {}
 
-/// Ids of requests (JSON-RPC 2.0, section 4; MCP, messages).
+/// Ids of requests (JSON-RPC 2.0, section 4; LSP 3.17, Request Message; MCP, messages).
 pub fn ids_of_requests()
     ensures plain { told JsonRpc (says Client (request (codes "0")) ∷ says Client (request (codes "-1")) ∷ []) ≡ [] }
     ensures form { told JsonRpc (says Client (request (codes "1.0")) ∷ []) ≡ tells Client rules.IdForm Note 1 0 ∷ [] }
@@ -103,6 +110,9 @@ pub fn ids_of_requests()
     ensures within { told JsonRpc (says Client (request (codes "18446744073709551615")) ∷ []) ≡ [] }
     ensures fraction { told JsonRpc (says Client (request (codes "1.5")) ∷ []) ≡ tells Client rules.IdFraction Should 1 0 ∷ [] }
     ensures fraction_in_mcp { told Mcp (says Client (request (codes "1.5")) ∷ []) ≡ tells Client rules.IdFraction Must 1 0 ∷ [] }
+    ensures fraction_in_lsp { told Lsp (says Client (request (codes "1.5")) ∷ []) ≡ tells Client rules.IdFraction Must 1 0 ∷ [] }
+    ensures form_in_lsp { told Lsp (says Client (request (codes "1.0")) ∷ []) ≡ tells Client rules.IdForm Note 1 0 ∷ [] }
+    ensures null_in_lsp { told Lsp (says Client null_request ∷ ends Server Closed ∷ []) ≡ tells Client rules.IdNull Must 1 0 ∷ [] }
     ensures null_in_mcp { told Mcp (says Client null_request ∷ ends Server Closed ∷ []) ≡ tells Client rules.IdNull Must 1 0 ∷ [] }
     ensures open_again { told JsonRpc (says Client (request (codes "7")) ∷ says Client (request (codes "7.0")) ∷ [])
         ≡ tells Client rules.IdForm Note 2 0 ∷ tells Client rules.IdAgain Note 2 0 ∷ [] }
@@ -110,6 +120,41 @@ pub fn ids_of_requests()
         ≡ [] }
     ensures used_again { told Mcp (says Client (request (codes "7")) ∷ says Server (answer (codes "7")) ∷ says Client (request (codes "7")) ∷ [])
         ≡ tells Client rules.IdAgain Must 2 0 ∷ [] }
+{}
+
+/// A request that has a result or an error too (JSON-RPC 2.0, sections 4 and 5).
+pub fn requests_that_are_answers()
+    ensures result { told JsonRpc (says Client (message (method ∷ id (codes "7") ∷ outcome ∷ [])) ∷ says Server (answer (codes "7")) ∷ ends Server Closed ∷ [])
+        ≡ tells Client rules.BothKinds Must 1 0 ∷ [] }
+    ensures error { told JsonRpc (says Client (message (method ∷ id (codes "7") ∷ (codes "error", null) ∷ [])) ∷ ends Server Closed ∷ [])
+        ≡ tells Client rules.BothKinds Must 1 0 ∷ tells Server rules.Unanswered Must 1 0 ∷ [] }
+    ensures without_id { told JsonRpc (says Client (message (method ∷ outcome ∷ [])) ∷ []) ≡ [] }
+    ensures invalid { told JsonRpc (says Client (message ((codes "method", null) ∷ id (codes "7") ∷ outcome ∷ [])) ∷ ends Server Closed ∷ [])
+        ≡ tells Client rules.Method Must 1 0 ∷ tells Client rules.BothKinds Must 1 0 ∷ [] }
+{}
+
+/// Members that stand twice (RFC 8259, section 4): either may be answered, and once.
+pub fn members_that_stand_twice()
+    ensures last_id { told JsonRpc (says Client two_ids ∷ says Server (answer (codes "8")) ∷ ends Server Closed ∷ [])
+        ≡ tells Client rules.Twice Should 1 0 ∷ [] }
+    ensures first_id { told JsonRpc (says Client two_ids ∷ says Server (answer (codes "7")) ∷ ends Server Closed ∷ [])
+        ≡ tells Client rules.Twice Should 1 0 ∷ [] }
+    ensures both_ids { told JsonRpc (says Client two_ids ∷ says Server (answer (codes "7")) ∷ says Server (answer (codes "8")) ∷ [])
+        ≡ tells Client rules.Twice Should 1 0 ∷ tells Server rules.NotOwed Must 2 0 ∷ [] }
+    ensures left { told JsonRpc (says Client two_ids ∷ ends Server Closed ∷ []) ≡ tells Client rules.Twice Should 1 0 ∷ [] }
+    ensures refused { told JsonRpc (says Client two_ids ∷ says Server (null_answer (codes "-32700")) ∷ says Server (null_answer (codes "-32700")) ∷ [])
+        ≡ tells Client rules.Twice Should 1 0 ∷ tells Server rules.NotOwed Must 2 0 ∷ [] }
+    ensures notification { told JsonRpc (says Client (message (method ∷ method ∷ [])) ∷ says Server (null_answer (codes "-32600")) ∷ [])
+        ≡ tells Client rules.Twice Should 1 0 ∷ [] }
+    ensures of_another { told JsonRpc (says Client two_ids ∷ says Client (request (codes "8")) ∷ says Server (answer (codes "8"))
+        ∷ says Server (answer (codes "7")) ∷ ends Server Closed ∷ []) ≡ tells Client rules.Twice Should 1 0 ∷ [] }
+    ensures in_a_batch { told JsonRpc (says Client (array_of (two_ids ∷ request (codes "9") ∷ []))
+        ∷ says Server (array_of (answer (codes "7") ∷ answer (codes "9") ∷ [])) ∷ ends Server Closed ∷ []) ≡ tells Client rules.Twice Should 1 1 ∷ [] }
+    ensures answer_of_two { told JsonRpc (says Client (request (codes "7")) ∷ says Server (message (id (codes "7") ∷ outcome ∷ outcome ∷ [])) ∷ ends Server Closed ∷ [])
+        ≡ tells Server rules.Twice Should 1 0 ∷ [] }
+    ensures answer_to_nothing { told JsonRpc (says Server (message (id (codes "7") ∷ outcome ∷ outcome ∷ [])) ∷ []) ≡ tells Server rules.Twice Should 1 0 ∷ [] }
+    ensures exit { told Lsp (says Client (request (codes "7")) ∷ says Client (message ((codes "method", string (codes "exit")) ∷ method ∷ [])) ∷ ends Server Closed ∷ [])
+        ≡ tells Client rules.Twice Should 2 0 ∷ [] }
 {}
 
 /// Names and codes (JSON-RPC 2.0, sections 4 and 5.1; LSP 3.17, ErrorCodes).
@@ -148,7 +193,7 @@ pub fn cancels()
     ensures none_in_jsonrpc { told JsonRpc (says Client (lsp_cancel null) ∷ []) ≡ [] }
 {}
 
-/// Ends (JSON-RPC 2.0, section 5; LSP 3.17, exit).
+/// Ends (JSON-RPC 2.0, section 5; LSP 3.17, exit; MCP, lifecycle).
 pub fn ends_of_sides()
     ensures unanswered { told JsonRpc (says Client (request (codes "7")) ∷ ends Server Closed ∷ []) ≡ tells Server rules.Unanswered Must 1 0 ∷ [] }
     ensures notified { told JsonRpc (says Client (notification (codes "a")) ∷ ends Server Closed ∷ []) ≡ [] }
@@ -157,6 +202,13 @@ pub fn ends_of_sides()
     ensures exit { told Lsp (says Client (request (codes "7")) ∷ says Client (notification (codes "exit")) ∷ ends Server Closed ∷ []) ≡ [] }
     ensures exit_is_lsp { told Mcp (says Client (request (codes "7")) ∷ says Client (notification (codes "exit")) ∷ ends Server Closed ∷ [])
         ≡ tells Server rules.Unanswered Must 1 0 ∷ [] }
+    ensures client_ends { told JsonRpc (says Server (request (codes "7")) ∷ ends Client Closed ∷ []) ≡ tells Client rules.Unanswered Must 1 0 ∷ [] }
+    ensures client_ends_without_exit { told Lsp (says Server (request (codes "7")) ∷ ends Client Closed ∷ []) ≡ tells Client rules.Unanswered Must 1 0 ∷ [] }
+    ensures client_exits { told Lsp (says Server (request (codes "7")) ∷ says Client (notification (codes "exit")) ∷ ends Client Closed ∷ []) ≡ [] }
+    ensures client_ends_mcp { told Mcp (says Server (request (codes "7")) ∷ ends Client Closed ∷ []) ≡ [] }
+    ensures server_has_no_exit { told Lsp (says Client (request (codes "7")) ∷ says Server (notification (codes "exit")) ∷ ends Server Closed ∷ [])
+        ≡ tells Server rules.Unanswered Must 1 0 ∷ [] }
+    ensures server_ends_mcp { told Mcp (says Client (request (codes "7")) ∷ ends Server Closed ∷ []) ≡ tells Server rules.Unanswered Must 1 0 ∷ [] }
     ensures may_be_there { told JsonRpc (says Client (request (codes "7")) ∷ babbles Server ∷ says Client (request (codes "8")) ∷ ends Server Closed ∷ [])
         ≡ tells Server rules.NotJson Must 1 0 ∷ tells Server rules.Unanswered Note 1 0 ∷ tells Server rules.Unanswered Must 2 0 ∷ [] }
 {}

@@ -13,5 +13,6 @@ pub mod Outgoings
 pub mod Polls
 pub mod Rehearsing
 pub mod Runs
+mod Sums
 pub mod Turns
 pub mod Within

@@ -174,7 +174,7 @@ fn step_fault(fault: FillFault) -> StepFault
 }
 
 /// The sum of two whole numbers of i64.
-fn sum(
+pub(crate) fn sum(
     alloc: Global,
     left: &Template,
     right: &Template,

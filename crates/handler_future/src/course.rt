@@ -15,6 +15,7 @@ ghost use Rattle.handler_future.specs.Inner.Running.{Stays, Extends, IsReady, Is
 ghost use Rattle.handler_future.specs.Inner.Standing.{StandsBefore, IsUnderWay, Leads, Begins};
 
 use crate::act::{Act, decide, whole_answer};
+use crate::answered::answered_sum;
 use crate::message::Message;
 use crate::reply_values::value_of_replies;
 use json_values::Json;
@@ -95,6 +96,9 @@ fn run(
     ensures room { IfOk result (λ progress. HasRoomToWait progress course.new) }
 {
     'steps: while course.place < steps.len() {
+        if let Some(reply) = answered_sum(alloc, steps, course.place, &course.registers, lent)? {
+            return Ok(end(course, reply));
+        }
         match follow(alloc, &steps[course.place], course, lent)? {
             Progress::Going => {}
             halt => return Ok(halt),

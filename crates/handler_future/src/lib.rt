@@ -2,6 +2,7 @@
 #![tactic(auto)]
 
 mod act;
+mod answered;
 mod awaiting;
 mod course;
 mod each;

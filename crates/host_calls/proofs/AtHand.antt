@@ -6,9 +6,9 @@ use Rattle.connection_history.specs.declared.event.Event.{Event}
 use Rattle.connection_history.specs.History.{History}
 use Rattle.connection.specs.Connections.{Connection, StandsAfter, GoesOn, IsStill, HasGoneOn}
 use Rattle.host_calls.specs.declared.outlet.Outlet.{Outlet}
-use Rattle.event_rooms.specs.declared.shown.Shown.{Shown}
-use Rattle.event_rooms.specs.declared.shown.Shown.TheVariants.{To}
-use Rattle.event_rooms.specs.Shown.{IsShown}
+use Rattle.host_calls.specs.declared.shown.Shown.{Shown}
+use Rattle.host_calls.specs.declared.shown.Shown.TheVariants.{To}
+use Rattle.host_calls.specs.Shown.{IsShown}
 use Rattle.host_calls.specs.declared.asking.Packed.TheVariants.{Told}
 use Rattle.host_calls.specs.Retaining.{RetainsPieces}
 use Rattle.host_calls.specs.Outlets.{Tells, At, Fetched, Failed}

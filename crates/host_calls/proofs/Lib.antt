@@ -2,4 +2,6 @@ pub mod AtHand
 pub mod Cutting
 pub mod HandedOver
 pub mod PackedSoFar
+pub mod Printed
 pub mod SaidSoFar
+pub mod Written

@@ -4,8 +4,8 @@ use Rattle.std.proofs.lemmas.Grind.{common_steps}
 use Rattle.connection_history.specs.declared.event.Event.{Event}
 use Rattle.host_calls.specs.declared.outlet.Outlet.{Outlet}
 use Rattle.host_calls.specs.Outlets.{Hands, HandsAll, packs, HasPacked}
-use Rattle.event_rooms.specs.Events.{bytes_of}
-use Rattle.event_rooms.specs.Rooms.{written, aligned}
+use Rattle.host_calls.specs.Events.{bytes_of}
+use Rattle.host_calls.specs.Rooms.{written, aligned}
 
 abbrev behind : List ℕ × ℕ → Event → List ℕ × ℕ
 behind p e = (written p.0 (aligned p.1) (bytes_of e), aligned p.1 + length (bytes_of e))

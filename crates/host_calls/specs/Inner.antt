@@ -1,8 +1,8 @@
 -- How events are packed one by one, which no public clause cites.
 use Rattle.std.specs.Prelude.{◌≡◌, ℕ, ◌+◌, ◌<◌, List, Some, None, length}
 use Rattle.connection_history.specs.declared.event.Event.{Event}
-use Rattle.event_rooms.specs.Events.{bytes_of, needed}
-use Rattle.event_rooms.specs.Rooms.{written, aligned}
+use Rattle.host_calls.specs.Events.{bytes_of, needed}
+use Rattle.host_calls.specs.Rooms.{written, aligned}
 use Rattle.host_calls.specs.declared.outlet.Outlet.{Outlet}
 use Rattle.host_calls.specs.declared.asking.Packed.{Packed}
 use Rattle.host_calls.specs.declared.asking.Packed.TheVariants as packed

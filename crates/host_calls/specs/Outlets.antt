@@ -3,9 +3,9 @@ use Rattle.std.specs.Prelude.{◌≡◌, ◌⊎◌, ℕ, ◌+◌, ◌<◌, ◌�
 use Rattle.connection_history.specs.declared.event.Event.{Event}
 use Rattle.connection_history.specs.History.{History}
 use Rattle.connection.specs.Connections.{Connection, StandsAfter, GoesOn, IsStill, HasGoneOn}
-use Rattle.event_rooms.specs.declared.head.EventHead.{EventHead}
-use Rattle.event_rooms.specs.Events.{no_head, head_of, event_texts, bytes_of, needed}
-use Rattle.event_rooms.specs.Rooms.{written, aligned}
+use Rattle.host_calls.specs.declared.head.EventHead.{EventHead}
+use Rattle.host_calls.specs.Events.{no_head, head_of, event_texts, bytes_of, needed}
+use Rattle.host_calls.specs.Rooms.{written, aligned}
 use Rattle.host_calls.specs.Retaining.{RetainsPieces}
 use Rattle.host_calls.specs.declared.outlet.Outlet.{Outlet}
 use Rattle.host_calls.specs.declared.asking.Got.{Got}

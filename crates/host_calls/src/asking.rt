@@ -3,9 +3,10 @@ ghost use Rattle.std.specs.Prelude.{◌≡◌, None, IfOk, OnOk, OnErr};
 ghost use Rattle.host_calls.specs.Outlets.{Fetched, Failed, Asked, AskedAll};
 ghost use Rattle.host_calls.specs.Inner.{Packs, HasPackedAll};
 
+use crate::head::{EventHead, NO_HEAD};
 use crate::outlet::Outlet;
+use crate::shown::{Shown, show, show_behind};
 use connection::Event;
-use event_rooms::{EventHead, NO_HEAD, Shown, show, show_behind};
 use std::alloc::AllocError;
 
 /// How it went to ask for an event.

@@ -365,6 +365,15 @@ module _ (levels : ℕ) (text : List ℕ) (from : ℕ) (found : Option ℕ) wher
       → FindsValue levels text from found
   number_at b is s a o t f n m = value_by b is (λ e. absurd (s e)) (λ e. absurd (a e)) (λ e. absurd (o e)) (λ e. absurd (t e)) (λ e. absurd (f e)) (λ e. absurd (n e)) (λ e. m)
 
+  not_begun : (b c : ℕ) → begins b ≡ true → begins c ≡ false → b ≡ c → ⊥
+  not_begun b c is other e = true≢false (sym is ∙ ap begins e ∙ other)
+
+  -- a number, by its first byte
+  pub begun_at : begins (get_or text from 0) ≡ true → FindsNumber text from found → FindsValue levels text from found
+  begun_at is m =
+      let other = not_begun (get_or text from 0) in
+      number_at (get_or text from 0) refl (other 34 is refl) (other 91 is refl) (other 123 is refl) (other 116 is refl) (other 102 is refl) (other 110 is refl) m
+
   not_digit : (b c : ℕ) → is_ascii_digit b ≡ true → is_ascii_digit c ≡ false → b ≡ c → ⊥
   not_digit b c is other e = true≢false (sym is ∙ ap is_ascii_digit e ∙ other)
 

@@ -4,6 +4,8 @@ pub mod FoundStrings
 pub mod FoundValues
 pub mod Lanes
 pub mod Lexed
+pub mod NaturalRuns
+pub mod NumberItems
 pub mod Placed
 pub mod ReadBack
 pub mod Runs

@@ -1,5 +1,6 @@
 pub mod Ahead
 pub mod Compacting
 pub mod Found
+pub mod Naturals
 pub mod Standing
 pub mod Texts

@@ -1,6 +1,6 @@
 //! Compact values, told apart from others without a look at their tokens.
 
-ghost use Rattle.std.specs.Prelude.{◌≡◌, ◌≢◌, ◌≤◌, ◌<◌, ◌+◌, ◌-◌, ◌||◌, ◌==◌, Some, IfSome, IsTrue, ◌∷◌, length, get_or, drop, slice_range, true};
+ghost use Rattle.std.specs.Prelude.{◌≡◌, ◌≢◌, ◌≤◌, ◌<◌, ◌+◌, ◌-◌, ◌||◌, ◌==◌, Some, IfSome, IsTrue, ◌∷◌, length, get_or, drop, slice_range, true, false};
 ghost use Rattle.std.specs.List.{prefix_len};
 ghost use Rattle.std.specs.Char.{is_ascii_digit};
 ghost use Rattle.std.specs.Str.{IsUtf8};
@@ -9,9 +9,11 @@ ghost use Rattle.json_texts.specs.Texts.{IsJsonText};
 ghost use Rattle.json_texts.specs.Standing.{Stands, HasString, HasNumber, HasValue, HasItems, HasMembers, HasName, is_escape_letter};
 ghost use Rattle.json_texts.specs.Compacting.{HasShortest};
 ghost use Rattle.json_texts.specs.Found.{FindsValue, FindsItems, FindsMembers, FindsName, FindsString, FindsQuote, FindsNumber, FindsWord, is_of_number, after_natural};
+ghost use Rattle.json_texts.specs.Naturals.{HasNumberItems, HasLastNumbers};
 ghost use Rattle.json.specs.Word.{after_number};
 
 use crate::json_text::MOST_DEPTH_OUT;
+use crate::naturals::past_naturals;
 use crate::plain::next_stop;
 
 /// Whether the text is a `JsonText`. It may be one also where this isn't seen.
@@ -65,7 +67,11 @@ fn items_end(text: &[u8], from: usize, levels: usize) -> Option<usize>
     if byte_at(text, from) == b']' {
         return Some(from + 1);
     }
-    let mut at = from;
+    let (first, is_closed) = past_first_naturals(text, from);
+    if is_closed {
+        return Some(first);
+    }
+    let mut at = first;
     while at < text.len() {
         let end = part_end(text, at, levels)?;
         let next = byte_at(text, end);
@@ -104,6 +110,21 @@ fn members_end(text: &[u8], from: usize, levels: usize) -> Option<usize>
         at = end + 1;
     }
     None
+}
+
+/// Past the integers without a sign that an array begins with, as `past_naturals`; without a call where there are none.
+#[inline(always)]
+fn past_first_naturals(text: &[u8], from: usize) -> (usize, bool)
+    requires { from ≤ length text.now }
+    ensures items { result.1 ≡ false → HasNumberItems text.now from result.0 }
+    ensures last { IsTrue result.1 → HasLastNumbers text.now from result.0 }
+    ensures bounds { (from ≤ result.0) × (result.0 ≤ length text.now) }
+{
+    if is_digit(byte_at(text, from)) {
+        past_naturals(text, from)
+    } else {
+        (from, false)
+    }
 }
 
 /// The same of an item, or of a member's value. A whole number, of which a text can have many, is passed over without a call.
@@ -225,6 +246,13 @@ fn begins_number(byte: u8) -> bool
     ensures { result ≡ (is_ascii_digit byte || (byte == 45)) }
 {
     (byte >= b'0') & (byte <= b'9') | (byte == b'-')
+}
+
+#[inline(always)]
+fn is_digit(byte: u8) -> bool
+    ensures { result ≡ is_ascii_digit byte }
+{
+    byte.is_ascii_digit()
 }
 
 /// The end of a whole number. There is none where a fraction or an exponent may follow.

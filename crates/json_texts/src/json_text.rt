@@ -81,6 +81,14 @@ impl JsonText {
     {
         self.text.as_bytes()
     }
+
+    /// That the text is a JSON value's: a law, which does nothing.
+    #[inline]
+    pub fn is_json_text(&self)
+        ensures { IsJsonText self.now }
+    {
+        let _ = &self.text;
+    }
 }
 
 /// The limit, in figures.

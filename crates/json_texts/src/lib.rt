@@ -5,6 +5,7 @@
 mod compact;
 mod compacting;
 mod json_text;
+mod naturals;
 mod plain;
 mod reading;
 mod utf8;

@@ -2,7 +2,7 @@
 use Rattle.std.specs.Prelude.{ℕ}
 use Rattle.conversation_rules.specs.declared.finding.Finding.{Finding}
 use Rattle.conversation_rules.specs.declared.finding.Rule.{Rule}
-use Rattle.conversation_rules.specs.declared.finding.Rule.TheVariants.{Head, NotJson, Charset, CutOff, LineEnd, Object, Version, Method, Params, Id, Outcome, Error, EmptyArray, Batch, NotOwed, NotAsArray, IdFraction, IdNull, IdForm, IdAgain, RpcName, Code, CancelledCode, CancelParams, CancelUnknown, CancelInitialize, AfterCancel, Unanswered, NotJudged}
+use Rattle.conversation_rules.specs.declared.finding.Rule.TheVariants.{Head, NotJson, Charset, CutOff, LineEnd, Object, Version, Method, Params, Id, Outcome, Error, BothKinds, Twice, EmptyArray, Batch, NotOwed, NotAsArray, IdFraction, IdNull, IdForm, IdAgain, RpcName, Code, CancelledCode, CancelParams, CancelUnknown, CancelInitialize, AfterCancel, Unanswered, NotJudged}
 use Rattle.conversation_rules.specs.declared.level.Level.{Level}
 use Rattle.conversation_rules.specs.declared.level.Level.TheVariants.{Must, Should, Note}
 use Rattle.conversation_rules.specs.declared.side.Side.{Side}
@@ -49,6 +49,8 @@ rule_number CancelInitialize = 25
 rule_number AfterCancel = 26
 rule_number Unanswered = 27
 rule_number NotJudged = 28
+rule_number BothKinds = 29
+rule_number Twice = 30
 
 -- 0: a connection of this library keeps it, whatever its host does; 1: its host keeps it; 2: it is no rule
 abbrev pub whose_number : Rule → ℕ
@@ -64,6 +66,8 @@ whose_number Params = 0
 whose_number Id = 0
 whose_number Outcome = 0
 whose_number Error = 0
+whose_number BothKinds = 0
+whose_number Twice = 0
 whose_number EmptyArray = 0
 whose_number Batch = 1
 whose_number NotOwed = 0

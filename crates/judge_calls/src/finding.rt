@@ -88,6 +88,8 @@ fn rule_number(rule: Rule) -> u32
         Rule::AfterCancel => 26,
         Rule::Unanswered => 27,
         Rule::NotJudged => 28,
+        Rule::BothKinds => 29,
+        Rule::Twice => 30,
     }
 }
 
@@ -118,6 +120,8 @@ fn whose_number(rule: Rule) -> u32
         | Rule::Id
         | Rule::Outcome
         | Rule::Error
+        | Rule::BothKinds
+        | Rule::Twice
         | Rule::EmptyArray
         | Rule::NotOwed
         | Rule::NotAsArray

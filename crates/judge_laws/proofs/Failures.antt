@@ -140,10 +140,10 @@ abbrev kind_with : Bool → Kind
 kind_with faulty = if faulty then BrokenAnswer else Answer
 
 failure_by : (id : Id) (e : Json) → is_error e ≡ true → IsEntry Answer (entry_of (answer_value id e))
-failure_by Null e is = record { kind_is = ap (λ b. kind_with (has_fault (faults_with (not b)))) is; faultless = ap (λ b. has_fault (faults_with (not b))) is }
-failure_by (Text s) e is = record { kind_is = ap (λ b. kind_with (has_fault (faults_with (not b)))) is; faultless = ap (λ b. has_fault (faults_with (not b))) is }
-failure_by (Signed z) e is = record { kind_is = ap (λ b. kind_with (has_fault (faults_with (not b)))) is; faultless = ap (λ b. has_fault (faults_with (not b))) is }
-failure_by (Unsigned n) e is = record { kind_is = ap (λ b. kind_with (has_fault (faults_with (not b)))) is; faultless = ap (λ b. has_fault (faults_with (not b))) is }
+failure_by Null e is = record { kind_is = ap (λ b. kind_with (has_fault (faults_with (not b)) || false)) is; faultless = ap (λ b. has_fault (faults_with (not b))) is; one_kind = refl; once = refl }
+failure_by (Text s) e is = record { kind_is = ap (λ b. kind_with (has_fault (faults_with (not b)) || false)) is; faultless = ap (λ b. has_fault (faults_with (not b))) is; one_kind = refl; once = refl }
+failure_by (Signed z) e is = record { kind_is = ap (λ b. kind_with (has_fault (faults_with (not b)) || false)) is; faultless = ap (λ b. has_fault (faults_with (not b))) is; one_kind = refl; once = refl }
+failure_by (Unsigned n) e is = record { kind_is = ap (λ b. kind_with (has_fault (faults_with (not b)) || false)) is; faultless = ap (λ b. has_fault (faults_with (not b))) is; one_kind = refl; once = refl }
 
 failure_named : (id : Id) (e : Json) → (entry_of (answer_value id e)).id ≡ Some (written_as id)
 failure_named Null e = refl

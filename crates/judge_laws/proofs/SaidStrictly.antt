@@ -56,17 +56,21 @@ abbrev faults_with : Bool → Faults
 faults_with params = record { object = false; version = false; method = false; params = params; id = false; outcome = false; error = false }
 
 pub call_is : (key : ℕ) (method : List ℕ) (value : Option Json) → are_unfit value ≡ false → IsEntry Request (entry_of (call_value key method value))
-call_is key method None fit = record { kind_is = refl; faultless = refl }
+call_is key method None fit = record { kind_is = refl; faultless = refl; one_kind = refl; once = refl }
 call_is key method (Some j) fit = record {
   kind_is = ap (λ b. call_kind (has_fault (faults_with b)) true) fit;
   faultless = ap (λ b. has_fault (faults_with b)) fit;
+  one_kind = refl;
+  once = refl;
 }
 
 notice_is : (method : List ℕ) (value : Option Json) → are_unfit value ≡ false → IsEntry Notification (entry_of (notice_value method value))
-notice_is method None fit = record { kind_is = refl; faultless = refl }
+notice_is method None fit = record { kind_is = refl; faultless = refl; one_kind = refl; once = refl }
 notice_is method (Some j) fit = record {
   kind_is = ap (λ b. call_kind (has_fault (faults_with b)) false) fit;
   faultless = ap (λ b. has_fault (faults_with b)) fit;
+  one_kind = refl;
+  once = refl;
 }
 
 pub call_message : (key : ℕ) (o : Outgoing) → key < 2 ^ 64 → IsSayable o → IsMessage Request (reading_of false (call_text key o))
@@ -101,8 +105,8 @@ notice_unnamed o sayable =
     subst HasNoId (sym (object_reading 121 _ (notice_text o) (notice_value_text o h.value h.is) (notice_whole o h sayable.method) (omega arith))) (no_id o.method h.value)
 
 withdrawal_is : (by : Cancels) (key : ℕ) → IsEntry Notification (entry_of (withdrawal_value by key))
-withdrawal_is Lsp key = record { kind_is = refl; faultless = refl }
-withdrawal_is Mcp key = record { kind_is = refl; faultless = refl }
+withdrawal_is Lsp key = record { kind_is = refl; faultless = refl; one_kind = refl; once = refl }
+withdrawal_is Mcp key = record { kind_is = refl; faultless = refl; one_kind = refl; once = refl }
 
 pub withdrawal_message : (by : Cancels) (key : ℕ) → key < 2 ^ 64 → IsMessage Notification (reading_of false (withdrawal_text by key))
 withdrawal_message by key fits =
@@ -119,10 +123,10 @@ withdrawal_unnamed by key fits =
 -- ---- answers with a result
 
 pub result_is : (id : Id) (j : Json) → IsEntry Answer (entry_of (result_value id j))
-result_is Null j = record { kind_is = refl; faultless = refl }
-result_is (Text s) j = record { kind_is = refl; faultless = refl }
-result_is (Signed z) j = record { kind_is = refl; faultless = refl }
-result_is (Unsigned n) j = record { kind_is = refl; faultless = refl }
+result_is Null j = record { kind_is = refl; faultless = refl; one_kind = refl; once = refl }
+result_is (Text s) j = record { kind_is = refl; faultless = refl; one_kind = refl; once = refl }
+result_is (Signed z) j = record { kind_is = refl; faultless = refl; one_kind = refl; once = refl }
+result_is (Unsigned n) j = record { kind_is = refl; faultless = refl; one_kind = refl; once = refl }
 
 pub result_message : (id : Id) (text : List ℕ) → IsId id → IsAnswer (Result text) → IsMessage Answer (reading_of false (result_text id text))
 result_message id text is json =

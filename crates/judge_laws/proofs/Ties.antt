@@ -12,6 +12,7 @@ use Rattle.connection_messages.specs.declared.entry.Entry.TheVariants.{Call, Can
 use Rattle.connection_messages.specs.declared.reply.Reply.{Reply as Replied}
 use Rattle.connection_messages.specs.declared.rules.Rules.{Rules}
 use Rattle.connection_messages.specs.declared.unit.Unit.TheVariants as units
+use Rattle.conversation_reading.specs.Twice.{has_twice}
 use Rattle.conversation_reading.specs.Strictly.{has, there_in, is_object, is_version_2, written_id, id_in, method_in, are_unfit, call_faults, answer_faults, no_object, faults_of, has_fault, call_kind, entry_of, unreadable_with, json_reading, value_reading, reading_of}
 use Rattle.conversation_reading.specs.declared.entry.Kind.TheVariants.{Answer, BrokenAnswer, Invalid}
 use Rattle.conversation_reading.specs.declared.reading.TheConstants.{MOST_DEPTH_IN}
@@ -105,9 +106,9 @@ pub replies_are : (rules : Rules) (j : Json) → is_reply (lenient.entry_of rule
 replies_are rules j = by (has (codes "method") j) (has (codes "result") j || has (codes "error") j)
   where
     by : (m r : Bool) → is_reply (if m then call_entry rules.cancels (call_in rules.null_params j) j else (if r then reply_entry (key_in j) (reply_in j) else Nothing)) ≡
-        is_answer_kind (if m then call_kind (has_fault (faults_of j)) (has (codes "id") j) else (if r then (if has_fault (faults_of j) then BrokenAnswer else Answer) else Invalid))
+        is_answer_kind (if m then call_kind (has_fault (faults_of j)) (has (codes "id") j) else (if r then (if has_fault (faults_of j) || has_twice j then BrokenAnswer else Answer) else Invalid))
     by true r = call_is_none rules.cancels (call_in rules.null_params j) j ∙ sym (strict_call (has_fault (faults_of j)) (has (codes "id") j))
-    by false true = reply_is (key_in j) (reply_in j) ∙ sym (strict_answer (has_fault (faults_of j)))
+    by false true = reply_is (key_in j) (reply_in j) ∙ sym (strict_answer (has_fault (faults_of j) || has_twice j))
     by false false = refl
 
 -- ---- calls
@@ -124,12 +125,13 @@ call_is : (cancels : Option Cancels) (c : Came) (j : Json) → is_call (call_ent
 call_is None c j = refl
 call_is (Some by) c j = target_call by c (lenient.target_in by j)
 
-well_parts : (m f i r : Bool) → is_call_kind (if m then call_kind f i else (if r then (if f then BrokenAnswer else Answer) else Invalid)) ≡ true → (m ≡ true) × (f ≡ false)
-well_parts true true i r is = cc
-well_parts true false i r is = (refl, refl)
-well_parts false true i true is = cc
-well_parts false false i true is = cc
-well_parts false f i false is = cc
+well_parts : (m f t i r : Bool) → is_call_kind (if m then call_kind f i else (if r then (if f || t then BrokenAnswer else Answer) else Invalid)) ≡ true → (m ≡ true) × (f ≡ false)
+well_parts true true t i r is = cc
+well_parts true false t i r is = (refl, refl)
+well_parts false true t i true is = cc
+well_parts false false true i true is = cc
+well_parts false false false i true is = cc
+well_parts false f t i false is = cc
 
 or_left : (a b : Bool) → (a || b) ≡ false → a ≡ false
 or_left true b is = is
@@ -189,7 +191,7 @@ named_call rules j false r m is = cc
 
 pub calls_are : (rules : Rules) (j : Json) → is_well_call (entry_of j) ≡ true → has_known_id j ≡ true → is_call (lenient.entry_of rules j) ≡ true
 calls_are rules j well known =
-    let parts = well_parts (has (codes "method") j) (has_fault (faults_of j)) (has (codes "id") j) (has (codes "result") j || has (codes "error") j) well in
+    let parts = well_parts (has (codes "method") j) (has_fault (faults_of j)) (has_twice j) (has (codes "id") j) (has (codes "result") j || has (codes "error") j) well in
     let faultless = of_call j (is_object j) (has (codes "method") j) parts.0 parts.1 in
     let none = none7 false (not (is_version_2 j)) (is_none (method_in j)) (are_unfit (get (codes "params") j)) (has (codes "id") j && is_none (id_in j)) false false faultless in
     named_call rules j (has (codes "method") j) (has (codes "result") j || has (codes "error") j) parts.0

@@ -11,6 +11,8 @@ use Rattle.conversation_reading.specs.declared.entry.WrittenId.{WrittenId}
 use Rattle.conversation_reading.specs.declared.entry.WrittenId.TheVariants.{Null, Text, Number}
 use Rattle.conversation_reading.specs.declared.reading.Reading.{Reading}
 use Rattle.conversation_reading.specs.declared.reading.Reading.TheVariants.{Foreign, NotText, NotJson, TooDeep, HalfPair, Single, Array}
+use Rattle.conversation_rules.specs.Entries.{is_both}
+use Rattle.conversation_rules.specs.Owed.{has_twice}
 use Rattle.message_ids.specs.declared.id.Id.{Id}
 use Rattle.message_ids.specs.declared.id.Id.TheVariants as ids
 
@@ -18,6 +20,8 @@ use Rattle.message_ids.specs.declared.id.Id.TheVariants as ids
 pub record IsEntry (kind : Kind) (entry : Entry) : Type 0 where
   pub kind_is : entry.kind ≡ kind
   pub faultless : has_fault entry.faults ≡ false
+  pub one_kind : is_both entry.there ≡ false
+  pub once : has_twice entry ≡ false
 
 abbrev pub AreEntries : Kind → List Entry → Type 0
 AreEntries kind [] = ⊤

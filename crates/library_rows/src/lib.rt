@@ -1,13 +1,12 @@
-//! What no clause of the libraries says: what texts are read as, the texts that are written, tables of methods, handlers that
-//! run, the desk that keeps their replies and answers, and the slots by which jobs go to workers.
+//! What no clause of the libraries says and no byte shows: rows that call a function of theirs, handlers that are polled and run
+//! as futures, want of memory, and the slots by which jobs go to workers. What a peer writes for a stream is played by
+//! `checks/test_played_rows.py`, and tables are judged by `checks/test_methods.py`.
 #![tactic(auto)]
 
 #[cfg(test)]
 mod desk;
 #[cfg(test)]
 mod numbers;
-#[cfg(test)]
-mod parts;
 #[cfg(test)]
 mod reading;
 #[cfg(test)]

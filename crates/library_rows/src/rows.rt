@@ -1,35 +1,27 @@
-//! Assertions, each of which names what it fails at.
+//! Assertions, each of which names what it fails at, and values.
+use json_values::Json;
+use serde_json::Value;
 use std::alloc::{AllocError, Global};
 use std::process::Abort;
 use std::test::Fail;
 
 /// Whether a text that was written is that one.
-pub fn is_text(written: Result<String, AllocError>, want: &[u8]) -> Result<bool, AllocError> {
-    Ok(written?.as_bytes() == want)
+pub fn is_text(written: Result<String, AllocError>, want: &str) -> Result<bool, AllocError> {
+    Ok(written?.as_bytes() == want.as_bytes())
 }
 
-/// Whether bytes that were written are those of a text.
-pub fn is_same<E>(written: Result<Vec<u8>, E>, want: &str) -> Result<bool, Fail>
-where
-    Fail: From<E>,
-{
-    Ok(written?.as_slice() == want.as_bytes())
+/// The value of a text that has no fraction.
+pub fn json(alloc: Global, text: &str) -> Result<Json, Fail> {
+    match Json::new(Value::from_str(alloc, text)?) {
+        Some(json) => Ok(json),
+        None => Err("a fraction".into()),
+    }
 }
 
-/// Fails by this name where it isn't so.
-pub fn holds<E>(rt: &impl Abort, name: &str, is_so: Result<bool, E>) -> Result<(), Fail>
-where
-    Fail: From<E>,
-{
-    assert!(rt; is_so?, "{name}");
-    Ok(())
-}
-
-/// Fails by this name and the first line of which it isn't so.
+/// Fails by the first line of which it isn't so.
 pub fn each_line<E, F: FnOnce(Global, &str) -> Result<bool, E> + Copy>(
     rt: &impl Abort,
     alloc: Global,
-    name: &str,
     lines: &str,
     is_so: F,
 ) -> Result<(), Fail>
@@ -38,7 +30,7 @@ where
     requires { F.IsAlwaysCallable is_so }
 {
     for line in lines.lines() {
-        assert!(rt; is_so(alloc, line)?, "{name}: {line}");
+        assert!(rt; is_so(alloc, line)?, "{line}");
     }
     Ok(())
 }
@@ -55,7 +47,7 @@ where
     requires { F.IsAlwaysCallable is_so }
 {
     for (name, row) in rows {
-        holds(rt, name, is_so(alloc, name, row))?;
+        assert!(rt; is_so(alloc, name, row)?, "{name}");
     }
     Ok(())
 }

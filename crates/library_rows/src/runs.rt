@@ -1,97 +1,300 @@
-//! What no clause says: that the definitions are those of the reference, and that calls succeed.
+//! Handlers that are polled and that hear replies, call by call, and handlers as futures.
 
-mod acts;
-mod courses;
-mod each;
-mod large;
-mod opening;
-mod orders;
-mod polls;
-mod rows;
-
-use crate::rows::{holds, is_same};
-use crate::tables::SIX as TABLE;
+use crate::rows::{each_act, each_row, is_text, json};
+use crate::tables::{HELLO, SIX};
+use futures::Future;
 use futures::executor::block_on;
-use handler_future::{Handler, Message, Outcome, Rehearsal};
-use json_values::Items;
-use lsp_frames::Frame;
+use futures::task::{Context, Poll, Source};
+use handler_future::{Awaiting, Handler, Message, Outcome, Rehearsal};
+use json_values::{Json, Text};
 use method_steps::Table;
-use rpc_messages::{
-    Call, Entry, Id, Outgoing, Params, Reply, Standard, Unit, answer_text, put_answer, put_call,
-    put_calls, put_notice, read_unit,
-};
-use std::alloc::{AllocError, AllocGlobal, Global};
+use rpc_messages::{Call, Id, Params, Reply, Standard};
+use std::alloc::{AllocGlobal, Global};
 use std::process::Abort;
 use std::random::RandomSource;
 use std::sync::{Arc, Wait};
 use std::test::Fail;
 
-fn table(alloc: Global, text: &str) -> Result<Table, Fail> {
-    Ok(Table::read(alloc, text.as_bytes()).ok().ok_or("no table")?)
-}
-
-fn entry(alloc: Global, content: &str) -> Result<Entry, Fail> {
-    let content = Items::from(content.as_bytes().to_vec(alloc)?);
-    let frame = Frame {
-        content,
-        foreign: false,
+/// A call of this method with the id 7 and the params `["x"]`.
+fn call(alloc: Global, method: &str) -> Result<Arc<Call>, Fail> {
+    let params = Params::Whole(json(alloc, r#"["x"]"#)?);
+    let call = Call {
+        id: Some(Id::Unsigned(7)),
+        method: Text::copy_of(alloc, method)?,
+        params,
+        target: None,
     };
-    let unit = read_unit(alloc, &frame);
-    drop(frame);
-    match unit? {
-        Unit::Single(entry) => Ok(entry),
-        other => {
-            drop(other);
-            Err("no single entry".into())
-        }
+    Ok(Arc::new(alloc, call)?)
+}
+
+/// Handler 1, of a call of the method, or the opening's where none is named.
+fn handler_in(alloc: Global, table: &Table, method: Option<&str>) -> Result<Handler, Fail> {
+    let Some(name) = method else {
+        return Ok(Handler::opening(alloc, table)?.ok_or("no opening")?);
+    };
+    let method = table.find(name).ok_or("no such method")?;
+    let call = call(alloc, name)?;
+    if method >= table.len() || matches!(&call.params, Params::Fractional) {
+        drop(call);
+        return Err("no such call".into());
+    }
+    Ok(Handler::new(alloc, table, method, 1, call)?)
+}
+
+/// The same in the table of this text.
+fn handler(alloc: Global, text: &str, method: Option<&str>) -> Result<Handler, Fail> {
+    let table = Table::read(alloc, text.as_bytes()).ok().ok_or("no table")?;
+    let handler = handler_in(alloc, &table, method);
+    drop(table);
+    handler
+}
+
+fn reply(alloc: Global, text: &str) -> Result<Reply, Fail> {
+    Ok(Reply::Done(json(alloc, text)?))
+}
+
+/// What `Debug` shows of the answer with which a handler ends.
+fn is_answer(alloc: Global, outcome: &Outcome, want: &str) -> Result<bool, Fail> {
+    match outcome {
+        Outcome::Answer(reply) => Ok(is_text(format!(in alloc; "{reply:?}"), want)?),
+        Outcome::Failed => Err("a poll found no memory".into()),
     }
 }
 
-/// The call that a content is.
-fn call(alloc: Global, content: &str) -> Result<Arc<Call>, Fail> {
-    match entry(alloc, content)? {
-        Entry::Call(call) => Ok(call),
-        other => {
-            drop(other);
-            Err("no call".into())
-        }
+fn answers(alloc: Global, outcome: Outcome, want: &str) -> Result<bool, Fail> {
+    let is_answer = is_answer(alloc, &outcome, want);
+    drop(outcome);
+    is_answer
+}
+
+enum Act {
+    /// A poll gives nothing, since a reply is awaited.
+    Waits,
+    /// A poll gives this answer.
+    Answers(&'static str),
+    /// A poll fails.
+    Fails,
+    /// The handler hears this reply to a turn, which it awaits.
+    Hears(u32, &'static str),
+    /// It gives back the reply to this turn.
+    GivesBack(u32),
+    /// It has made so many messages, awaits these turns and has heard so many replies.
+    Has(usize, &'static [u32], usize),
+}
+
+use Act::{Answers, Fails, GivesBack, Has, Hears, Waits};
+
+/// Whether a poll gives this answer, or none, since a reply is awaited.
+fn gives(alloc: Global, handler: &mut Handler, want: Option<&str>) -> Result<bool, Fail> {
+    match (handler.advance(), want) {
+        (Some(outcome), want) => answers(alloc, outcome, want.unwrap_or("nothing")),
+        (None, want) => Ok(want.is_none()),
     }
 }
 
-/// The turn and the reply that a content is.
-fn reply(alloc: Global, content: &str) -> Result<(u32, Reply), Fail> {
-    match entry(alloc, content)? {
-        Entry::Reply { turn, reply, .. } => Ok((turn, reply)),
-        other => {
-            drop(other);
-            Err("no reply".into())
-        }
+/// Whether a poll fails.
+fn fails(handler: &mut Handler) -> bool {
+    let outcome = handler.advance();
+    let fails = matches!(&outcome, Some(Outcome::Failed));
+    drop(outcome);
+    fails
+}
+
+/// Has the handler hear a reply. Whether it awaited that, and else gives it back.
+fn hears(handler: &mut Handler, turn: u32, reply: Reply) -> bool {
+    let heard = handler.hear(turn, reply);
+    let is_heard = heard.is_ok();
+    drop(heard);
+    is_heard
+}
+
+fn has(handler: &Handler, messages: usize, waits: &[u32], heard: usize) -> bool {
+    handler.messages().len() == messages
+        && handler.waits() == waits
+        && handler.heard().len() == heard
+}
+
+fn comes_out(alloc: Global, handler: &mut Handler, act: &Act) -> Result<bool, Fail> {
+    match act {
+        Act::Waits => gives(alloc, handler, None),
+        Act::Answers(want) => gives(alloc, handler, Some(want)),
+        Act::Fails => Ok(fails(handler)),
+        Act::Hears(turn, text) => Ok(hears(handler, *turn, reply(alloc, text)?)),
+        Act::GivesBack(turn) => Ok(!hears(handler, *turn, reply(alloc, "true")?)),
+        Act::Has(messages, waits, heard) => Ok(has(handler, *messages, waits, *heard)),
     }
 }
 
-/// Adds the turn and the reply that a content is.
-fn push_reply(alloc: Global, content: &str, replies: &mut Vec<(u32, Reply)>) -> Result<(), Fail> {
-    let said = reply(alloc, content)?;
-    Ok(replies.push(said)?)
+/// A method of a table, or its opening, and acts with its handler.
+struct Row {
+    name: &'static str,
+    table: &'static str,
+    method: Option<&'static str>,
+    acts: &'static [Act],
 }
 
-/// Lists the replies that stand behind `< `. What is sent stands behind `> `.
-fn list_replies(alloc: Global, lines: &str, replies: &mut Vec<(u32, Reply)>) -> Result<(), Fail> {
-    for line in lines.lines() {
-        if let Some(content) = line.strip_prefix("< ") {
-            push_reply(alloc, content, replies)?;
-        } else if !line.starts_with("> ") {
-            return Err("a line without a mark".into());
-        }
+/// It waits for its first call, refuses a reply that it doesn't await, and ends once it heard its own.
+const POLL: Row = Row {
+    name: "a poll",
+    table: SIX,
+    method: Some("ask"),
+    acts: &[
+        Has(0, &[], 0),
+        Waits,
+        Has(1, &[1], 0),
+        GivesBack(2),
+        Has(1, &[1], 0),
+        Waits,
+        Hears(1, "true"),
+        Has(1, &[], 1),
+        Answers("Done(true)"),
+        Has(1, &[], 1),
+        Fails,
+    ],
+};
+
+const ROWS: &[Row] = &[
+    Row {
+        name: "replies to two calls come out of order",
+        table: SIX,
+        method: Some("two"),
+        acts: &[
+            Waits,
+            Has(1, &[1, 2], 0),
+            Hears(2, r#""B""#),
+            Waits,
+            Has(1, &[1], 1),
+            Hears(1, r#""A""#),
+            Answers(r#"Done(["A","B"])"#),
+            Has(1, &[], 2),
+        ],
+    },
+    Row {
+        name: "a skip past the last step answers null",
+        table: "version = 1\nmethod = [{ name = \"m\", step = [{ kind = \"skip\", left = 1, right = 1, count = 64 }] }]\n",
+        method: Some("m"),
+        acts: &[Answers("Done(null)"), Has(0, &[], 0)],
+    },
+    Row {
+        name: "an opening makes a call, and then a notification",
+        table: HELLO,
+        method: None,
+        acts: &[
+            Waits,
+            Has(1, &[1], 0),
+            Hears(1, "true"),
+            Answers("Done(null)"),
+            Has(2, &[], 1),
+        ],
+    },
+];
+
+fn played(rt: &impl Abort, alloc: Global, row: &Row) -> Result<(), Fail> {
+    let mut handler = handler(alloc, row.table, row.method)?;
+    let played = each_act(rt, alloc, row.name, &mut handler, row.acts, comes_out);
+    drop(handler);
+    played
+}
+
+#[test]
+fn a_poll_waits_until_its_reply_is_heard(rt: HostRuntime) -> Result<(), Fail> {
+    played(&rt, rt.alloc(), &POLL)
+}
+
+#[test]
+fn handlers_come_to_their_answers(rt: HostRuntime) -> Result<(), Fail> {
+    for row in ROWS {
+        played(&rt, rt.alloc(), row)?;
     }
     Ok(())
 }
 
-/// The replies among the lines, with their turns.
-fn replies(alloc: Global, lines: &str) -> Result<Vec<(u32, Reply)>, Fail> {
+/// A handler of 64 batches of 16 calls, whose errors are kept.
+fn most_calls(alloc: Global) -> Result<Handler, Fail> {
+    let calls = "{ method = \"f\" }, ".repeat(alloc, 16)?;
+    let step = [
+        "{ kind = \"calls\", to = \"r\", on_error = \"keep\", list = [",
+        calls.as_str(),
+        "] }, ",
+    ]
+    .concat(alloc)?;
+    let steps = step.as_str().repeat(alloc, 64)?;
+    let before = "version = 1\nmethod = [{ name = \"m\", step = [";
+    let text = [before, steps.as_str(), "] }]\n"].concat(alloc)?;
+    handler(alloc, text.as_str(), Some("m"))
+}
+
+/// Polls the handler until it answers, and has it hear that there is no reply to each call. How often it was polled.
+fn polls_without_replies(alloc: Global, handler: &mut Handler) -> Result<u32, Fail> {
+    for polls in 1..=66 {
+        if let Some(outcome) = handler.advance() {
+            let is_null = answers(alloc, outcome, "Done(null)")?;
+            return Ok(if is_null { polls } else { 0 });
+        }
+        for _ in 0..16 {
+            let turn = handler.waits().first().copied().ok_or("no call")?;
+            if !hears(handler, turn, Reply::Standard(Standard::NoReply)) {
+                return Err("an awaited reply was refused".into());
+            }
+        }
+    }
+    Ok(0)
+}
+
+/// Whether the last message is a batch of 16 calls, the last of 1,024.
+fn ends_with_a_batch(handler: &Handler) -> bool {
+    match handler.messages().last() {
+        Some(Message::Calls(first, calls)) => *first == 1_009 && calls.len() == 16,
+        _ => false,
+    }
+}
+
+/// Whether the handler makes all its calls, and answers null at its last poll.
+fn makes_all(alloc: Global, handler: &mut Handler) -> Result<bool, Fail> {
+    let polls = polls_without_replies(alloc, handler)?;
+    Ok(polls == 65 && has(handler, 64, &[], 1_024) && ends_with_a_batch(handler))
+}
+
+#[test]
+fn most_calls_without_a_reply(rt: HostRuntime) -> Result<(), Fail> {
+    let mut handler = most_calls(rt.alloc())?;
+    let makes_all = makes_all(rt.alloc(), &mut handler);
+    drop(handler);
+    assert!(rt; makes_all?);
+    let outcome = block_on(
+        &rt,
+        Rehearsal::new(rt.alloc(), most_calls(rt.alloc())?, Vec::new(rt.alloc())),
+    )?;
+    assert!(rt; answers(rt.alloc(), outcome, "Done(null)")?);
+    Ok(())
+}
+
+/// What `Debug` shows of an answer, the method that gives it in a rehearsal, and the replies that are listed.
+const REHEARSALS: &[(&str, (&str, &[(u32, &str)]))] = &[
+    ("Done(true)", ("ask", &[(1, "true")])),
+    ("Standard(NoReply)", ("ask", &[])),
+    ("Done([1,2])", ("two", &[(2, "2"), (1, "1"), (2, "3")])),
+];
+
+fn list(
+    alloc: Global,
+    listed: &[(u32, &str)],
+    replies: &mut Vec<(u32, Reply)>,
+) -> Result<(), Fail> {
+    for (turn, text) in listed {
+        replies.push((*turn, reply(alloc, text)?))?;
+    }
+    Ok(())
+}
+
+fn rehearsal(alloc: Global, (method, listed): &(&str, &[(u32, &str)])) -> Result<Rehearsal, Fail> {
     let mut replies = Vec::new(alloc);
-    match list_replies(alloc, lines, &mut replies) {
-        Ok(()) => Ok(replies),
+    let handler = match list(alloc, listed, &mut replies) {
+        Ok(()) => handler(alloc, SIX, Some(method)),
+        Err(fail) => Err(fail),
+    };
+    match handler {
+        Ok(handler) => Ok(Rehearsal::new(alloc, handler, replies)),
         Err(fail) => {
             drop(replies);
             Err(fail)
@@ -99,481 +302,47 @@ fn replies(alloc: Global, lines: &str) -> Result<Vec<(u32, Reply)>, Fail> {
     }
 }
 
-/// Handler 1 of the call's method.
-fn handler(alloc: Global, table: &Table, call: &Arc<Call>) -> Result<Handler, Fail> {
-    let method = table.find(call.method.as_str()).ok_or("no such method")?;
-    if method >= table.len() || matches!(&call.params, Params::Fractional) {
-        return Err("no such call".into());
-    }
-    Ok(Handler::new(alloc, table, method, 1, Arc::try_clone(call)?)?)
-}
-
-/// A handler of the call, in the room of another.
-fn in_room_of(table: &Table, other: Handler, call: &Arc<Call>) -> Result<Handler, Fail> {
-    let method = table.find(call.method.as_str()).ok_or("no such method")?;
-    if method >= table.len() || matches!(&call.params, Params::Fractional) {
-        return Err("no such call".into());
-    }
-    let room = other.into_room();
-    Ok(Handler::in_room(room, table, method, 1, Arc::try_clone(call)?)?)
-}
-
-/// Handler 1 of the method that a content calls.
-fn called(alloc: Global, table: &Table, content: &str) -> Result<Handler, Fail> {
-    let call = call(alloc, content)?;
-    let handler = handler(alloc, table, &call);
-    drop(call);
-    handler
-}
-
-/// Handler 1 of the method that a content calls, in the table of this text.
-fn handler_of(alloc: Global, text: &str, content: &str) -> Result<Handler, Fail> {
-    let table = table(alloc, text)?;
-    let handler = called(alloc, &table, content);
-    drop(table);
-    handler
-}
-
-/// The handler of the table's opening.
-fn opened(alloc: Global, table: &Table) -> Result<Handler, Fail> {
-    match Handler::opening(alloc, table)? {
-        Some(handler) => Ok(handler),
-        None => Err("no opening".into()),
-    }
-}
-
-/// Puts a batch of calls behind the bytes.
-fn put_batch(
-    alloc: Global,
-    bytes: &mut Vec<u8>,
-    number: u32,
-    first: u32,
-    list: &[Outgoing],
-) -> Result<(), Fail> {
-    if list.is_empty() || list.len() > 16 || first > 1_009 {
-        return Err("a batch of calls out of range".into());
-    }
-    Ok(put_calls(alloc, bytes, number, first, list)?)
-}
-
-/// Puts a message behind the bytes, as it is sent.
-fn put_message(
-    alloc: Global,
-    bytes: &mut Vec<u8>,
-    number: u32,
-    message: &Message,
-) -> Result<(), Fail> {
-    match message {
-        Message::Call(turn, outgoing) => Ok(put_call(alloc, bytes, number, *turn, outgoing)?),
-        Message::Calls(first, list) => put_batch(alloc, bytes, number, *first, list.as_slice()),
-        Message::Notice(outgoing) => Ok(put_notice(alloc, bytes, outgoing)?),
-    }
-}
-
-/// Adds the handler's messages and its answer as they are sent, one on each line; what has no id has no answer.
-fn tell(
-    alloc: Global,
-    handler: &Handler,
-    id: Option<&Id>,
-    answer: &Reply,
-    lines: &mut Vec<u8>,
-) -> Result<(), Fail> {
-    for message in handler.messages() {
-        put_message(alloc, lines, handler.number(), message)?;
-        lines.push(b'\n')?;
-    }
-    if let Some(id) = id {
-        put_answer(alloc, lines, id, answer)?;
-        lines.push(b'\n')?;
+#[test]
+fn rehearsals_are_run_by_block_on(rt: HostRuntime) -> Result<(), Fail> {
+    for (want, row) in REHEARSALS {
+        let outcome = block_on(&rt, rehearsal(rt.alloc(), row)?)?;
+        assert!(rt; answers(rt.alloc(), outcome, want)?, "{want}");
     }
     Ok(())
 }
 
-/// In which order a handler hears the replies to the calls that it awaits.
-struct Order {
-    from_the_last: bool,
-    polled_between: bool,
+/// Polls an `Awaiting`. After its first poll it has the handler hear its reply, and asks to be polled again.
+#[derive(Drop)]
+struct Told {
+    awaiting: Awaiting,
+    pending: u32,
 }
 
-const ORDERS: &[Order] = &[
-    Order {
-        from_the_last: false,
-        polled_between: false,
-    },
-    Order {
-        from_the_last: true,
-        polled_between: false,
-    },
-    Order {
-        from_the_last: false,
-        polled_between: true,
-    },
-    Order {
-        from_the_last: true,
-        polled_between: true,
-    },
-];
+impl Future for Told {
+    type Output = (Outcome, u32);
 
-/// The first of the replies that stands with the turn.
-fn reply_of(replies: &[(u32, Reply)], turn: u32) -> Result<Reply, AllocError> {
-    for (listed, reply) in replies {
-        if *listed == turn {
-            return reply.clone();
-        }
-    }
-    Ok(Reply::Standard(Standard::NoReply))
-}
-
-/// Has the handler hear a reply. Whether it awaited that.
-fn is_heard(handler: &mut Handler, turn: u32, reply: Reply) -> bool {
-    let heard = handler.hear(turn, reply);
-    let is_heard = heard.is_ok();
-    drop(heard);
-    is_heard
-}
-
-/// Has the handler hear one reply. Whether none is awaited then.
-fn hear_next(
-    handler: &mut Handler,
-    replies: &[(u32, Reply)],
-    from_the_last: bool,
-) -> Result<bool, Fail> {
-    let awaited = if from_the_last {
-        handler.waits().last().copied()
-    } else {
-        handler.waits().first().copied()
-    };
-    let turn = awaited.ok_or("a handler that waits for nothing")?;
-    if !is_heard(handler, turn, reply_of(replies, turn)?) {
-        return Err("an awaited reply was refused".into());
-    }
-    Ok(handler.waits().is_empty())
-}
-
-/// Polls the handler to its end.
-fn run(handler: &mut Handler, replies: &[(u32, Reply)], order: &Order) -> Result<Reply, Fail> {
-    for _ in 0..4_096 {
-        match handler.advance() {
-            Some(Outcome::Answer(answer)) => return Ok(answer),
-            Some(Outcome::Failed) => return Err("a poll found no memory".into()),
-            None => {}
-        }
-        for _ in 0..16 {
-            if hear_next(handler, replies, order.from_the_last)? || order.polled_between {
-                break;
+    fn poll(&mut self, cx: &mut Context<'_>) -> Poll<(Outcome, u32)> {
+        match self.awaiting.poll(cx) {
+            Poll::Ready(outcome) => Poll::Ready((outcome, self.pending)),
+            Poll::Pending => {
+                if self.pending == 0 {
+                    let truth = Reply::Done(Json::boolean(true));
+                    drop(self.awaiting.handler.hear(1, truth));
+                }
+                self.pending = self.pending.saturating_add(1);
+                cx.yield_now()
             }
         }
     }
-    Err("a handler without an end".into())
 }
 
-/// What stands behind `> `, a line each.
-fn sent_lines(alloc: Global, lines: &str) -> Result<String, AllocError> {
-    let mut sent = String::new(alloc);
-    for line in lines.lines() {
-        if let Some(text) = line.strip_prefix("> ") {
-            sent.push_str(text)?;
-            sent.push('\n')?;
-        }
-    }
-    Ok(sent)
-}
-
-/// The handler's messages and its answer as they are sent.
-fn told(
-    alloc: Global,
-    handler: &Handler,
-    id: Option<&Id>,
-    answer: &Reply,
-) -> Result<Vec<u8>, Fail> {
-    let mut sent = Vec::new(alloc);
-    tell(alloc, handler, id, answer, &mut sent)?;
-    Ok(sent)
-}
-
-/// Whether the handler's messages and its answer are what the lines say.
-fn is_sent(
-    alloc: Global,
-    handler: &Handler,
-    id: Option<&Id>,
-    answer: &Reply,
-    lines: &str,
-) -> Result<bool, Fail> {
-    let want = sent_lines(alloc, lines)?;
-    is_same(told(alloc, handler, id, answer), want.as_str())
-}
-
-/// Whether the handler sends and answers what the lines say, where it hears the replies in that order.
-fn is_told_in(
-    alloc: Global,
-    handler: &mut Handler,
-    id: Option<&Id>,
-    replies: &[(u32, Reply)],
-    order: &Order,
-    lines: &str,
-) -> Result<bool, Fail> {
-    let answer = run(handler, replies, order)?;
-    let is_sent = is_sent(alloc, handler, id, &answer, lines);
-    drop(answer);
-    is_sent
-}
-
-/// Whether the handler has the number of a call's, or of an opening's where there is no call, and tells what the lines say.
-fn is_told_by(
-    alloc: Global,
-    mut handler: Handler,
-    call: Option<&Arc<Call>>,
-    replies: &[(u32, Reply)],
-    order: &Order,
-    lines: &str,
-) -> Result<bool, Fail> {
-    let (number, id) = match call {
-        Some(call) => (1, call.id.as_ref()),
-        None => (0, None),
+#[test]
+fn another_future_polls_an_awaiting_handler(rt: HostRuntime) -> Result<(), Fail> {
+    let told = Told {
+        awaiting: Awaiting::new(handler(rt.alloc(), SIX, Some("ask"))?, Source::new()),
+        pending: 0,
     };
-    let is_numbered = handler.number() == number;
-    let is_told = is_told_in(alloc, &mut handler, id, replies, order, lines);
-    drop(handler);
-    Ok(is_told? && is_numbered)
-}
-
-/// Whether the handler of the call, or of the opening where there is none, tells what the lines say in each order.
-fn is_told_in_each_order(
-    alloc: Global,
-    table: &Table,
-    call: Option<&Arc<Call>>,
-    replies: &[(u32, Reply)],
-    lines: &str,
-) -> Result<bool, Fail> {
-    for order in ORDERS {
-        let handler = match call {
-            Some(call) => handler(alloc, table, call),
-            None => opened(alloc, table),
-        };
-        if !is_told_by(alloc, handler?, call, replies, order, lines)? {
-            return Ok(false);
-        }
-    }
-    Ok(true)
-}
-
-/// Whether handlers of the call tell what the lines say in each order, each in the room of the one before.
-fn is_told_in_one_room(
-    alloc: Global,
-    table: &Table,
-    call: &Arc<Call>,
-    replies: &[(u32, Reply)],
-    lines: &str,
-) -> Result<bool, Fail> {
-    let mut other = handler(alloc, table, call)?;
-    for order in ORDERS {
-        let mut handler = in_room_of(table, other, call)?;
-        if !is_told_in(alloc, &mut handler, call.id.as_ref(), replies, order, lines)? {
-            drop(handler);
-            return Ok(false);
-        }
-        other = handler;
-    }
-    let is_first = other.number() == 1;
-    drop(other);
-    Ok(is_first)
-}
-
-/// Whether new handlers of the call tell what the lines say, and so do those in the room of others.
-fn is_call_told(
-    alloc: Global,
-    table: &Table,
-    call: &Arc<Call>,
-    replies: &[(u32, Reply)],
-    lines: &str,
-) -> Result<bool, Fail> {
-    Ok(
-        is_told_in_each_order(alloc, table, Some(call), replies, lines)?
-            && is_told_in_one_room(alloc, table, call, replies, lines)?,
-    )
-}
-
-/// Whether a content, which is a call or the word for the opening, comes to what its lines say.
-fn is_told(
-    alloc: Global,
-    table: &Table,
-    content: &str,
-    replies: &[(u32, Reply)],
-    lines: &str,
-) -> Result<bool, Fail> {
-    if content == "opening" {
-        return is_told_in_each_order(alloc, table, None, replies, lines);
-    }
-    let call = call(alloc, content)?;
-    let is_told = is_call_told(alloc, table, &call, replies, lines);
-    drop(call);
-    is_told
-}
-
-fn is_row_told(alloc: Global, table: &Table, row: &str) -> Result<bool, Fail> {
-    let Some((content, lines)) = row.split_once('\n') else {
-        return Ok(false);
-    };
-    let replies = replies(alloc, lines)?;
-    let is_told = is_told(alloc, table, content, replies.as_slice(), lines);
-    drop(replies);
-    is_told
-}
-
-/// Has the handler hear the reply that a content is. Whether it awaited that.
-fn hears(alloc: Global, handler: &mut Handler, content: &str) -> Result<bool, Fail> {
-    let (turn, said) = reply(alloc, content)?;
-    Ok(is_heard(handler, turn, said))
-}
-
-/// How the handler ends as a future that hears the first of these replies with the turn of each call.
-fn rehearsed<R: Wait + RandomSource + AllocGlobal>(
-    rt: &R,
-    handler: Handler,
-    replies: Vec<(u32, Reply)>,
-) -> Result<Outcome, Fail> {
-    Ok(block_on(rt, Rehearsal::new(rt.alloc(), handler, replies))?)
-}
-
-/// How it ends in a rehearsal that hears these replies, where they could be made.
-fn rehearsed_with<R: Wait + RandomSource + AllocGlobal>(
-    rt: &R,
-    handler: Handler,
-    replies: Result<Vec<(u32, Reply)>, Fail>,
-) -> Result<Outcome, Fail> {
-    match replies {
-        Ok(replies) => rehearsed(rt, handler, replies),
-        Err(fail) => {
-            drop(handler);
-            Err(fail)
-        }
-    }
-}
-
-/// How it ends in a rehearsal that hears the replies among the lines.
-fn rehearsed_by<R: Wait + RandomSource + AllocGlobal>(
-    rt: &R,
-    handler: Handler,
-    lines: &str,
-) -> Result<Outcome, Fail> {
-    rehearsed_with(rt, handler, replies(rt.alloc(), lines))
-}
-
-/// Whether the outcome is an answer that is sent so to the request of that id.
-fn is_answer(alloc: Global, outcome: &Outcome, id: &Id, want: &str) -> Result<bool, Fail> {
-    match outcome {
-        Outcome::Answer(answer) => is_same(answer_text(alloc, id, answer), want),
-        Outcome::Failed => Err("a poll found no memory".into()),
-    }
-}
-
-/// Whether a handler of the request 7 ended with this answer.
-fn answers(alloc: Global, outcome: Outcome, want: &str) -> Result<bool, Fail> {
-    let is_answer = is_answer(alloc, &outcome, &Id::Unsigned(7), want);
-    drop(outcome);
-    is_answer
-}
-
-/// Compares the answer of a handler of the request 7.
-fn compare_answer(
-    rt: &impl Abort,
-    alloc: Global,
-    outcome: Outcome,
-    want: &str,
-) -> Result<(), Fail> {
-    holds(rt, want, answers(alloc, outcome, want))
-}
-
-/// Whether the outcome is the answer among the lines.
-fn is_answer_of(alloc: Global, outcome: &Outcome, id: &Id, lines: &str) -> Result<bool, Fail> {
-    let sent = sent_lines(alloc, lines)?;
-    is_answer(alloc, outcome, id, sent.as_str().trim_end())
-}
-
-/// How the handler of the call ends in a rehearsal that hears the replies among the lines.
-fn rehearsed_call<R: Wait + RandomSource + AllocGlobal>(
-    rt: &R,
-    table: &Table,
-    call: &Arc<Call>,
-    lines: &str,
-) -> Result<Outcome, Fail> {
-    let handler = handler(rt.alloc(), table, call)?;
-    rehearsed_by(rt, handler, lines)
-}
-
-/// Whether the call is answered as its lines say, in a rehearsal that hears their replies.
-fn is_call_rehearsed<R: Wait + RandomSource + AllocGlobal>(
-    rt: &R,
-    table: &Table,
-    call: &Arc<Call>,
-    lines: &str,
-) -> Result<bool, Fail> {
-    let Some(id) = call.id.as_ref() else {
-        return Ok(false);
-    };
-    let outcome = rehearsed_call(rt, table, call, lines)?;
-    let is_answer = is_answer_of(rt.alloc(), &outcome, id, lines);
-    drop(outcome);
-    is_answer
-}
-
-fn is_row_rehearsed<R: Wait + RandomSource + AllocGlobal>(
-    rt: &R,
-    table: &Table,
-    row: &str,
-) -> Result<bool, Fail> {
-    let Some((content, lines)) = row.split_once('\n') else {
-        return Ok(false);
-    };
-    let call = call(rt.alloc(), content)?;
-    let is_rehearsed = is_call_rehearsed(rt, table, &call, lines);
-    drop(call);
-    is_rehearsed
-}
-
-/// How handlers come to their replies.
-#[derive(Clone, Copy)]
-enum Way {
-    /// They are polled, and hear them in different orders.
-    Polls,
-    Rehearsal,
-}
-
-fn is_as_it_says<R: Wait + RandomSource + AllocGlobal>(
-    rt: &R,
-    table: &Table,
-    row: &str,
-    way: Way,
-) -> Result<bool, Fail> {
-    match way {
-        Way::Polls => is_row_told(rt.alloc(), table, row),
-        Way::Rehearsal => is_row_rehearsed(rt, table, row),
-    }
-}
-
-fn compare_rows<R: Wait + RandomSource + AllocGlobal + Abort>(
-    rt: &R,
-    table: &Table,
-    rows: &str,
-    way: Way,
-) -> Result<(), Fail> {
-    for row in rows.split("\n\n") {
-        holds(rt, row, is_as_it_says(rt, table, row, way))?;
-    }
+    let (outcome, pending) = block_on(&rt, told)?;
+    assert!(rt; answers(rt.alloc(), outcome, "Done(true)")? && pending == 1);
     Ok(())
-}
-
-/// Compares what calls send and answer, by the methods of this table. A row is a call, the replies to its own
-/// calls, and what it sends and answers, in a rehearsal only what it answers; between rows is an empty line. The row
-/// of an opening has that word in place of a call.
-fn compare<R: Wait + RandomSource + AllocGlobal + Abort>(
-    rt: &R,
-    text: &str,
-    rows: &str,
-    way: Way,
-) -> Result<(), Fail> {
-    let table = table(rt.alloc(), text)?;
-    let compared = compare_rows(rt, &table, rows, way);
-    drop(table);
-    compared
 }

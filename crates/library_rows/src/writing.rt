@@ -1,74 +1,147 @@
-//! The texts that are written, and values.
+//! Texts that are written where the writer itself is called, and keys that are read.
 
-mod answers;
-mod ids;
-mod messages;
-mod rows;
-mod values;
-
-use crate::rows::{each_row, is_same};
-use rpc_messages::{Standard, call_key, read_key, withdraw_text};
+use crate::rows::{each_row, json};
+use json_values::Text;
+use rpc_messages::{
+    Id, Outgoing, Reply, Standard, answer_text, batch_text, call_key, call_text, calls_text,
+    notice_text, read_key, withdraw_text,
+};
 use std::alloc::{AllocError, Global};
 use std::test::Fail;
 
 /// What a text is of.
 enum Of {
-    /// The answer of this error to the request of that id, which is none for one that can't be read.
-    Error(Standard, Option<u64>),
-    /// The answer to the request of this id, with these members.
-    Answer(&'static str, &'static str),
-    /// A batch of so many answers of invalid requests.
-    Batch(u32),
-    /// Call `1.1` of this method, with params where some are given.
-    Call(&'static str, Option<&'static str>),
-    /// A batch of the calls `a` and `b`, from `1.1` on.
+    /// The answer to the request 1 that there is no such method.
+    Answer,
+    /// A batch of the answer to one invalid request.
+    Batch,
+    /// Call `1.1` of `confirm`, with the params `["x"]`.
+    Call,
+    /// A batch of the calls `1.1` of `a` and `1.2` of `b`.
     Calls,
-    Notice(&'static str, Option<&'static str>),
-    Withdrawal(u32, u32),
-    /// All of these behind other bytes.
-    Behind,
-    /// The key of a call, and nothing else is read from it.
-    Key(u32, u32),
-    NoKey,
-    /// A value, and whether it has no fraction.
-    Value(bool),
-    /// The value that is built.
-    Built,
-    /// A path, and whether what it leads to in a value has that text; none where it leads nowhere.
-    Path(&'static str, Option<bool>),
-    /// The name of ids, which are compared.
-    Ids,
-    /// So many bytes.
-    Length(usize),
+    /// A notification `log`, with the params `["x"]`.
+    Notice,
+    /// The withdrawal of call `1.1`.
+    Withdrawal,
 }
 
-/// Whether that text is the key of the call, and nothing else is read from it.
-fn is_key(alloc: Global, text: &str, number: u32, turn: u32) -> Result<bool, AllocError> {
-    let key = call_key(alloc, number, turn)?;
-    Ok(key.as_str() == text && read_key(text) == Some((number, turn)))
+/// Texts, their lengths, and what each is of.
+const TEXTS: &[(&str, (usize, Of))] = &[
+    (
+        r#"{"error":{"code":-32601,"message":"Method not found"},"id":1,"jsonrpc":"2.0"}"#,
+        (77, Of::Answer),
+    ),
+    (
+        r#"[{"error":{"code":-32600,"message":"Invalid Request"},"id":null,"jsonrpc":"2.0"}]"#,
+        (81, Of::Batch),
+    ),
+    (
+        r#"{"id":"1.1","jsonrpc":"2.0","method":"confirm","params":["x"]}"#,
+        (62, Of::Call),
+    ),
+    (
+        r#"[{"id":"1.1","jsonrpc":"2.0","method":"a"},{"id":"1.2","jsonrpc":"2.0","method":"b"}]"#,
+        (85, Of::Calls),
+    ),
+    (
+        r#"{"jsonrpc":"2.0","method":"log","params":["x"]}"#,
+        (47, Of::Notice),
+    ),
+    (
+        r#"{"jsonrpc":"2.0","method":"$/cancelRequest","params":{"id":"1.1"}}"#,
+        (66, Of::Withdrawal),
+    ),
+];
+
+fn answer(alloc: Global, id: &Id, standard: Standard) -> Result<Vec<u8>, AllocError> {
+    let reply = Reply::Standard(standard);
+    let text = answer_text(alloc, id, &reply);
+    drop(reply);
+    text
 }
 
-fn is_of(alloc: Global, text: &str, of: &Of) -> Result<bool, Fail> {
+fn batch(alloc: Global) -> Result<Vec<u8>, AllocError> {
+    let invalid = answer(alloc, &Id::Null, Standard::InvalidRequest)?;
+    batch_text(alloc, &[invalid])
+}
+
+fn bare(alloc: Global, method: &str) -> Result<Outgoing, AllocError> {
+    Ok(Outgoing {
+        method: Text::copy_of(alloc, method)?,
+        params: None,
+    })
+}
+
+/// A message with the params `["x"]`.
+fn message(alloc: Global, method: &str) -> Result<Outgoing, Fail> {
+    let mut message = bare(alloc, method)?;
+    message.params = Some(json(alloc, r#"["x"]"#)?);
+    Ok(message)
+}
+
+fn call(alloc: Global) -> Result<Vec<u8>, Fail> {
+    let message = message(alloc, "confirm")?;
+    let text = call_text(alloc, 1, 1, &message);
+    drop(message);
+    Ok(text?)
+}
+
+fn notice(alloc: Global) -> Result<Vec<u8>, Fail> {
+    let message = message(alloc, "log")?;
+    let text = notice_text(alloc, &message);
+    drop(message);
+    Ok(text?)
+}
+
+fn calls(alloc: Global) -> Result<Vec<u8>, AllocError> {
+    let calls = [bare(alloc, "a")?, bare(alloc, "b")?];
+    let text = calls_text(alloc, 1, 1, &calls);
+    drop(calls);
+    text
+}
+
+fn written(alloc: Global, of: &Of) -> Result<Vec<u8>, Fail> {
     match of {
-        Of::Error(standard, id) => is_same(answers::error(alloc, *standard, *id), text),
-        Of::Answer(id, members) => is_same(answers::answer(alloc, id, members), text),
-        Of::Batch(count) => is_same(answers::batch(alloc, *count), text),
-        Of::Call(method, params) => is_same(messages::call(alloc, method, *params), text),
-        Of::Calls => is_same(messages::calls(alloc), text),
-        Of::Notice(method, params) => is_same(messages::notice(alloc, method, *params), text),
-        Of::Withdrawal(number, turn) => is_same(withdraw_text(alloc, *number, *turn), text),
-        Of::Behind => is_same(messages::behind(alloc), text),
-        Of::Key(number, turn) => Ok(is_key(alloc, text, *number, *turn)?),
-        Of::NoKey => Ok(read_key(text).is_none()),
-        Of::Value(is_whole) => values::is_value(alloc, text, *is_whole),
-        Of::Built => values::is_built(alloc, text),
-        Of::Path(other, want) => values::leads_to(alloc, text, other, *want),
-        Of::Ids => Ok(ids::are_by_value(alloc)?),
-        Of::Length(length) => Ok(text.len() == *length),
+        Of::Answer => Ok(answer(alloc, &Id::Unsigned(1), Standard::MethodNotFound)?),
+        Of::Batch => Ok(batch(alloc)?),
+        Of::Call => call(alloc),
+        Of::Calls => Ok(calls(alloc)?),
+        Of::Notice => notice(alloc),
+        Of::Withdrawal => Ok(withdraw_text(alloc, 1, 1)?),
     }
+}
+
+fn is_written(alloc: Global, text: &str, row: &(usize, Of)) -> Result<bool, Fail> {
+    let written = written(alloc, &row.1)?;
+    Ok(written.len() == row.0 && written.as_slice() == text.as_bytes())
 }
 
 #[test]
 fn each_text_is_of_what_stands_beside_it(rt: HostRuntime) -> Result<(), Fail> {
-    each_row(&rt, rt.alloc(), rows::ROWS, is_of)
+    each_row(&rt, rt.alloc(), TEXTS, is_written)
+}
+
+/// Texts, and the number and the turn of the call that each is the key of.
+const KEYS: &[(&str, Option<(u32, u32)>)] = &[
+    ("1.1", Some((1, 1))),
+    ("0.1", Some((0, 1))),
+    ("1000000.1024", Some((1_000_000, 1_024))),
+    ("01.1", None),
+    ("1.0", None),
+    ("1.1025", None),
+    ("1000001.1", None),
+    ("1", None),
+];
+
+fn is_key(alloc: Global, text: &str, key: &Option<(u32, u32)>) -> Result<bool, AllocError> {
+    let is_written = match key {
+        Some((number, turn)) => call_key(alloc, *number, *turn)?.as_str() == text,
+        None => true,
+    };
+    Ok(is_written && read_key(text) == *key)
+}
+
+#[test]
+fn keys_are_two_decimals_with_a_dot_between(rt: HostRuntime) -> Result<(), Fail> {
+    each_row(&rt, rt.alloc(), KEYS, is_key)
 }

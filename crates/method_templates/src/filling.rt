@@ -215,7 +215,19 @@ fn find_place<'a>(
         (get_member name.now (with_lent params.now locals.now)) }
 {
     match locals.get(params, name) {
-        Some(value) => value.as_value().pointer(pointer),
+        Some(value) => pointed_at(value.as_value(), pointer),
         None => None,
     }
+}
+
+/// The place in a value that the pointer leads to. Most params are an array, and most pointers into them have one digit:
+/// that item is taken without a walk through the pointer.
+fn pointed_at<'a>(value: &'a Value, pointer: &str) -> Option<&'a Value>
+    ensures { option_map (λ place. view place.now) result ≡ points_to pointer.now (view value.now) }
+{
+    let bytes = pointer.as_bytes();
+    if bytes.len() == 2 && bytes[0] == b'/' && bytes[1].is_ascii_digit() && value.is_array() {
+        return value.get((bytes[1] - b'0') as usize);
+    }
+    value.pointer(pointer)
 }

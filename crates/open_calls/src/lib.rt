@@ -19,6 +19,3 @@ pub use own_call::OwnCall;
 pub use own_calls::OwnCalls;
 pub use their_call::TheirCall;
 pub use their_calls::TheirCalls;
-
-#[cfg(test)]
-mod tests;

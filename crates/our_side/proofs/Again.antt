@@ -7,6 +7,7 @@ use Rattle.content_streams.specs.Streams.{Stream, placed_contents}
 use Rattle.content_streams.specs.declared.framing.Framing.{Framing}
 use Rattle.conversation_reading.specs.Strictly.{reading_of}
 use Rattle.conversation_reading.specs.declared.entry.Entry.{Entry}
+use Rattle.conversation_reading.specs.First.{First}
 use Rattle.conversation_reading.specs.declared.entry.Kind.{Kind}
 use Rattle.conversation_reading.specs.declared.entry.Kind.TheVariants.{Request, Notification, Answer, BrokenAnswer, Invalid}
 use Rattle.conversation_reading.specs.declared.entry.WrittenId.{WrittenId}
@@ -16,10 +17,10 @@ use Rattle.conversation_reading.specs.declared.reading.Reading.TheVariants.{Fore
 use Rattle.conversation_rules.specs.Answers.{reply_of, behind_single}
 use Rattle.conversation_rules.specs.Contents.{content_outcome, reading_outcome, next_message, counted, sight_of, opened, shut, have_huge, are_answers, replies_in, reply_ids, behind_entries}
 use Rattle.conversation_rules.specs.Dues.{is_asked, owed_more}
-use Rattle.conversation_rules.specs.Entries.{is_request, is_answer, id_findings, again_findings, is_cancel, cancelled_by, owed_after_cancel, id_used, behind_entry}
+use Rattle.conversation_rules.specs.Entries.{is_request, is_answer, id_findings, again_findings, is_cancel, cancelled_by, owed_after_last, is_first_cancel, owed_after_first, owed_after_cancel, id_used, behind_entry}
 use Rattle.conversation_rules.specs.Judging.{Seen, stream_of, pair_of, new_state, state_of, findings_of}
 use Rattle.conversation_rules.specs.Amounts.{is_odd, is_null}
-use Rattle.conversation_rules.specs.Owed.{Due, request_owed, may_be_left, invalid_owed, owed_as}
+use Rattle.conversation_rules.specs.Owed.{Due, first_id, expected_without_params, request_owed, may_be_left, invalid_owed, owed_as}
 use Rattle.conversation_rules.specs.Protocols.{is_mcp, may_leave_null}
 use Rattle.conversation_rules.specs.Speakers.{Speaker, Pair, found}
 use Rattle.conversation_rules.specs.Used.{Used, is_used, use_id}
@@ -116,29 +117,42 @@ module _ (protocol : Protocol) (at b e : ℕ) (entry : Entry) (said : IsSaid ent
   cancel_below None owed is = is
   cancel_below (Some id) owed is = cancelled_below e (is_mcp protocol) id owed is
 
-  notified_below : (owed : List Due) → OwedBelow e owed → OwedBelow e (owed_after_cancel protocol entry owed)
-  notified_below owed is = from (is_cancel protocol entry)
+  by_last : (owed : List Due) → OwedBelow e owed → OwedBelow e (owed_after_last protocol entry owed)
+  by_last owed is = from (is_cancel protocol entry)
     where
       from : (c : Bool) → OwedBelow e (if c then cancelled_by protocol entry.target owed else owed)
       from true = cancel_below entry.target owed is
       from false = is
 
+  by_first : (first : Option First) (owed : List Due) → OwedBelow e owed → OwedBelow e (owed_after_first protocol first owed)
+  by_first None owed is = is
+  by_first (Some first) owed is = from (is_first_cancel protocol first)
+    where
+      from : (c : Bool) → OwedBelow e (if c then cancelled_by protocol first.target owed else owed)
+      from true = cancel_below first.target owed is
+      from false = is
+
+  notified_below : (owed : List Due) → OwedBelow e owed → OwedBelow e (owed_after_cancel protocol entry owed)
+  notified_below owed is = by_first entry.first (owed_after_last protocol entry owed) (by_last owed is)
+
   -- one with a number that isn't plain isn't owed as a request
   request_below : (id : Option WrittenId) → IsKeyBelow e id → OneBelow e (request_owed protocol at id)
   request_below id is = from (option_map_or is_odd id false)
     where
-      from : (c : Bool) → OneBelow e (if c then record { place = at; must = false; expected = Some Null; own = id; may_be_null = true; is_request = false; is_cancelled = false }
-          else record { place = at; must = not (may_leave_null protocol && option_map_or is_null id false); expected = id; own = id; may_be_null = false; is_request = true; is_cancelled = false })
+      from : (c : Bool) → OneBelow e (if c then record { place = at; must = false; expected = Some Null; own = id; first = None; may_be_null = true; is_request = false; is_cancelled = false }
+          else record { place = at; must = not (may_leave_null protocol && option_map_or is_null id false); expected = id; own = id; first = None; may_be_null = false; is_request = true; is_cancelled = false })
       from true = λ request. absurd (let no : false ≡ true = request in cc)
       from false = λ request. is
 
   owed_below : (kind : Kind) → entry.kind ≡ kind → (all : List Due) → OwedBelow e all → OwedBelow e (option_map_or (λ owed. owed_more owed all) (owed_as protocol at entry kind) all)
   owed_below Request is all below =
       let k = up.key (ap is_request is) in
-      more_below e (request_owed protocol at entry.id) all (request_below entry.id (record { key = k.key; below = k.below; small = k.small; is = k.is })) below
-  owed_below Notification is all below = below
+      let way = λ (t : Bool). if t then may_be_left at (expected_without_params entry.id) entry.id (first_id entry) else request_owed protocol at entry.id in
+      subst (λ t. OwedBelow e (owed_more (way t) all)) (sym said.once)
+      (more_below e (request_owed protocol at entry.id) all (request_below entry.id (record { key = k.key; below = k.below; small = k.small; is = k.is })) below)
+  owed_below Notification is all below = subst (λ t. OwedBelow e (option_map_or (λ owed. owed_more owed all) (if t then Some (may_be_left at None None None) else None) all)) (sym said.once) below
   owed_below Answer is all below = below
-  owed_below BrokenAnswer is all below = more_below e (may_be_left at None entry.id) all (λ request. absurd (let no : false ≡ true = request in cc)) below
+  owed_below BrokenAnswer is all below = more_below e (may_be_left at None entry.id (first_id entry)) all (λ request. absurd (let no : false ≡ true = request in cc)) below
   owed_below Invalid is all below = more_below e (invalid_owed at entry) all (λ request. absurd (let no : false ≡ true = request in cc)) below
 
   pub entry_below : (own : Speaker) → IsBelow b own → IsBelow e (behind_entry protocol at entry own)
@@ -201,7 +215,7 @@ module _ (side : Side) (those : Rule → Bool) (fair : IsFair those) (not_owed :
     our_entries : (at b e : ℕ) (entries : List Entry) (own : Speaker) → AreSaid entries → EntriesUp b e entries → IsBelow b own → EntriesMay P message protocol at entries own
     our_entries at b e [] own said up below = tt
     our_entries at b e (entry ∷ entries) own said up below = (
-      faultless P message entry.faults said.0.faultless,
+      faultless P message entry said.0.faultless said.0.one_kind said.0.once,
       ids_below P protocol message at true own b up.0 entry said.0 up.1 below,
       our_entries (suc at) up.0 e entries (behind_entry protocol at entry own) said.1 up.2 (entry_below protocol at b up.0 entry said.0 up.1 own below),
     )
@@ -213,7 +227,7 @@ module _ (side : Side) (those : Rule → Bool) (fair : IsFair those) (not_owed :
     our_reading is_unfinished b e pair TooDeep well up below = tt
     our_reading is_unfinished b e pair HalfPair well up below = tt
     our_reading is_unfinished b e pair (Single entry) said up below = (
-      faultless P message entry.faults said.faultless,
+      faultless P message entry said.faultless said.one_kind said.once,
       ids_below P protocol message 0 false (opened message false entry.has_huge pair.own) b e entry said up (opened_below b message false entry.has_huge pair.own below),
       none_each P (is_answer entry.kind) _ (single_each P message our_answering protocol (sight_of pair) (reply_of protocol pair.other.owed 0 entry) entry.id pair.other.owed),
     )
@@ -302,8 +316,8 @@ module _ (side : Side) (those : Rule → Bool) (fair : IsFair those) (not_owed :
         they_ended = λ rest pair holds. record { well = holds.well; from = holds.from; up = holds.up; below = record { runs = holds.below.runs; owed = tt } };
         our_fault = our_fault_each side those final ends_well;
         their_fault = their_fault_each side those;
-        we_left = we_left_each side those fair.unanswered;
-        they_left = they_left_each side those;
+        we_left = we_left_each side those fair.unanswered protocol;
+        they_left = they_left_each side those protocol;
       }
 
 start_below : (side : Side) (framing : Framing) (limits : Limits) → IsBelow 1 (pair_of side (new_state framing limits)).own

@@ -4,7 +4,7 @@ use Rattle.std.specs.Prelude.{slice_get, remove, option_and_then, count_by}
 use Rattle.std.specs.List.{list_all, filter_map}
 use Rattle.std.specs.Option.{option_map_or, option_to_list, is_none}
 use Rattle.conversation_reading.specs.declared.entry.Entry.{Entry}
-use Rattle.conversation_reading.specs.declared.entry.Faults.{Faults}
+use Rattle.conversation_reading.specs.First.{First}
 use Rattle.conversation_reading.specs.declared.entry.Kind.{Kind}
 use Rattle.conversation_reading.specs.declared.entry.Kind.TheVariants.{Request, Notification, Answer, BrokenAnswer, Invalid}
 use Rattle.conversation_reading.specs.declared.entry.WrittenId.{WrittenId}
@@ -16,9 +16,9 @@ use Rattle.conversation_rules.specs.Answers.{has_code, may_refuse, target_of, ta
 use Rattle.conversation_rules.specs.Contents.{reading_outcome, sight_of, opened, have_huge, are_answers, replies_in, reply_ids, single_other, single_answer_findings, behind_entries}
 use Rattle.conversation_rules.specs.Dues as dues
 use Rattle.conversation_rules.specs.Dues.{closed, owed_more, settled, settled_entry, settled_batch, cancelled_in, ids_read, array_target, array_fits, found_batch}
-use Rattle.conversation_rules.specs.Entries.{is_answer, is_cancel, cancelled_by, owed_after_cancel, behind_entry, id_findings}
-use Rattle.conversation_rules.specs.Matching.{same_ids, expected_ids, expects_null, is_null_request, is_null_other, is_just, can_be_answered, batch_target, named_target, named_in, null_target, null_in, parse_error_target, refused_batch, or_else, oldest, is_request_for}
-use Rattle.conversation_rules.specs.Owed.{Owed, Due, new_due, unreadable_due, has_id, has_null_params, is_expected, may_have, expected_without_params, owed_as, owed_on, empty_array_owed}
+use Rattle.conversation_rules.specs.Entries.{is_answer, is_cancel, cancelled_by, owed_after_last, is_first_cancel, owed_after_first, owed_after_cancel, behind_entry, id_findings}
+use Rattle.conversation_rules.specs.Matching.{same_ids, expected_ids, expects_null, is_null_request, is_null_other, is_unnamed, is_just, can_be_answered, batch_target, named_target, named_in, null_target, null_in, parse_error_target, refused_batch, or_else, oldest, is_request_for}
+use Rattle.conversation_rules.specs.Owed.{Owed, Due, has_twice, first_id, request_owed, may_be_left, new_due, unreadable_due, has_id, has_null_params, is_expected, may_have, expected_without_params, owed_as, owed_on, empty_array_owed}
 use Rattle.conversation_rules.specs.Protocols.{is_mcp, may_leave_null}
 use Rattle.conversation_rules.specs.Speakers.{Speaker, Pair}
 use Rattle.conversation_rules.specs.declared.finding.Finding.{Finding}
@@ -55,8 +55,8 @@ formed_plain (Some (Number digits)) formed even = (formed (not_false (is_plain d
 
 -- what a request is owed, by whether its id is a number that isn't plain
 abbrev pub request_by : Protocol → ℕ → Option WrittenId → Bool → Owed
-request_by rules place id odd = if odd then record { place = place; must = false; expected = Some Null; own = id; may_be_null = true; is_request = false; is_cancelled = false }
-    else record { place = place; must = not (may_leave_null rules && option_map_or is_null id false); expected = id; own = id; may_be_null = false; is_request = true; is_cancelled = false }
+request_by rules place id odd = if odd then record { place = place; must = false; expected = Some Null; own = id; first = None; may_be_null = true; is_request = false; is_cancelled = false }
+    else record { place = place; must = not (may_leave_null rules && option_map_or is_null id false); expected = id; own = id; first = None; may_be_null = false; is_request = true; is_cancelled = false }
 
 module _ (entry : Entry) (formed : IsFormed entry.id) where
   even_plain : (odd : Bool) → option_map_or is_odd entry.id false ≡ odd → ArePlain (option_to_list (if odd then Some Null else entry.id))
@@ -72,8 +72,16 @@ module _ (entry : Entry) (formed : IsFormed entry.id) where
   invalid_plain false = (tt, tt)
 
   kind_plain : (kind : Kind) → ArePlain (option_to_list (option_and_then (λ owed. owed.expected) (owed_as JsonRpc 0 entry kind)))
-  kind_plain Request = request_plain (option_map_or is_odd entry.id false) refl
-  kind_plain Notification = tt
+  kind_plain Request = from (has_twice entry)
+    where
+      from : (t : Bool) → ArePlain (option_to_list (if t then may_be_left 0 (expected_without_params entry.id) entry.id (first_id entry) else request_owed JsonRpc 0 entry.id).expected)
+      from true = even_plain (option_map_or is_odd entry.id false) refl
+      from false = request_plain (option_map_or is_odd entry.id false) refl
+  kind_plain Notification = from (has_twice entry)
+    where
+      from : (t : Bool) → ArePlain (option_to_list (option_and_then (λ owed. owed.expected) (if t then Some (may_be_left 0 None None None) else None)))
+      from true = tt
+      from false = tt
   kind_plain Answer = tt
   kind_plain BrokenAnswer = tt
   kind_plain Invalid = invalid_plain (has_null_params entry)
@@ -96,8 +104,18 @@ module _ (protocol : Protocol) (at : ℕ) (entry : Entry) where
   request_same false = refl
 
   kind_same : (kind : Kind) → option_and_then (λ owed. owed.expected) (owed_as protocol at entry kind) ≡ option_and_then (λ owed. owed.expected) (owed_as JsonRpc 0 entry kind)
-  kind_same Request = request_same (option_map_or is_odd entry.id false)
-  kind_same Notification = refl
+  kind_same Request = from (has_twice entry)
+    where
+      from : (t : Bool) → (if t then may_be_left at (expected_without_params entry.id) entry.id (first_id entry) else request_owed protocol at entry.id).expected
+          ≡ (if t then may_be_left 0 (expected_without_params entry.id) entry.id (first_id entry) else request_owed JsonRpc 0 entry.id).expected
+      from true = refl
+      from false = request_same (option_map_or is_odd entry.id false)
+  kind_same Notification = from (has_twice entry)
+    where
+      from : (t : Bool) → option_and_then (λ owed. owed.expected) (if t then Some (may_be_left at None None None) else None)
+          ≡ option_and_then (λ owed. owed.expected) (if t then Some (may_be_left 0 None None None) else None)
+      from true = refl
+      from false = refl
   kind_same Answer = refl
   kind_same BrokenAnswer = refl
   kind_same Invalid = refl
@@ -114,23 +132,45 @@ module _ (protocol : Protocol) (entry : Entry) where
     target_ends None owed ends = ends
     target_ends (Some by) owed ends = ends_cancelled (is_mcp protocol) by P (keeps (is_mcp protocol) by) owed ends
 
-    base_ends : (owed : List Due) → Ends P owed → Ends P (owed_after_cancel protocol entry owed)
-    base_ends owed ends = from (is_cancel protocol entry)
+    last_ends : (owed : List Due) → Ends P owed → Ends P (owed_after_last protocol entry owed)
+    last_ends owed ends = from (is_cancel protocol entry)
       where
         from : (b : Bool) → Ends P (if b then cancelled_by protocol entry.target owed else owed)
         from true = target_ends entry.target owed ends
         from false = ends
 
+    first_ends : (first : Option First) (owed : List Due) → Ends P owed → Ends P (owed_after_first protocol first owed)
+    first_ends None owed ends = ends
+    first_ends (Some first) owed ends = from (is_first_cancel protocol first)
+      where
+        from : (b : Bool) → Ends P (if b then cancelled_by protocol first.target owed else owed)
+        from true = target_ends first.target owed ends
+        from false = ends
+
+    base_ends : (owed : List Due) → Ends P owed → Ends P (owed_after_cancel protocol entry owed)
+    base_ends owed ends = first_ends entry.first (owed_after_last protocol entry owed) (last_ends owed ends)
+
   target_front : (q : Question) (target : Option WrittenId) (owed : List Due) → front_in q (cancelled_by protocol target owed) ≡ front_in q owed
   target_front q None owed = refl
   target_front q (Some by) owed = front_cancelled (is_mcp protocol) by q owed
 
-  base_front : (q : Question) (owed : List Due) → front_in q (owed_after_cancel protocol entry owed) ≡ front_in q owed
-  base_front q owed = from (is_cancel protocol entry)
+  last_front : (q : Question) (owed : List Due) → front_in q (owed_after_last protocol entry owed) ≡ front_in q owed
+  last_front q owed = from (is_cancel protocol entry)
     where
       from : (b : Bool) → front_in q (if b then cancelled_by protocol entry.target owed else owed) ≡ front_in q owed
       from true = target_front q entry.target owed
       from false = refl
+
+  first_front : (q : Question) (first : Option First) (owed : List Due) → front_in q (owed_after_first protocol first owed) ≡ front_in q owed
+  first_front q None owed = refl
+  first_front q (Some first) owed = from (is_first_cancel protocol first)
+    where
+      from : (b : Bool) → front_in q (if b then cancelled_by protocol first.target owed else owed) ≡ front_in q owed
+      from true = target_front q first.target owed
+      from false = refl
+
+  base_front : (q : Question) (owed : List Due) → front_in q (owed_after_cancel protocol entry owed) ≡ front_in q owed
+  base_front q owed = first_front q entry.first (owed_after_last protocol entry owed) ∙ last_front q owed
 
 abbrev more_owed : Option Owed → List Due → List Due
 more_owed o base = option_map_or (λ owed. owed_more owed base) o base
@@ -329,8 +369,8 @@ module _ (protocol : Protocol) (sight : Sight) (message : Message) (reply : Repl
         let empty = it.was.empty it.fits_it in
         whole_answered (λ (due : Due). due.is_unreadable) it
         (target_null ∙ ap (λ b. if b then parse_error_target (may_refuse protocol reply) owed else null_target (has_code 32600 reply) (may_refuse protocol reply) owed) says
-        ∙ ap (λ o. or_else (option_map WholeOf o) (or_else (or_else (oldest false is_null_request owed) (oldest true is_null_request owed))
-        (or_else (option_map WholeOf (position (λ due. due.has_huge) owed)) (refused_batch (may_refuse protocol reply) owed)))) it.is)
+        ∙ ap (λ o. or_else (option_map WholeOf o) (or_else (oldest false is_null_request owed) (or_else (option_map WholeOf (position (λ due. due.has_huge) owed))
+        (or_else (oldest false is_unnamed owed) (or_else (refused_batch (may_refuse protocol reply) owed) (oldest true is_null_request owed)))))) it.is)
         (λ q can.
         let few = unread_few q can in
         let on : open_on q it.it ≡ asked_from q false true [] = (λ i. asked_from q (empty.0 i) (it.fits_it i) (filter_map (λ x. x.expected) (empty.1 i))) in
@@ -563,8 +603,8 @@ module _ (side : Side) where
   fair = record { code = refl; name = refl; cancel_params = refl; cancel_unknown = refl; cancel_initialize = refl; not_judged = refl; line_end = refl; batch = refl; cut_off = refl; unanswered = refl; cancelled_code = refl; after_cancel = refl }
 
   module _ (protocol : Protocol) (message : Message) (is : message.side ≡ side) where
-    any_faults : (f : Faults) → Faulty P message f
-    any_faults f = record {
+    any_faults : (entry : Entry) → Faulty P message entry
+    any_faults entry = record {
       object = λ e. own_may side is_of_answers message is rules.Object refl;
       version = λ e. own_may side is_of_answers message is rules.Version refl;
       method = λ e. own_may side is_of_answers message is rules.Method refl;
@@ -572,6 +612,8 @@ module _ (side : Side) where
       id = λ e. own_may side is_of_answers message is rules.Id refl;
       outcome = λ e. own_may side is_of_answers message is rules.Outcome refl;
       error = λ e. own_may side is_of_answers message is rules.Error refl;
+      both = λ e. own_may side is_of_answers message is rules.BothKinds refl;
+      twice = λ e. own_may side is_of_answers message is rules.Twice refl;
     }
 
     any_ids : (at : ℕ) (in_batch : Bool) (own : Speaker) (entry : Entry) → Each P (id_findings protocol message at in_batch own entry)
@@ -581,7 +623,7 @@ module _ (side : Side) where
 
     any_entries : (at : ℕ) (entries : List Entry) (own : Speaker) → EntriesMay P message protocol at entries own
     any_entries at [] own = tt
-    any_entries at (entry ∷ entries) own = (any_faults entry.faults, any_ids at true own entry, any_entries (suc at) entries (behind_entry protocol at entry own))
+    any_entries at (entry ∷ entries) own = (any_faults entry, any_ids at true own entry, any_entries (suc at) entries (behind_entry protocol at entry own))
 
     -- what is said, where it is still expected
     abbrev pub Expects : List Due → Reading → Type 0
@@ -676,7 +718,7 @@ module _ (side : Side) where
     our_may is_unfinished pair TooDeep orderly says expects = tt
     our_may is_unfinished pair HalfPair orderly says expects = tt
     our_may is_unfinished pair (Single entry) orderly says expects =
-        (any_faults entry.faults, any_ids 0 false (opened message false entry.has_huge pair.own) entry, said_each pair entry orderly says expects)
+        (any_faults entry, any_ids 0 false (opened message false entry.has_huge pair.own) entry, said_each pair entry orderly says expects)
     our_may is_unfinished pair (Array []) orderly says expects = own_may side is_of_answers message is rules.EmptyArray refl
     our_may is_unfinished pair (Array (entry ∷ entries)) orderly says expects =
         (any_entries 1 (entry ∷ entries) (opened message true (have_huge (entry ∷ entries)) pair.own), array_each pair entry entries orderly says expects)

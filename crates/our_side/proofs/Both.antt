@@ -30,8 +30,8 @@ pub record KeepsBoth (protocol : Protocol) (side : Side) (P : Finding → Type 0
   pub they_ended : (ours theirs : Placed) (pair : Pair) → Holds ours theirs pair → Holds ours theirs (swap (ended_pair (swap pair)))
   pub our_fault : (s : Stream) (pair : Pair) → Later s mine → Each P (fault_findings side s pair)
   pub their_fault : (s : Stream) (pair : Pair) → Each P (fault_findings (other side) s pair)
-  pub we_left : (end : HowEnded) (pair : Pair) → Each P (unanswered_findings side end pair)
-  pub they_left : (end : HowEnded) (pair : Pair) → Each P (unanswered_findings (other side) end pair)
+  pub we_left : (end : HowEnded) (pair : Pair) → Each P (unanswered_findings protocol side end pair)
+  pub they_left : (end : HowEnded) (pair : Pair) → Each P (unanswered_findings protocol (other side) end pair)
 
 kept_stream : (side : Side) (s : Stream) (p : Pair) (state : State) → stream_of (other side) (state_with side s p state) ≡ stream_of (other side) state
 kept_stream Client s p state = refl
@@ -65,7 +65,7 @@ module _ (grow : Grow) (protocol : Protocol) (side : Side) (P : Finding → Type
   our_seen (Some end) after rest theirs pair later ends last_one timely holds =
       let got = our_contents true (new_contents after) rest theirs pair timely holds in
       let last = behind_contents protocol side true (new_contents after) pair in (
-        each-append P _ (unanswered_findings side end last)
+        each-append P _ (unanswered_findings protocol side end last)
             (each-append P (contents_findings protocol side true (new_contents after) pair) _ got.0 (keeps.our_fault after last later)) (keeps.we_left end last),
         keeps.we_ended after rest theirs last later (ends refl) (last_one refl) got.1,
       )
@@ -80,7 +80,7 @@ module _ (grow : Grow) (protocol : Protocol) (side : Side) (P : Finding → Type
   their_seen (Some end) after ours rest pair holds =
       let got = their_contents true (new_contents after) ours rest pair holds in
       let last = behind_contents protocol (other side) true (new_contents after) pair in (
-        each-append P _ (unanswered_findings (other side) end last)
+        each-append P _ (unanswered_findings protocol (other side) end last)
             (each-append P (contents_findings protocol (other side) true (new_contents after) pair) _ got.0 (keeps.their_fault after last)) (keeps.they_left end last),
         keeps.they_ended ours rest (swap last) got.1,
       )

@@ -12,7 +12,6 @@ use Rattle.content_streams.specs.declared.framing.Framing.{Framing}
 use Rattle.conversation_reading.specs.Numbers.{is_whole}
 use Rattle.conversation_reading.specs.Strictly.{has_fault, reading_of}
 use Rattle.conversation_reading.specs.declared.entry.Entry.{Entry}
-use Rattle.conversation_reading.specs.declared.entry.Faults.{Faults}
 use Rattle.conversation_reading.specs.declared.entry.WrittenId.{WrittenId}
 use Rattle.conversation_reading.specs.declared.entry.WrittenId.TheVariants.{Null, Text, Number}
 use Rattle.conversation_reading.specs.declared.reading.Reading.{Reading}
@@ -21,7 +20,8 @@ use Rattle.conversation_rules.specs.Amounts.{is_plain, is_null}
 use Rattle.conversation_rules.specs.Answers.{reply_of}
 use Rattle.conversation_rules.specs.Contents.{content_outcome, next_message, counted, sight_of, opened, have_huge, not_json_rule, are_answers, replies_in, reply_ids}
 use Rattle.conversation_rules.specs.Dues.{is_asked, unanswered}
-use Rattle.conversation_rules.specs.Entries.{is_request, is_answer, form_findings, again_findings, request_findings, id_findings, behind_entry}
+use Rattle.conversation_rules.specs.Entries.{is_request, is_answer, is_both, form_findings, again_findings, request_findings, id_findings, behind_entry}
+use Rattle.conversation_rules.specs.Owed.{has_twice}
 use Rattle.conversation_rules.specs.Judging.{Seen, stream_of, state_of, fault_rule, fault_finding, fault_findings_of, fault_findings, unanswered_finding, is_excused, unanswered_findings, findings_of}
 use Rattle.conversation_rules.specs.Protocols.{is_mcp, odd_id_level}
 use Rattle.conversation_rules.specs.Speakers.{Speaker, Pair, found, found_if}
@@ -76,8 +76,8 @@ their_answering P message may = record {
   after_cancel = may rules.AfterCancel;
 }
 
-their_faulty : (P : Finding → Type 0) (message : Message) → ((rule : Rule) → May P message rule) → (f : Faults) → Faulty P message f
-their_faulty P message may f = record {
+their_faulty : (P : Finding → Type 0) (message : Message) → ((rule : Rule) → May P message rule) → (entry : Entry) → Faulty P message entry
+their_faulty P message may entry = record {
   object = λ is. may rules.Object;
   version = λ is. may rules.Version;
   method = λ is. may rules.Method;
@@ -85,6 +85,8 @@ their_faulty P message may f = record {
   id = λ is. may rules.Id;
   outcome = λ is. may rules.Outcome;
   error = λ is. may rules.Error;
+  both = λ is. may rules.BothKinds;
+  twice = λ is. may rules.Twice;
 }
 
 -- ---- ids
@@ -123,7 +125,7 @@ module _ (P : Finding → Type 0) (message : Message) (may : (rule : Rule) → M
   their_entries : (protocol : Protocol) (at : ℕ) (entries : List Entry) (own : Speaker) → EntriesMay P message protocol at entries own
   their_entries protocol at [] own = tt
   their_entries protocol at (entry ∷ entries) own = (
-    their_faulty P message may entry.faults,
+    their_faulty P message may entry,
     ids_each P message (may rules.IdAgain) (may rules.IdFraction) (may rules.IdNull) (may rules.IdForm) protocol at true own entry,
     their_entries protocol (suc at) entries (behind_entry protocol at entry own),
   )
@@ -135,7 +137,7 @@ module _ (P : Finding → Type 0) (message : Message) (may : (rule : Rule) → M
   their_reading protocol is_unfinished pair TooDeep = tt
   their_reading protocol is_unfinished pair HalfPair = tt
   their_reading protocol is_unfinished pair (Single entry) = (
-    their_faulty P message may entry.faults,
+    their_faulty P message may entry,
     ids_each P message (may rules.IdAgain) (may rules.IdFraction) (may rules.IdNull) (may rules.IdForm) protocol 0 false (opened message false entry.has_huge pair.own) entry,
     none_each P (is_answer entry.kind) _ (single_each P message (their_answering P message may) protocol (sight_of pair) (reply_of protocol pair.other.owed 0 entry) entry.id pair.other.owed),
   )
@@ -169,8 +171,8 @@ left_each : (P : Finding → Type 0) (side : Side) (end : HowEnded) (broken : Bo
 left_each P side end broken [] is = tt
 left_each P side end broken (u ∷ all) is = (is u, left_each P side end broken all is)
 
-pub unanswered_each : (P : Finding → Type 0) (side : Side) (end : HowEnded) (pair : Pair) → ((u : Unanswered) → P (unanswered_finding side end (pair.own.is_over || pair.other.is_over) u)) → Each P (unanswered_findings side end pair)
-unanswered_each P side end pair is = or_each P (is_excused pair) [] _ tt (left_each P side end (pair.own.is_over || pair.other.is_over) (unanswered pair.other.owed) is)
+pub unanswered_each : (P : Finding → Type 0) (protocol : Protocol) (side : Side) (end : HowEnded) (pair : Pair) → ((u : Unanswered) → P (unanswered_finding side end (pair.own.is_over || pair.other.is_over) u)) → Each P (unanswered_findings protocol side end pair)
+unanswered_each P protocol side end pair is = or_each P (is_excused protocol side pair) [] _ tt (left_each P side end (pair.own.is_over || pair.other.is_over) (unanswered pair.other.owed) is)
 
 -- ---- our own side
 
@@ -218,8 +220,9 @@ never : (b : Bool) {A : Type 0} → b ≡ false → b ≡ true → A
 never true is isnt = cc
 never false is isnt = cc
 
-pub faultless : (P : Finding → Type 0) (message : Message) (f : Faults) → has_fault f ≡ false → Faulty P message f
-faultless P message f none =
+pub faultless : (P : Finding → Type 0) (message : Message) (entry : Entry) → has_fault entry.faults ≡ false → is_both entry.there ≡ false → has_twice entry ≡ false → Faulty P message entry
+faultless P message entry none one once =
+    let f = entry.faults in
     let a = false_parts (f.object || f.version || f.method || f.params || f.id || f.outcome) f.error none in
     let b = false_parts (f.object || f.version || f.method || f.params || f.id) f.outcome a.0 in
     let c = false_parts (f.object || f.version || f.method || f.params) f.id b.0 in
@@ -234,6 +237,8 @@ faultless P message f none =
       id = never f.id c.1;
       outcome = never f.outcome b.1;
       error = never f.error a.1;
+      both = never (is_both entry.there) one;
+      twice = never (has_twice entry) once;
     }
 
 -- ---- ids of ours
@@ -284,7 +289,7 @@ module _ (side : Side) (those : Rule → Bool) (fair : IsFair those) (again : th
     our_entries : (at : ℕ) (entries : List Entry) (own : Speaker) → AreSaid entries → EntriesMay P message protocol at entries own
     our_entries at [] own said = tt
     our_entries at (entry ∷ entries) own said =
-        (faultless P message entry.faults said.0.faultless, our_ids at true own entry said.0, our_entries (suc at) entries (behind_entry protocol at entry own) said.1)
+        (faultless P message entry said.0.faultless said.0.one_kind said.0.once, our_ids at true own entry said.0, our_entries (suc at) entries (behind_entry protocol at entry own) said.1)
 
     our_reading : (is_unfinished : Bool) (pair : Pair) (reading : Reading) → IsWell reading → ReadingMay P message protocol is_unfinished pair reading
     our_reading is_unfinished pair Foreign well = absurd well
@@ -293,7 +298,7 @@ module _ (side : Side) (those : Rule → Bool) (fair : IsFair those) (again : th
     our_reading is_unfinished pair TooDeep well = tt
     our_reading is_unfinished pair HalfPair well = tt
     our_reading is_unfinished pair (Single entry) said = (
-      faultless P message entry.faults said.faultless,
+      faultless P message entry said.faultless said.one_kind said.once,
       our_ids 0 false (opened message false entry.has_huge pair.own) entry said,
       none_each P (is_answer entry.kind) _ (single_each P message our_answering protocol (sight_of pair) (reply_of protocol pair.other.owed 0 entry) entry.id pair.other.owed),
     )
@@ -322,11 +327,11 @@ module _ (side : Side) (those : Rule → Bool) where
   pub their_fault_each : (s : Stream) (pair : Pair) → Each (Silent side those) (fault_findings (other side) s pair)
   their_fault_each s pair = faults_each (Silent side those) (other side) s pair (λ place fault is. ap (λ b. b && those (fault_rule fault)) (other_not side))
 
-  pub we_left_each : those rules.Unanswered ≡ false → (end : HowEnded) (pair : Pair) → Each (Silent side those) (unanswered_findings side end pair)
-  we_left_each left end pair = unanswered_each (Silent side those) side end pair (λ u. own_is side (those rules.Unanswered) left)
+  pub we_left_each : those rules.Unanswered ≡ false → (protocol : Protocol) (end : HowEnded) (pair : Pair) → Each (Silent side those) (unanswered_findings protocol side end pair)
+  we_left_each left protocol end pair = unanswered_each (Silent side those) protocol side end pair (λ u. own_is side (those rules.Unanswered) left)
 
-  pub they_left_each : (end : HowEnded) (pair : Pair) → Each (Silent side those) (unanswered_findings (other side) end pair)
-  they_left_each end pair = unanswered_each (Silent side those) (other side) end pair (λ u. ap (λ b. b && those rules.Unanswered) (other_not side))
+  pub they_left_each : (protocol : Protocol) (end : HowEnded) (pair : Pair) → Each (Silent side those) (unanswered_findings protocol (other side) end pair)
+  they_left_each protocol end pair = unanswered_each (Silent side those) protocol (other side) end pair (λ u. ap (λ b. b && those rules.Unanswered) (other_not side))
 
 pub fair_keeps : (side : Side) (those : Rule → Bool) → IsFair those → those rules.IdAgain ≡ false → those rules.NotOwed ≡ false → those rules.NotAsArray ≡ false → (protocol : Protocol) (final : Stream)
     → ((s : Stream) → Later s final → EndsFairly those s) → Keeps protocol side (Silent side those) (λ rest pair. AllWell rest) final
@@ -339,8 +344,8 @@ fair_keeps side those fair again not_owed not_as_array protocol final ends_well 
   they_ended = λ rest pair holds. holds;
   our_fault = our_fault_each side those final ends_well;
   their_fault = their_fault_each side those;
-  we_left = we_left_each side those fair.unanswered;
-  they_left = they_left_each side those;
+  we_left = we_left_each side those fair.unanswered protocol;
+  they_left = they_left_each side those protocol;
 }
 
 pub breaks_none : (side : Side) (those : Rule → Bool) (findings : List Finding) → Each (Silent side those) findings → BreaksNone side those findings

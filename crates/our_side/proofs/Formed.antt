@@ -37,7 +37,7 @@ use Rattle.our_side.specs.Asked.{IsWhole}
 use Rattle.our_side.proofs.Below.{AllOf, all-drop}
 use Rattle.our_side.proofs.Matched.{first_place, next_place}
 use Rattle.our_side.proofs.Plain.{after_same}
-use Rattle.our_side.proofs.ReadIds.{last_is}
+use Rattle.connection.proofs.ReadIds.{last_is}
 
 -- ---- no byte passes a test
 

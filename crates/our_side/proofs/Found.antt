@@ -29,8 +29,8 @@ pub record Keeps (protocol : Protocol) (side : Side) (P : Finding → Type 0) (H
   pub they_ended : (rest : List (ℕ × Frame)) (pair : Pair) → Holds rest pair → Holds rest (swap (ended_pair (swap pair)))
   pub our_fault : (s : Stream) (pair : Pair) → Later s final → Each P (fault_findings side s pair)
   pub their_fault : (s : Stream) (pair : Pair) → Each P (fault_findings (other side) s pair)
-  pub we_left : (end : HowEnded) (pair : Pair) → Each P (unanswered_findings side end pair)
-  pub they_left : (end : HowEnded) (pair : Pair) → Each P (unanswered_findings (other side) end pair)
+  pub we_left : (end : HowEnded) (pair : Pair) → Each P (unanswered_findings protocol side end pair)
+  pub they_left : (end : HowEnded) (pair : Pair) → Each P (unanswered_findings protocol (other side) end pair)
 
 module _ (grow : Grow) (protocol : Protocol) (side : Side) (P : Finding → Type 0) (Holds : List (ℕ × Frame) → Pair → Type 0) (final : Stream) (keeps : Keeps protocol side P Holds final) where
   -- ---- contents, one behind another
@@ -63,7 +63,7 @@ module _ (grow : Grow) (protocol : Protocol) (side : Side) (P : Finding → Type
   our_seen (Some end) after rest pair later holds =
       let got = our_contents true (new_contents after) rest pair holds in
       let last = behind_contents protocol side true (new_contents after) pair in (
-        each-append P _ (unanswered_findings side end last)
+        each-append P _ (unanswered_findings protocol side end last)
             (each-append P (contents_findings protocol side true (new_contents after) pair) _ got.0 (keeps.our_fault after last later)) (keeps.we_left end last),
         keeps.we_ended rest last got.1,
       )
@@ -78,7 +78,7 @@ module _ (grow : Grow) (protocol : Protocol) (side : Side) (P : Finding → Type
   their_seen (Some end) after rest pair holds =
       let got = their_contents true (new_contents after) rest pair holds in
       let last = behind_contents protocol (other side) true (new_contents after) pair in (
-        each-append P _ (unanswered_findings (other side) end last)
+        each-append P _ (unanswered_findings protocol (other side) end last)
             (each-append P (contents_findings protocol (other side) true (new_contents after) pair) _ got.0 (keeps.their_fault after last)) (keeps.they_left end last),
         keeps.they_ended rest (swap last) got.1,
       )

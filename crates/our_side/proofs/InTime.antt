@@ -30,7 +30,7 @@ use Rattle.our_side.proofs.Asking.{IsRead, counts, may_count, may_pass, counts_a
 use Rattle.our_side.proofs.Forms.{calls_at_first, calls_weaker}
 use Rattle.our_side.proofs.Plainly.{later_of}
 use Rattle.our_side.proofs.Replying.{SayEach, answered_each, all_say, each_answered, first_answered, messages_say, messages_few}
-use Rattle.our_side.proofs.SaidSound.{AreSound}
+use Rattle.connection.proofs.SaidSound.{AreSound}
 use Rattle.our_side.proofs.Streaming.{Later, other, IsSide, own, others, which, own_stream, other_stream, grown}
 use Rattle.our_side.proofs.Writes.{Laws, sound, contents_are}
 

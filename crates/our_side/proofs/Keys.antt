@@ -31,7 +31,7 @@ use Rattle.judge_laws.proofs.Batches.{calls_keyed, answers_messages}
 use Rattle.judge_laws.proofs.Failures.{answer_message}
 use Rattle.judge_laws.proofs.SaidStrictly.{call_keyed, notice_message, withdrawal_message}
 use Rattle.our_side.proofs.Again.{EntryUp, EntriesUp, ReadingUp, ContentsUp}
-use Rattle.our_side.proofs.SaidSound.{AreSound}
+use Rattle.connection.proofs.SaidSound.{AreSound}
 
 -- ---- the keys of messages
 
@@ -240,7 +240,7 @@ frames_up cancels (calls key (o ∷ os) ∷ ms) b (suc n) sound up = (
   calls_up b key (length (o ∷ os)) (reading_of false (calls_text key (o ∷ os))) up.0 sound.0.0 (calls_keyed key o os sound.0.0 sound.0.1),
   frames_up cancels ms (key + length (o ∷ os)) n sound.1 up.1,
 )
-frames_up cancels (notice o ∷ ms) b (suc n) sound up = (b, message_up b Notification (reading_of false (notice_text o)) refl (notice_message o sound.0.0), frames_up cancels ms b n sound.1 up)
+frames_up cancels (notice o ∷ ms) b (suc n) sound up = (b, message_up b Notification (reading_of false (notice_text o)) refl (notice_message o sound.0), frames_up cancels ms b n sound.1 up)
 frames_up cancels (withdrawal by key ∷ ms) b (suc n) sound up = (b, message_up b Notification (reading_of false (withdrawal_text by key)) refl (withdrawal_message by key sound.0.0), frames_up cancels ms b n sound.1 up)
 frames_up cancels (answer id a ∷ ms) b (suc n) sound up = (b, message_up b Answer (reading_of false (answer_text id a)) refl (answer_message id a sound.0.0 sound.0.1), frames_up cancels ms b n sound.1 up)
 frames_up cancels (answers [] ∷ ms) b (suc n) sound up = absurd sound.0

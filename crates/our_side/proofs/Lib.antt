@@ -17,12 +17,8 @@ mod Open
 mod Placing
 mod Plain
 mod Plainly
-mod ReadIds
-mod ReadUtf8
-mod ReadValues
 mod Replying
 mod Said
-mod SaidSound
 mod Streaming
 mod Tied
 mod Walking

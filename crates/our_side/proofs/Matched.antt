@@ -12,7 +12,7 @@ use Rattle.conversation_rules.specs.Amounts.{is_null}
 use Rattle.conversation_rules.specs.Answers.{fit_findings, has_code, single_findings_of, rest_of, may_refuse, target_of, single_findings, cancelled_code_level, or_note, array_findings, taken_findings, answers_findings_of, batch_rest, answers_findings}
 use Rattle.conversation_rules.specs.Dues as dues
 use Rattle.conversation_rules.specs.Dues.{ids_read, array_target, array_fits, found_batch, fit_of, fit_in}
-use Rattle.conversation_rules.specs.Matching.{place_in, later, oldest, or_else, is_request_for, named_in, named_target, is_null_request, is_null_other, null_in, refused_batch, null_target, parse_error_target, is_just, can_be_answered, batch_target}
+use Rattle.conversation_rules.specs.Matching.{place_in, later, oldest, or_else, is_request_for, named_in, named_target, is_null_request, is_null_other, is_unnamed, null_in, refused_batch, null_target, parse_error_target, is_just, can_be_answered, batch_target}
 use Rattle.conversation_rules.specs.Owed.{Owed, Due, is_expected, may_have}
 use Rattle.conversation_rules.specs.Protocols.{is_mcp}
 use Rattle.conversation_rules.specs.Speakers.{found, found_if}
@@ -236,27 +236,48 @@ module _ (protocol : Protocol) (sight : Sight) (message : Message) (reply : Repl
   parse_error_is : has_code 32700 reply ≡ true → target_of protocol reply (Some Null) owed ≡ parse_error_target (may_refuse protocol reply) owed
   parse_error_is code = ap (λ b. if b then parse_error_target (may_refuse protocol reply) owed else null_target (has_code 32600 reply) (may_refuse protocol reply) owed) code
 
+  -- behind what can't be read, and requests with the id null
+  abbrev behind_requests : Option Target
+  behind_requests =
+      or_else (option_map WholeOf (position (λ due. due.has_huge) owed))
+      (or_else (oldest false is_unnamed owed)
+      (or_else (refused_batch (may_refuse protocol reply) owed) (oldest true is_null_request owed)))
+
   -- behind what can't be read
   abbrev others : Option Target
   others =
-      or_else (or_else (oldest false is_null_request owed) (oldest true is_null_request owed))
-      (or_else (option_map WholeOf (position (λ due. due.has_huge) owed)) (refused_batch (may_refuse protocol reply) owed))
+      or_else (oldest false is_null_request owed) behind_requests
 
   at_place : (o : Option ℕ) → position (λ due. due.is_unreadable) owed ≡ o → parse_error_target (may_refuse protocol reply) owed ≡ or_else (option_map WholeOf o) others
   at_place o is = ap (λ p. or_else (option_map WholeOf p) others) is
 
-  pub unreadable_none : has_code 32700 reply ≡ true → (any_unreadable owed ≡ true) ⊎ (is_owed_singly is_null_request owed ≡ true) → NoneOf is_of_answers (single_findings protocol sight message reply (Some Null) owed)
+  -- a request with the id null, or what else has no id, where each content can be read
+  single_unread : has_code 32700 reply ≡ true → position (λ due. due.is_unreadable) owed ≡ None → (is_owed_singly is_null_request owed ≡ true) ⊎ (is_owed_singly is_unnamed owed ≡ true) → NoneOf is_of_answers (single_findings protocol sight message reply (Some Null) owed)
+  single_unread code read (inl request) =
+      null_none others (parse_error_is code ∙ at_place None read) (first_of_two (oldest false is_null_request owed) behind_requests owed (oldest_is is_null_request owed request))
+  single_unread code read (inr unnamed) = from (oldest false is_null_request owed) refl (position (λ due. due.has_huge) owed) refl
+    where
+      from : (t : Option Target) → oldest false is_null_request owed ≡ t → (o : Option ℕ) → position (λ due. due.has_huge) owed ≡ o → NoneOf is_of_answers (single_findings protocol sight message reply (Some Null) owed)
+      from (Some t) is o huge =
+          null_none others (parse_error_is code ∙ at_place None read) (first_of_two (oldest false is_null_request owed) behind_requests owed (there_is is_null_request owed t is))
+      from None is (Some place) huge =
+          whole_none place (parse_error_is code ∙ at_place None read ∙ ap (λ t. or_else t behind_requests) is
+          ∙ ap (λ p. or_else (option_map WholeOf p) (or_else (oldest false is_unnamed owed) (or_else (refused_batch (may_refuse protocol reply) owed) (oldest true is_null_request owed)))) huge)
+      from None is None huge =
+          let behind = or_else (refused_batch (may_refuse protocol reply) owed) (oldest true is_null_request owed) in
+          null_none (or_else (oldest false is_unnamed owed) behind)
+          (parse_error_is code ∙ at_place None read ∙ ap (λ t. or_else t behind_requests) is ∙ ap (λ p. or_else (option_map WholeOf p) (or_else (oldest false is_unnamed owed) behind)) huge)
+          (first_of_two (oldest false is_unnamed owed) behind owed (oldest_is is_unnamed owed unnamed))
+
+  pub unreadable_none : has_code 32700 reply ≡ true → (any_unreadable owed ≡ true) ⊎ ((is_owed_singly is_null_request owed ≡ true) ⊎ (is_owed_singly is_unnamed owed ≡ true)) → NoneOf is_of_answers (single_findings protocol sight message reply (Some Null) owed)
   unreadable_none code (inl any) =
       let it = placed (λ (due : Due). due.is_unreadable) owed any in
       whole_none it.place (parse_error_is code ∙ at_place (Some it.place) it.is)
-  unreadable_none code (inr request) = from (position (λ due. due.is_unreadable) owed) refl
+  unreadable_none code (inr single) = from (position (λ due. due.is_unreadable) owed) refl
     where
       from : (o : Option ℕ) → position (λ due. due.is_unreadable) owed ≡ o → NoneOf is_of_answers (single_findings protocol sight message reply (Some Null) owed)
       from (Some place) is = whole_none place (parse_error_is code ∙ at_place (Some place) is)
-      from None is =
-          let inner = first_of_two (oldest false is_null_request owed) (oldest true is_null_request owed) owed (oldest_is is_null_request owed request) in
-          null_none others (parse_error_is code ∙ at_place None is)
-          (first_of_two (or_else (oldest false is_null_request owed) (oldest true is_null_request owed)) (or_else (option_map WholeOf (position (λ due. due.has_huge) owed)) (refused_batch (may_refuse protocol reply) owed)) owed inner)
+      from None is = single_unread code is single
 
 -- ---- an array
 

@@ -108,8 +108,8 @@ module _ (protocol : Protocol) (side : Side) (mine yours : Stream) where
     they_ended = λ ours theirs pair holds. record { says = holds.says; orderly = holds.orderly; enough = holds.enough };
     our_fault = λ s pair later. faults_each P side s pair (λ place fault is. own_is side (is_of_answers (fault_rule fault)) (no_rule fault));
     their_fault = their_fault_each side is_of_answers;
-    we_left = we_left_each side is_of_answers refl;
-    they_left = they_left_each side is_of_answers;
+    we_left = we_left_each side is_of_answers refl protocol;
+    they_left = they_left_each side is_of_answers protocol;
   }
 
 -- ---- what was judged by then

@@ -29,7 +29,7 @@ use Rattle.our_side.specs.Answered.{says_unread, said_alone, said_together, tota
 use Rattle.our_side.specs.Asked as says
 use Rattle.our_side.specs.Asked.{IsPlain, AreNoAnswers, AreAnswers, Says, AllSay, Question, alone, together, unread, unnamed, CanBeAsked, as_number, answered_under, ids_answered, answered_together, answered_by, answered_in}
 use Rattle.our_side.proofs.Asking.{counts, counts_all}
-use Rattle.our_side.proofs.SaidSound.{IsSound, AreSound}
+use Rattle.connection.proofs.SaidSound.{IsSound, AreSound}
 
 no : {A : Type 0} (b : Bool) → b ≡ true → b ≡ false → A
 no true is isnt = absurd (cc)
@@ -164,7 +164,7 @@ message_says : (cancels : Option Cancels) (m : Message) → IsSound cancels m �
 message_says cancels (call key o) sound = other_says Request (reading_of false (call_text key o)) (call key o) refl (call_message key o sound.0 sound.1)
 message_says cancels (calls key []) sound = absurd sound
 message_says cancels (calls key (o ∷ os)) sound = others_say Request (reading_of false (calls_text key (o ∷ os))) (calls key (o ∷ os)) refl (calls_messages key o os sound.0 sound.1)
-message_says cancels (notice o) sound = other_says Notification (reading_of false (notice_text o)) (notice o) refl (notice_message o sound.0)
+message_says cancels (notice o) sound = other_says Notification (reading_of false (notice_text o)) (notice o) refl (notice_message o sound)
 message_says cancels (withdrawal by key) sound = other_says Notification (reading_of false (withdrawal_text by key)) (withdrawal by key) refl (withdrawal_message by key sound.0)
 message_says cancels (answer id a) sound =
     answer_says id a (reading_of false (answer_text id a)) sound.0 (answer_message id a sound.0 sound.1) (answer_named id a sound.0 sound.1) (answer_coded id a sound.0 sound.1)

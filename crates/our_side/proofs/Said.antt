@@ -16,7 +16,7 @@ use Rattle.judge_laws.proofs.Batches.{calls_messages, calls_keyed, answers_messa
 use Rattle.judge_laws.proofs.Failures.{answer_message}
 use Rattle.judge_laws.proofs.SaidStrictly.{call_message, call_keyed, notice_message, notice_unnamed, withdrawal_message, withdrawal_unnamed}
 use Rattle.our_side.specs.Saying.{IsSaid, AreSaid, IsWell, AreWell}
-use Rattle.our_side.proofs.SaidSound.{IsSound, AreSound}
+use Rattle.connection.proofs.SaidSound.{IsSound, AreSound}
 
 no : (b : Bool) {A : Type 0} → b ≡ true → b ≡ false → A
 no true is isnt = cc
@@ -27,6 +27,8 @@ no false is isnt = cc
 call_said : (key : ℕ) (entry : Entry) → key < 2 ^ 64 → IsEntry Request entry → HasKey key entry → IsSaid entry
 call_said key entry small is named = record {
   faultless = is.faultless;
+  one_kind = is.one_kind;
+  once = is.once;
   plain = λ kind. record { key = key; small = small; is = named };
   unnamed = λ kind other. no (is_request entry.kind) (ap is_request is.kind_is) kind;
 }
@@ -34,6 +36,8 @@ call_said key entry small is named = record {
 notice_said : (entry : Entry) → IsEntry Notification entry → entry.id ≡ None → IsSaid entry
 notice_said entry is none = record {
   faultless = is.faultless;
+  one_kind = is.one_kind;
+  once = is.once;
   plain = λ kind. no (is_request entry.kind) kind (ap is_request is.kind_is);
   unnamed = λ kind other. none;
 }
@@ -41,6 +45,8 @@ notice_said entry is none = record {
 answer_said : (entry : Entry) → IsEntry Answer entry → IsSaid entry
 answer_said entry is = record {
   faultless = is.faultless;
+  one_kind = is.one_kind;
+  once = is.once;
   plain = λ kind. no (is_request entry.kind) kind (ap is_request is.kind_is);
   unnamed = λ kind other. no (is_answer entry.kind) (ap is_answer is.kind_is) other;
 }
@@ -113,7 +119,7 @@ message_well cancels (call key o) sound = call_well key (reading_of false (call_
 message_well cancels (calls key []) sound = absurd sound
 message_well cancels (calls key (o ∷ os)) sound =
     calls_well key (length (o ∷ os)) (reading_of false (calls_text key (o ∷ os))) sound.0 (calls_messages key o os sound.0 sound.1) (calls_keyed key o os sound.0 sound.1)
-message_well cancels (notice o) sound = notice_well (reading_of false (notice_text o)) (notice_message o sound.0) (notice_unnamed o sound.0)
+message_well cancels (notice o) sound = notice_well (reading_of false (notice_text o)) (notice_message o sound) (notice_unnamed o sound)
 message_well cancels (withdrawal by key) sound = notice_well (reading_of false (withdrawal_text by key)) (withdrawal_message by key sound.0) (withdrawal_unnamed by key sound.0)
 message_well cancels (answer id a) sound = answer_well (reading_of false (answer_text id a)) (answer_message id a sound.0 sound.1)
 message_well cancels (answers []) sound = absurd sound

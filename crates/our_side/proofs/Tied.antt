@@ -28,6 +28,7 @@ use Rattle.connection_messages.specs.declared.entry.Entry.TheVariants.{Call, Can
 use Rattle.connection_messages.specs.declared.reply.Reply.{Reply as Replied}
 use Rattle.connection_messages.specs.declared.rules.Rules.{Rules}
 use Rattle.conversation_reading.specs.Strictly as strict
+use Rattle.conversation_reading.specs.Twice.{has_twice as stands_twice}
 use Rattle.conversation_reading.specs.Strictly.{has, there_in, is_object, is_version_2, written_id, id_in, method_in, are_unfit, call_faults, answer_faults, no_object, faults_of, has_fault, call_kind}
 use Rattle.conversation_reading.specs.declared.entry.Entry.{Entry}
 use Rattle.conversation_reading.specs.declared.entry.Faults.{Faults}
@@ -36,7 +37,7 @@ use Rattle.conversation_reading.specs.declared.entry.Kind.TheVariants.{Request, 
 use Rattle.conversation_reading.specs.declared.entry.WrittenId.{WrittenId}
 use Rattle.conversation_reading.specs.declared.entry.WrittenId.TheVariants.{Null, Number}
 use Rattle.conversation_rules.specs.Amounts.{is_odd, is_plain}
-use Rattle.conversation_rules.specs.Owed.{only_params, has_null_params, expected_without_params, owed_as}
+use Rattle.conversation_rules.specs.Owed.{has_twice, first_id, request_owed, may_be_left, only_params, has_null_params, expected_without_params, owed_as}
 use Rattle.conversation_rules.specs.declared.protocol.Protocol.TheVariants.{JsonRpc}
 use Rattle.judge_laws.proofs.Ties.{object_of}
 use Rattle.judge_laws.specs.Messages.{written_as}
@@ -186,8 +187,17 @@ request_expected id true = refl
 request_expected id false = refl
 
 kind_expected : (entry : Entry) (kind : Kind) → option_and_then (λ owed. owed.expected) (owed_as JsonRpc 0 entry kind) ≡ expected_by kind entry.id (has_null_params entry)
-kind_expected entry Request = request_expected entry.id (option_map_or is_odd entry.id false)
-kind_expected entry Notification = refl
+kind_expected entry Request = from (has_twice entry)
+  where
+    from : (t : Bool) → (if t then may_be_left 0 (expected_without_params entry.id) entry.id (first_id entry) else request_owed JsonRpc 0 entry.id).expected
+        ≡ (if option_map_or is_odd entry.id false then Some Null else entry.id)
+    from true = refl
+    from false = request_expected entry.id (option_map_or is_odd entry.id false)
+kind_expected entry Notification = from (has_twice entry)
+  where
+    from : (t : Bool) → option_and_then (λ owed. owed.expected) (if t then Some (may_be_left 0 None None None) else None) ≡ None
+    from true = refl
+    from false = refl
 kind_expected entry Answer = refl
 kind_expected entry BrokenAnswer = refl
 kind_expected entry Invalid = refl
@@ -275,7 +285,7 @@ module _ (rules : Rules) (j : Json) (numbers : HasNumbers j) where
   faults_with is_one m = if is_one then (if m then call_faults j else answer_faults j (there_in j)) else no_object
 
   abbrev kind_with : Bool → Bool → Bool → Kind
-  kind_with is_one m r = if m then call_kind (has_fault (faults_with is_one m)) (has (codes "id") j) else (if r then (if has_fault (faults_with is_one m) then BrokenAnswer else Answer) else Invalid)
+  kind_with is_one m r = if m then call_kind (has_fault (faults_with is_one m)) (has (codes "id") j) else (if r then (if has_fault (faults_with is_one m) || stands_twice j then BrokenAnswer else Answer) else Invalid)
 
   abbrev null_with : Bool → Bool → Bool
   null_with is_one m = only_params (faults_with is_one m) && option_map_or (bytes_eq (codes "null")) (option_map json_text (get (codes "params") j)) false
@@ -298,7 +308,7 @@ module _ (rules : Rules) (j : Json) (numbers : HasNumbers j) where
       (call_params rules.null_params (get (codes "params") j)) (has (codes "id") j) (id_in j) (call_id (get (codes "id") j))
       (params_are rules.null_params (get (codes "params") j) (member_numbers (codes "params") j numbers)) (member_is (get (codes "id") j) (entry_formed j numbers))
   tied_with false true r is = never false (is refl) refl
-  tied_with is_one false true is = reply_tied (id_in j) (null_with is_one false) (has_fault (faults_with is_one false)) (key_in j) (reply_in j)
+  tied_with is_one false true is = reply_tied (id_in j) (null_with is_one false) (has_fault (faults_with is_one false) || stands_twice j) (key_in j) (reply_in j)
   tied_with true false false is = refl
   tied_with false false false is = refl
 

@@ -3,7 +3,6 @@ use Rattle.std.proofs.Common.{◌≡◌, ℕ, suc, ◌||◌, ◌&&◌, not, Bool
 use Rattle.std.specs.Prelude.{⊤, is_some}
 use Rattle.std.specs.Option.{option_map_or}
 use Rattle.conversation_reading.specs.declared.entry.Entry.{Entry}
-use Rattle.conversation_reading.specs.declared.entry.Faults.{Faults}
 use Rattle.conversation_reading.specs.declared.entry.WrittenId.{WrittenId}
 use Rattle.conversation_reading.specs.declared.reading.Reading.{Reading}
 use Rattle.conversation_reading.specs.declared.reading.Reading.TheVariants.{Foreign, NotText, NotJson, TooDeep, HalfPair, Single, Array}
@@ -11,8 +10,8 @@ use Rattle.conversation_rules.specs.Answers.{Each as Taken, cancelled_code_level
 use Rattle.conversation_rules.specs.Contents.{Outcome, not_json_rule, sight_of, opened, single_answer_findings, single_outcome, empty_outcome, are_answers, batch_findings, entries_findings, replies_in, reply_ids, have_huge, array_outcome, line_end_findings, behind_line_end, reading_outcome}
 use Rattle.conversation_rules.specs.Dues as dues
 use Rattle.conversation_rules.specs.Dues.{settled, found_batch, unreadable_target}
-use Rattle.conversation_rules.specs.Entries.{is_cancel, is_request, is_undefined, is_well, code_of, is_kept_name, is_notification, fault_findings, code_findings, name_findings, target_findings, cancel_findings, id_findings, fills_id, full_findings, part_findings, plain_findings, entry_findings, behind_entry, unknown_level}
-use Rattle.conversation_rules.specs.Owed.{Due}
+use Rattle.conversation_rules.specs.Entries.{is_cancel, is_request, is_undefined, is_well, code_of, is_kept_name, is_notification, is_both, fault_findings, both_findings, twice_findings, code_findings, name_findings, target_findings, cancel_findings, id_findings, fills_id, full_findings, part_findings, plain_findings, entry_findings, behind_entry, unknown_level}
+use Rattle.conversation_rules.specs.Owed.{Due, has_twice}
 use Rattle.conversation_rules.specs.Protocols.{batch_level, is_mcp}
 use Rattle.conversation_rules.specs.Speakers.{Speaker, Pair, found, found_if}
 use Rattle.conversation_rules.specs.Used.{is_used}
@@ -62,15 +61,17 @@ pub record Hosts (P : Finding → Type 0) (message : Message) : Type 0 where
   pub line_end : May P message rules.LineEnd
   pub batch : May P message rules.Batch
 
--- the faults that an entry has may be told
-pub record Faulty (P : Finding → Type 0) (message : Message) (f : Faults) : Type 0 where
-  pub object : f.object ≡ true → May P message rules.Object
-  pub version : f.version ≡ true → May P message rules.Version
-  pub method : f.method ≡ true → May P message rules.Method
-  pub params : f.params ≡ true → May P message rules.Params
-  pub id : f.id ≡ true → May P message rules.Id
-  pub outcome : f.outcome ≡ true → May P message rules.Outcome
-  pub error : f.error ≡ true → May P message rules.Error
+-- what is wrong with the members that an entry has may be told
+pub record Faulty (P : Finding → Type 0) (message : Message) (entry : Entry) : Type 0 where
+  pub object : entry.faults.object ≡ true → May P message rules.Object
+  pub version : entry.faults.version ≡ true → May P message rules.Version
+  pub method : entry.faults.method ≡ true → May P message rules.Method
+  pub params : entry.faults.params ≡ true → May P message rules.Params
+  pub id : entry.faults.id ≡ true → May P message rules.Id
+  pub outcome : entry.faults.outcome ≡ true → May P message rules.Outcome
+  pub error : entry.faults.error ≡ true → May P message rules.Error
+  pub both : is_both entry.there ≡ true → May P message rules.BothKinds
+  pub twice : has_twice entry ≡ true → May P message rules.Twice
 
 -- what answers break by what is owed
 pub record Answering (P : Finding → Type 0) (message : Message) : Type 0 where
@@ -82,13 +83,14 @@ pub record Answering (P : Finding → Type 0) (message : Message) : Type 0 where
 -- entries one after another
 abbrev pub EntriesMay : (Finding → Type 0) → Message → Protocol → ℕ → List Entry → Speaker → Type 0
 EntriesMay P message protocol at [] own = ⊤
-EntriesMay P message protocol at (entry ∷ entries) own = Faulty P message entry.faults × Each P (id_findings protocol message at true own entry) × EntriesMay P message protocol (suc at) entries (behind_entry protocol at entry own)
+EntriesMay P message protocol at (entry ∷ entries) own = Faulty P message entry × Each P (id_findings protocol message at true own entry) × EntriesMay P message protocol (suc at) entries (behind_entry protocol at entry own)
 
 -- ---- an entry by itself
 
 module _ (P : Finding → Type 0) (message : Message) (host : Hosts P message) where
-  faults_each : (at : ℕ) (f : Faults) → Faulty P message f → Each P (fault_findings message at f)
-  faults_each at f faulty =
+  faults_each : (at : ℕ) (entry : Entry) → Faulty P message entry → Each P (fault_findings message at entry.faults)
+  faults_each at entry faulty =
+      let f = entry.faults in
       let o = λ (r : Rule). found message at r Must in
       each-append P _ (found_if f.error (o rules.Error))
       (each-append P _ (found_if f.outcome (o rules.Outcome))
@@ -111,14 +113,18 @@ module _ (P : Finding → Type 0) (message : Message) (host : Hosts P message) w
       (each_if P (not (is_used id own.used) && not own.used.is_full) (found message at rules.CancelUnknown (unknown_level protocol own)) (λ is. host.cancel_unknown at (unknown_level protocol own)))
       (each_if P (is_mcp protocol && is_used id own.initialize) (found message at rules.CancelInitialize Must) (λ is. host.cancel_initialize at Must))
 
-  pub entry_each : (protocol : Protocol) (in_batch : Bool) (at : ℕ) (entry : Entry) (own : Speaker) → Faulty P message entry.faults → Each P (id_findings protocol message at in_batch own entry)
+  pub entry_each : (protocol : Protocol) (in_batch : Bool) (at : ℕ) (entry : Entry) (own : Speaker) → Faulty P message entry → Each P (id_findings protocol message at in_batch own entry)
       → Each P (entry_findings protocol message in_batch at entry own)
   entry_each protocol in_batch at entry own faulty ids =
       each-append P (plain_findings protocol message in_batch at entry own) (full_findings message at own entry)
       (each-append P _ (id_findings protocol message at in_batch own entry)
       (each-append P (part_findings protocol message at entry) (cancel_findings protocol message at own entry)
       (each-append P _ (name_findings message at entry)
-      (each-append P (fault_findings message at entry.faults) (code_findings protocol message at entry) (faults_each at entry.faults faulty)
+      (each-append P _ (code_findings protocol message at entry)
+      (each-append P _ (twice_findings message at entry)
+      (each-append P (fault_findings message at entry.faults) (both_findings message at entry) (faults_each at entry faulty)
+      (each_if P (is_both entry.there) (found message at rules.BothKinds Must) (λ is. faulty.both is at Must)))
+      (each_if P (has_twice entry) (found message at rules.Twice Should) (λ is. faulty.twice is at Should)))
       (each_if P (is_well entry.kind && option_map_or (is_undefined protocol) (code_of entry) false) (found message at rules.Code Must) (λ is. host.code at Must)))
       (each_if P ((is_request entry.kind || is_notification entry.kind) && option_map_or is_kept_name entry.method false) (found message at rules.RpcName Note) (λ is. host.name at Note)))
       (each_unless P (is_cancel protocol entry) (target_findings protocol message at own entry.target) [] (target_each protocol at own entry.target) tt)) ids)
@@ -222,7 +228,7 @@ ReadingMay P message protocol is_unfinished pair NotJson = May P message (not_js
 ReadingMay P message protocol is_unfinished pair TooDeep = ⊤
 ReadingMay P message protocol is_unfinished pair HalfPair = ⊤
 ReadingMay P message protocol is_unfinished pair (Single entry) =
-    Faulty P message entry.faults × Each P (id_findings protocol message 0 false (opened message false entry.has_huge pair.own) entry)
+    Faulty P message entry × Each P (id_findings protocol message 0 false (opened message false entry.has_huge pair.own) entry)
     × Each P (single_answer_findings protocol (sight_of pair) message entry pair.other)
 ReadingMay P message protocol is_unfinished pair (Array []) = May P message rules.EmptyArray
 ReadingMay P message protocol is_unfinished pair (Array (entry ∷ entries)) =

@@ -79,6 +79,7 @@ desk_of pieces history taken = record { cancels = refl; order = refl; state = re
 none_came : StandsAfter (connection_of [] [] 0) [] []
 none_came = record {
   lawful = tt;
+  typed = tt;
   calls = omega arith;
   stream = record { framing = refl; limit = refl; taken = refl; came = refl; origins = refl };
   ended = λ close is. absurd (cc);
@@ -99,6 +100,7 @@ stream_of_one is_read = record {
 one_came : IsRead → StandsAfter (connection_of (asks ∷ []) one 0) one (events_of one)
 one_came is_read = record {
   lawful = (refl, tt);
+  typed = (tt, tt);
   calls = omega arith;
   stream = stream_of_one is_read;
   ended = λ close is. absurd (none-some close is);
@@ -109,6 +111,7 @@ one_came is_read = record {
 one_answered : IsRead → StandsAfter (connection_of (asks ∷ []) happenings 1) happenings (events_of happenings)
 one_answered is_read = record {
   lawful = (refl, (refl, tt));
+  typed = (is_text, (tt, tt));
   calls = omega arith;
   stream = record { framing = refl; limit = refl; taken = refl; came = (stream_of_one is_read).came; origins = (stream_of_one is_read).origins };
   ended = λ close is. absurd (none-some close is);
@@ -122,13 +125,13 @@ none_is_closed : (how : Option HowEnded) → how ≡ None → (how ≢ Some Clos
 none_is_closed how none is = none-some Closed (sym none ∙ is)
 
 written_before : IsWritten JsonRpc Contents limits [] Server (connection_of [] [] 0) [] [] 0
-written_before = record { stands = none_came; can_be_said = tt; framing_is = refl; fits = omega arith; taken = omega arith; first = refl; closed = inl (none_is_closed None refl) }
+written_before = record { stands = none_came; framing_is = refl; fits = omega arith; taken = omega arith; first = refl; closed = inl (none_is_closed None refl) }
 
 written_between : IsRead → IsWritten JsonRpc Contents limits (Wrote Client asks ∷ []) Server (connection_of (asks ∷ []) one 0) one (events_of one) 0
-written_between is_read = record { stands = one_came is_read; can_be_said = (tt, tt); framing_is = refl; fits = omega arith; taken = omega arith; first = refl; closed = inl (none_is_closed None refl) }
+written_between is_read = record { stands = one_came is_read; framing_is = refl; fits = omega arith; taken = omega arith; first = refl; closed = inl (none_is_closed None refl) }
 
 pub written_behind : IsRead → IsWritten JsonRpc Contents limits conversation Server (connection_of (asks ∷ []) happenings 1) happenings (events_of happenings) 1
-written_behind is_read = record { stands = one_answered is_read; can_be_said = (is_text, (tt, tt)); framing_is = refl; fits = (says_fits, omega arith); taken = omega arith; first = refl; closed = inl (none_is_closed None refl) }
+written_behind is_read = record { stands = one_answered is_read; framing_is = refl; fits = (says_fits, omega arith); taken = omega arith; first = refl; closed = inl (none_is_closed None refl) }
 
 came_to_it : IsRead → (history : History) → units_of history ≡ Single (Call (call_as_read 1 question)) ∷ [] → units_of history ≡ map (read (rules_of chosen)) (take (length (units_of history)) (contents_of Contents 1000 (asks ∷ []) None))
 came_to_it is_read history is = is ∙ (stream_of_one is_read).came ∙ ap (λ units. map (read (rules_of chosen)) (take (length units) (contents_of Contents 1000 (asks ∷ []) None))) (sym is)

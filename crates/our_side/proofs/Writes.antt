@@ -6,7 +6,7 @@ use Rattle.content_streams.specs.Streams.{Stream, plain, contents_of, contents, 
 use Rattle.content_streams.specs.declared.ending.HowEnded.{HowEnded}
 use Rattle.content_streams.specs.declared.ending.StreamEnd.TheVariants as ends
 use Rattle.content_streams.specs.declared.framing.Framing.{Framing}
-use Rattle.connection.specs.BackToBack.{text_of, messages_of, AllCanBeSaid, AllFit, AreFirst, IsEndedWhole, whole_count}
+use Rattle.connection.specs.BackToBack.{text_of, messages_of, AllFit, AreFirst, IsEndedWhole, whole_count}
 use Rattle.connection.specs.Connections.{Connection, StandsAfter}
 use Rattle.connection_history.specs.History.{History}
 use Rattle.connection_history.specs.declared.event.Event.{Event}
@@ -24,15 +24,15 @@ use Rattle.our_side.proofs.Ends.{FrameLaws, IsHosts, ends_hosts}
 use Rattle.our_side.proofs.Fair.{IsFair, AllWell, EndsFairly, fair_side}
 use Rattle.our_side.proofs.Again.{ContentsUp, again_side}
 use Rattle.our_side.proofs.Keys.{FramesUp, keys_up, frames_up, placed_up}
-use Rattle.our_side.proofs.ReadIds.{came_have_ids}
+use Rattle.connection.proofs.ReadIds.{came_have_ids}
 use Rattle.our_side.proofs.Said.{messages_well}
-use Rattle.our_side.proofs.SaidSound.{AreSound, messages_sound}
+use Rattle.connection.proofs.SaidSound.{AreSound, messages_sound}
 use Rattle.our_side.proofs.Streaming.{Later, all_later, Grow}
 
 -- What the laws say of what is written, and of streams.
 pub record Laws : Type 0 where
   pub texts : (c : Connection) (history : History) (told : List Event) → StandsAfter c history told → c.desk.out.written ≡ map text_of (messages_of c.settings.order history)
-  pub front : (c : Connection) (history : History) (told : List Event) (limit : ℕ) (pieces : List (List ℕ)) (ended : Option HowEnded) → StandsAfter c history told → AllCanBeSaid c.settings.cancels history → AllFit limit c.desk.out.written
+  pub front : (c : Connection) (history : History) (told : List Event) (limit : ℕ) (pieces : List (List ℕ)) (ended : Option HowEnded) → StandsAfter c history told → AllFit limit c.desk.out.written
       → (n : ℕ) → IsEndedWhole c.settings.framing n c.desk.out.written ended → AreFirst c.settings.framing n c.desk.out.written pieces
       → contents_of c.settings.framing limit pieces ended ≡ map plain (take (whole_count c.settings.framing n c.desk.out.written) c.desk.out.written)
   pub placed : (framing : Framing) (limit : ℕ) (pieces : List (List ℕ)) (ended : Option HowEnded) → map (λ placed. placed.1) (placed_contents_of framing limit pieces ended) ≡ contents_of framing limit pieces ended
@@ -70,13 +70,13 @@ module _ (laws : Laws) (protocol : Protocol) (framing : Framing) (limits : Limit
   limit_is = later.limit ∙ start_limit side framing limits
 
   pub sound : AreSound connection.settings.cancels (messages_of connection.settings.order history)
-  sound = messages_sound connection.settings.cancels connection.settings.order history is.stands.lawful is.can_be_said (came_have_ids connection history told is.stands)
+  sound = messages_sound connection.settings.cancels connection.settings.order history is.stands.lawful is.stands.typed (came_have_ids connection history told is.stands)
 
   pub contents_are : contents final ≡ map plain (take (whole_count framing n texts) texts)
   contents_are =
       (λ i. contents_of (framing_is i) (limit_is i) final.pieces final.ended)
       ∙ ap (λ f. contents_of f limits.content final.pieces final.ended) (sym is.framing_is)
-      ∙ laws.front connection history told limits.content final.pieces final.ended is.stands is.can_be_said is.fits n
+      ∙ laws.front connection history told limits.content final.pieces final.ended is.stands is.fits n
       (subst (λ f. IsEndedWhole f n texts final.ended) (sym is.framing_is) is.closed) (subst (λ f. AreFirst f n texts final.pieces) (sym is.framing_is) is.first)
       ∙ ap (λ f. map plain (take (whole_count f n texts) texts)) is.framing_is
 

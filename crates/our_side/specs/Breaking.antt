@@ -35,6 +35,8 @@ is_of_messages rules.Params = true
 is_of_messages rules.Id = true
 is_of_messages rules.Outcome = true
 is_of_messages rules.Error = true
+is_of_messages rules.BothKinds = true
+is_of_messages rules.Twice = true
 is_of_messages rules.EmptyArray = true
 is_of_messages _ = false
 

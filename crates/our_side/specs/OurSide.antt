@@ -2,7 +2,7 @@
 use Rattle.std.specs.Prelude.{◌≡◌, ◌≢◌, ◌≤◌, ℕ, List, [], ◌∷◌, ◌++◌, map, take, length, false, Some, ⊤}
 use Rattle.connection_history.specs.History.{Happening, History, units_of}
 use Rattle.connection_history.specs.declared.event.Event.{Event}
-use Rattle.connection.specs.BackToBack.{AllCanBeSaid, AllFit, AreFirst, IsEndedWhole}
+use Rattle.connection.specs.BackToBack.{AllFit, AreFirst, IsEndedWhole}
 use Rattle.connection.specs.Connections.{Connection, StandsAfter, output, read}
 use Rattle.connection.specs.Settings.{Chosen, rules_of}
 use Rattle.content_streams.specs.Streams.{Stream, contents}
@@ -31,8 +31,6 @@ seen_of protocol framing limits seen side = stream_of side (state_of protocol fr
 pub record IsWritten (protocol : Protocol) (framing : Framing) (limits : Limits) (seen : List Seen) (side : Side) (connection : Connection) (history : History) (told : List Event) (n : ℕ) : Type 0 where
   -- the connection has come this far, by any calls of its host and any bytes that came
   pub stands : StandsAfter connection history told
-  -- what the host says is such as its types hold
-  pub can_be_said : AllCanBeSaid connection.settings.cancels history
   -- the judge cuts the stream as the connection writes it
   pub framing_is : connection.settings.framing ≡ framing
   -- each text is within the judge's limit: beyond it nothing of the side is judged

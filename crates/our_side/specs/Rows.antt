@@ -1,6 +1,6 @@
 -- Worked conversations of a connection that the judge accuses.
 use Rattle.std.specs.Prelude.{ℕ, List, [], ◌∷◌, false, Option, Some, None, codes}
-use Rattle.json.specs.Json.{Json, null, string}
+use Rattle.json.specs.Json.{Json, string}
 use Rattle.message_ids.specs.declared.id.Id.TheVariants.{Null, Text}
 use Rattle.connection_messages.specs.declared.answer.Answer.{Answer}
 use Rattle.connection_messages.specs.declared.answer.Answer.TheVariants.{Result, Standard}
@@ -19,10 +19,8 @@ use Rattle.message_ids.specs.declared.standard.Standard.TheVariants.{ParseError}
 abbrev pub reads : Option Cancels → Option ℕ → Rules
 reads cancels most = record { cancels = cancels; most_entries = most; null_params = false }
 
--- ---- a request whose id and params are null, which the host answers as if it couldn't be read
-
-abbrev pub null_call : Json
-null_call = message (method ∷ (codes "id", null) ∷ (codes "params", null) ∷ [])
+-- ---- a request whose id and params are null, which the host answers as if it couldn't be read, once what came behind it was
+-- refused as invalid
 
 abbrev pub null_came : Entry
 null_came = Call (record { id = Some Null; method = codes "a"; params = None })
@@ -31,7 +29,7 @@ abbrev pub parse_error : Answer
 parse_error = Standard ParseError
 
 abbrev pub answered_as_unreadable : History
-answered_as_unreadable = answered 1 (Some parse_error) ∷ came None (Single null_came) ∷ []
+answered_as_unreadable = answered 1 (Some parse_error) ∷ came None (Single Invalid) ∷ came None (Single null_came) ∷ []
 
 -- ---- a batch of more entries than the connection takes
 

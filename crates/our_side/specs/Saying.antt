@@ -6,7 +6,8 @@ use Rattle.conversation_reading.specs.declared.entry.Entry.{Entry}
 use Rattle.conversation_reading.specs.declared.entry.WrittenId.TheVariants.{Number}
 use Rattle.conversation_reading.specs.declared.reading.Reading.{Reading}
 use Rattle.conversation_reading.specs.declared.reading.Reading.TheVariants.{Foreign, NotText, NotJson, TooDeep, HalfPair, Single, Array}
-use Rattle.conversation_rules.specs.Entries.{is_answer, is_request}
+use Rattle.conversation_rules.specs.Entries.{is_answer, is_both, is_request}
+use Rattle.conversation_rules.specs.Owed.{has_twice}
 
 -- its id is a whole number of 64 bits, in decimal digits
 pub record IsPlainId (entry : Entry) : Type 0 where
@@ -17,6 +18,8 @@ pub record IsPlainId (entry : Entry) : Type 0 where
 -- An entry that breaks no rule by itself. A request has such an id, and what is neither a request nor an answer has none.
 pub record IsSaid (entry : Entry) : Type 0 where
   pub faultless : has_fault entry.faults ≡ false
+  pub one_kind : is_both entry.there ≡ false
+  pub once : has_twice entry ≡ false
   pub plain : is_request entry.kind ≡ true → IsPlainId entry
   pub unnamed : is_request entry.kind ≡ false → is_answer entry.kind ≡ false → entry.id ≡ None
 

@@ -104,6 +104,3 @@ impl BytesLeft {
         }
     }
 }
-
-#[cfg(test)]
-mod tests;

@@ -10,6 +10,3 @@ mod stretch;
 pub use law::bytes_follow_one_another;
 pub use mark::Mark;
 pub use outbox::Outbox;
-
-#[cfg(test)]
-mod tests;

@@ -206,6 +206,3 @@ fn give_lengths_back(lengths: &mut VecDeque<usize>)
         lengths.shrink_to((2 * lengths.len()).max(KEPT_LENGTHS));
     }
 }
-
-#[cfg(test)]
-mod tests;

@@ -170,6 +170,3 @@ fn put_line(bytes: &mut Vec<u8>, text: &[u8]) -> Result<(), AllocError>
     bytes.push(b'\n')?;
     Ok(())
 }
-
-#[cfg(test)]
-mod tests;

@@ -10,6 +10,3 @@ mod slots;
 pub use owed::Owed;
 pub use owed_answers::OwedAnswers;
 pub use slot::Slot;
-
-#[cfg(test)]
-mod tests;

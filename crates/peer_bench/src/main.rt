@@ -1,5 +1,5 @@
-//! The program `peer_bench`: work of one kind alone, at size. The libraries that have no program of their own, reading and
-//! writing without a session, a server whose client waits for each answer, and streams, many in one process.
+//! The program `peer_bench`: work of one kind alone, at size. The libraries that have no program of their own, a server whose
+//! client waits for each answer, and streams, many in one process.
 #![tactic(auto)]
 
 mod cases;
@@ -9,6 +9,7 @@ mod lockstep;
 mod program;
 mod run_failure;
 mod table_file;
+mod work;
 
 use program_edge::{read_words, tell_end};
 use std::process::ExitCode;

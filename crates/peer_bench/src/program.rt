@@ -5,9 +5,7 @@ use crate::little::run_little;
 use crate::lockstep::go_round;
 use crate::run_failure::RunFailure;
 use crate::table_file::table_in;
-use bench_reading::{answer_all, compare};
-use bench_work::run_timed;
-use lsp_frames::End;
+use crate::work::run_timed;
 use program_edge::{answer_words, tell_end};
 use std::io::{Read, Write};
 use std::rt::Files;
@@ -16,8 +14,7 @@ use std::thread::Threads;
 use std::time::Clock;
 
 /// Does what the words ask for, of which the first is the program's name, and gives the exit status:
-/// 0, or 1 where an input of frames did not end cleanly or something failed, or 2 where the words, the table or a case are
-/// refused.
+/// 0, or 1 where something failed, or 2 where the words, the table or a case are refused.
 pub fn run<R, I, W, E>(rt: &R, words: &[String], mut input: I, output: &mut W, errors: &mut E) -> u8
 where
     R: Files + Threads + Wait + Sync + Clock + AllocGlobal,
@@ -41,11 +38,6 @@ where
     match bench {
         Bench::Little => Ok(run_little(rt, output)?),
         Bench::Timed(task) => Ok(run_timed(rt, task, output)?),
-        Bench::Answer => match answer_all(rt.alloc(), input, output)? {
-            End::Clean => Ok(()),
-            End::Fault(fault) => Err(RunFailure::Ended(fault)),
-        },
-        Bench::Compare { texts } => Ok(compare(rt.alloc(), texts, output)?),
         Bench::Lockstep(rounds) => Ok(go_round(rt, rounds, output)?),
         Bench::Cases { table } => {
             let table = table_in(rt, table)?;
@@ -59,10 +51,6 @@ fn ended<E: Write>(outcome: Result<(), RunFailure>, errors: &mut E) -> u8 {
     match outcome {
         Ok(()) => 0,
         Err(RunFailure::Program(failure)) => tell_end(Err(failure), errors),
-        Err(RunFailure::Ended(fault)) => {
-            let _ = writeln!(errors, "input ended: {fault:?}");
-            1
-        }
         Err(RunFailure::Refused(why)) => {
             let _ = writeln!(errors, "{why}");
             2

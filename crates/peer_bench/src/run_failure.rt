@@ -1,5 +1,4 @@
 //! Why a run of the program failed.
-use lsp_frames::FrameFault;
 use program_edge::Failure;
 use std::alloc::{AllocError, AllocFailed};
 
@@ -8,8 +7,6 @@ use std::alloc::{AllocError, AllocFailed};
 pub enum RunFailure {
     /// The program itself failed.
     Program(Failure),
-    /// The input's frames ended so.
-    Ended(FrameFault),
     /// The table or a case is refused. This is the one line on standard error.
     Refused(&'static str),
 }

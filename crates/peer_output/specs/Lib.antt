@@ -6,5 +6,4 @@ pub mod Later
 pub mod Left
 pub mod Output
 pub mod Past
-pub mod Stream
 pub mod Work

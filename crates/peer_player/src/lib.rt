@@ -1,4 +1,4 @@
-//! The player: a peer on one thread, from the bytes that come in to the bytes that go out.
+//! The player: a peer on one thread, from the bytes that are received to the bytes that are sent.
 #![tactic(auto)]
 
 mod player;

@@ -3,6 +3,7 @@
 ghost use Rattle.std.specs.Prelude.{◌≡◌, ◌++◌, ℕ, List, [], false, IfOk, IfErr, OnOk, OnErr, Option};
 ghost use Rattle.method_steps.specs.Steps.{MethodTable};
 ghost use Rattle.peer_session.specs.Events.{CountsDrain};
+ghost use Rattle.peer_session.specs.HandedOn.{HandsOn};
 ghost use Rattle.stream_framing.specs.declared.framing.Framing.{Framing as FramingOf};
 ghost use Rattle.stream_session.specs.Stream.{stream_of};
 ghost use Rattle.stream_framing.specs.declared.framing.Framing.TheVariants.{Frames};
@@ -101,6 +102,8 @@ impl<'a, S: Sink> Player<'a, S> {
         // The sink's count of failures rises where a write fails now, and in no other case.
         ensures cause { CountsDrain (stream_of self.old.playing.stream).session
             (S.failures self.old.playing.sink) result (S.failures self.new.playing.sink) }
+        ensures flushed { HandsOn S.handed_on S.bytes_taken self.old.playing.sink result
+            self.new.playing.sink }
         ensures same { OnOk result ((stream_of self.new.playing.stream).session.is_broken ≡
             (stream_of self.old.playing.stream).session.is_broken) }
     {
@@ -126,6 +129,8 @@ impl<'a, S: Sink> Player<'a, S> {
         // The sink's count of failures rises where a write fails now, and in no other case.
         ensures cause { CountsDrain (stream_of self.old.playing.stream).session
             (S.failures self.old.playing.sink) result (S.failures self.new.playing.sink) }
+        ensures flushed { HandsOn S.handed_on S.bytes_taken self.old.playing.sink result
+            self.new.playing.sink }
     {
         self.begin()?;
         self.playing.end()
@@ -156,6 +161,8 @@ impl<'a, S: Sink> Player<'a, S> {
             (S.bytes_taken self.new.playing.sink)) }
         ensures cause { CountsDrain (stream_of self.old.playing.stream).session
             (S.failures self.old.playing.sink) result (S.failures self.new.playing.sink) }
+        ensures flushed { HandsOn S.handed_on S.bytes_taken self.old.playing.sink result
+            self.new.playing.sink }
         ensures same { OnOk result ((stream_of self.new.playing.stream).session.is_broken ≡
             (stream_of self.old.playing.stream).session.is_broken) }
     {

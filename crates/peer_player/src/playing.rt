@@ -4,6 +4,7 @@ ghost use Rattle.std.specs.Prelude.{◌≡◌, ◌<◌, [], IsTrue, false, IfOk,
 ghost use Rattle.lsp_frames.specs.Devices.{Unfinished};
 ghost use Rattle.peer_events.specs.Turns.{all_turns_left};
 ghost use Rattle.peer_events.specs.Turning.{ready};
+ghost use Rattle.peer_session.specs.HandedOn.{HandsOn};
 ghost use Rattle.stream_session.specs.Stream.{Fed, IsTaken, StopsShort, stream_of, with_piece};
 ghost use Rattle.peer_player.specs.Player.{IsPlayIn, IsPlayShortIn};
 ghost use Rattle.peer_player.specs.Playing.{Plays, HasWritten, HasSettled, KeepsInput, PlaysOn, MayStopShort, CountsPlay, StaysAsBroken};
@@ -36,6 +37,7 @@ impl<'a, S: Sink> Playing<'a, S> {
             Plays fed (stream_of self.old.stream) (S.bytes_taken self.old.sink) →
             OnErr result (StopsShort (with_piece fed piece.now) (S.bytes_taken self.new.sink)) }
         ensures cause { CountsPlay S.failures self.old result self.new }
+        ensures flushed { HandsOn S.handed_on S.bytes_taken self.old.sink result self.new.sink }
         ensures same { StaysAsBroken self.old result self.new }
     {
         what_a_stream_wrote();
@@ -54,6 +56,7 @@ impl<'a, S: Sink> Playing<'a, S> {
             OnErr result (IsPlayShortIn fed.framing fed.table fed.limits fed.bytes fed.before
             (S.bytes_taken self.new.sink)) }
         ensures cause { CountsPlay S.failures self.old result self.new }
+        ensures flushed { HandsOn S.handed_on S.bytes_taken self.old.sink result self.new.sink }
     {
         what_sessions_wrote();
         what_a_stream_wrote();
@@ -70,6 +73,7 @@ impl<'a, S: Sink> Playing<'a, S> {
         ensures taken { OnOk result (IsTaken (stream_of self.new.stream)) }
         ensures last { (stream_of self.new.stream).last ≡ (stream_of self.old.stream).last }
         ensures cause { CountsPlay S.failures self.old result self.new }
+        ensures flushed { HandsOn S.handed_on S.bytes_taken self.old.sink result self.new.sink }
         ensures same { StaysAsBroken self.old result self.new }
     {
         what_a_stream_wrote();
@@ -85,6 +89,7 @@ impl<'a, S: Sink> Playing<'a, S> {
         ensures err { MayStopShort S.bytes_taken self.old result self.new }
         ensures input { KeepsInput (stream_of self.old.stream) (stream_of self.new.stream) }
         ensures cause { CountsPlay S.failures self.old result self.new }
+        ensures flushed { HandsOn S.handed_on S.bytes_taken self.old.sink result self.new.sink }
         ensures same { StaysAsBroken self.old result self.new }
     {
         if self.schedule.lazy {
@@ -99,6 +104,7 @@ impl<'a, S: Sink> Playing<'a, S> {
         ensures err { MayStopShort S.bytes_taken self.old result self.new }
         ensures input { KeepsInput (stream_of self.old.stream) (stream_of self.new.stream) }
         ensures cause { CountsPlay S.failures self.old result self.new }
+        ensures flushed { HandsOn S.handed_on S.bytes_taken self.old.sink result self.new.sink }
         ensures same { StaysAsBroken self.old result self.new }
     {
         self.drain()?;
@@ -116,6 +122,7 @@ impl<'a, S: Sink> Playing<'a, S> {
         ensures turns { OnOk result (all_turns_left (stream_of self.new.stream).session.core.stages
             ≡ all_turns_left (stream_of self.old.stream).session.core.stages) }
         ensures cause { CountsPlay S.failures self.old result self.new }
+        ensures flushed { HandsOn S.handed_on S.bytes_taken self.old.sink result self.new.sink }
         ensures same { StaysAsBroken self.old result self.new }
     {
         turned_handlers_have_fewer_turns_left();

@@ -7,6 +7,7 @@ ghost use Rattle.stream_session.specs.Stream.{stream_of};
 ghost use Rattle.stream_framing.specs.declared.framing.Framing.TheVariants.{Frames};
 ghost use Rattle.peer_player.specs.Player.{PlaysAfter};
 ghost use Rattle.peer_session.specs.Events.{CountsDrain};
+ghost use Rattle.peer_session.specs.HandedOn.{HandsOn, HandsOnUntil, HasHandedOn};
 ghost use Rattle.stream_session.specs.Promise.{IsPlay, IsRunCutShort, CountsFault};
 
 use crate::player::Player;
@@ -77,6 +78,11 @@ pub fn play_to<S: Sink>(
     ensures failures { IfOk result (λ played. S.failures played.1 ≡ S.failures sink) }
     ensures cause { IfErr result (λ stopped. CountsFault (S.failures sink) stopped.0
         (S.failures stopped.1)) }
+
+    // Unless a write fails, the sink is as it was, or has handed on all that it has taken.
+    ensures flushed { IfOk result (λ played. HasHandedOn S.handed_on S.bytes_taken sink played.1) }
+    ensures flushed_until { IfErr result (λ stopped. HandsOnUntil S.handed_on S.bytes_taken sink
+        stopped.0 stopped.1) }
 {
     what_a_stream_wrote();
     runs_in_frames_are_runs();
@@ -101,6 +107,8 @@ fn play_all<S: Sink>(player: &mut Player<'_, S>, pieces: &[Vec<u8>]) -> Result<R
         before (S.bytes_taken player.new.playing.sink)) }
     ensures cause { CountsDrain (stream_of player.old.playing.stream).session
         (S.failures player.old.playing.sink) result (S.failures player.new.playing.sink) }
+    ensures flushed { HandsOn S.handed_on S.bytes_taken player.old.playing.sink result
+        player.new.playing.sink }
 {
     runs_in_frames_are_runs();
     for piece in pieces {

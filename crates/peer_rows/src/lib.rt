@@ -1,6 +1,6 @@
 //! Bytes in and bytes out, where no stream shows them from outside: what sources give and sinks take, that a decoder and a session
-//! go on after want of memory, limits, what becomes of a peer and of a server whose devices fail, and that a server's workers turn
-//! jobs side by side. What a peer writes for a stream is played by `checks/test_played_rows.py`.
+//! go on after want of memory, what becomes of a peer and of a server whose devices fail, and that a server's workers turn jobs
+//! side by side. What a peer writes for a stream is played by `checks/test_played_rows.py`.
 #![tactic(auto)]
 
 #[cfg(test)]
@@ -13,5 +13,3 @@ mod frames;
 mod plays;
 #[cfg(test)]
 mod served;
-#[cfg(test)]
-mod told;

@@ -1,88 +1,26 @@
-//! What no clause says of a peer on one thread: that its calls succeed, at its limits, after want of memory and with sinks that fail.
+//! What no clause says of a peer on one thread: that its calls succeed, after want of memory and with sinks that fail.
 
 mod devices;
 mod drains;
-mod limits;
 mod memory;
 
-use crate::cuts;
 use json_values::Items;
 use lsp_frames::{Frame, put_frame};
 use method_steps::Table;
+use peer_session::Limits;
 use std::alloc::{AllocError, Global};
+use std::process::Abort;
 use std::test::Fail;
 
 /// The methods of most tests.
-const METHODS: &str = r#"version = 1
-
-[[method]]
-name = "add"
-[[method.step]]
-kind = "add"
-to = "s"
-left = "$params/0"
-right = "$params/1"
-[[method.step]]
-kind = "answer"
-value = "$s"
-
-[[method]]
-name = "ask"
-[[method.step]]
-kind = "call"
-to = "r"
-method = "confirm"
-params = ["$params/0"]
-[[method.step]]
-kind = "answer"
-value = "$r"
-
-[[method]]
-name = "two"
-[[method.step]]
-kind = "calls"
-to = "r"
-list = [{ method = "a" }, { method = "b" }]
-[[method.step]]
-kind = "answer"
-value = "$r"
-
-[[method]]
-name = "gate"
-[[method.step]]
-kind = "call"
-to = "r"
-method = "confirm"
-[[method.step]]
-kind = "skip"
-left = "$r"
-right = true
-count = 1
-[[method.step]]
-kind = "fail"
-code = 7
-message = "no"
-[[method.step]]
-kind = "answer"
-value = "yes"
-
-[[method]]
-name = "keep"
-[[method.step]]
-kind = "call"
-to = "r"
-method = "confirm"
-on_error = "keep"
-[[method.step]]
-kind = "answer"
-value = "$r"
-
-[[method]]
-name = "note"
-[[method.step]]
-kind = "notify"
-method = "log"
-params = ["$params/0"]
+pub(crate) const METHODS: &str = r#"version = 1
+method = [
+  { name = "m" },
+  { name = "add", step = [{ kind = "add", to = "s", left = "$params/0", right = "$params/1" }, { kind = "answer", value = "$s" }] },
+  { name = "ask", step = [{ kind = "call", to = "r", method = "confirm", params = ["$params/0"] }, { kind = "answer", value = "$r" }] },
+  { name = "two", step = [{ kind = "calls", to = "r", list = [{ method = "a" }, { method = "b" }] }, { kind = "answer", value = "$r" }] },
+  { name = "keep", step = [{ kind = "call", to = "r", method = "confirm", on_error = "keep" }, { kind = "answer", value = "$r" }] },
+]
 "#;
 
 pub(crate) fn table(alloc: Global, text: &str) -> Result<Table, Fail> {
@@ -108,6 +46,9 @@ fn frame(alloc: Global, content: &str) -> Result<Frame, AllocError> {
     })
 }
 
-fn whole(alloc: Global, bytes: &[u8]) -> Result<Vec<Vec<u8>>, AllocError> {
-    cuts::owned(alloc, &[bytes])
+#[test]
+fn limits_are_at_most_the_standard_ones(rt: HostRuntime) {
+    assert!(rt; Limits::new(16_777_217, 2).is_none());
+    assert!(rt; Limits::new(16_777_216, 1_000_001).is_none());
+    assert!(rt; Limits::new(16_777_216, 1_000_000) == Some(Limits::standard()));
 }

@@ -1,45 +1,19 @@
 //! What no clause says: that a server ends where its devices fail, and that nothing waits for anything that it needn't wait for.
+//! (`checks/test_serving.py` has the output of the program fail at each place.)
 
-mod crew;
-mod devices;
-mod held_back;
-mod side_by_side;
+mod held;
 
 use crate::cuts;
+use crate::plays::{METHODS, table};
 use lsp_frames::{MemSink, MemSource};
 use method_steps::Table;
-use peer_session::{Close, Limits, Report};
+use peer_session::{Close, Limits};
 use rpc_peer::{ServeFault, serve};
-use std::alloc::{AllocError, Global};
+use std::alloc::{AllocError, AllocGlobal, Global};
+use std::process::Abort;
 use std::sync::Wait;
 use std::test::Fail;
 use std::thread::Threads;
-
-/// Methods that add, and that call the other side and answer its reply.
-const METHODS: &str = r#"version = 1
-
-[[method]]
-name = "add"
-[[method.step]]
-kind = "add"
-to = "s"
-left = "$params/0"
-right = "$params/1"
-[[method.step]]
-kind = "answer"
-value = "$s"
-
-[[method]]
-name = "ask"
-[[method.step]]
-kind = "call"
-to = "r"
-method = "confirm"
-params = ["$params/0"]
-[[method.step]]
-kind = "answer"
-value = "$r"
-"#;
 
 const ASK: &str = concat!(
     "Content-Length: 54\r\n\r\n",
@@ -77,100 +51,99 @@ const NOT_FOUND: &str = concat!(
     r#"{"error":{"code":-32601,"message":"Method not found"},"id":1,"jsonrpc":"2.0"}"#
 );
 
-/// What a server is given: its methods, its workers, the frames that come, and where its devices fail.
-#[derive(Clone, Copy)]
-struct Given<'a> {
-    methods: &'a str,
-    workers: u32,
-    frames: &'a [&'a str],
-    is_cut: bool,
-    /// The call at which the source fails.
-    fault_at: Option<u32>,
-    /// So many bytes the sink takes.
-    stop: Option<u64>,
-}
-
-/// How a server ended, and what it wrote.
+/// The call at which a server's source fails, how many bytes its sink takes, how it ends, and what it writes.
 #[derive(Drop)]
-struct Ended {
-    outcome: Result<Report, ServeFault>,
-    written: Vec<u8>,
+struct Row {
+    fault_at: Option<u32>,
+    stop: Option<u64>,
+    end: Result<Close, ServeFault>,
+    output: &'static [&'static str],
 }
 
-impl Ended {
-    /// Whether this was the end of the input, or why it wasn't served.
-    fn has_outcome(&self, outcome: Result<Close, ServeFault>) -> bool {
-        match (&self.outcome, outcome) {
-            (Ok(report), Ok(end)) => report.end == end,
-            (Err(fault), Err(wanted)) => *fault == wanted,
-            _ => false,
-        }
-    }
-
-    fn has_written(&self, texts: &[&str]) -> bool {
-        cuts::is_made_of(self.written.as_slice(), texts)
-    }
-}
-
-impl Given<'_> {
-    /// Frames that come whole to so many workers, whose devices don't fail.
-    fn whole<'a>(methods: &'a str, workers: u32, frames: &'a [&'a str]) -> Given<'a> {
-        Given {
-            methods,
-            workers,
-            frames,
-            is_cut: false,
-            fault_at: None,
-            stop: None,
-        }
-    }
-
-    /// Whether a server ends so, and writes these texts.
-    fn gives<R: Threads + Wait + Sync>(
-        &self,
-        rt: &R,
-        alloc: Global,
-        outcome: Result<Close, ServeFault>,
-        texts: &[&str],
-    ) -> Result<bool, Fail> {
-        let ended = self.served(rt, alloc)?;
-        Ok(ended.has_outcome(outcome) && ended.has_written(texts))
-    }
-
-    /// What a server makes of it.
-    fn served<R: Threads + Wait + Sync>(&self, rt: &R, alloc: Global) -> Result<Ended, Fail> {
-        let table = crate::plays::table(alloc, self.methods)?;
-        let ended = self.served_by(rt, alloc, &table);
-        drop(table);
-        Ok(ended?)
-    }
-
-    fn served_by<R: Threads + Wait + Sync>(
+impl Row {
+    /// Whether a server of two workers, to which these pieces come, ends so.
+    fn is_served<R: Threads + Wait + Sync>(
         &self,
         rt: &R,
         alloc: Global,
         table: &Table,
-    ) -> Result<Ended, AllocError> {
-        let source = MemSource::new(self.pieces(alloc)?, self.fault_at);
+        pieces: Vec<Vec<u8>>,
+    ) -> bool {
+        let source = MemSource::new(pieces, self.fault_at);
         let sink = MemSink::new(alloc, self.stop);
-        let limits = Limits::standard();
-        let (outcome, sink) = match serve(rt, alloc, table, limits, self.workers, source, sink) {
-            Ok((report, sink)) => (Ok(report), sink),
+        let (end, sink) = match serve(rt, alloc, table, Limits::standard(), 2, source, sink) {
+            Ok((report, sink)) => (Ok(report.end), sink),
             Err((fault, sink)) => (Err(fault), sink),
         };
-        Ok(Ended {
-            outcome,
-            written: sink.into_vec(),
-        })
+        let is_served = end == self.end && cuts::is_made_of(sink.bytes(), self.output);
+        drop(sink);
+        is_served
     }
+}
 
-    /// The frames as one piece, or byte by byte.
-    fn pieces(&self, alloc: Global) -> Result<Vec<Vec<u8>>, AllocError> {
-        let stream = cuts::texts(alloc, self.frames)?;
-        if self.is_cut {
-            cuts::bytewise(alloc, stream.as_slice())
-        } else {
-            cuts::owned(alloc, &[stream.as_slice()])
-        }
+/// What a server writes and tells whose source gives a byte a call, and fails at this one.
+fn cut_off(fault_at: u32) -> Row {
+    let (end, output): (Close, &[&str]) = match fault_at {
+        1..=76 => (Close::Read, &[]),
+        77..=140 => (Close::Read, &[CONFIRM, NO_REPLY]),
+        141 => (Close::Read, &[CONFIRM, CONFIRMED]),
+        _ => (Close::Clean, &[CONFIRM, CONFIRMED]),
+    };
+    Row {
+        fault_at: Some(fault_at),
+        stop: None,
+        end: Ok(end),
+        output,
     }
+}
+
+fn each_is_cut_off<R: Threads + Wait + Sync + Abort>(
+    rt: &R,
+    alloc: Global,
+    table: &Table,
+) -> Result<(), AllocError> {
+    let stream = cuts::texts(alloc, &[ASK, REPLY])?;
+    for fault_at in 1..=142 {
+        let pieces = cuts::bytewise(alloc, stream.as_slice())?;
+        assert!(rt;
+            cut_off(fault_at).is_served(rt, alloc, table, pieces),
+            "at call {fault_at}"
+        );
+    }
+    Ok(())
+}
+
+#[test]
+fn a_source_may_fail_at_each_byte(rt: HostRuntime) -> Result<(), Fail> {
+    assert!(rt; ASK.len() + REPLY.len() == 140);
+    let table = table(rt.alloc(), METHODS)?;
+    let done = each_is_cut_off(&rt, rt.alloc(), &table);
+    drop(table);
+    Ok(done?)
+}
+
+const SHORT: &[Row] = &[
+    Row {
+        fault_at: None,
+        stop: Some(30),
+        end: Err(ServeFault::Write),
+        output: &["Content-Length: 77\r\n\r\n{\"error\""],
+    },
+    Row {
+        fault_at: Some(2),
+        stop: None,
+        end: Ok(Close::Read),
+        output: &[NOT_FOUND],
+    },
+];
+
+#[test]
+fn a_short_answer_is_cut_and_a_failed_read_is_told(rt: HostRuntime) -> Result<(), Fail> {
+    let table = Table::empty(rt.alloc());
+    for row in SHORT {
+        let pieces = cuts::owned(rt.alloc(), &[UNKNOWN.as_bytes()])?;
+        assert!(rt; row.is_served(&rt, rt.alloc(), &table, pieces));
+    }
+    drop(table);
+    Ok(())
 }

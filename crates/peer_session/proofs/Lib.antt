@@ -3,6 +3,7 @@ mod Drains
 mod Ended
 mod Entering
 mod Finished
+pub mod HandedOn
 mod Hearings
 mod Picked
 mod Waits

@@ -1,5 +1,5 @@
-//! One session of a peer: units come in, handlers go out for their turns and come back, and what is
-//! due goes out.
+//! One session of a peer: messages are received, handlers go out for their turns and come back, and what is
+//! due is sent.
 //! Its limits say how much a peer takes, its report what a run tells of itself.
 #![tactic(auto)]
 

@@ -8,6 +8,7 @@ ghost use Rattle.peer_events.specs.Turning.{due_bytes, ready};
 ghost use Rattle.stream_framing.specs.declared.framing.Framing.TheVariants.{Frames, Lines};
 ghost use Rattle.peer_session.specs.Events.{ended, TakesUnit, LeavesAt, picked, with_job_back, DrainsIn, DrainsTo, CountsDrain};
 ghost use Rattle.peer_session.specs.Framings.{due_in};
+ghost use Rattle.peer_session.specs.HandedOn.{HandsOn, HasHandedOn};
 ghost use Rattle.peer_session.specs.SessionState.{SessionState, IsDone, new_session, report_of};
 
 use crate::drain_fault::DrainFault;
@@ -219,6 +220,7 @@ impl<'a> Session<'a> {
             (S.failures sink.new) }
         ensures handed_on { 0 < length (due_bytes (view self.old).core) →
             OnOk result (HandsOnAll (S.handed_on sink.new) (S.bytes_taken sink.new)) }
+        ensures flushed { HandsOn S.handed_on S.bytes_taken sink.old result sink.new }
     {
         self.drain_in(Framing::Frames, sink)
     }
@@ -235,6 +237,7 @@ impl<'a> Session<'a> {
             (S.failures sink.new) }
         ensures handed_on { 0 < length (due_in framing (view self.old).core) →
             OnOk result (HandsOnAll (S.handed_on sink.new) (S.bytes_taken sink.new)) }
+        ensures flushed { HandsOn S.handed_on S.bytes_taken sink.old result sink.new }
     {
         if self.is_broken {
             return Err(DrainFault::Write);
@@ -293,6 +296,7 @@ fn write<S: Sink>(sink: &mut S, bytes: &[u8]) -> bool
         (S.bytes_taken sink.new) (take count bytes.now) }
     ensures handed_on { result ≡ true → 0 < length bytes.now →
         HandsOnAll (S.handed_on sink.new) (S.bytes_taken sink.new) }
+    ensures flushed { result ≡ true → HasHandedOn S.handed_on S.bytes_taken sink.old sink.new }
 {
     if bytes.is_empty() {
         return true;

@@ -1,1 +1,5 @@
-pub mod SaidSoFar
+mod Blanks
+mod Going
+mod Lines
+mod SaidSoFar
+mod Seeing

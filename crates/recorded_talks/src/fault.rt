@@ -2,7 +2,7 @@ use std::alloc::{AllocError, AllocFailed};
 
 /// Why a line can't be read.
 #[derive(Clone, Copy, Debug, PartialEq, Eq)]
-pub enum LineFault {
+pub(crate) enum LineFault {
     /// Out of memory.
     Memory,
     /// It is no line of a recording.

@@ -1,52 +1,93 @@
 //! A finding as a line.
+
+ghost use Rattle.std.specs.Prelude.{◌≡◌, IfOk, string_bytes};
+ghost use Rattle.recorded_talks.specs.Told.{finding_text, who_text, message_text, rule_text, entry_place, whose, asked_by, side_name, level_name, rule_name, rule_place};
+
 use conversation_rules::{Finding, Level, Rule, Side};
-use std::fmt;
+use std::alloc::{AllocError, Global};
 
-/// A finding, shown as a line without its LF.
-#[derive(Clone, Copy)]
-pub struct FindingLine {
-    pub finding: Finding,
+/// The line of a finding, without its LF.
+pub(crate) fn finding_text(alloc: Global, finding: Finding) -> Result<String, AllocError>
+    ensures { IfOk result (λ text. string_bytes text ≡ finding_text finding) }
+{
+    let who = who_text(alloc, finding)?;
+    let message = message_text(alloc, finding.number, finding.offset)?;
+    let entry = entry_place(alloc, finding.entry)?;
+    let rule = rule_text(alloc, finding.rule)?;
+    format!(in alloc; "{who}{message}{entry}{rule}")
 }
 
-impl fmt::Display for FindingLine {
-    fn fmt<W: fmt::Write>(&self, f: &mut fmt::Formatter<W>) -> fmt::Result {
-        let it = self.finding;
-        let (level, side, whose) = (level_name(it.level), side_name(it.side), whose(it));
-        let (number, offset, rule) = (it.number, it.offset, rule_name(it.rule));
-        write!(
-            f,
-            "{level}: {side}, {whose}message {number} at byte {offset}"
-        )?;
-        if it.entry > 0 {
-            let entry = it.entry;
-            write!(f, ", entry {entry}")?;
-        }
-        write!(f, ": {rule}")?;
-        let section = section_of(it.rule);
-        if section.is_empty() {
-            return Ok(());
-        }
-        write!(f, " ({section})")
+/// How bad it is, and whose message it is about.
+#[tactic(auto, unfolding(crate::specs::Told::who_text))]
+fn who_text(alloc: Global, finding: Finding) -> Result<String, AllocError>
+    ensures { IfOk result (λ text. string_bytes text ≡ who_text finding) }
+{
+    let level = level_name(finding.level);
+    let side = side_name(finding.side);
+    let whose = whose(finding.rule, finding.side);
+    format!(in alloc; "{level}: {side}, {whose}")
+}
+
+#[tactic(auto, unfolding(crate::specs::Told::message_text))]
+fn message_text(alloc: Global, number: u64, offset: u64) -> Result<String, AllocError>
+    ensures { IfOk result (λ text. string_bytes text ≡ message_text number offset) }
+{
+    format!(in alloc; "message {number} at byte {offset}")
+}
+
+/// The rule, and where it stands.
+#[tactic(auto, unfolding(crate::specs::Told::rule_text))]
+fn rule_text(alloc: Global, rule: Rule) -> Result<String, AllocError>
+    ensures { IfOk result (λ text. string_bytes text ≡ rule_text rule) }
+{
+    let name = rule_name(rule);
+    let place = rule_place(rule);
+    format!(in alloc; ": {name}{place}")
+}
+
+/// The entry's place in its array, where it has one.
+#[tactic(auto, unfolding(crate::specs::Told::entry_place))]
+fn entry_place(alloc: Global, entry: u64) -> Result<String, AllocError>
+    ensures { IfOk result (λ text. string_bytes text ≡ entry_place entry) }
+{
+    if entry == 0 {
+        return Ok(String::new(alloc));
     }
+    format!(in alloc; ", entry {entry}")
 }
 
-/// Whose message it is, where it isn't the side's own. A request without an answer is that of the side that asked.
-fn whose(finding: Finding) -> &'static str {
-    match (finding.rule, finding.side) {
-        (Rule::Unanswered, Side::Client) => "server's ",
-        (Rule::Unanswered, Side::Server) => "client's ",
+/// Whose message it is, where it isn't the side's own.
+fn whose(rule: Rule, side: Side) -> &'static str
+    ensures { result.now ≡ whose rule side }
+{
+    match rule {
+        Rule::Unanswered => asked_by(side),
         _ => "",
     }
 }
 
-fn side_name(side: Side) -> &'static str {
+/// A request without an answer is that of the side that asked.
+fn asked_by(side: Side) -> &'static str
+    ensures { result.now ≡ asked_by side }
+{
+    match side {
+        Side::Client => "server's ",
+        Side::Server => "client's ",
+    }
+}
+
+fn side_name(side: Side) -> &'static str
+    ensures { result.now ≡ side_name side }
+{
     match side {
         Side::Client => "client",
         Side::Server => "server",
     }
 }
 
-fn level_name(level: Level) -> &'static str {
+fn level_name(level: Level) -> &'static str
+    ensures { result.now ≡ level_name level }
+{
     match level {
         Level::Must => "must",
         Level::Should => "should",
@@ -55,7 +96,9 @@ fn level_name(level: Level) -> &'static str {
 }
 
 /// A rule's name, as docs/judge.md has it.
-fn rule_name(rule: Rule) -> &'static str {
+fn rule_name(rule: Rule) -> &'static str
+    ensures { result.now ≡ rule_name rule }
+{
     match rule {
         Rule::Head => "head",
         Rule::NotJson => "not-json",
@@ -69,6 +112,8 @@ fn rule_name(rule: Rule) -> &'static str {
         Rule::Id => "id",
         Rule::Outcome => "outcome",
         Rule::Error => "error",
+        Rule::BothKinds => "both-kinds",
+        Rule::Twice => "twice",
         Rule::EmptyArray => "empty-array",
         Rule::Batch => "batch",
         Rule::NotOwed => "not-owed",
@@ -89,27 +134,31 @@ fn rule_name(rule: Rule) -> &'static str {
     }
 }
 
-/// Where a rule stands, as docs/judge.md has it.
-fn section_of(rule: Rule) -> &'static str {
+/// Where a rule stands, as docs/judge.md has it, in parentheses behind a blank.
+fn rule_place(rule: Rule) -> &'static str
+    ensures { result.now ≡ rule_place rule }
+{
     match rule {
-        Rule::Head | Rule::Charset => "LSP, Base Protocol",
-        Rule::NotJson => "JSON-RPC 4; RFC 8259; MCP, stdio",
-        Rule::CutOff => "LSP, Base Protocol; MCP, stdio",
-        Rule::LineEnd => "MCP, stdio",
-        Rule::Object | Rule::Method | Rule::IdForm | Rule::RpcName => "JSON-RPC 4",
-        Rule::Version | Rule::Id | Rule::Outcome => "JSON-RPC 4, 5",
-        Rule::Params => "JSON-RPC 4.2",
-        Rule::Error => "JSON-RPC 5.1",
-        Rule::EmptyArray | Rule::NotAsArray => "JSON-RPC 6",
-        Rule::Batch => "LSP has no word on them; MCP 2025-06-18, changes",
-        Rule::NotOwed => "JSON-RPC 4.1, 5",
-        Rule::IdFraction | Rule::IdNull => "JSON-RPC 4; MCP, messages",
-        Rule::IdAgain => "JSON-RPC 6; MCP, messages",
-        Rule::Code => "JSON-RPC 5.1; LSP, ErrorCodes",
-        Rule::CancelledCode => "LSP, Cancellation Support",
-        Rule::CancelParams | Rule::CancelUnknown => "LSP, Cancellation Support; MCP, cancellation",
-        Rule::CancelInitialize | Rule::AfterCancel => "MCP, cancellation",
-        Rule::Unanswered => "JSON-RPC 5; LSP, Cancellation Support",
+        Rule::Head | Rule::Charset => " (LSP, Base Protocol)",
+        Rule::NotJson => " (JSON-RPC 4; RFC 8259; MCP, stdio)",
+        Rule::CutOff => " (LSP, Base Protocol; MCP, stdio)",
+        Rule::LineEnd => " (MCP, stdio)",
+        Rule::Object | Rule::Method | Rule::IdForm | Rule::RpcName => " (JSON-RPC 4)",
+        Rule::Version | Rule::Id | Rule::Outcome | Rule::BothKinds => " (JSON-RPC 4, 5)",
+        Rule::Twice => " (JSON-RPC 4, 5; RFC 8259, 4)",
+        Rule::Params => " (JSON-RPC 4.2)",
+        Rule::Error => " (JSON-RPC 5.1)",
+        Rule::EmptyArray | Rule::NotAsArray => " (JSON-RPC 6)",
+        Rule::Batch => " (LSP has no word on them; MCP 2025-06-18, changes)",
+        Rule::NotOwed => " (JSON-RPC 4.1, 5)",
+        Rule::IdFraction | Rule::IdNull => " (JSON-RPC 4; LSP, Request Message; MCP, messages)",
+        Rule::IdAgain => " (JSON-RPC 6; MCP, messages)",
+        Rule::Code => " (JSON-RPC 5.1; LSP, ErrorCodes)",
+        Rule::CancelledCode => " (LSP, Cancellation Support)",
+        Rule::CancelParams | Rule::CancelUnknown =>
+            " (LSP, Cancellation Support; MCP, cancellation)",
+        Rule::CancelInitialize | Rule::AfterCancel => " (MCP, cancellation)",
+        Rule::Unanswered => " (JSON-RPC 5; LSP, Cancellation Support)",
         Rule::NotJudged => "",
     }
 }

@@ -1,33 +1,44 @@
 //! The first line, and the names in it.
+
+ghost use Rattle.std.specs.Prelude.{◌≡◌};
+ghost use Rattle.recorded_talks.specs.Recorded.{head_of, head_named, protocol_named, framing_named};
+
+use crate::text::{text_in, without_blanks};
 use content_streams::Framing;
 use conversation_rules::Protocol;
-use std::str::from_utf8;
 
 /// Whose rules a conversation is held against, and how its contents are framed.
 #[derive(Clone, Copy, Debug, PartialEq, Eq)]
-pub struct Head {
-    pub protocol: Protocol,
-    pub framing: Framing,
+pub(crate) struct Head {
+    pub(crate) protocol: Protocol,
+    pub(crate) framing: Framing,
 }
 
 /// The head that a line is, without its LF.
-pub fn read_head(line: &[u8]) -> Option<Head> {
-    let text = line_text(line)?;
-    let (rules, framing) = text.strip_prefix("judge 1 ")?.split_once(' ')?;
-    Some(Head {
-        protocol: protocol_named(rules)?,
-        framing: framing_named(framing)?,
-    })
+pub(crate) fn read_head(line: &[u8]) -> Option<Head>
+    ensures { result ≡ head_of line.now }
+{
+    let line = without_blanks(line);
+    if !line.starts_with(b"judge 1 ") {
+        return None;
+    }
+    head_named(text_in(&line[8..])?)
 }
 
-/// The text of a line, without the blanks and the CR at its end.
-pub(crate) fn line_text(line: &[u8]) -> Option<&str> {
-    let text = from_utf8(line).ok()?;
-    Some(text.trim_end_matches(|it: char| matches!(it, ' ' | '\t' | '\r')))
+/// The head of two names.
+fn head_named(names: &str) -> Option<Head>
+    ensures { result ≡ head_named names.now }
+{
+    let (rules, framing) = names.split_once(' ')?;
+    let protocol = protocol_named(rules)?;
+    let framing = framing_named(framing)?;
+    Some(Head { protocol, framing })
 }
 
 /// The rules of this name.
-pub fn protocol_named(name: &str) -> Option<Protocol> {
+pub(crate) fn protocol_named(name: &str) -> Option<Protocol>
+    ensures { result ≡ protocol_named name.now }
+{
     match name {
         "jsonrpc" => Some(Protocol::JsonRpc),
         "lsp" => Some(Protocol::Lsp),
@@ -38,7 +49,9 @@ pub fn protocol_named(name: &str) -> Option<Protocol> {
 }
 
 /// The framing of this name.
-pub fn framing_named(name: &str) -> Option<Framing> {
+pub(crate) fn framing_named(name: &str) -> Option<Framing>
+    ensures { result ≡ framing_named name.now }
+{
     match name {
         "frames" => Some(Framing::Frames),
         "lines" => Some(Framing::Lines),

@@ -1,4 +1,5 @@
-//! Recordings of conversations: what was seen of two sides, as text that people can read and cut. The lines of one are
+//! Recordings of conversations: what was seen of two sides, as text that people can read and cut. One is judged as it is
+//! read, with a line for each finding and a summary. Its lines are
 //!
 //! ```text
 //! judge 1 RULES FRAMING      the first line: jsonrpc, lsp, mcp or mcp:2025-03-26; frames, lines or contents
@@ -13,14 +14,22 @@
 #![tactic(auto)]
 
 mod bytes;
+mod counts;
 mod entry;
+mod failure;
 mod fault;
 mod finding_line;
 mod head;
+mod judging;
+mod options;
 mod replay;
+mod telling;
+mod text;
+mod time;
+mod worked;
 
-pub use entry::{Entry, read_entry};
-pub use fault::LineFault;
-pub use finding_line::FindingLine;
-pub use head::{Head, framing_named, protocol_named, read_head};
-pub use replay::{Replay, ReplayFault};
+pub use counts::Counts;
+pub use failure::TalkFailure;
+pub use judging::judge_talk;
+pub use options::TalkOptions;
+pub use worked::{worked_heads, worked_lines};

@@ -23,13 +23,13 @@ pub IfOk-map : {A E : Type 0} {P Q : A → Type 0} (r : Result A E) → ((a : A)
 IfOk-map (Ok a) f p = f a p
 IfOk-map (Err e) f p = tt
 
-pub OnOk-with : {A E P Q R : Type 0} (r : Result A E) → (P → Q → R) → OnOk r P → OnOk r Q → OnOk r R
-OnOk-with (Ok a) f p q = f p q
-OnOk-with (Err e) f p q = tt
+pub OnOk-with : {A E P Q R T : Type 0} (r : Result A E) → (P → Q → R → T) → OnOk r P → OnOk r Q → OnOk r R → OnOk r T
+OnOk-with (Ok a) f p q t = f p q t
+OnOk-with (Err e) f p q t = tt
 
-pub IfErr-with : {A E : Type 0} {P Q R : E → Type 0} (r : Result A E) → ((e : E) → P e → Q e → R e) → IfErr r P → IfErr r Q → IfErr r R
-IfErr-with (Ok a) f p q = tt
-IfErr-with (Err e) f p q = f e p q
+pub IfErr-with : {A E : Type 0} {P Q R T : E → Type 0} (r : Result A E) → ((e : E) → P e → Q e → R e → T e) → IfErr r P → IfErr r Q → IfErr r R → IfErr r T
+IfErr-with (Ok a) f p q t = tt
+IfErr-with (Err e) f p q t = f e p q t
 
 -- ---- what a result gives, where its fault is let go
 

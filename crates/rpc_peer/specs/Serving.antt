@@ -6,6 +6,7 @@ use Rattle.rtrb.specs.declared.consumer.Consumer.{Consumer}
 use Rattle.rtrb.specs.declared.AnyItems.{AnyItems}
 use Rattle.method_steps.specs.Steps.{MethodTable}
 use Rattle.job_slots.specs.Seats.{looks_of}
+use Rattle.peer_session.specs.HandedOn.{HandsOnUntil, HasHandedOn}
 use Rattle.peer_session.specs.declared.limits.Limits.{Limits}
 use Rattle.peer_session.specs.declared.report.Report.{Report}
 use Rattle.stream_framing.specs.declared.framing.Framing.{Framing}
@@ -21,34 +22,36 @@ use Rattle.rpc_peer.specs.Clerk.{CountsRun}
 use Rattle.rpc_peer.specs.Serves.{ServesAfter}
 use Rattle.rpc_peer.specs.declared.clerk.Clerk.{Clerk}
 
--- What a run begins with: the framing, the table and the limits, the ring, and what its sink has taken and how often it has failed.
-pub record Start : Type 0 where
+-- What a run begins with: the framing, the table and the limits, the ring, and the sink.
+pub record Start (K : Type 0) : Type 0 where
   pub framing : Framing
   pub table : MethodTable
   pub limits : Limits
   pub ring : Consumer Arrival Global AnyItems
-  pub taken : Option (List ℕ)
-  pub failures : ℕ
+  pub sink : K
 
-module _ {G K : Type 0} (taken : K → Option (List ℕ)) (failures : K → ℕ) (start : Start) (clerk : Clerk G K) where
+module _ {G K : Type 0} (handed taken : K → Option (List ℕ)) (failures : K → ℕ) (start : Start K) (clerk : Clerk G K) where
   -- All that has arrived was served, and the sink has not failed.
   pub record Serves : Type 0 where
-    pub after : ServesAfter start.framing start.table start.limits (received clerk.ring) start.taken (stream_of clerk.stream) (looks_of clerk.seat)
+    pub after : ServesAfter start.framing start.table start.limits (received clerk.ring) (taken start.sink) (stream_of clerk.stream) (looks_of clerk.seat)
         (taken clerk.sink)
     pub ring : SameConsumer start.ring clerk.ring
-    pub unfailing : failures clerk.sink ≡ start.failures
+    pub unfailing : failures clerk.sink ≡ failures start.sink
+    pub flushed : HasHandedOn handed taken start.sink clerk.sink
 
   -- It has stopped short, for this fault.
   pub record Stops (fault : DrainFault) : Type 0 where
-    pub short : IsShortIn start.framing start.table start.limits (bytes_of (received clerk.ring)) (ending_of (received clerk.ring)) start.taken (taken clerk.sink)
+    pub short : IsShortIn start.framing start.table start.limits (bytes_of (received clerk.ring)) (ending_of (received clerk.ring)) (taken start.sink) (taken clerk.sink)
     pub ring : SameConsumer start.ring clerk.ring
-    pub cause : CountsRun start.failures (Err fault) (failures clerk.sink)
+    pub cause : CountsRun (failures start.sink) (Err fault) (failures clerk.sink)
+    pub flushed : HandsOnUntil handed taken start.sink fault clerk.sink
 
   -- It has done all, and tells so.
   pub record Finishes (report : Report) : Type 0 where
-    pub whole : IsRunIn start.framing start.table start.limits (bytes_of (received clerk.ring)) (ending_of (received clerk.ring)) start.taken (taken clerk.sink) report
+    pub whole : IsRunIn start.framing start.table start.limits (bytes_of (received clerk.ring)) (ending_of (received clerk.ring)) (taken start.sink) (taken clerk.sink) report
     pub ring : SameConsumer start.ring clerk.ring
-    pub unfailing : failures clerk.sink ≡ start.failures
+    pub unfailing : failures clerk.sink ≡ failures start.sink
+    pub flushed : HasHandedOn handed taken start.sink clerk.sink
 
 -- Nothing is due: this is what a drain leaves, which no handler had failed before.
 pub record IsDrained (s : SessionState) : Type 0 where

@@ -52,6 +52,7 @@ impl<'a, G: Gate, K: Sink> Clerk<'a, G, K> {
     ghost use Rattle.std.specs.Prelude.{◌≡◌, [], replicate, IfOk, IfErr, OnErr};
     ghost use Rattle.rtrb.specs.Ring.{received, SameConsumer};
     ghost use Rattle.job_slots.specs.declared.view.Look.TheVariants.{Free};
+    ghost use Rattle.peer_session.specs.HandedOn.{HandsOn};
     ghost use Rattle.rpc_peer.specs.Arriving.{bytes_of, ending_of};
     ghost use Rattle.stream_session.specs.Framings.{IsRunIn, IsShortIn};
     ghost use Rattle.rpc_peer.specs.Clerk.{CountsRun, IsNew, clerk_framing, clerk_table, clerk_limits};
@@ -124,6 +125,8 @@ impl<'a, G: Gate, K: Sink> Clerk<'a, G, K> {
             (K.bytes_taken self.entry.sink) (K.bytes_taken result.sink)) }
         ensures cause { CountsRun (K.failures self.entry.sink) result.outcome
             (K.failures result.sink) }
+        ensures flushed { HandsOn K.handed_on K.bytes_taken self.entry.sink result.outcome
+            result.sink }
     {
         let mut clerk = self;
         let outcome = clerk.serve(rt);

@@ -15,10 +15,10 @@ use stream_session::what_a_stream_wrote;
 impl<'a, G: Gate, K: Sink> Clerk<'a, G, K> {
     /// Takes in what came next through the ring, if anything did. Once the session is closed nothing more is taken.
     pub(crate) fn take_in(&mut self) -> Result<bool, DrainFault>
-        ensures ok { (start : Start) → Serves K.bytes_taken K.failures start self.old →
-            OnOk result (Serves K.bytes_taken K.failures start self.new) }
-        ensures err { (start : Start) → Serves K.bytes_taken K.failures start self.old →
-            IfErr result (Stops K.bytes_taken K.failures start self.new) }
+        ensures ok { (start : Start K) → Serves K.handed_on K.bytes_taken K.failures start self.old →
+            OnOk result (Serves K.handed_on K.bytes_taken K.failures start self.new) }
+        ensures err { (start : Start K) → Serves K.handed_on K.bytes_taken K.failures start self.old →
+            IfErr result (Stops K.handed_on K.bytes_taken K.failures start self.new) }
     {
         what_a_stream_wrote();
         if !self.stream.is_open() {
@@ -36,8 +36,8 @@ impl<'a, G: Gate, K: Sink> Clerk<'a, G, K> {
 
     /// Takes back the job of a slot, if it was turned.
     pub(crate) fn bring_home_from(&mut self, slot: u32) -> bool
-        ensures { (start : Start) → Serves K.bytes_taken K.failures start self.old →
-            Serves K.bytes_taken K.failures start self.new }
+        ensures { (start : Start K) → Serves K.handed_on K.bytes_taken K.failures start self.old →
+            Serves K.handed_on K.bytes_taken K.failures start self.new }
     {
         let Some(gated) = self.slots.collect(&mut self.seat, slot) else {
             return false;
@@ -50,11 +50,11 @@ impl<'a, G: Gate, K: Sink> Clerk<'a, G, K> {
 
     /// Writes what is due.
     pub(crate) fn drain(&mut self) -> Result<(), DrainFault>
-        ensures ok { (start : Start) → Serves K.bytes_taken K.failures start self.old →
-            OnOk result (Serves K.bytes_taken K.failures start self.new) }
+        ensures ok { (start : Start K) → Serves K.handed_on K.bytes_taken K.failures start self.old →
+            OnOk result (Serves K.handed_on K.bytes_taken K.failures start self.new) }
         ensures drained { OnOk result (IsDrained (stream_of self.new.stream).session) }
-        ensures err { (start : Start) → Serves K.bytes_taken K.failures start self.old →
-            IfErr result (Stops K.bytes_taken K.failures start self.new) }
+        ensures err { (start : Start K) → Serves K.handed_on K.bytes_taken K.failures start self.old →
+            IfErr result (Stops K.handed_on K.bytes_taken K.failures start self.new) }
     {
         self.stream.drain(&mut self.sink)
     }
@@ -62,8 +62,8 @@ impl<'a, G: Gate, K: Sink> Clerk<'a, G, K> {
     /// Hands out the first job that is ready, if there is one and a slot is free, with a gate of its own.
     /// It wakes nobody: `hand_out` does.
     pub(crate) fn hand_out_one(&mut self) -> bool
-        ensures { (start : Start) → Serves K.bytes_taken K.failures start self.old →
-            Serves K.bytes_taken K.failures start self.new }
+        ensures { (start : Start K) → Serves K.handed_on K.bytes_taken K.failures start self.old →
+            Serves K.handed_on K.bytes_taken K.failures start self.new }
     {
         if self.stream.count_ready() == 0 || !self.seat.has_room() {
             return false;

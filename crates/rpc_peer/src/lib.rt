@@ -26,6 +26,7 @@
 //! - `serve` serves a source and a sink by several threads; `serve_with` holds each handler at a gate before its turns, and
 //!   `serve_by` chooses its crew too.
 //! - `serve_lines` serves whole lines in place of frames.
+//! - `serve_telling` tells a hook how that ended before it waits for its reader.
 //! - `play` plays a whole input and keeps what is written; `play_to` writes it to a sink as it goes.
 //! - A `Player` is fed its input piece by piece.
 //! - A `Session` is what a player stands on, for who brings contents in and handlers to their turns by himself.
@@ -35,6 +36,7 @@ mod arrival;
 mod bells;
 mod clerk;
 mod crew;
+mod end_hook;
 mod events;
 mod fault;
 mod gate;
@@ -50,12 +52,14 @@ mod threads;
 mod worker;
 
 pub use crew::{Crew, USUAL_YIELDS};
+pub use end_hook::{EndHook, NoHook};
 pub use fault::ServeFault;
 pub use gate::{Gate, OpenGate};
 pub use gated::Gated;
 pub use peer_player::{Picks, PlayFault, Player, Schedule, play, play_to};
 pub use peer_session::{Close, DrainFault, Job, Limits, Report, Session, Taken};
 pub use server::{
-    MOST_WORKERS, limit_of_workers_in_figures, serve, serve_by, serve_lines, serve_with,
+    MOST_WORKERS, limit_of_workers_in_figures, serve, serve_by, serve_lines, serve_telling,
+    serve_with,
 };
 pub use stream_framing::Framing;

@@ -3,22 +3,24 @@
 ghost use Rattle.std.specs.Prelude.{◌≡◌, ◌≢◌, ◌↔◌, ℕ, ◌<◌, ◌≤◌, All, IsTrue, IfOk, IfErr};
 ghost use Rattle.job_slots.specs.Seats.{IsClerkOf, IsWorkerOf, looks_of};
 ghost use Rattle.method_steps.specs.Steps.{MethodTable};
+ghost use Rattle.peer_session.specs.HandedOn.{HasHandedOn};
 ghost use Rattle.peer_session.specs.declared.limits.Limits.{Limits as LimitsOf};
 ghost use Rattle.rtrb.specs.Ring.{sent, IsPair};
 ghost use Rattle.rpc_peer.specs.Arriving.{Reads};
 ghost use Rattle.rpc_peer.specs.declared.server.TheConstants.{MOST_WORKERS};
-ghost use Rattle.rpc_peer.specs.declared.fault.ServeFault.TheVariants.{Workers};
+ghost use Rattle.rpc_peer.specs.declared.fault.ServeFault.TheVariants.{Workers, Write};
 ghost use Rattle.rpc_peer.specs.Inner.Threads.{HasServed};
 ghost use Rattle.stream_framing.specs.declared.framing.Framing.{Framing as FramingOf};
 ghost use Rattle.stream_framing.specs.declared.framing.Framing.TheVariants.{Lines};
 ghost use Rattle.stream_session.specs.Framings.{IsServedIn, IsServedInPartIn};
 ghost use Rattle.stream_session.specs.Promise.{IsServed, IsServedInPart};
-ghost use Rattle.rpc_peer.specs.Serve.{CountsServeFault, IsServing};
+ghost use Rattle.rpc_peer.specs.Serve.{CountsServeFault, IsServing, end_of, end_of_run};
 
 use crate::arrival::Arrival;
 use crate::bells::Bells;
 use crate::clerk::{Clerk, Served};
 use crate::crew::Crew;
+use crate::end_hook::{EndHook, NoHook};
 use crate::fault::ServeFault;
 use crate::gate::{Gate, OpenGate};
 use crate::law::{nothing_is_served_in_part, served_in_frames_is_served, what_arrives_was_given};
@@ -58,17 +60,18 @@ where
     S: Source + Drop + Send,
     K: Sink + Drop,
     R: Threads + Wait + Sync,
-    ensures { IsServing K.bytes_taken K.failures (IsServed table.now limits (S.gave source))
+    ensures { IsServing K.handed_on K.bytes_taken K.failures (IsServed table.now limits (S.gave source))
         (IsServedInPart table.now limits (S.gave source)) workers sink result }
 {
     served_in_frames_is_served::<S>();
-    serve_openly(
+    serve_telling(
         rt,
         alloc,
         Framing::Frames,
         table,
         limits,
         workers,
+        &NoHook,
         source,
         sink,
     )
@@ -91,7 +94,7 @@ where
     K: Sink + Drop,
     G: Gate + Send + Sync,
     R: Threads + Wait + Sync,
-    ensures { IsServing K.bytes_taken K.failures (IsServed table.now limits (S.gave source))
+    ensures { IsServing K.handed_on K.bytes_taken K.failures (IsServed table.now limits (S.gave source))
         (IsServedInPart table.now limits (S.gave source)) workers sink result }
 {
     serve_by(
@@ -122,7 +125,7 @@ where
     K: Sink + Drop,
     G: Gate + Send + Sync,
     R: Threads + Wait + Sync,
-    ensures { IsServing K.bytes_taken K.failures (IsServed table.now limits (S.gave source))
+    ensures { IsServing K.handed_on K.bytes_taken K.failures (IsServed table.now limits (S.gave source))
         (IsServedInPart table.now limits (S.gave source)) crew.workers sink result }
 {
     served_in_frames_is_served::<S>();
@@ -134,6 +137,7 @@ where
         limits,
         crew,
         gate,
+        &NoHook,
         source,
         sink,
     )
@@ -155,44 +159,51 @@ where
     S: Source + Drop + Send,
     K: Sink + Drop,
     R: Threads + Wait + Sync,
-    ensures { IsServing K.bytes_taken K.failures (IsServedIn Lines table.now limits (S.gave source))
+    ensures { IsServing K.handed_on K.bytes_taken K.failures (IsServedIn Lines table.now limits (S.gave source))
         (IsServedInPartIn Lines table.now limits (S.gave source)) workers sink result }
 {
-    serve_openly(
+    serve_telling(
         rt,
         alloc,
         Framing::Lines,
         table,
         limits,
         workers,
+        &NoHook,
         source,
         sink,
     )
 }
 
-/// Serves an input in a framing, with gates that are open.
-fn serve_openly<S, K, R>(
+/// Serves an input in a framing, with gates that are open, and tells a hook how that ended: once, as soon as all that is due is
+/// flushed, or can't be. It may return much later, since its reader's read has to come back.
+pub fn serve_telling<S, K, H, R>(
     rt: &R,
     alloc: Global,
     framing: Framing,
     table: &Table,
     limits: Limits,
     workers: u32,
+    hook: &H,
     source: S,
     sink: K,
 ) -> Result<(Report, K), (ServeFault, K)>
 where
     S: Source + Drop + Send,
     K: Sink + Drop,
+    H: EndHook,
     R: Threads + Wait + Sync,
-    ensures { IsServing K.bytes_taken K.failures (IsServedIn framing table.now limits (S.gave source))
+    ensures serving { IsServing K.handed_on K.bytes_taken K.failures (IsServedIn framing table.now limits (S.gave source))
         (IsServedInPartIn framing table.now limits (S.gave source)) workers sink result }
+    ensures told { H.was_told hook.now (end_of result) }
 {
     nothing_is_served_in_part::<S>();
     if !is_possible(workers) {
+        hook.ended(Err(ServeFault::Workers));
         return Err((ServeFault::Workers, sink));
     }
     let Ok(gate) = Arc::new(alloc, OpenGate) else {
+        hook.ended(Err(ServeFault::Memory));
         return Err((ServeFault::Memory, sink));
     };
     serve_in(
@@ -203,13 +214,14 @@ where
         limits,
         Crew::of(workers),
         gate,
+        hook,
         source,
         sink,
     )
 }
 
 /// Serves an input in a framing.
-fn serve_in<S, K, G, R>(
+fn serve_in<S, K, G, H, R>(
     rt: &R,
     alloc: Global,
     framing: Framing,
@@ -217,6 +229,7 @@ fn serve_in<S, K, G, R>(
     limits: Limits,
     crew: Crew,
     gate: Arc<G, Global>,
+    hook: &H,
     source: S,
     sink: K,
 ) -> Result<(Report, K), (ServeFault, K)>
@@ -224,23 +237,31 @@ where
     S: Source + Drop + Send,
     K: Sink + Drop,
     G: Gate + Send + Sync,
+    H: EndHook,
     R: Threads + Wait + Sync,
-    ensures { IsServing K.bytes_taken K.failures (IsServedIn framing table.now limits (S.gave source))
+    ensures serving { IsServing K.handed_on K.bytes_taken K.failures (IsServedIn framing table.now limits (S.gave source))
         (IsServedInPartIn framing table.now limits (S.gave source)) crew.workers sink result }
+    ensures told { H.was_told hook.now (end_of result) }
 {
     nothing_is_served_in_part::<S>();
     if !is_possible(crew.workers) {
+        hook.ended(Err(ServeFault::Workers));
         return Err((ServeFault::Workers, sink));
     }
-    match run_crew(rt, alloc, framing, table, limits, crew, gate, source, sink) {
+    match run_crew(
+        rt, alloc, framing, table, limits, crew, gate, hook, source, sink,
+    ) {
         Ok((served, ring)) => tell::<S, K>(served, ring),
-        Err(sink) => Err((ServeFault::Memory, sink)),
+        Err(sink) => {
+            hook.ended(Err(ServeFault::Memory));
+            Err((ServeFault::Memory, sink))
+        }
     }
 }
 
 /// Makes what the threads of a server share, and runs them. Where there is no memory for it, the sink comes back as it
-/// was.
-fn run_crew<S, K, G, R>(
+/// was, and the hook isn't told.
+fn run_crew<S, K, G, H, R>(
     rt: &R,
     alloc: Global,
     framing: Framing,
@@ -248,6 +269,7 @@ fn run_crew<S, K, G, R>(
     limits: Limits,
     crew: Crew,
     gate: Arc<G, Global>,
+    hook: &H,
     source: S,
     sink: K,
 ) -> Result<(Served<K>, Producer<Arrival>), K>
@@ -255,11 +277,13 @@ where
     S: Source + Drop + Send,
     K: Sink + Drop,
     G: Gate + Send + Sync,
+    H: EndHook,
     R: Threads + Wait + Sync,
-    ensures served { IfOk result (λ done. HasServed K.bytes_taken K.failures framing table.now
+    ensures served { IfOk result (λ done. HasServed K.handed_on K.bytes_taken K.failures framing table.now
         limits sink done.0) }
     ensures pair { IfOk result (λ done. IsPair done.1 done.0.ring) }
     ensures reads { IfOk result (λ done. Reads (S.gave source) (sent done.1)) }
+    ensures told { IfOk result (λ done. H.was_told hook.now (end_of_run done.0.outcome)) }
     ensures refused { IfErr result (λ back. back ≡ sink) }
 {
     let Ok((producer, consumer)) = RingBuffer::new(alloc, PIECES) else {
@@ -296,6 +320,7 @@ where
         crew.yields,
         seats,
         clerk,
+        hook,
         producer,
         source,
     )
@@ -337,22 +362,31 @@ fn tell<S: Source, K: Sink>(
     requires { IsPair producer served.ring }
     ensures ok { (framing : FramingOf) (table : MethodTable) (limits : LimitsOf) (source : S)
         (sink : K) → Reads (S.gave source) (sent producer) →
-        HasServed K.bytes_taken K.failures framing table limits sink served →
+        HasServed K.handed_on K.bytes_taken K.failures framing table limits sink served →
         IfOk result (λ done. IsServedIn framing table limits (S.gave source)
         (K.bytes_taken sink) (K.bytes_taken done.1) done.0) }
     ensures in_part { (framing : FramingOf) (table : MethodTable) (limits : LimitsOf) (source : S)
         (sink : K) → Reads (S.gave source) (sent producer) →
-        HasServed K.bytes_taken K.failures framing table limits sink served →
+        HasServed K.handed_on K.bytes_taken K.failures framing table limits sink served →
         IfErr result (λ failed. IsServedInPartIn framing table limits (S.gave source)
         (K.bytes_taken sink) (K.bytes_taken failed.1)) }
     ensures possible { IfErr result (λ failed. failed.0 ≢ Workers) }
     ensures failures { (framing : FramingOf) (table : MethodTable) (limits : LimitsOf) (sink : K) →
-        HasServed K.bytes_taken K.failures framing table limits sink served →
+        HasServed K.handed_on K.bytes_taken K.failures framing table limits sink served →
         IfOk result (λ done. K.failures done.1 ≡ K.failures sink) }
     ensures cause { (framing : FramingOf) (table : MethodTable) (limits : LimitsOf) (sink : K) →
-        HasServed K.bytes_taken K.failures framing table limits sink served →
+        HasServed K.handed_on K.bytes_taken K.failures framing table limits sink served →
         IfErr result (λ failed. CountsServeFault (K.failures sink) failed.0
         (K.failures failed.1)) }
+    ensures flushed { (framing : FramingOf) (table : MethodTable) (limits : LimitsOf) (sink : K) →
+        HasServed K.handed_on K.bytes_taken K.failures framing table limits sink served →
+        IfOk result (λ done. HasHandedOn K.handed_on K.bytes_taken sink done.1) }
+    ensures flushed_until { (framing : FramingOf) (table : MethodTable) (limits : LimitsOf)
+        (sink : K) →
+        HasServed K.handed_on K.bytes_taken K.failures framing table limits sink served →
+        IfErr result (λ failed. failed.0 ≢ Write →
+        HasHandedOn K.handed_on K.bytes_taken sink failed.1) }
+    ensures end { end_of result ≡ end_of_run served.outcome }
 {
     what_arrives_was_given::<S>();
     let Served {

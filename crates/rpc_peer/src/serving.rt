@@ -16,10 +16,10 @@ impl<'a, G: Gate, K: Sink> Clerk<'a, G, K> {
 
     /// Goes round until all is done. Where it has found nothing to do for some rounds, it sleeps until its bell rings.
     pub(crate) fn serve<R: Wait>(&mut self, rt: &R) -> Result<Report, DrainFault>
-        ensures ok { (start : Start) → Serves K.bytes_taken K.failures start self.old →
-            IfOk result (Finishes K.bytes_taken K.failures start self.new) }
-        ensures err { (start : Start) → Serves K.bytes_taken K.failures start self.old →
-            IfErr result (Stops K.bytes_taken K.failures start self.new) }
+        ensures ok { (start : Start K) → Serves K.handed_on K.bytes_taken K.failures start self.old →
+            IfOk result (Finishes K.handed_on K.bytes_taken K.failures start self.new) }
+        ensures err { (start : Start K) → Serves K.handed_on K.bytes_taken K.failures start self.old →
+            IfErr result (Stops K.handed_on K.bytes_taken K.failures start self.new) }
     {
         what_a_stream_wrote();
         let bells = self.bells;
@@ -55,11 +55,11 @@ impl<'a, G: Gate, K: Sink> Clerk<'a, G, K> {
 
     /// Takes in what has come, from the slots and through the ring, writes what is due then, and tells whether anything has come.
     fn settle(&mut self) -> Result<bool, DrainFault>
-        ensures ok { (start : Start) → Serves K.bytes_taken K.failures start self.old →
-            OnOk result (Serves K.bytes_taken K.failures start self.new) }
+        ensures ok { (start : Start K) → Serves K.handed_on K.bytes_taken K.failures start self.old →
+            OnOk result (Serves K.handed_on K.bytes_taken K.failures start self.new) }
         ensures drained { OnOk result (IsDrained (stream_of self.new.stream).session) }
-        ensures err { (start : Start) → Serves K.bytes_taken K.failures start self.old →
-            IfErr result (Stops K.bytes_taken K.failures start self.new) }
+        ensures err { (start : Start K) → Serves K.handed_on K.bytes_taken K.failures start self.old →
+            IfErr result (Stops K.handed_on K.bytes_taken K.failures start self.new) }
     {
         let came_home = self.bring_home();
         let came_in = self.take_in_if_few_wait()?;
@@ -70,10 +70,10 @@ impl<'a, G: Gate, K: Sink> Clerk<'a, G, K> {
     /// Takes in what came next, unless more handlers wait for their turns than there are slots: so a client that sends
     /// faster than its requests are worked on is held back.
     fn take_in_if_few_wait(&mut self) -> Result<bool, DrainFault>
-        ensures ok { (start : Start) → Serves K.bytes_taken K.failures start self.old →
-            OnOk result (Serves K.bytes_taken K.failures start self.new) }
-        ensures err { (start : Start) → Serves K.bytes_taken K.failures start self.old →
-            IfErr result (Stops K.bytes_taken K.failures start self.new) }
+        ensures ok { (start : Start K) → Serves K.handed_on K.bytes_taken K.failures start self.old →
+            OnOk result (Serves K.handed_on K.bytes_taken K.failures start self.new) }
+        ensures err { (start : Start K) → Serves K.handed_on K.bytes_taken K.failures start self.old →
+            IfErr result (Stops K.handed_on K.bytes_taken K.failures start self.new) }
     {
         if self.stream.count_ready() as usize > MOST_SLOTS {
             return Ok(false);
@@ -83,8 +83,8 @@ impl<'a, G: Gate, K: Sink> Clerk<'a, G, K> {
 
     /// Takes back all jobs that were turned. It looks at the slots in use, and at no other.
     fn bring_home(&mut self) -> bool
-        ensures { (start : Start) → Serves K.bytes_taken K.failures start self.old →
-            Serves K.bytes_taken K.failures start self.new }
+        ensures { (start : Start K) → Serves K.handed_on K.bytes_taken K.failures start self.old →
+            Serves K.handed_on K.bytes_taken K.failures start self.new }
     {
         let mut has_moved = false;
         let mut next = self.slots.next_in_use(&self.seat, 0);
@@ -101,8 +101,8 @@ impl<'a, G: Gate, K: Sink> Clerk<'a, G, K> {
     /// Takes back the job of a slot, if a look finds it turned. Most slots have none, and for these no room for a job is
     /// made.
     fn bring_home_if_turned(&mut self, slot: u32) -> bool
-        ensures { (start : Start) → Serves K.bytes_taken K.failures start self.old →
-            Serves K.bytes_taken K.failures start self.new }
+        ensures { (start : Start K) → Serves K.handed_on K.bytes_taken K.failures start self.old →
+            Serves K.handed_on K.bytes_taken K.failures start self.new }
     {
         self.slots.is_turned(&self.seat, slot) && self.bring_home_from(slot)
     }
@@ -110,8 +110,8 @@ impl<'a, G: Gate, K: Sink> Clerk<'a, G, K> {
     /// Hands out jobs, while one is ready and a slot is free, and then wakes a worker for each.
     fn hand_out(&mut self) -> bool
         requires { IsDrained (stream_of self.old.stream).session }
-        ensures { (start : Start) → Serves K.bytes_taken K.failures start self.old →
-            Serves K.bytes_taken K.failures start self.new }
+        ensures { (start : Start K) → Serves K.handed_on K.bytes_taken K.failures start self.old →
+            Serves K.handed_on K.bytes_taken K.failures start self.new }
     {
         let gone = self.hand_out_jobs();
         self.bells.jobs_were_offered(gone);
@@ -120,8 +120,8 @@ impl<'a, G: Gate, K: Sink> Clerk<'a, G, K> {
 
     /// Hands out jobs, while one is ready and a slot is free, and tells how many.
     fn hand_out_jobs(&mut self) -> u32
-        ensures { (start : Start) → Serves K.bytes_taken K.failures start self.old →
-            Serves K.bytes_taken K.failures start self.new }
+        ensures { (start : Start K) → Serves K.handed_on K.bytes_taken K.failures start self.old →
+            Serves K.handed_on K.bytes_taken K.failures start self.new }
     {
         let mut gone: u32 = 0;
         for _ in 0..MOST_SLOTS {

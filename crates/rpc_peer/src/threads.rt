@@ -6,10 +6,12 @@ ghost use Rattle.rtrb.specs.Ring.{sent, SameProducer, SameConsumer};
 ghost use Rattle.rpc_peer.specs.Clerk.{IsNew, clerk_framing, clerk_table, clerk_limits};
 ghost use Rattle.rpc_peer.specs.Arriving.{Reads};
 ghost use Rattle.rpc_peer.specs.Inner.Threads.{HasServed};
+ghost use Rattle.rpc_peer.specs.Serve.{end_of_run};
 
 use crate::arrival::Arrival;
 use crate::bells::Bells;
 use crate::clerk::{Clerk, Served};
+use crate::end_hook::{EndHook, end_of_run};
 use crate::gate::Gate;
 use crate::gated::Gated;
 use crate::reader::read_into;
@@ -85,9 +87,10 @@ where
     scope.spawn_with(promise, reads).ok()
 }
 
-/// Runs the clerk in this thread, with the reader and the workers in threads of their own. Where one of them can't be
-/// made, the sink comes back as it was.
-pub(crate) fn run_threads<'a, S, G, K, R>(
+/// Runs the clerk in this thread, with the reader and the workers in threads of their own. The hook is told how the clerk's
+/// run ended before the reader is waited for, which may take as long as the input is open. Where a thread can't be made, the
+/// sink comes back as it was, and the hook isn't told.
+pub(crate) fn run_threads<'a, S, G, K, H, R>(
     rt: &R,
     alloc: Global,
     slots: &JobSlots<Gated<G>>,
@@ -95,6 +98,7 @@ pub(crate) fn run_threads<'a, S, G, K, R>(
     yields: u32,
     seats: Vec<WorkerSeat<Gated<G>>>,
     clerk: Clerk<'a, G, K>,
+    hook: &H,
     ring: Producer<Arrival>,
     source: S,
 ) -> Result<(Served<K>, Producer<Arrival>), K>
@@ -102,14 +106,18 @@ where
     S: Source + Drop + Send,
     G: Gate + Send + Sync,
     K: Sink + Drop,
+    H: EndHook,
     R: Threads + Wait + Sync,
     requires seats { All (IsWorkerOf slots.now) seats.items }
     requires clerk { IsNew clerk }
     requires ring { sent ring ≡ [] }
-    ensures served { IfOk result (λ done. HasServed K.bytes_taken K.failures (clerk_framing clerk.entry) (clerk_table clerk.entry) (clerk_limits clerk.entry) clerk.entry.sink done.0) }
+    ensures served { IfOk result (λ done. HasServed K.handed_on K.bytes_taken K.failures
+        (clerk_framing clerk.entry) (clerk_table clerk.entry) (clerk_limits clerk.entry)
+        clerk.entry.sink done.0) }
     ensures consumer { IfOk result (λ done. SameConsumer clerk.entry.ring done.0.ring) }
     ensures producer { IfOk result (λ done. SameProducer ring done.1) }
     ensures reads { IfOk result (λ done. Reads (S.gave source) (sent done.1)) }
+    ensures told { IfOk result (λ done. H.was_told hook.now (end_of_run done.0.outcome)) }
     ensures refused { IfErr result (λ sink. sink ≡ clerk.entry.sink) }
 {
     thread::scope(
@@ -119,11 +127,13 @@ where
             requires seats { All (IsWorkerOf slots.now) seats.items }
             requires clerk { IsNew clerk }
             requires ring { sent ring ≡ [] }
-            ensures served { IfOk result (λ done. HasServed K.bytes_taken K.failures
-                (clerk_framing clerk.entry) (clerk_table clerk.entry) (clerk_limits clerk.entry) clerk.entry.sink done.0) }
+            ensures served { IfOk result (λ done. HasServed K.handed_on K.bytes_taken K.failures
+                (clerk_framing clerk.entry) (clerk_table clerk.entry) (clerk_limits clerk.entry)
+                clerk.entry.sink done.0) }
             ensures consumer { IfOk result (λ done. SameConsumer clerk.entry.ring done.0.ring) }
             ensures producer { IfOk result (λ done. SameProducer ring done.1) }
             ensures reads { IfOk result (λ done. Reads (S.gave source) (sent done.1)) }
+            ensures told { IfOk result (λ done. H.was_told hook.entry.now (end_of_run done.0.outcome)) }
             ensures refused { IfErr result (λ sink. sink ≡ clerk.entry.sink) }
         {
             let Some(_workers) = hire(scope, rt, alloc, slots, bells, yields, seats) else {
@@ -135,6 +145,7 @@ where
                 return Err(clerk.into_sink());
             };
             let served = clerk.run(rt);
+            hook.ended(end_of_run(&served.outcome));
             bells.stop();
             Ok((served, reader.join(rt)))
         },

@@ -2,10 +2,10 @@
 use crate::command_line::JudgeOptions;
 use crate::run_failure::RunFailure;
 use program_edge::Failure;
+use recorded_talks::{TalkFailure, TalkOptions, judge_talk};
 use rpc_peer::Close;
 use std::alloc::Global;
 use std::io::{Read, Write};
-use talk_judging::{TalkFailure, TalkOptions, judge_talk};
 
 /// Judges the input, a recording. It ends cleanly where no rule is broken that must be kept.
 pub fn judge<I: Read, W: Write>(

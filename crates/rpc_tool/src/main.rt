@@ -3,6 +3,7 @@
 
 mod command_line;
 mod drawing;
+mod end_telling;
 mod explanation;
 mod judging;
 mod limits;

@@ -11,6 +11,7 @@ ghost use Rattle.peer_session.specs.declared.job.Job.{Job as JobOf};
 ghost use Rattle.peer_session.specs.declared.report.Close.{Close as CloseOf};
 ghost use Rattle.peer_session.specs.Events.{CountsDrain, DrainsIn, LeavesAt, ended, picked, with_job_back};
 ghost use Rattle.peer_session.specs.Framings.{due_in};
+ghost use Rattle.peer_session.specs.HandedOn.{HandsOn};
 ghost use Rattle.stream_framing.specs.Framed.{Holds, Knows, framing_of, limit_of};
 ghost use Rattle.stream_framing.specs.declared.framing.Framing.TheVariants.{Frames};
 ghost use Rattle.stream_session.specs.Promise.{close_of};
@@ -284,6 +285,7 @@ impl<'a> StreamSession<'a> {
         ensures handed_on { 0 < length (due_in (framing_of (stream_of self.old).cutter)
             (stream_of self.old).session.core) →
             OnOk result (HandsOnAll (S.handed_on sink.new) (S.bytes_taken sink.new)) }
+        ensures flushed { HandsOn S.handed_on S.bytes_taken sink.old result sink.new }
         ensures stays { stream_of self.new
             ≡ record (stream_of self.old) { session = (stream_of self.new).session } }
     {

@@ -3,28 +3,29 @@ from __future__ import annotations
 
 import argparse
 import contextlib
+import functools
 import os
 import sys
 from typing import List, Optional, Sequence
 
-from .. import _library
 from .._log import shown
+from .._system import cant_drive
 from ..errors import LibraryError
-from ._apart import Apart
-from ._driver import Driver, own_streams
-from ._judging import Judging
+from ._judging import Judging, Recorded
 from ._recording import NoRecording, Recorder, Recording
 from ._report import Report
 from ._signals import end_by
 from ._sinks import Speaker, Waiting
+from ._taking import BROKEN as HAS_BROKEN, PARTLY
 from ._talk import Talk
+from ._versions import NAMES
 
-#: What it ends with: a rule of the level must was broken (--strict), it was called wrong or can't begin, the server
-#: can't be run, or there is no such server.
-BROKEN, WRONG, NOT_RUN, NOT_FOUND = 1, 2, 126, 127
-# The framing where none is said.
-_FRAMINGS = {"jsonrpc": "frames", "lsp": "frames", "mcp": "lines", "mcp:2025-03-26": "lines"}
+#: What it ends with: a rule of the level must was broken (--strict), it was called wrong or can't begin, no rule was
+#: broken in what was judged, which isn't all (--strict), the server can't be run, or there is no such server.
+BROKEN, WRONG, PARTLY_JUDGED, NOT_RUN, NOT_FOUND = 1, 2, 3, 126, 127
 _NAME = "python3 -m bullmyrtle.judge"
+# The longest time that is counted: a day.
+_MOST_SECONDS = 86_400
 
 _ABOUT = """\
 Says who broke the protocol: it starts a server, stands between it and its client, passes each byte on as it is, and
@@ -40,15 +41,27 @@ examples:
 
 what is said, on standard error:
   judge: must: server, message 3 at byte 210: not-owed (JSON-RPC 4.1, 5): an answer to what nobody asked, ..
-  how bad it is (must, should or note), who broke the rule, in which message of its own (the how-manieth, and where it
+  how bad it is (must, should or note), who broke the rule, in which message of its own (its index, and where it
   begins in all that it wrote), the rule, where that stands, and what the message begins with. At the end, a summary.
-  docs/judge.md and docs/judging.md have all rules.
+  docs/judge.md has all rules.
 
 status:
   the server's own; where a signal ended the server, this ends by the same one. With --replay, 0.
   1    with --strict, where there is a finding of the level must
   2    the command line, the library, a file or the recording is wrong, and nothing was started
+  3    with --strict, where there is no such finding, but not everything was judged
   126  the server can't be run; 127  there is no such command"""
+
+
+def _seconds(word: str) -> float:
+    """A time of the command line."""
+    with contextlib.suppress(ValueError):
+        seconds = float(word)
+        if 0 < seconds <= _MOST_SECONDS:  # (what isn't a number is neither)
+            return seconds
+    raise argparse.ArgumentTypeError(
+        f"{shown(word)} isn't a number of seconds from above 0 to {_MOST_SECONDS:,}"
+    )
 
 
 def _parser() -> argparse.ArgumentParser:
@@ -61,7 +74,12 @@ def _parser() -> argparse.ArgumentParser:
         allow_abbrev=False,
     )
     add = parser.add_argument
-    add("--rules", choices=_library.RULES, help="whose rules (lsp, or those of the recording)")
+    add(
+        "--rules",
+        choices=NAMES,
+        metavar="NAME",
+        help=f"whose rules (lsp, or those of the recording): {', '.join(NAMES)}",
+    )
     ways = parser.add_mutually_exclusive_group()
     for name, what in (
         ("frames", "each message has a head with its Content-Length, as in LSP"),
@@ -69,6 +87,19 @@ def _parser() -> argparse.ArgumentParser:
         ("contents", "with --replay: each line of the recording is a message"),
     ):
         ways.add_argument(f"--{name}", dest="framing", action="store_const", const=name, help=what)
+    add(
+        "--without",
+        action="append",
+        choices=["shape"],
+        default=[],
+        help="what isn't judged: shape, the types of params and results",
+    )
+    add(
+        "--slow",
+        type=_seconds,
+        metavar="SECONDS",
+        help="say of each request that it is open for so long, while it is",
+    )
     add("--record", metavar="FILE", help="write all that both sides write to a file, as text, with its times")
     add("--replay", metavar="FILE", help="judge a recording again, in place of a server")
     add("--report", metavar="FILE", help="write the conversation as a page of HTML, when it is over")
@@ -103,9 +134,9 @@ def _say(line: str) -> None:
     speaker.finish()
 
 
-def _made_talk(rules: str, framing: str) -> Talk:
+def _made_talk(rules: str, framing: str, without: Sequence[str]) -> Talk:
     try:
-        return Talk(rules, framing)
+        return Talk(rules, framing, shapes="shape" not in without)
     except LibraryError as fault:
         raise _Wrong(str(fault)) from None
 
@@ -132,15 +163,16 @@ def _replay(it: argparse.Namespace) -> int:
         with open(it.replay, "rb") as file:
             recording = Recording(file)
             rules = it.rules or recording.rules
-            talk = _made_talk(rules, it.framing or recording.framing)
+            talk = _made_talk(rules, it.framing or recording.framing, it.without)
             recorder = _made_recorder(it.record, rules, it.framing or recording.framing)
-            judging = Judging(
-                talk, Waiting(2), recorder, _made_report(it.report, os.path.basename(it.replay))
-            )
+            judging = Judging(talk, Waiting(2), _made_report(it.report, os.path.basename(it.replay)), it.slow)
+            recorded = None if recorder is None else Recorded(recorder, Waiting(2))
             for event in recording:
+                if recorded is not None:
+                    recorded.take(event)
                 judging.take(event)
             judging.finish()
-            return BROKEN if it.strict and judging.has_broken else 0
+            return _status(it.strict, judging.has_broken, judging.has_failed, 0)
     except OSError as fault:
         _say(f"the recording can't be read: {fault}")
     except NoRecording as fault:
@@ -156,10 +188,17 @@ def _replay(it: argparse.Namespace) -> int:
 
 
 def _drive(it: argparse.Namespace, command: List[str]) -> int:
+    why = cant_drive("the judge's driver")
+    if why:
+        _say(f"{why}. --replay judges recordings")
+        return WRONG
+    from ._apart import Processes  # (here, since there are systems that can't load them)
+    from ._driver import Driver, own_streams
+
     rules = it.rules or "lsp"
-    framing = it.framing or _FRAMINGS[rules]
+    framing = it.framing or ("lines" if rules.startswith("mcp") else "frames")
     try:
-        talk = _made_talk(rules, framing)
+        talk = _made_talk(rules, framing, it.without)
         report = _made_report(it.report, " ".join(command))
         recorder = _made_recorder(it.record, rules, framing)
     except _Wrong as fault:
@@ -167,18 +206,31 @@ def _drive(it: argparse.Namespace, command: List[str]) -> int:
         return WRONG
     source, sink = own_streams()
     speaker = Speaker(2)
-    apart = Apart(lambda: Judging(talk, Speaker(2), recorder, report), (source, sink), speaker.say)
+    seen = Processes(speaker.say)
     try:
-        driver = Driver(command, apart, speaker)
+        if recorder is not None:
+            record = functools.partial(Recorded, recorder)
+            seen.start("records", lambda: record(Speaker(2)), (source, sink))
+            recorder.close()
+        seen.start("judges", lambda: Judging(talk, Speaker(2), report, it.slow), (source, sink))
+        driver = Driver(command, seen, speaker)
     except (OSError, ValueError) as fault:
-        apart.nothing_began()
+        seen.finish()
         speaker.say(f"the server can't be started: {shown(str(fault))}")
         speaker.finish()
         return NOT_FOUND if isinstance(fault, FileNotFoundError) else NOT_RUN
+    seen.begin()
     status = driver.run(source, sink)
-    has_broken = apart.finish(lambda: driver.is_interrupted)
+    found = seen.finish(lambda: driver.is_interrupted)
     speaker.finish()
-    return BROKEN if it.strict and has_broken else status
+    return _status(it.strict, bool(found & HAS_BROKEN), bool(found & PARTLY), status)
+
+
+def _status(is_strict: bool, has_broken: bool, is_partly: bool, status: int) -> int:
+    """What this ends with where all is well, or by the option --strict."""
+    if not is_strict or not (has_broken or is_partly):
+        return status
+    return BROKEN if has_broken else PARTLY_JUDGED
 
 
 def run() -> None:

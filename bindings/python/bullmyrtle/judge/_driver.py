@@ -7,9 +7,9 @@ import os
 import select
 import subprocess
 import time
-from typing import Dict, List, Optional, Sequence
+from typing import Any, Dict, List, Optional, Sequence
 
-from ._apart import Apart
+from ._apart import Processes
 from ._recording import Event
 from ._signals import Signals
 from ._sinks import Sink, Speaker
@@ -59,11 +59,12 @@ def _is_open(descriptor: int) -> bool:
 class Driver:
     """A server that is started, and what is passed on between it and its client."""
 
-    def __init__(self, command: Sequence[str], seen: Apart, speaker: Speaker) -> None:
+    def __init__(self, command: Sequence[str], seen: Processes, speaker: Speaker) -> None:
         """Starts the server. Raises OSError or ValueError where it can't be started."""
         self._seen, self._speaker = seen, speaker
         self._poll = select.poll()
         self._wanted: Dict[int, int] = {}
+        self._on: Any = None  # on what it depends what is wanted
         self._signals = Signals()
         pipe = subprocess.PIPE
         try:
@@ -111,7 +112,7 @@ class Driver:
 
     def _is_over(self) -> bool:
         """Whether the server has ended, and the client has all that it wrote."""
-        if self._server.poll() is None:
+        if self._server.returncode is None:  # (it is asked for where a signal says that a process has ended)
             return False
         return self.is_interrupted or (self._to_client.source is None and not self._to_client.held)
 
@@ -150,15 +151,23 @@ class Driver:
 
     def _want_all(self) -> None:
         """What the loop waits for."""
+        there, back = self._ways
+        is_full, waiting = self._seen.is_full, self._seen.waits_for
+        state = (there.source, there.sink, not there.held, back.source, back.sink, not back.held)
+        on = (*state, is_full, waiting, self._speaker.waits_for)
+        if on == self._on:  # (as in most turns, which are to be short)
+            return
+        self._on = on
         wanted = {self._signals.wake: select.POLLIN}
         for it in self._ways:
             if it.sink is not None:
                 wanted[it.sink.descriptor] = select.POLLOUT if it.held else 0
-            if it.source is not None and not it.held and not self._seen.is_full:
+            if it.source is not None and not it.held and not is_full:
                 wanted[it.source] = select.POLLIN
-        for waits_for in (self._speaker.waits_for, self._seen.waits_for):
-            if waits_for is not None:
-                wanted[waits_for] = select.POLLOUT
+        for waits in waiting:
+            wanted[waits] = select.POLLOUT
+        if self._speaker.waits_for is not None:
+            wanted[self._speaker.waits_for] = select.POLLOUT
         if wanted != self._wanted:
             for gone in self._wanted.keys() - wanted.keys():
                 with contextlib.suppress(OSError, KeyError, ValueError):
@@ -178,8 +187,7 @@ class Driver:
         if descriptor == self._speaker.waits_for:
             self._speaker.go_on()
             return
-        if descriptor == self._seen.waits_for:
-            return  # (each turn tells what can be told)
+        # (what the processes wait for is told in each turn)
         for it in self._ways:
             if it.source == descriptor and not it.held:
                 self._read(it)

@@ -1,7 +1,7 @@
 """What the rules of a session's life have in common: requests that are open, and tokens of progress."""
 from __future__ import annotations
 
-from typing import Any, Dict, List, NamedTuple, Optional, Set, Tuple
+from typing import Any, Dict, Iterator, List, NamedTuple, Optional, Set, Tuple
 
 from ._streams import ABSENT, Entry
 
@@ -39,7 +39,20 @@ def is_whole(value: Any) -> bool:
 class Asked:
     """A request that was seen."""
 
-    __slots__ = ("side", "id", "method", "number", "entry", "offset", "at", "is_cancelled", "due", "tokens")
+    __slots__ = (
+        "side",
+        "id",
+        "method",
+        "number",
+        "entry",
+        "offset",
+        "at",
+        "is_cancelled",
+        "due",
+        "tokens",
+        "about",
+        "is_task",
+    )
 
     def __init__(
         self, side: str, entry: Entry, number: int, place: int, offset: int, at: Optional[float]
@@ -49,6 +62,8 @@ class Asked:
         self.is_cancelled = False
         self.due = ""  # the rule that says how it has to be answered
         self.tokens: List[Key] = []  # which it gave
+        self.about: Any = None  # what of its params says how it has to be answered (MCP)
+        self.is_task = False  # whether it is to be answered by a task (MCP)
 
 
 class Breach(NamedTuple):
@@ -139,6 +154,10 @@ class Life:
             self._told.add(rule)
             self._find(side, rule, words)
 
+    def edition(self) -> str:
+        """By which of the rules' levels it is judged: the protocol, or the version of MCP."""
+        return self.rules
+
     def request(self, asked: Asked, params: Any, is_in_array: bool) -> None:
         """A request is seen."""
 
@@ -147,6 +166,10 @@ class Life:
 
     def answer(self, asked: Asked, entry: Entry) -> None:
         """The answer to a request is seen."""
+
+    def summary(self) -> Iterator[str]:
+        """Lines for the summary at the end."""
+        return iter(())
 
     def cancelled(self, asked: Asked) -> None:
         """A cancel of a request that is open is seen, after which it needn't be answered (MCP)."""

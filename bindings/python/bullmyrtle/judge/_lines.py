@@ -7,7 +7,7 @@ from .._log import shown
 from ._judge import SIDES, Finding
 from ._life import Asked
 from ._rules import LEVELS, RULES, section_of
-from ._talk import Side, Talk, Times
+from ._talk import Group, Side, Talk, Times
 
 #: What each line begins with.
 MARK = "judge: "
@@ -28,8 +28,19 @@ def line_of(it: Finding, rules: str) -> str:
     return f"{it.level}: {it.side}, {place_of(it)}: {it.rule} ({section_of(it.rule, rules)}): {RULES[it.rule].what}{words}"
 
 
-def summary_of(talk: Talk) -> Iterator[str]:
-    """What there was, in lines."""
+def slow_line(asked: Asked, seconds: float) -> str:
+    """That a request is open for so long, in a line."""
+    return f"open for {seconds:g} s: {_request(asked)}"
+
+
+def _request(it: Asked) -> str:
+    entry = f", entry {it.entry}" if it.entry else ""
+    name, id_ = shown(it.method, _NAME), shown(repr(it.id), _NAME)
+    return f"{it.side}'s request {name}, id {id_}, message {it.number}{entry}"
+
+
+def summary_of(talk: Talk, missed: str = "") -> Iterator[str]:
+    """What there was, in lines, and what wasn't judged, if there is something."""
     sides = ", ".join(
         f"{its.messages:,} of the {side} ({its.bytes:,} bytes)" for side, its in talk.sides.items()
     )
@@ -38,8 +49,22 @@ def summary_of(talk: Talk) -> Iterator[str]:
         yield from _methods(side, talk.sides[side])
     for side in SIDES:
         yield from _open(side, talk.sides[side], talk.rules.startswith("mcp"))
+    yield from talk.alike()
+    if missed:
+        yield f"not judged: {missed}"
+    for it in groups_of(talk):
+        first, times = it.first, "once" if it.times == 1 else f"{it.times:,} times"
+        section = section_of(first.rule, talk.rules)
+        yield f"found: {first.level}: {first.side}: {first.rule} ({section}), {times}, first in {place_of(first)}"
     found = ", ".join(f"{talk.counts.get(it, 0):,} {it}" for it in LEVELS)
     yield f"found: {found}"
+
+
+def groups_of(talk: Talk) -> List[Group]:
+    """The findings of each rule, the worst first, where one was broken more than once: else the lines say it all."""
+    if all(it.times == 1 for it in talk.groups.values()):
+        return []
+    return sorted(talk.groups.values(), key=lambda it: (LEVELS.index(it.first.level), -it.times))
 
 
 def _methods(side: str, its: Side) -> Iterator[str]:
@@ -64,9 +89,6 @@ def _times(it: Times) -> str:
 def _open(side: str, its: Side, cancelled_are_closed: bool) -> Iterator[str]:
     left: List[Asked] = [it for it in its.open_requests() if not (cancelled_are_closed and it.is_cancelled)]
     for it in left[:_OPEN]:
-        yield (
-            f"open at the end: {side}'s request {shown(it.method, _NAME)}, id {shown(repr(it.id), _NAME)}, "
-            f"message {it.number}"
-        )
+        yield f"open at the end: {_request(it)}"
     if len(left) > _OPEN:
         yield f"open at the end: {len(left) - _OPEN:,} more requests of the {side}"

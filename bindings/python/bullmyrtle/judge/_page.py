@@ -58,6 +58,7 @@ li:target > div, li.pair > div { background: var(--mark); }
 summary { cursor: pointer; } p.links, p.found { margin: .1rem 0; font-size: .9rem; }
 pre { margin: .3rem 0; white-space: pre-wrap; overflow-wrap: anywhere; font-size: .85rem; }
 @media (max-width: 45rem) {
+  table { font-size: .8rem; } th, td { padding-right: .4rem; } .findings { font-size: 1rem; }
   .findings thead { position: absolute; left: -99rem; } .findings tr { display: block; padding: .4rem 0; }
   .findings td { display: inline; border: 0; padding-right: .5rem; } .findings td:last-child { display: block; }
   .findings tr { border-bottom: 1px solid var(--line); }

@@ -2,19 +2,20 @@
 
 The first line is `judge 1 RULES FRAMING`. Each further one is `> HEX`, what the client wrote; `< HEX`, what the server
 wrote; or `> closed`, `> failed` and the same with `<`, which is how a side's stream ended. Behind it may stand `# N`, the
-milliseconds since the beginning. Empty lines, and lines that begin with #, count nothing.
+milliseconds since the beginning. Empty lines, and lines that begin with #, count nothing. All of it is text in UTF-8.
 """
 from __future__ import annotations
 
 import contextlib
-import fcntl
 import os
 import re
-from typing import IO, Iterator, NamedTuple, Optional, Union
+from typing import IO, Iterator, NamedTuple, Optional
 
-from .. import _library
 from ..errors import Refused
+from .._system import lock
+from ._files import Name, made_file
 from ._judge import FRAMINGS
+from ._versions import NAMES
 
 _MARKS = {"client": ">", "server": "<"}
 _SIDES = {mark: side for side, mark in _MARKS.items()}
@@ -22,8 +23,6 @@ _HEAD = re.compile(r"judge (\S+) (\S+) (\S+)")
 _LINE = re.compile(r"([<>])(?: (closed|failed|(?:[0-9A-Fa-f]{2})*))?(?: # ?([0-9]{1,15}))?")
 # How much of a line is shown where it is wrong.
 _SHOWN = 60
-
-Name = Union[str, "os.PathLike[str]"]
 
 
 class NoRecording(Refused, ValueError):
@@ -50,33 +49,37 @@ class Recording:
         """Reads its first line. Raises NoRecording."""
         self._lines = enumerate(file, 1)
         _, line = next(self._lines, (1, b""))
-        found = _HEAD.fullmatch(_text(line))
+        found = _HEAD.fullmatch(_text(1, line))
         if found is None:
             raise NoRecording(
-                1, f"a recording begins with `judge 1 RULES FRAMING`, and this with {_shown(line)}"
+                1, f"a recording begins with `judge 1 RULES FRAMING`, and this with {_shown(_text(1, line))}"
             )
         version, self.rules, self.framing = found.groups()
         if version != "1":
             raise NoRecording(1, f"there is version 1 of recordings, and this is {version!r}")
-        if self.rules not in _library.RULES:
-            raise NoRecording(1, f"there are no rules {self.rules!r}: there are {', '.join(_library.RULES)}")
+        if self.rules not in NAMES:
+            raise NoRecording(1, f"there are no rules {self.rules!r}: there are {', '.join(NAMES)}")
         if self.framing not in FRAMINGS:
             raise NoRecording(1, f"there is no framing {self.framing!r}: there are {', '.join(FRAMINGS)}")
 
     def __iter__(self) -> Iterator[Event]:
         """What was seen. Raises NoRecording where a line isn't any of a recording's."""
         for number, line in self._lines:
-            text = _text(line)
+            text = _text(number, line)
             if text and not text.startswith("#"):
                 yield _event(number, text)
 
 
-def _text(line: bytes) -> str:
-    return line.decode("latin-1").rstrip("\r\n \t")
+def _text(number: int, line: bytes) -> str:
+    try:
+        return line.decode().rstrip("\r\n \t")
+    except UnicodeDecodeError:
+        raise NoRecording(
+            number, f"a recording is text in UTF-8, and this isn't: {line[:_SHOWN]!r}"
+        ) from None
 
 
-def _shown(line: Union[bytes, str]) -> str:
-    text = _text(line) if isinstance(line, bytes) else line
+def _shown(text: str) -> str:
     return "nothing" if not text else repr(text[:_SHOWN] + (".." if len(text) > _SHOWN else ""))
 
 
@@ -97,11 +100,18 @@ class Recorder:
     """Writes a recording to a file, each line as soon as it was seen."""
 
     def __init__(self, file: Name, rules: str, framing: str) -> None:
-        self._descriptor = os.open(file, os.O_WRONLY | os.O_CREAT | os.O_TRUNC | os.O_CLOEXEC, 0o666)
-        # (whoever waits for the end of the recording, waits for the lock)
+        self._descriptor = made_file(file)
+        # (anyone who waits for the end of the recording, waits for the lock)
         with contextlib.suppress(OSError):
-            fcntl.flock(self._descriptor, fcntl.LOCK_EX | fcntl.LOCK_NB)
+            lock(self._descriptor)
         self._put(f"judge 1 {rules} {framing}\n")
+
+    def take(self, event: Event) -> None:
+        """Something was seen."""
+        if event.ended:
+            self.ended(event.side, event.ended, event.at or 0)
+        else:
+            self.saw(event.side, event.data, event.at or 0)
 
     def saw(self, side: str, data: bytes, at: float) -> None:
         self._put(f"{_MARKS[side]} {data.hex()} # {at:.0f}\n")

@@ -2,21 +2,19 @@
 from __future__ import annotations
 
 import collections
-import os
 from html import escape
-from typing import Dict, Iterator, List, Optional, Tuple, Union
+from typing import Dict, Iterator, List, Optional, Tuple
 
 from .._log import shown
+from ._files import Name, made_file
 from ._judge import SIDES, Finding
 from ._life import Asked
-from ._lines import place_of
+from ._lines import groups_of, place_of
 from ._page import HEAD, SCRIPT
 from ._recording import Event
 from ._rules import LEVELS, RULES, section_of
 from ._streams import ABSENT, Entry
 from ._talk import OTHERS, Seen, Talk
-
-Name = Union[str, "os.PathLike[str]"]
 
 # How much of a message is shown, how many entries of an array are named, how much of a name, and how many messages and
 # findings there may be in a report.
@@ -86,7 +84,7 @@ class Report:
 
     def __init__(self, file: Name, title: str) -> None:
         """Raises OSError where the file can't be written."""
-        self._file = open(file, "w", encoding="utf-8", errors="backslashreplace")
+        self._file = open(made_file(file), "w", encoding="utf-8", errors="backslashreplace")
         self._title = title
         self._rows: List[Row] = []
         self._by_place: Dict[Place, Row] = {}
@@ -118,25 +116,26 @@ class Report:
             if asked is not None:
                 asked.answered.append(row)
 
-    def write(self, talk: Talk) -> None:
+    def write(self, talk: Talk, missed: str = "") -> None:
+        """Writes the page: what there was, and what wasn't judged, if there is something."""
         with self._file as file:
-            for part in self._parts(talk):
+            for part in self._parts(talk, missed):
                 file.write(part)
 
     # The page
 
-    def _parts(self, talk: Talk) -> Iterator[str]:
+    def _parts(self, talk: Talk, missed: str) -> Iterator[str]:
         title, self._rules = escape(self._title), talk.rules
         yield HEAD.replace("TITLE", title)
         yield f"<header><h1>{title}</h1>"
         yield '<p><a class="skip" href="#talk">To the messages</a></p></header>\n<main>\n'
-        yield from self._summary(talk)
+        yield from self._summary(talk, missed)
         yield from self._found(talk)
         yield from self._filters()
         yield from self._ladder()
         yield f"</main>\n<script>{SCRIPT}</script>\n</body>\n</html>\n"
 
-    def _summary(self, talk: Talk) -> Iterator[str]:
+    def _summary(self, talk: Talk, missed: str) -> Iterator[str]:
         found = ", ".join(f"{talk.counts.get(it, 0):,} {it}" for it in LEVELS)
         yield '<section aria-labelledby="summary"><h2 id="summary">Summary</h2>\n<dl>'
         yield f"<dt>Rules</dt><dd>{talk.rules}, {talk.framing}</dd>"
@@ -145,6 +144,8 @@ class Report:
         for side, how, at in self._ends:
             word = "closed" if how == "closed" else "couldn't be read any more"
             yield f"<dt>The {side}’s stream</dt><dd>{word}{_after(at)}</dd>"
+        if missed:
+            yield f"<dt>Not judged</dt><dd>{missed}</dd>"
         yield f"<dt>Findings</dt><dd>{found}</dd></dl>\n"
         yield from self._methods(talk)
         yield "</section>\n"
@@ -172,6 +173,7 @@ class Report:
         if not self._findings:
             yield "<p>Nothing is found.</p></section>\n"
             return
+        yield from self._groups(talk)
         yield '<table class="findings"><thead><tr>'
         for heading in ("level", "who", "message", "rule", "where it stands", "what"):
             yield f"<th scope=col>{heading}</th>"
@@ -189,6 +191,20 @@ class Report:
         if more > 0:
             yield f"<p>{more:,} more findings stand at their messages alone.</p>\n"
         yield "</section>\n"
+
+    @staticmethod
+    def _groups(talk: Talk) -> Iterator[str]:
+        """A row for each rule, where one was broken more than once."""
+        rows = [
+            f'<tr><td><b class="{it.first.level}">{it.first.level}</b></td><td>{it.first.side}</td>'
+            f"<td>{it.times:,}</td><td><code>{it.first.rule}</code></td><td>{escape(place_of(it.first))}</td></tr>"
+            for it in groups_of(talk)
+        ]
+        if rows:
+            headings = "".join(
+                f"<th scope=col>{it}</th>" for it in ("level", "who", "count", "rule", "first")
+            )
+            yield f"<table><caption>By rule</caption><thead><tr>{headings}</tr></thead><tbody>{''.join(rows)}</tbody></table>\n"
 
     def _filters(self) -> Iterator[str]:
         counts = collections.Counter(it.method for it in self._rows)

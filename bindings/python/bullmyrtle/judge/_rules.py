@@ -3,6 +3,8 @@ from __future__ import annotations
 
 from typing import Dict, Mapping, NamedTuple, Tuple
 
+from ._versions import MCP
+
 MUST, SHOULD, NOTE = LEVELS = ("must", "should", "note")
 
 
@@ -12,7 +14,8 @@ class Rule(NamedTuple):
     name: str
     section: str  #: where it stands
     what: str  #: what breaks it
-    #: How bad it is to break it, by the protocols that have it, where this package judges it and not the library.
+    #: How bad it is to break it, by "lsp" and the versions of MCP that have it, where this package judges it and not
+    #: the library.
     levels: Mapping[str, str] = {}
 
 
@@ -34,8 +37,12 @@ PROVED: Tuple[Rule, ...] = (
     Rule("batch", "LSP has no word on them; MCP 2025-06-18, changes", "a batch where the protocol has none"),
     Rule("not-owed", "JSON-RPC 4.1, 5", "an answer to what nobody asked, or what is answered already"),
     Rule("not-as-array", "JSON-RPC 6", "the answers of a batch aren't its array"),
-    Rule("id-fraction", "JSON-RPC 4; MCP, messages", "a request's id that is a number and isn't whole"),
-    Rule("id-null", "JSON-RPC 4; MCP, messages", "a request's id that is null"),
+    Rule(
+        "id-fraction",
+        "JSON-RPC 4; LSP, Request Message; MCP, messages",
+        "a request's id that is a number and isn't whole",
+    ),
+    Rule("id-null", "JSON-RPC 4; LSP, Request Message; MCP, messages", "a request's id that is null"),
     Rule("id-form", "JSON-RPC 4", "a request's id with a fraction or exponent, or beyond 64 bits"),
     Rule("id-again", "JSON-RPC 6; MCP, messages", "a request with an id that is in use"),
     Rule("rpc-name", "JSON-RPC 4", "a method whose name begins with rpc."),
@@ -55,18 +62,27 @@ PROVED: Tuple[Rule, ...] = (
     Rule("after-cancel", "MCP, cancellation", "an answer to a request after its cancel"),
     Rule("unanswered", "JSON-RPC 5; LSP, Cancellation Support", "a request without an answer at the end"),
     Rule("not-judged", "docs/judge.md, What isn't judged", "this can't be judged"),
+    Rule("both-kinds", "JSON-RPC 4, 5", "a method and an id, and a result or an error too"),
+    Rule("twice", "JSON-RPC 4, 5; RFC 8259, 4", "a member of a message stands twice"),
 )
 
-_BOTH = {"lsp": MUST, "mcp": MUST, "mcp:2025-03-26": MUST}
 _LSP = {"lsp": MUST}
-_MCP = {"mcp": MUST, "mcp:2025-03-26": MUST}
+_MCP = dict.fromkeys(MCP, MUST)
+_BOTH = {**_LSP, **_MCP}
+# The versions in which both sides must use nothing but what was agreed on; before, they should.
+_BOUND = "2025-06-18"
 
 
 def _each(lsp: str, mcp: str) -> Dict[str, str]:
-    return {"lsp": lsp, "mcp": mcp, "mcp:2025-03-26": mcp}
+    return {"lsp": lsp, **dict.fromkeys(MCP, mcp)}
 
 
-#: The rules of a session's life, whose page is docs/judging.md.
+def _since(version: str, level: str = MUST, before: str = "") -> Dict[str, str]:
+    """The levels of a rule that came with a version of MCP, or was another one before."""
+    return {it: level if it >= version else before for it in MCP if it >= version or before}
+
+
+#: The rules of a session's life, whose page is docs/judge.md.
 LIFE: Tuple[Rule, ...] = (
     Rule(
         "initialize-first",
@@ -89,9 +105,7 @@ LIFE: Tuple[Rule, ...] = (
         "the answer of initialize lacks what it must have",
         _BOTH,
     ),
-    Rule(
-        "initialize-in-batch", "MCP 2025-03-26, lifecycle", "initialize in a batch", {"mcp:2025-03-26": MUST}
-    ),
+    Rule("initialize-in-batch", "MCP 2025-03-26, lifecycle", "initialize in a batch", {"2025-03-26": MUST}),
     Rule(
         "initialize-wait",
         "LSP, Initialize Request; MCP, lifecycle",
@@ -115,7 +129,7 @@ LIFE: Tuple[Rule, ...] = (
         "other-version",
         "MCP, lifecycle",
         "the sides agreed on another version than that of the rules",
-        {"mcp": NOTE, "mcp:2025-03-26": NOTE},
+        dict.fromkeys(MCP, NOTE),
     ),
     Rule(
         "not-initialized",
@@ -175,23 +189,144 @@ LIFE: Tuple[Rule, ...] = (
         "capability",
         "MCP, lifecycle, Operation",
         "what is used wasn't declared when the session began",
-        {"mcp": MUST, "mcp:2025-03-26": SHOULD},
+        _since(_BOUND, MUST, SHOULD),
     ),
     Rule("ping-result", "MCP, ping", "a ping has another answer than an empty object", _MCP),
+    Rule("params-object", "MCP, messages", "params that are an array", _MCP),
+    Rule("result-object", "MCP, messages", "a result that is no object", _MCP),
+    Rule(
+        "later-version",
+        "MCP, lifecycle, Operation",
+        "a method that came with a later version",
+        {it: MUST if it >= _BOUND else SHOULD for it in MCP[:-1]},
+    ),
+    Rule(
+        "tool-output",
+        "MCP, tools, Output Schema",
+        "the result of a tool with an output schema has no structured content",
+        _since("2025-06-18"),
+    ),
+    Rule(
+        "tool-error",
+        "MCP, tools, Error Handling",
+        "a listed tool's call is answered by the error -32602",
+        _since("2025-11-25", SHOULD),
+    ),
+    Rule(
+        "tool-name",
+        "MCP, tools, Tool Names",
+        "a tool's name isn't 1 to 128 letters, digits, _, - and .",
+        _since("2025-11-25", SHOULD),
+    ),
+    Rule(
+        "elicitation-mode",
+        "MCP, elicitation, Capabilities",
+        "a mode of elicitation that the client didn't declare",
+        _since("2025-11-25"),
+    ),
+    Rule(
+        "elicitation-needed",
+        "MCP, elicitation, URL Elicitation Required",
+        "the error -32042 without the pages that are needed",
+        _since("2025-11-25"),
+    ),
+    Rule(
+        "elicitation-complete",
+        "MCP, elicitation, Completion Notifications",
+        "a completion of an elicitation that there wasn't",
+        _since("2025-11-25"),
+    ),
+    Rule(
+        "sampling-tools",
+        "MCP, sampling, Capabilities",
+        "tools for a client that didn't declare them",
+        _since("2025-11-25"),
+    ),
+    Rule(
+        "sampling-context",
+        "MCP, sampling, Capabilities",
+        "the context of servers for a client that didn't declare it",
+        _since("2025-11-25", SHOULD),
+    ),
+    Rule(
+        "sampling-results",
+        "MCP, sampling, Message Content Constraints",
+        "uses of tools aren't followed by their results alone",
+        _since("2025-11-25"),
+    ),
+    Rule(
+        "task-support",
+        "MCP, tasks, Tool-Level Negotiation",
+        "a listed tool is called as a task or without one, and may not be",
+        _since("2025-11-25"),
+    ),
+    Rule(
+        "task-result",
+        "MCP, tasks, Creating Tasks",
+        "a request with a task is answered without one",
+        _since("2025-11-25"),
+    ),
+    Rule(
+        "task-begins",
+        "MCP, tasks, Task Status Lifecycle",
+        "a new task has another status than working",
+        _since("2025-11-25"),
+    ),
+    Rule(
+        "task-over",
+        "MCP, tasks, Task Status Lifecycle",
+        "a task that was over has another status",
+        _since("2025-11-25", NOTE),
+    ),
+    Rule(
+        "task-related",
+        "MCP, tasks, Associating Task-Related Messages",
+        "the result of tasks/result, or a progress, doesn't name its task",
+        _since("2025-11-25"),
+    ),
+    Rule(
+        "cancel-task",
+        "MCP, cancellation; MCP, tasks, Task Cancellation",
+        "a cancel of a request that is to be a task",
+        _since("2025-11-25"),
+    ),
+)
+
+#: The rules of the shapes of params and results, by the types of the protocols. Each fault has a level of its own, and
+#: these are the worst ones.
+SHAPES: Tuple[Rule, ...] = (
+    Rule(
+        "shape-params",
+        "LSP, the method's section; MCP, schema",
+        "params that aren't the method's",
+        _each(MUST, NOTE),
+    ),
+    Rule(
+        "shape-result",
+        "LSP, the method's section; MCP, schema",
+        "a result that isn't the method's",
+        _each(MUST, NOTE),
+    ),
+    Rule(
+        "shape-value",
+        "LSP, Basic JSON Structures; MCP, schema",
+        "a value that its type doesn't have",
+        _each(MUST, NOTE),
+    ),
 )
 
 #: All rules by their names.
-RULES: Dict[str, Rule] = {it.name: it for it in (*PROVED, *LIFE)}
+RULES: Dict[str, Rule] = {it.name: it for it in (*PROVED, *LIFE, *SHAPES)}
 
 #: The rules that a message breaks which can't be read.
 UNREADABLE = frozenset({"not-json", "charset", "cut-off", "head", "not-judged"})
 
 # What the places of the other protocol begin with.
-_OTHERS = {"lsp": "MCP", "mcp": "LSP", "mcp:2025-03-26": "LSP"}
+_OTHERS = {"lsp": "MCP", "mcp": "LSP"}
 
 
 def section_of(name: str, rules: str) -> str:
     """Where a rule stands, without the other protocol's pages."""
     places = RULES[name].section.split("; ")
-    other = _OTHERS.get(rules, "-")
+    other = _OTHERS.get(rules.partition(":")[0], "-")
     return "; ".join([it for it in places if not it.startswith(other)] or places)

@@ -8,7 +8,8 @@ import subprocess
 import threading
 from typing import Optional
 
-_PASSED = (signal.SIGINT, signal.SIGTERM, signal.SIGHUP, signal.SIGQUIT, signal.SIGUSR1, signal.SIGUSR2)
+_NAMES = ("SIGINT", "SIGTERM", "SIGHUP", "SIGQUIT", "SIGUSR1", "SIGUSR2")
+_PASSED = tuple(getattr(signal, it) for it in _NAMES if hasattr(signal, it))
 # What a terminal sends comes from the kernel, and to all of its processes: the server has it already.
 _FROM_KERNEL = 0x80
 
@@ -38,7 +39,7 @@ class Signals:
         while True:
             it = signal.sigwaitinfo(self._waited)
             if it.si_signo != signal.SIGCHLD:
-                if self._server.returncode is not None:
+                if self._server.poll() is not None:  # (also where nobody has looked since it ended)
                     self.last = it.si_signo
                 elif it.si_code != _FROM_KERNEL:
                     with contextlib.suppress(OSError):

@@ -1,4 +1,4 @@
-"""Writing without waiting: to whoever reads slowly, or not at all."""
+"""Writing without waiting: to anyone who reads slowly, or not at all."""
 from __future__ import annotations
 
 import os
@@ -25,7 +25,9 @@ class Sink:
         mode = os.fstat(descriptor).st_mode
         if stat.S_ISSOCK(mode):
             self._socket = socket.socket(fileno=descriptor)
-        elif (stat.S_ISFIFO(mode) and not _opened_anew(descriptor)) or os.isatty(descriptor):
+        elif hasattr(select, "poll") and (
+            (stat.S_ISFIFO(mode) and not _opened_anew(descriptor)) or os.isatty(descriptor)
+        ):
             self._poll = select.poll()
             self._poll.register(descriptor, select.POLLOUT)
 
@@ -43,7 +45,7 @@ class Sink:
     def close(self) -> None:
         if self._socket is not None:
             try:
-                # (whoever else has the socket, as for reading, doesn't keep its end from being seen)
+                # (anyone else who has the socket, as for reading, doesn't keep its end from being seen)
                 self._socket.shutdown(socket.SHUT_WR)
             except OSError:
                 pass

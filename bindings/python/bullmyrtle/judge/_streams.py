@@ -3,7 +3,7 @@ message, and for the rules of a session's life.)"""
 from __future__ import annotations
 
 import json
-from typing import Any, Iterator, List, NamedTuple, Optional, Tuple
+from typing import Any, Callable, List, NamedTuple, Optional, Tuple
 
 _MOST_CONTENT, _MOST_HEAD = 16_777_216, 4_096
 _LENGTH = b"content-length"
@@ -18,24 +18,30 @@ class Stream:
         self._offset = 0  # where the rest begins
         self._length: Optional[int] = None  # of the content that comes, behind its head
         self._looked = 0  # how much of the rest has no end of a line or head
-        self._is_over = False
+        self._is_over = self._has_piece = False
+        ways = {"frames": self._frame, "lines": self._line, "contents": self._piece}
+        self._cut: Callable[[], Optional[Tuple[int, bytes]]] = ways[framing]
 
-    def saw(self, data: bytes) -> Iterator[Tuple[int, bytes]]:
-        """The contents that are whole now, each with the offset of its first byte."""
-        if self._is_over:
-            return
-        if self._framing == "contents":
-            yield self._offset, data
-            self._offset += len(data)
-            return
-        self._rest += data
-        cut = self._line if self._framing == "lines" else self._frame
+    def saw(self, data: bytes) -> None:
+        """These bytes came."""
+        if not self._is_over:
+            self._rest += data
+            self._has_piece = True
+
+    def next(self) -> Optional[Tuple[int, bytes]]:
+        """The next content that is whole, with the offset of its first byte."""
         while not self._is_over:
-            found = cut()
+            found = self._cut()
             if found is None:
-                break
-            if self._framing == "frames" or found[1].strip(b" \t"):
-                yield found
+                return None
+            if self._framing != "lines" or found[1].strip(b" \t"):
+                return found
+        return None
+
+    def _piece(self) -> Optional[Tuple[int, bytes]]:
+        """What came in one piece, which may be empty."""
+        has_piece, self._has_piece = self._has_piece, False
+        return self._take(len(self._rest)) if has_piece else None
 
     def _take(self, length: int, end: int = 0) -> Tuple[int, bytes]:
         """The first bytes, without so many at their end."""
@@ -103,6 +109,7 @@ class Stream:
 # Messages
 
 ABSENT: Any = object()
+_MEMBERS = ("jsonrpc", "id", "method", "params", "result", "error")
 
 
 class Entry(NamedTuple):
@@ -114,6 +121,7 @@ class Entry(NamedTuple):
     params: Any = ABSENT
     result: Any = ABSENT
     error: Any = ABSENT
+    has_id: bool = True  #: of an answer
 
     @property
     def code(self) -> Any:
@@ -124,7 +132,7 @@ class Message(NamedTuple):
     """A message that was seen."""
 
     side: str
-    number: int  #: the how-manieth of its side's stream, from 1
+    number: int  #: its index in its side's stream, from 1
     offset: int  #: of its first byte in that stream
     content: bytes
     entries: List[Entry]
@@ -151,6 +159,13 @@ def read(side: str, number: int, offset: int, content: bytes) -> Message:
     )
 
 
+def twice_in(content: bytes, entry: int) -> List[str]:
+    """The members of a message that stand twice in it: of a content, or of an entry of its array, from 1."""
+    value = json.loads(content.decode(), object_pairs_hook=list, parse_int=str)
+    names = [name for name, _ in (value[entry - 1] if entry else value)]
+    return [it for it in _MEMBERS if names.count(it) > 1]
+
+
 def _entry(value: Any) -> Entry:
     if not isinstance(value, dict):
         return Entry("other")
@@ -161,5 +176,6 @@ def _entry(value: Any) -> Entry:
         kind = "notification" if "id" not in value else "request"
         return Entry(kind, id_, method, value.get("params", ABSENT))
     if "result" in value or "error" in value:
-        return Entry("answer", id_, "", ABSENT, value.get("result", ABSENT), value.get("error", ABSENT))
+        result, error = value.get("result", ABSENT), value.get("error", ABSENT)
+        return Entry("answer", id_, "", ABSENT, result, error, "id" in value)
     return Entry("other")

@@ -1,16 +1,22 @@
 """A conversation: what was seen of two sides, in the order in which it was seen, and all that is found in it."""
 from __future__ import annotations
 
-from typing import Any, Dict, Iterable, List, NamedTuple, Optional, Tuple
+import collections
+import itertools
+from typing import Deque, Dict, Iterable, List, NamedTuple, Optional, Tuple
 
 from .._log import shown
 from ..errors import NoMemory
-from ._judge import SIDES, Finding, Judge
+from ._judge import MOST_CONTENT, SIDES, Finding, Judge
 from ._life import OTHER, Asked, Breach, Key, Life, key_of, member
 from ._life_lsp import Lsp
-from ._life_mcp import VERSIONS, Mcp
+from ._life_mcp import Mcp
+from ._recording import Event
 from ._rules import LIFE, NOTE, UNREADABLE
-from ._streams import Entry, Message, Stream, read
+from ._slow import Slow
+from ._streams import ABSENT, Entry, Message, Stream, read, twice_in
+from ._taken_back import amended
+from ._versions import VERSIONS, of_library
 
 #: How much of a message is quoted.
 QUOTED = 160
@@ -22,6 +28,8 @@ _LEVELS = {it.name: it.levels for it in LIFE}
 # The notification that cancels, and the member that names the request.
 _CANCELS = {"lsp": ("$/cancelRequest", "id")}
 _CANCELS.update({it: ("notifications/cancelled", "requestId") for it in VERSIONS})
+# The protocols that have no batches, and what an array is made of that the library takes no refusal of.
+_NO_BATCHES, _OWED_NOTHING = ("lsp", "mcp"), {"notification", "answer"}
 
 
 class Times:
@@ -54,8 +62,9 @@ class Side:
         self.stream = Stream(framing)
         self.messages = self.bytes = 0
         self.ended = ""
-        self.open: Dict[Key, List[Asked]] = {}  # its requests that aren't answered, the oldest first
+        self.open: Dict[Key, Deque[Asked]] = {}  # its requests that aren't answered, the oldest first
         self.times: Dict[str, Times] = {}  # of its requests, by their methods
+        self.arrays = 0  # those that nothing is owed to, and that the other side may refuse
         self.is_unsure = False  # something of it couldn't be read
 
     def times_of(self, asked: Asked) -> Times:
@@ -69,6 +78,13 @@ class Side:
         return sorted(found, key=lambda it: (it.number, it.entry))
 
 
+class Group(NamedTuple):
+    """The findings of a level, a side and a rule."""
+
+    times: int
+    first: Finding
+
+
 class Talk:
     """A conversation. Tell it what was seen of both sides, and it gives what is found.
 
@@ -77,38 +93,80 @@ class Talk:
     'not-owed'
     """
 
-    def __init__(self, rules: str = "lsp", framing: str = "frames", content: Optional[int] = None) -> None:
+    def __init__(
+        self,
+        rules: str = "lsp",
+        framing: str = "frames",
+        content: Optional[int] = None,
+        shapes: bool = False,
+    ) -> None:
         self.rules, self.framing = rules, framing
-        self._judge: Optional[Judge] = Judge(rules, framing, content)
+        self._judge: Optional[Judge] = Judge(of_library(rules), framing, content)
+        self._most = content or MOST_CONTENT
         self._life = Lsp(rules) if rules == "lsp" else Mcp(rules) if rules in VERSIONS else Life(rules)
+        if shapes:
+            from ._shapes import with_shapes  # (here, since their types take memory)
+
+            self._life = with_shapes(self._life)
         self.sides = {it: Side(framing) for it in SIDES}
         self.counts: Dict[str, int] = {}  #: how many findings there are, by their levels
+        self.groups: Dict[Tuple[str, str, str], Group] = {}  #: and by level, side and rule
         self.new: List[Seen] = []  #: the messages that the last call saw
         self.at: Optional[float] = None  #: when something was seen last
+        self.slow: Optional[Slow] = None  # (what the driver asks which requests are open)
 
     def saw(self, side: str, data: bytes, at: Optional[float] = None) -> List[Finding]:
         """A side wrote these bytes, so many milliseconds after the beginning. Gives what is found in them.
 
         Raises NoMemory where there is none for the judge: from there on nothing is judged.
         """
-        its = self.sides[side]
-        self.new, self.at = [], at
-        if its.ended:
-            return []
-        its.bytes += len(data)
-        found = self._judged(lambda judge: judge.saw(side, data))
-        return self._taken(side, list(its.stream.saw(data)), found, at)
+        return self._saw(Event(side, data, "", at))
 
     def ended(self, side: str, how: str = "closed", at: Optional[float] = None) -> List[Finding]:
         """A side's stream was "closed", or reading it "failed"."""
-        its = self.sides[side]
-        self.new, self.at = [], at
+        return self._saw(Event(side, b"", how, at))
+
+    def _saw(self, event: Event) -> List[Finding]:
+        return self.taken(event, self.proved(event))
+
+    def proved(self, event: Event) -> List[Finding]:
+        """What the library finds in what was seen, which may take it long. The rest of that, without which nothing of
+        the conversation is changed yet, is `taken`."""
+        if self._judge is None or self.sides[event.side].ended:
+            return []
+        try:
+            if event.ended:
+                self._judge.ended(event.side, event.ended)
+            else:
+                self._judge.saw(event.side, event.data)
+        except NoMemory:
+            self.close()
+            raise
+        return self._judge.findings()
+
+    def taken(self, event: Event, proved: List[Finding]) -> List[Finding]:
+        """All that is found in what was seen, with what the library finds in it."""
+        its = self.sides[event.side]
+        self.new, self.at = [], event.at
         if its.ended:
             return []
-        its.ended = how
-        found = self._judged(lambda judge: judge.ended(side, how))
-        left = its.stream.closed() if how == "closed" else None
-        return self._taken(side, [left] if left is not None else [], found, at)
+        its.bytes += len(event.data)
+        its.ended = event.ended
+        if not event.ended:
+            its.stream.saw(event.data)
+        elif self.slow is not None:  # (no answer can come any more)
+            for it in self.sides[OTHER[event.side]].open_requests():
+                self.slow.closed(it)
+        return self._taken(event, proved)
+
+    @property
+    def edition(self) -> str:
+        """By what it is judged: the rules, and of MCP the version."""
+        return self._life.edition()
+
+    def alike(self) -> Iterable[str]:
+        """Lines about findings that are reported once and counted."""
+        return self._life.summary()
 
     def close(self) -> None:
         """Let go of what it holds."""
@@ -116,50 +174,89 @@ class Talk:
             self._judge.close()
             self._judge = None
 
-    def _judged(self, tell: Any) -> List[Finding]:
-        if self._judge is None:
-            return []
-        try:
-            tell(self._judge)
-        except NoMemory:
-            self.close()
-            raise
-        return self._judge.findings()
-
     # Messages
 
-    def _taken(
-        self, side: str, contents: Iterable[Tuple[int, bytes]], found: List[Finding], at: Optional[float]
-    ) -> List[Finding]:
+    def _taken(self, event: Event, found: List[Finding]) -> List[Finding]:
         """Takes what is whole now, and gives all that is found, in the order of the messages."""
-        its = self.sides[side]
+        its = self.sides[event.side]
         by_number: Dict[int, List[Finding]] = {}
         others: List[Finding] = []
         for it in found:
-            (by_number.setdefault(it.number, []) if it.of == side else others).append(it)
+            (by_number.setdefault(it.number, []) if it.of == event.side else others).append(it)
         told: List[Finding] = []
-        for offset, content in contents:
+        while True:
+            start = its.stream.start
+            whole = its.stream.closed() if event.ended == "closed" else its.stream.next()
+            of_it = by_number.get(its.messages + 1, []) if whole is not None else []
+            if whole is None or self._is_last(of_it, whole):
+                break
             its.messages += 1
-            message = read(side, its.messages, offset, content)
-            of_it = by_number.pop(message.number, [])
-            told += [it._replace(words=f"{self._hint(it, message)}{quoted(content)}") for it in of_it]
-            if UNREADABLE.isdisjoint(it.rule for it in of_it):
-                told += self._lived(message, at)
-            else:
-                its.is_unsure = True
-                self.new.append(Seen(message, at, []))
-        for rest in by_number.values():  # (of what isn't whole)
-            told += [it._replace(words=quoted(its.stream.start)) for it in rest]
+            told += self._message(
+                read(event.side, its.messages, *whole), by_number.pop(its.messages, []), event.at
+            )
+        for rest in by_number.values():
+            # (what isn't whole. The library judges no more of this side, and wherever the piece ended in which it saw
+            # that, neither is more cut off here.)
+            told += [it._replace(words=quoted(start)) for it in rest]
             its.is_unsure = True
-        if by_number:
             its.stream.stop()
         told += self._unanswered(others)
         for it in told:
             self.counts[it.level] = self.counts.get(it.level, 0) + 1
+            count, first = self.groups.get((it.level, it.side, it.rule), (0, it))
+            self.groups[it.level, it.side, it.rule] = Group(count + 1, first)
         return told
 
+    def _is_last(self, found: List[Finding], whole: Tuple[int, bytes]) -> bool:
+        """Whether the library saw the stream's last fault where here a content is cut off, since less is asked of a head
+        here. Where the content itself is at fault, the finding has its offset, and judging goes on."""
+        offset, content = whole
+        return any(
+            it.rule == "head"
+            or (it.rule == "not-judged" and (it.offset != offset or len(content) > self._most))
+            for it in found
+        )
+
+    def _message(self, message: Message, found: List[Finding], at: Optional[float]) -> List[Finding]:
+        """All that is found in a message, with what the library finds in it."""
+        told = [it for it in (self._told(it, message) for it in found) if it is not None]
+        # (what stands twice may have been read otherwise, and then a session's life went on otherwise)
+        self.sides[message.side].is_unsure |= any(it.rule == "twice" for it in found)
+        if UNREADABLE.isdisjoint(it.rule for it in found):
+            kinds = {it.kind for it in message.entries}
+            self.sides[message.side].arrays += message.is_array and bool(kinds) and kinds <= _OWED_NOTHING
+            return told + self._lived(message, at)
+        self.sides[message.side].is_unsure = True
+        self.new.append(Seen(message, at, []))
+        return told
+
+    def _told(self, found: Finding, message: Message) -> Optional[Finding]:
+        """A finding of the library's, with its words, if the version of MCP has the rule."""
+        it = amended(found, message, self.edition)
+        if it is None or it.words:
+            return it and it._replace(words=f"{it.words}: {quoted(message.content)}")
+        if it.rule == "not-owed" and self._is_refusal(message):
+            words = f"an array may be refused where there are no batches: {quoted(message.content)}"
+            return it._replace(level=NOTE, words=words)
+        return it._replace(words=f"{self._hint(it, message)}{quoted(message.content)}")
+
+    def _is_refusal(self, message: Message) -> bool:
+        """Whether it says that an array is no message, once for each. (Where an array has something that is owed an
+        answer, the library takes it for that.)"""
+        other = self.sides[OTHER[message.side]]
+        if message.is_array or of_library(self.rules) not in _NO_BATCHES or not other.arrays:
+            return False
+        (entry,) = message.entries
+        if entry.id is not None or entry.error is ABSENT:
+            return False
+        other.arrays -= 1
+        return True
+
     def _hint(self, it: Finding, message: Message) -> str:
-        """What may have been meant by an answer that nobody waits for: an id of another type."""
+        """Which members stand twice; or what may have been meant by an answer that nobody waits for: an id of another
+        type."""
+        if it.rule == "twice":
+            return f"{', '.join(twice_in(message.content, it.entry))}: "
         if it.rule != "not-owed" or len(message.entries) < it.entry:
             return ""
         id_ = message.entries[max(it.entry, 1) - 1].id
@@ -192,14 +289,18 @@ class Talk:
         for place, entry in enumerate(message.entries, 1):
             entry_place = place if message.is_array else 0
             answers.append(self._entry(message, entry, entry_place, at))
-            for breach in self._life.breaches:
-                told.append(self._found(message, entry_place, breach, is_unsure))
+            found = (self._found(message, entry_place, it, is_unsure) for it in self._life.breaches)
+            told += [it for it in found if it is not None]
             self._life.breaches.clear()
         self.new.append(Seen(message, at, answers))
         return told
 
-    def _found(self, message: Message, entry: int, breach: Breach, is_unsure: bool) -> Finding:
-        level = NOTE if is_unsure else breach.level or _LEVELS[breach.rule][self.rules]
+    def _found(self, message: Message, entry: int, breach: Breach, is_unsure: bool) -> Optional[Finding]:
+        """A finding, if this edition of the rules has the rule."""
+        level = breach.level or _LEVELS[breach.rule].get(self.edition)
+        if level is None:
+            return None
+        level = NOTE if is_unsure else level
         words = shown(breach.words, _WHY)
         words = f"{words}: {quoted(message.content)}" if words else quoted(message.content)
         return Finding(
@@ -216,7 +317,9 @@ class Talk:
             its.times_of(asked).asked += 1
             key = key_of(entry.id)
             if key is not None:
-                its.open.setdefault(key, []).append(asked)
+                its.open.setdefault(key, collections.deque()).append(asked)
+                if self.slow is not None:
+                    self.slow.asked(asked)
             self._life.request(asked, entry.params, message.is_array)
         elif entry.kind == "notification":
             self._cancel(its, entry)
@@ -229,6 +332,8 @@ class Talk:
         asked = self._closed(self.sides[asker], key_of(entry.id))
         if asked is None:
             return None
+        if self.slow is not None:
+            self.slow.closed(asked)
         times = self.sides[asker].times_of(asked)
         times.answered += 1
         if asked.at is not None and at is not None:
@@ -237,24 +342,28 @@ class Talk:
         return asked
 
     @staticmethod
-    def _closed(its: Side, key: Optional[Key], asked: Optional[Asked] = None) -> Optional[Asked]:
-        """Takes the oldest request with an id, or just this one, from those that are open."""
+    def _closed(its: Side, key: Optional[Key]) -> Optional[Asked]:
+        """Takes the oldest request with an id from those that are open."""
         some = its.open.get(key) if key is not None else None
         if not some or key is None:
             return None
-        found = some.pop(0 if asked is None else some.index(asked))
+        found = some.popleft()
         if not some:
             del its.open[key]
         return found
 
     def _cancel(self, its: Side, entry: Entry) -> None:
-        """A cancel reaches its side's own requests."""
+        """A cancel reaches its side's own requests. (What is before one that is cancelled was reached before.)"""
         method, name = _CANCELS.get(self.rules, ("", ""))
         if entry.method != method:
             return
         key = key_of(member(entry.params, name))
-        for asked in list(its.open.get(key, ())) if key is not None else ():
+        some = its.open.get(key) if key is not None else None
+        reached = itertools.takewhile(lambda asked: not asked.is_cancelled, reversed(some or ()))
+        for asked in reversed(list(reached)):
             asked.is_cancelled = True
+            if self.slow is not None and self.rules in VERSIONS:  # (in LSP it must be answered all the same)
+                self.slow.closed(asked)
             self._life.cancelled(asked)
 
 

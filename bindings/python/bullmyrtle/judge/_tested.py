@@ -2,14 +2,14 @@
 from __future__ import annotations
 
 import contextlib
-import fcntl
 import os
 import sys
 import tempfile
 import time
 from typing import Any, AsyncIterator, Callable, Collection, List, Optional, Sequence, Union
 
-from .._channels import Memory
+from .._streams import Memory
+from .._system import cant_drive, lock
 from ..client import Client
 from ..server import Server
 from ._judge import Finding
@@ -38,7 +38,7 @@ class Broke(AssertionError):
 class judged:
     """Judges a conversation in a test, which fails with `Broke` where a side broke a rule.
 
-    Of a server that is a process, whoever talks to it:
+    Of a server that is a process, anyone who talks to it:
 
     >>> with judged(["pylsp"]) as command:
     ...     client = start_with(command)
@@ -64,8 +64,8 @@ class judged:
 
         server -- a server's command, or a `Server`
         client -- your own client for a `Server`
-        rules -- "jsonrpc", "lsp", "mcp" or "mcp:2025-03-26"; "lsp" where the server has no protocol of its own that says
-            it ("jsonrpc" for a `Server` without one)
+        rules -- "jsonrpc", "lsp", "mcp", or "mcp:" and a version; "lsp" where the server has no protocol of its own
+            that says it ("jsonrpc" for a `Server` without one)
         framing -- "frames" or "lines", where it isn't that of the server's, or of the rules
         level -- how bad it must be to count: "must"; "should", which has those of must too; or "note", which has all
         besides -- the rules that don't count
@@ -102,6 +102,9 @@ class judged:
     def __enter__(self) -> List[str]:
         if isinstance(self._server, Server):
             raise TypeError("a Server in memory is judged by `async with judged(server)`")
+        why = cant_drive("the judge's driver")
+        if why:
+            raise OSError(f"{why}. A Server in memory is judged everywhere")
         self._room = tempfile.TemporaryDirectory()
         self._file = os.path.join(self._room.name, "talk.record")
         ways = ["--rules", self._rules, f"--{self._framing}", "--record", self._file]
@@ -161,7 +164,7 @@ def _wait_for(descriptor: int) -> None:
     end = time.monotonic() + _SECONDS
     while True:
         try:
-            fcntl.flock(descriptor, fcntl.LOCK_SH | fcntl.LOCK_NB)
+            lock(descriptor, is_shared=True)
             return
         except OSError:
             if time.monotonic() >= end:

@@ -1,13 +1,18 @@
 """What a server can do, as `initialize` tells it: made from the methods that are registered (LSP 3.17)."""
 from __future__ import annotations
 
-from typing import Any, Dict, Iterable, Mapping, Optional, Tuple
 
+from .._hints import TYPE_CHECKING
+from .._lives import at
 from .._merging import merged
 
-Json = Dict[str, Any]
-#: The methods that are registered, with the options that were given for each.
-Features = Mapping[str, Optional[Json]]
+if TYPE_CHECKING:
+    from typing import Any, Dict, Iterable, Mapping, Optional, Tuple
+
+    Json = Dict[str, Any]
+    #: The methods that are registered, with the options that were given for each.
+    Features = Mapping[str, Optional[Json]]
+
 
 # A method, the capability that tells of it, and the member of that which does, where it isn't the capability itself.
 _PROVIDERS: Dict[str, Tuple[str, Optional[str]]] = {
@@ -146,10 +151,3 @@ def encoding_for(client: Json, known: Iterable[str]) -> Optional[str]:
         return None
     choices = [it for it in wanted if it in tuple(known)]
     return choices[0] if choices else "utf-16"
-
-
-def at(value: Any, path: str) -> Any:
-    """A member of a member, as "window.workDoneProgress"; None where there is none."""
-    for name in path.split("."):
-        value = value.get(name) if isinstance(value, dict) else None
-    return value

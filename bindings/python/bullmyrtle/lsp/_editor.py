@@ -1,21 +1,24 @@
 """What a language server asks and tells its editor, by name."""
 from __future__ import annotations
 
-from typing import TYPE_CHECKING, Any, Dict, List, Optional, Union
 
+from .._hints import TYPE_CHECKING
 from .._request import Request
 from ..errors import InvalidParams
 from ._life import Life
 from .documents import Document
 from .progress import Partial, Progress
 
-Json = Dict[str, Any]
+if TYPE_CHECKING:
+    from typing import Any, Dict, List, Optional, Union
+
+    from .server import LanguageServer
+
+    Json = Dict[str, Any]
+
 
 #: The types of messages, as `show_message` takes them by name or number.
 MESSAGE_TYPES = {"error": 1, "warning": 2, "info": 3, "log": 4}
-
-if TYPE_CHECKING:
-    from .server import LanguageServer
 
 
 def _type(kind: Union[int, str]) -> int:
@@ -34,7 +37,7 @@ class Editor:
 
     life: Life
 
-    def call(self, method: str, params: Any = None) -> Any:
+    def call(self, method: str, params: Any = None, *, timeout: Optional[float] = None) -> Any:
         """Send a request, on behalf of the one that this code works on, if there is one."""
         raise NotImplementedError
 
@@ -194,14 +197,14 @@ class Editor:
         return Progress(server, self.life, self._request(), token, begin)
 
     def partial(self, params: Any) -> Partial:
-        """A result that is told in parts, where the request's params have a `partialResultToken`."""
+        """A result that is reported in parts, where the request's params have a `partialResultToken`."""
         return Partial(self.life, self._request(), _token(params, "partialResultToken"))
 
 
 def _token(params: Any, name: str) -> Any:
     token = params.get(name) if isinstance(params, dict) else None
     if token is not None and type(token) not in (str, int):
-        raise InvalidParams(f"Invalid params: {name} has to be a string or a whole number")
+        raise InvalidParams(f"Invalid params: {name} must be a string or an integer")
     return token
 
 

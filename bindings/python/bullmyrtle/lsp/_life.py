@@ -2,19 +2,23 @@
 from __future__ import annotations
 
 import contextvars
-from typing import TYPE_CHECKING, Any, Dict, Optional
 
-from .._params import Method, Methods
+from .. import _lives
+from .._hints import TYPE_CHECKING
+from .._methods import Method
 from .._request import Request
 from ..errors import Error, INVALID_REQUEST
-from ._capabilities import at
 from .workspace import Workspace
 
 if TYPE_CHECKING:
-    from .._session import Session
+    from typing import Any, Dict, Optional
+
     from .progress import Progress
 
-Json = Dict[str, Any]
+    Json = Dict[str, Any]
+else:
+    Any = object  # (the annotations of what is registered here are read)
+
 
 SERVER_NOT_INITIALIZED = -32002
 REQUEST_FAILED = -32803
@@ -25,35 +29,6 @@ NEW, STARTING, RUNNING, SHUT = "new", "starting", "running", "shut down"
 CURRENT: "contextvars.ContextVar[Optional[Request]]" = contextvars.ContextVar(
     "bullmyrtle request", default=None
 )
-
-
-class Life:
-    """One session with an editor."""
-
-    def __init__(self) -> None:
-        self.session: Optional[Session] = None
-        self.state = NEW
-        self.beginning = 0  # the number of the `initialize` that came last
-        self.params: Json = {}  # of `initialize`
-        self.trace = "off"
-        self.workspace = Workspace()
-        self.progresses: Dict[Any, Progress] = {}  # those that the editor may cancel, by their tokens
-        self.tokens = 0
-        self.registered: Dict[
-            str, str
-        ] = {}  # methods by the ids under which they were registered while it runs
-
-    @property
-    def client_capabilities(self) -> Json:
-        found = self.params.get("capabilities")
-        return found if isinstance(found, dict) else {}
-
-    def client_has(self, path: str) -> Any:
-        return at(self.client_capabilities, path)
-
-    def new_token(self) -> str:
-        self.tokens += 1
-        return f"bullmyrtle-{self.tokens}"
 
 
 def _refused(code: int, words: str) -> Method:
@@ -71,21 +46,28 @@ _EARLY = _refused(
 _LATE = _refused(INVALID_REQUEST, "Invalid Request: the server is shut down, and only exit may come")
 
 
-class Gate(Methods):
-    """The methods of a server as one session may call them now."""
+class Life(_lives.Life):
+    """One session with an editor."""
 
-    def __init__(self, methods: Methods, life: Life) -> None:
+    def __init__(self) -> None:
         super().__init__()
-        self._all = methods
-        self.life = life
+        self.state = NEW
+        self.beginning = 0  # the number of the `initialize` that came last
+        self.trace = "off"
+        self.workspace = Workspace()
+        self.progresses: Dict[Any, Progress] = {}  # those that the editor may cancel, by their tokens
+        self.tokens = 0
+        self.registered: Dict[str, str] = {}  # methods by the ids under which they were registered as it runs
 
-    def get(self, name: str, default: Any = None) -> Any:
-        state = self.life.state
-        if state is RUNNING or name == "exit":
-            return self._all.get(name)
-        if state is SHUT:
-            return _LATE
-        return self._all.get(name) if name == "initialize" else _EARLY
+    @property
+    def is_begun(self) -> bool:  # type: ignore[override]
+        return self.state is RUNNING
 
-    def otherwise(self, name: str) -> Optional[Method]:
-        return self._all.otherwise(name)
+    def refused(self, name: str) -> Optional[Method]:
+        if name == "exit" or (name == "initialize" and self.state is not SHUT):
+            return None
+        return _LATE if self.state is SHUT else _EARLY
+
+    def new_token(self) -> str:
+        self.tokens += 1
+        return f"bullmyrtle-{self.tokens}"

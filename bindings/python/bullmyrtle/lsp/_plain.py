@@ -2,7 +2,11 @@
 from __future__ import annotations
 
 import sys
-from typing import Any
+from .._hints import TYPE_CHECKING
+
+if TYPE_CHECKING:
+    from typing import Any
+
 
 _ATOMS = frozenset((str, int, float, bool, type(None)))
 

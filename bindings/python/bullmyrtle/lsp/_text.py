@@ -8,17 +8,21 @@ from __future__ import annotations
 
 import bisect
 import itertools
-import re
-from typing import Any, Iterator, List, Optional, Tuple
+from .._hints import TYPE_CHECKING
+
+if TYPE_CHECKING:
+    from typing import Any, Iterator, List, Optional, Tuple
+
+    _Columns = List[List[Any]]
+
 
 #: The encodings in which editors count: what one character of a position is.
 ENCODINGS = ("utf-8", "utf-16", "utf-32")
 
 # The columns of a shelf, and what is summed up of them.
 _TEXT, _CHARACTERS, _UNITS, _BREAKS = range(4)
-_Columns = List[List[Any]]
 
-_BREAK = re.compile("\r\n|\r|\n")
+_BREAK = "\r\n|\r|\n"
 _CODECS = {"utf-8": "utf-8", "utf-16": "utf-16-le", "utf-32": "utf-32-le"}
 
 
@@ -59,7 +63,9 @@ def breaks_in(text: str, end: int) -> int:
 def break_in(text: str, count: int) -> Tuple[int, int]:
     """Where the line break of this number stands, which begins with 1."""
     if "\r" in text:
-        return next(itertools.islice(_BREAK.finditer(text), count - 1, None)).span()
+        import re  # (here, as a server starts sooner without)
+
+        return next(itertools.islice(re.finditer(_BREAK, text), count - 1, None)).span()
     end = len(text) - len(text.split("\n", count)[-1])
     return end - 1, end
 

@@ -1,25 +1,26 @@
 """Open documents: their text, and places in it as editors count them."""
 from __future__ import annotations
 
-import logging
 import os
-import re
-import threading
-import urllib.parse
-from typing import Any, Dict, List, Optional, Pattern, Tuple, Union
+from _thread import allocate_lock
 
+from .._incoming import VALUES
+from .._signatures.fits import named
+from .._hints import TYPE_CHECKING
+from .._log import log
 from ..errors import InvalidParams
 from ._text import ENCODINGS, Text
 
-log = logging.getLogger("bullmyrtle")
+if TYPE_CHECKING:
+    from typing import Any, Dict, List, Optional, Pattern, Tuple, Union
 
-#: A position or a range as JSON has it: ``{"line": 0, "character": 0}``, and ``{"start": .., "end": ..}``.
-Json = Dict[str, Any]
+    #: A position or a range as JSON has it: ``{"line": 0, "character": 0}``, and ``{"start": .., "end": ..}``.
+    Json = Dict[str, Any]
 
-_WORD = re.compile(r"\w+")
+_WORD = r"\w+"
 # A word isn't looked for further from its place than this.
 _AROUND = 4096
-_LINES = re.compile("[^\r\n]*(?:\r\n|\r|\n)|[^\r\n]+")
+_LINES = "[^\r\n]*(?:\r\n|\r|\n)|[^\r\n]+"
 
 
 def member(value: Any, name: str) -> Any:
@@ -28,24 +29,35 @@ def member(value: Any, name: str) -> Any:
         if name not in value:
             raise InvalidParams(f"Invalid params: {name} is missing")
         return value[name]
+    if type(value) in VALUES:
+        raise InvalidParams(
+            f"Invalid params: {name} is missing, and there is {named(value)} in place of an object"
+        )
     return getattr(value, name)
 
 
 def _pair(position: Any) -> Tuple[int, int]:
     line, character = member(position, "line"), member(position, "character")
     if type(line) is not int or type(character) is not int:
-        raise InvalidParams("Invalid params: a position has a line and a character, which are whole numbers")
+        raise InvalidParams("Invalid params: a position has a line and a character, which are integers")
     return line, character
 
 
 def path_of(uri: str) -> Optional[str]:
-    """The file that a `file:` URI names; None for others."""
-    parts = urllib.parse.urlsplit(uri)
+    """The file that a `file:` URI names; None for others, and for what isn't a URI."""
+    import urllib.parse  # (here, as a server starts sooner without)
+
+    try:
+        parts = urllib.parse.urlsplit(uri)
+    except ValueError:
+        return None
     return urllib.parse.unquote(parts.path) if parts.scheme == "file" else None
 
 
 def uri_of(path: Union[str, "os.PathLike[str]"]) -> str:
     """The URI of a file."""
+    import urllib.parse
+
     return "file://" + urllib.parse.quote(os.path.abspath(os.fspath(path)))
 
 
@@ -69,8 +81,10 @@ class Document:
         self.version = version
         self.language_id = language_id
         self._text = Text(text, encoding)
-        self._joined: Optional[str] = None  # (as long as nobody changes it)
-        self._lock = threading.Lock()  # (a thread may take a snapshot while the loop's changes the text)
+        # (as long as nobody changes it)
+        self._joined: Optional[str] = None
+        self._lines: Optional[List[str]] = None
+        self._lock = allocate_lock()  # (a thread may take a snapshot while the loop's changes the text)
 
     def __repr__(self) -> str:
         return f"<Document {self.uri!r}, version {self.version}>"
@@ -87,7 +101,8 @@ class Document:
 
     @property
     def filename(self) -> str:
-        return os.path.basename(self.path or urllib.parse.urlsplit(self.uri).path)
+        """The last part of the path, or of the URI where that names no file."""
+        return os.path.basename(self.path or self.uri.partition("?")[0].partition("#")[0])
 
     # The text
 
@@ -105,8 +120,13 @@ class Document:
 
     @property
     def lines(self) -> List[str]:
-        """All lines, with their line breaks."""
-        return _LINES.findall(self.text)
+        """All lines, with their line breaks: a list of your own."""
+        lines = self._lines
+        if lines is None:
+            import re
+
+            lines = self._lines = re.findall(_LINES, self.text)
+        return lines.copy()
 
     @property
     def line_count(self) -> int:
@@ -127,7 +147,7 @@ class Document:
         with self._lock:
             other: Document = object.__new__(type(self))
             other.__dict__.update(self.__dict__)
-            other._text, other._lock = self._text.copy(), threading.Lock()
+            other._text, other._lock = self._text.copy(), allocate_lock()
             return other
 
     # Places
@@ -150,6 +170,8 @@ class Document:
         return (start, end) if start <= end else (end, start)
 
     def _word(self, position: Any, pattern: Union[str, Pattern[str], None]) -> Tuple[int, int]:
+        import re
+
         at = self.offset(position)
         line = self._text.place(at)[0]
         start = max(self._text.line_start(line), at - _AROUND)
@@ -199,7 +221,7 @@ class Document:
                     self._text = type(self._text)(text, self.encoding)
                 else:
                     self._text.replace(self._text.offset(*start), self._text.offset(*end), text)
-            self._joined = None
+            self._joined = self._lines = None
             self._to_version(version)
 
     def _to_version(self, version: Optional[int]) -> None:

@@ -1,18 +1,20 @@
 """Work-done progress and partial results, as context managers that end when they are cancelled."""
 from __future__ import annotations
 
-import asyncio
-import threading
-from typing import TYPE_CHECKING, Any, Dict, List, Optional
+from _thread import get_ident
 
+from .._hints import TYPE_CHECKING
 from .._request import Request
 from ..errors import Closed, Error
 
 if TYPE_CHECKING:
+    import asyncio
+    from typing import Any, Dict, List, Optional
+
     from ._life import Life
     from .server import LanguageServer
 
-Json = Dict[str, Any]
+    Json = Dict[str, Any]
 
 
 class Progress:
@@ -44,6 +46,8 @@ class Progress:
         return self.token is None and bool(self._life.client_has("window.workDoneProgress"))
 
     async def __aenter__(self) -> Progress:
+        import asyncio
+
         self._loop, self._task = asyncio.get_running_loop(), asyncio.current_task()
         if self._makes_token():
             token = self._life.new_token()
@@ -56,6 +60,8 @@ class Progress:
         return self
 
     async def __aexit__(self, kind: Any, error: Any, trace: Any) -> bool:
+        import asyncio
+
         self._end()
         if kind is not asyncio.CancelledError or not self.is_cancelled or self._is_over():
             return False
@@ -66,7 +72,7 @@ class Progress:
 
     def __enter__(self) -> Progress:
         if self._makes_token():
-            if threading.get_ident() == self._server_thread():
+            if get_ident() == self._server_thread():
                 raise RuntimeError(
                     "this would block the loop: write `async with` in an `async def`, or thread=True"
                 )
@@ -100,7 +106,7 @@ class Progress:
     def _is_over(self) -> bool:
         """Whether its request is over: then a token that came with it has no meaning any more."""
         request = self._request
-        return request is not None and (request.is_cancelled or request.number not in request.session._open)
+        return request is not None and (request.is_cancelled or not request.is_open)
 
     def _send(self, value: Json) -> None:
         if self._is_clients and self._is_over():
@@ -124,14 +130,14 @@ class Progress:
         """End it, as when the user of the editor cancels it."""
         self.is_cancelled = True
         if self._task is not None and not self._task.done():
-            if threading.get_ident() == self._server_thread():
+            if get_ident() == self._server_thread():
                 self._task.cancel()
             elif self._loop is not None:
                 self._loop.call_soon_threadsafe(self._task.cancel)
 
     def _server_thread(self) -> int:
         assert self._life.session is not None
-        return self._life.session._thread
+        return self._life.session._transport.thread
 
 
 class _Cancelled(Closed):
@@ -139,7 +145,7 @@ class _Cancelled(Closed):
 
 
 class Partial:
-    """A result that is told in parts, where the editor asked for that.
+    """A result that is sent in parts, if the editor asked for that.
 
     >>> async with ls.partial(params) as partial:
     ...     for it in files:
@@ -159,7 +165,7 @@ class Partial:
             self.result += items
             return
         request = self._request
-        if request is not None and (request.is_cancelled or request.number not in request.session._open):
+        if request is not None and (request.is_cancelled or not request.is_open):
             raise Closed("the request is over")
         assert self._life.session is not None
         self._life.session.notify("$/progress", {"token": self.token, "value": items})

@@ -1,43 +1,51 @@
 """A language server: features by decorator, over `Server`."""
 from __future__ import annotations
 
-import asyncio
 import functools
-import inspect
-import logging
 import sys
-import threading
-from typing import Any, Callable, Dict, Iterable, NoReturn, Optional, TypeVar
+from _thread import get_ident
 
-from .._filling import Filling
-from .._fits import annotation_of, fit_for
-from .._marks import marked
+from .._hints import TYPE_CHECKING
+from .._lives import LivingServer
+from .._log import log
 from .._merging import merged
+from .._methods import ASYNC, Method
 from .._middleware import handed, limited
-from .._params import ASYNC, Method, Methods
 from .._request import LATER, Request
 from .._session import Session
-from ..errors import Error, InvalidParams, INVALID_REQUEST
-from ..server import Server
+from .._signatures.calls import Filling
+from .._signatures.fits import fit_for
+from .._signatures.marks import marked
+from .._signatures.parameters import EMPTY, POSITIONAL, annotation_in, is_async, is_awaitable, names_class
+from .._signatures.parameters import parameters_of
+from ..errors import Error, InvalidParams, INVALID_REQUEST, METHOD_NOT_FOUND
+from ._checking import PARAMS, RESULTS, check_result, check_sent, checked
 from ._capabilities import DYNAMIC, FULL, INCREMENTAL, capabilities_of, encoding_for, lacks
 from ._editor import Editor
-from ._life import CURRENT, NEW, RUNNING, SHUT, STARTING, Gate, Life
+from ._life import CURRENT, NEW, RUNNING, SHUT, STARTING, Life
 from ._plain import plain
+from ._registering import check_feature, check_method, check_options
 from ._text import ENCODINGS
-from .documents import Document, member
+from .documents import Document
 from .workspace import Workspace
 
-log = logging.getLogger("bullmyrtle")
+if TYPE_CHECKING:
+    from typing import Any, Callable, Dict, Iterable, NoReturn, Optional, TypeVar
 
-F = TypeVar("F", bound=Callable[..., Any])
-T = TypeVar("T")
-Json = Dict[str, Any]
+    from ._features import Feature
+
+    F = TypeVar("F", bound=Callable[..., Any])
+    T = TypeVar("T")
+    Json = Dict[str, Any]
+else:
+    Any = object  # (the annotations of what is registered here are read)
+
 
 _SYNC = {"full": FULL, "incremental": INCREMENTAL}
 _THREAD = "__bullmyrtle_thread__"
 
 
-class LanguageServer(Editor, Server):
+class LanguageServer(Editor, LivingServer):
     """A language server, as for an editor.
 
     >>> server = LanguageServer("words", "1.0")
@@ -48,6 +56,9 @@ class LanguageServer(Editor, Server):
     `server.start_io()` then answers on the standard streams, until the editor says `exit`.
     """
 
+    _Life = Life
+    _lives: Dict[Session, Life]
+
     def __init__(
         self,
         name: str = "",
@@ -57,6 +68,7 @@ class LanguageServer(Editor, Server):
         position_encodings: Iterable[str] = ENCODINGS,
         capabilities: Optional[Json] = None,
         converter: Any = None,
+        checks: Optional[str] = PARAMS,
         **settings: Any,
     ) -> None:
         """Make one, without features yet.
@@ -67,8 +79,13 @@ class LanguageServer(Editor, Server):
         capabilities -- what is to be told beside, or in the place of, what the features tell
         converter -- what makes other types of params, and JSON of results: it has `structure(value, type)` and
             `unstructure(value)`, as those of cattrs and lsprotocol have
+        checks -- what is held to LSP's types: "params" that come in; with "results", for tests, what features return and
+            what is sent too; or None
         settings -- those of a `Server`
         """
+        if checks not in (PARAMS, RESULTS, None):
+            raise ValueError(f"the checks are 'params', 'results' or None: {checks!r}")
+        self._checks = checks
         settings.setdefault("protocol", "lsp")
         super().__init__(**settings)
         if sync not in _SYNC:
@@ -83,7 +100,6 @@ class LanguageServer(Editor, Server):
         self._features: Dict[str, Optional[Json]] = {}
         self._users: Dict[str, Method] = {}  # what is called behind what is built in
         self._commands: Dict[str, Method] = {}
-        self._lives: Dict[Session, Life] = {}
         self._builtin: Dict[str, Callable[[Any, Life], None]] = {
             "textDocument/didOpen": lambda params, life: life.workspace.opened(params),
             "textDocument/didChange": lambda params, life: life.workspace.changed(params),
@@ -104,27 +120,35 @@ class LanguageServer(Editor, Server):
         self._own = frozenset(self._methods)
 
     def _add(self, name: str, function: Callable[..., Any]) -> None:
-        self._methods.add(_entered(Method(name, function, False), None))
+        # (what is built in relies on its params, whatever is checked beside)
+        self._methods.add(_entered(checked(Method(name, function, False)), None, self._checks == RESULTS))
 
     # What is registered
 
-    def feature(
-        self,
-        name: str,
-        options: Optional[Json] = None,
-        *,
-        thread: bool = False,
-        timeout: Optional[float] = None,
-    ) -> Callable[[F], F]:
-        """Register a function as the method of this name, and tell the editor that there is one.
+    if TYPE_CHECKING:
+        feature: Feature
+    else:
 
-        The options go to the capability that tells it. A first parameter that is named `ls`, or annotated with this
-        class, gets the server; the others are as with `Server.method`. `initialize`, `initialized`, `shutdown`, `exit`,
-        and the notifications that tell of documents and folders are done here: a feature of such a name is called
-        behind that, when the document is as it says; one of `exit` before it.
-        """
+        def feature(self, name, options=None, *, thread=False, timeout=None):
+            """Register a function as the method of this name, and tell the editor that there is one.
+
+            The options go to the capability that tells it. A first parameter that is named `ls`, or annotated with this
+            class, gets the server; the others are as with `Server.method`. `initialize`, `initialized`, `shutdown`, `exit`,
+            and the notifications that tell of documents and folders are done here: a feature of such a name is called
+            behind that, when the document is as it says; one of `exit` before it.
+
+            Raises ValueError where LSP has no such method of servers though its name begins like one of LSP's, and TypeError
+            where the method's registration has no such option.
+            """
+            return self._feature(name, options, thread, timeout)
+
+    def _feature(
+        self, name: str, options: Optional[Json], thread: bool, timeout: Optional[float]
+    ) -> Callable[[F], F]:
+        check_feature(name)
         if options is not None:
             options = self._plain(options)
+            check_options(name, options)
         missing = lacks(name, options, self._features, self._by_hand)
         if missing is not None:
             raise TypeError(f"{name} needs options with {missing!r}, since nothing else can tell it")
@@ -133,8 +157,11 @@ class LanguageServer(Editor, Server):
             if name in self._features or name == "workspace/executeCommand":
                 hint = ": use command" if name not in self._features else ""
                 raise ValueError(f"there is a feature {name!r} already{hint}")
-            method = self._method(name, function, thread, timeout)
-            if name in self._own:
+            is_own, is_checked = name in self._own, self._checks is not None
+            # (params that something built in has are checked there)
+            how = (lambda method, _: checked(method)) if is_checked and not is_own else _as_it_is
+            method = self._method(name, function, thread, timeout, how)
+            if is_own:
                 self._users[name] = method
             else:
                 self._methods.add(method)
@@ -142,6 +169,9 @@ class LanguageServer(Editor, Server):
             return function
 
         return register
+
+    def _check_name(self, name: str) -> None:
+        check_method(name)
 
     def register(self, instance: T) -> T:
         """Register what is marked of an instance by `@bullmyrtle.method("name")` as features, and give it back."""
@@ -153,6 +183,8 @@ class LanguageServer(Editor, Server):
         self, name: str, *, thread: bool = False, timeout: Optional[float] = None
     ) -> Callable[[F], F]:
         """Register a function as a command of the editor's. Its parameters are filled by the command's arguments."""
+        if not isinstance(name, str):
+            raise TypeError('a command has a name: write @server.command("name")')
 
         def register(function: F) -> F:
             if name in self._commands:
@@ -178,21 +210,22 @@ class LanguageServer(Editor, Server):
         function: Any,
         thread: bool,
         timeout: Optional[float],
-        how: Callable[[Method, Any], Method] = lambda method, function: method,
+        how: Callable[[Method, Any], Method],
     ) -> Method:
         thread = thread or getattr(function, _THREAD, False)
         ours = self._converted(self._bound(function))
-        return limited(_entered(how(Method(name, ours, thread), ours), self._converter), timeout)
+        method = how(Method(name, ours, thread), ours)
+        return limited(_entered(method, self._converter, self._checks == RESULTS), timeout)
 
     def _bound(self, function: Any) -> Any:
         """The function with the server as its first argument, where it takes that."""
         try:
-            first = next(iter(inspect.signature(function).parameters.values()), None)
+            first = next(iter(parameters_of(function)), None)
         except (TypeError, ValueError):
             return function
-        if first is None or first.kind not in (first.POSITIONAL_ONLY, first.POSITIONAL_OR_KEYWORD):
+        if first is None or first.kind not in POSITIONAL:
             return function
-        if first.name == "ls" or _names_a_server(function, first.name):
+        if first.name == "ls" or names_class(function, first, LanguageServer):
             return functools.partial(function, self)
         return function
 
@@ -200,10 +233,10 @@ class LanguageServer(Editor, Server):
         """The function with params of another type than JSON's, where it asks for one and there is a converter."""
         if self._converter is None:
             return function
-        parameters = list(inspect.signature(function).parameters.values())
-        if not parameters or parameters[0].annotation is inspect.Parameter.empty:
+        parameters = parameters_of(function)
+        if not parameters or parameters[0].annotation is EMPTY:
             return function
-        kind = annotation_of(function, parameters[0].name)
+        kind = annotation_in(function, parameters[0].name)
         try:
             fit_for(kind)
             return function
@@ -215,42 +248,31 @@ class LanguageServer(Editor, Server):
             try:
                 value = structure(params, kind)
             except Exception as error:
-                raise InvalidParams(f"Invalid params: {type(error).__name__}: {error}") from error
+                raise request.session.invalid_params(error) from error
             return function(value, request) if takes_request else function(value)
 
         async def call_async(params: Any, request: Request) -> Any:
             return await call(params, request)
 
-        return call_async if inspect.iscoroutinefunction(function) else call
+        return call_async if is_async(function) else call
 
     def _plain(self, value: Any) -> Any:
         return plain(value) if self._converter is None else self._converter.unstructure(value)
 
     # Sessions
 
-    def _table(self) -> Methods:
-        return Gate(self._methods, Life())
-
-    def _began(self, session: Session, table: Methods) -> None:
-        assert isinstance(table, Gate)
-        table.life.session = session
-        self._lives[session] = table.life
-
-    async def _serve(self, session: Session) -> int:
-        try:
-            return await super()._serve(session)
-        finally:
-            self._lives.pop(session, None)
-
     def _request(self) -> Optional[Request]:
         """The request that the code which runs now works on. What it began and left to itself works on none."""
         request = CURRENT.get()
         if request is None or request.session not in self._sessions:
             return None
-        is_here = threading.get_ident() == request.session._thread
-        if is_here and request.task is not None and asyncio.current_task() is not request.task:
-            return None
-        return request if request.is_cancelled or request.number in request.session._open else None
+        is_here = get_ident() == request.session._transport.thread
+        if is_here and request.task is not None:
+            import asyncio
+
+            if asyncio.current_task() is not request.task:
+                return None
+        return request if request.is_cancelled or request.is_open else None
 
     def _single(self, instead: str) -> Session:
         """The session that this code works for, or the only one."""
@@ -266,16 +288,25 @@ class LanguageServer(Editor, Server):
         """What is known of the session."""
         return self._lives[self._single("it")]
 
-    def call(self, method: str, params: Any = None) -> Any:
+    def call(self, method: str, params: Any = None, *, timeout: Optional[float] = None) -> Any:
         """Call the editor, on behalf of the request that this code works on, if that isn't answered yet.
 
-        In an `async def` it gives what is to be awaited; in a thread it blocks, and gives the result.
+        In an `async def` it gives what is to be awaited; in a thread it blocks, and gives the result. A call that takes
+        longer than `timeout` seconds is cancelled, and raises `TimedOut`.
         """
-        return self._single("it").call_one(method, self._plain(params), self._request())
+        return self._single("it")._outgoing.call_one(
+            method, self._sent(method, params), self._request(), timeout
+        )
 
     def notify(self, method: str, params: Any = None) -> None:
         """Send the editor a notification. Any thread may do that."""
-        self._single("it").notify(method, self._plain(params))
+        self._single("it").notify(method, self._sent(method, params))
+
+    def _sent(self, method: str, params: Any) -> Any:
+        made = self._plain(params)
+        if self._checks == RESULTS:
+            check_sent(method, made)
+        return made
 
     # What is known
 
@@ -317,9 +348,6 @@ class LanguageServer(Editor, Server):
 
     # The protocol's life
 
-    def _life_of(self, request: Request) -> Life:
-        return self._lives[request.session]
-
     def _told(self, name: str, params: Any, request: Request) -> Any:
         self._builtin[name](params, self._life_of(request))
         if name == "initialized":
@@ -333,12 +361,13 @@ class LanguageServer(Editor, Server):
 
     def _initialize(self, params: Any, request: Request) -> Any:
         life = self._life_of(request)
-        if life.state is STARTING and life.beginning not in request.session._open:
+        if request.is_notification:  # (nobody would learn what was agreed on)
+            log.warning("initialize: it came as a notification, and is dropped")
+            return None
+        if life.state is STARTING and life.beginning not in request.session._incoming.open:
             life.state = NEW  # (the one before was cancelled)
         if life.state is not NEW:
             raise Error(INVALID_REQUEST, "Invalid Request: initialize has come already")
-        if not isinstance(params, dict):
-            raise InvalidParams("Invalid params: initialize has an object")
         life.params, life.state, life.beginning = params, STARTING, request.number
         life.trace = params.get("trace") or "off"
         encoding = encoding_for(life.client_capabilities, self._encodings)
@@ -349,7 +378,7 @@ class LanguageServer(Editor, Server):
             life.state = NEW
             raise
         result = functools.partial(self._initialized, life, encoding)
-        return self._later(life, told, result) if inspect.isawaitable(told) else result(told)
+        return self._later(life, told, result) if is_awaitable(told) else result(told)
 
     @staticmethod
     async def _later(life: Life, told: Any, result: Callable[[Any], Json]) -> Json:
@@ -372,7 +401,7 @@ class LanguageServer(Editor, Server):
         for method, capability in DYNAMIC.items():
             options = self._features.get(method)
             if options is not None and self.client_has(capability):
-                asyncio.ensure_future(self._register_quietly(method, options))
+                self._single("it").loop.create_task(self._register_quietly(method, options))
 
     async def _register_quietly(self, method: str, options: Json) -> None:
         try:
@@ -383,15 +412,18 @@ class LanguageServer(Editor, Server):
     def _shutdown(self, params: Any, request: Request) -> Any:
         self._life_of(request).state = SHUT
         told = self._go_on("shutdown", params, request)
-        return self._nothing(told) if inspect.isawaitable(told) else None
+        return self._nothing(told) if is_awaitable(told) else None
 
     @staticmethod
     async def _nothing(told: Any) -> None:
         await told
 
     def _exit(self, params: Any, request: Request) -> Any:
+        if not request.is_notification:
+            is_shut = self._life_of(request).state is SHUT
+            raise Error(INVALID_REQUEST if is_shut else METHOD_NOT_FOUND, "exit is a notification")
         told = self._go_on("exit", params, request)
-        if inspect.isawaitable(told):
+        if is_awaitable(told):
             return self._exit_later(told, request)
         self._stop(request)
         return None
@@ -409,10 +441,10 @@ class LanguageServer(Editor, Server):
     # Commands
 
     def _execute(self, params: Any, request: Request) -> Any:
-        name = member(params, "command")
-        command = self._commands.get(name) if isinstance(name, str) else None
+        name = params["command"]
+        command = self._commands.get(name)
         if command is None:
-            raise InvalidParams(f"Invalid params: there is no command {str(name)[:200]!r}")
+            raise InvalidParams(f"Invalid params: there is no command {name[:200]!r}")
         return handed(command, params.get("arguments") or [], request)
 
     # Ways to run it
@@ -422,7 +454,8 @@ class LanguageServer(Editor, Server):
         sys.exit(self.run())
 
     def start_tcp(self, host: str, port: int) -> None:
-        """Answer whoever connects to this address, until the process is interrupted."""
+        """Answer anyone who connects to this address, until the process is interrupted."""
+        import asyncio
 
         async def answer(reader: asyncio.StreamReader, writer: asyncio.StreamWriter) -> None:
             await self.serve_async(reader, writer)
@@ -438,11 +471,15 @@ class LanguageServer(Editor, Server):
             pass
 
 
+def _as_it_is(method: Method, function: Any) -> Method:
+    return method
+
+
 def filled(method: Method, function: Any) -> Method:
     """The method, whose one parameter gets one argument, and not all of them, unless it is named `arguments`."""
     if isinstance(method.fit, Filling) or not method.takes:
         return method
-    one = next(iter(inspect.signature(function).parameters.values()))
+    one = parameters_of(function)[0]
     if one.name in ("arguments", "args", "params") or method.takes == 2:
         return method
     inner, method.fit = method.function, Filling(function, [one], frozenset())
@@ -451,39 +488,31 @@ def filled(method: Method, function: Any) -> Method:
 
 
 def _set_trace(params: Any, life: Life) -> None:
-    value = member(params, "value")
+    value = params["value"]
     if value not in ("off", "messages", "verbose"):
-        raise InvalidParams(f"Invalid params: there is no such trace: {str(value)[:50]!r}")
+        raise InvalidParams(f"Invalid params: there is no such trace: {value[:50]!r}")
     life.trace = value
 
 
 def _cancel_progress(params: Any, life: Life) -> None:
-    token = member(params, "token")
-    progress = life.progresses.get(token) if type(token) in (str, int) else None
+    progress = life.progresses.get(params["token"])
     if progress is not None:
         progress.cancel()
 
 
-def _names_a_server(function: Any, name: str) -> bool:
-    """Whether a parameter is annotated with a class of language servers."""
-    try:
-        kind = annotation_of(function, name)
-    except TypeError:
-        return False
-    return inspect.isclass(kind) and issubclass(kind, LanguageServer)
-
-
-def _entered(method: Method, converter: Any) -> Method:
+def _entered(method: Method, converter: Any, checks_results: bool) -> Method:
     """The method, while whose code runs it is known which request it works on."""
-    inner, takes = method.function, method.takes
+    inner, takes, name = method.function, method.takes, method.name
 
     def call(given: Any, request: Request) -> Any:
         return inner() if not takes else inner(given) if takes == 1 else inner(given, request)
 
     def made(result: Any) -> Any:
-        if result is LATER or result is None:
-            return result
-        return plain(result) if converter is None else converter.unstructure(result)
+        if result is not LATER and result is not None:
+            result = plain(result) if converter is None else converter.unstructure(result)
+        if checks_results and result is not LATER:
+            check_result(name, result)
+        return result
 
     def entered(given: Any, request: Request) -> Any:
         token = CURRENT.set(request)
@@ -491,7 +520,7 @@ def _entered(method: Method, converter: Any) -> Method:
             result = call(given, request)
         finally:
             CURRENT.reset(token)
-        return _awaited(result) if inspect.isawaitable(result) else made(result)
+        return _awaited(result) if is_awaitable(result) else made(result)
 
     async def _awaited(result: Any) -> Any:
         return made(await result)

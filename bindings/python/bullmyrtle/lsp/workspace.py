@@ -1,16 +1,17 @@
 """The documents that an editor has open, and the folders that it works in."""
 from __future__ import annotations
 
-import logging
-import threading
-from typing import Any, Dict, Optional
+from _thread import get_ident
 
+from .._hints import TYPE_CHECKING
+from .._log import log
 from ..errors import InvalidParams
 from .documents import Document, member, path_of
 
-log = logging.getLogger("bullmyrtle")
+if TYPE_CHECKING:
+    from typing import Any, Dict, Optional
 
-Json = Dict[str, Any]
+    Json = Dict[str, Any]
 
 
 class Workspace:
@@ -21,7 +22,7 @@ class Workspace:
         self.folders: Dict[str, Json] = {}
         self.root_uri: Optional[str] = None
         self.encoding = "utf-16"
-        self._thread = threading.get_ident()
+        self._thread = get_ident()
 
     @property
     def root_path(self) -> Optional[str]:
@@ -41,7 +42,7 @@ class Workspace:
         if not isinstance(uri, str) or uri not in self.documents:
             raise InvalidParams(f"Invalid params: this document isn't open: {str(uri)[:200]}")
         document = self.documents[uri]
-        return document if threading.get_ident() == self._thread else document.snapshot()
+        return document if get_ident() == self._thread else document.snapshot()
 
     def get_text_document(self, uri: str) -> Document:
         """An open document, or else what is in the file that the URI names. Raises OSError where that can't be read."""
@@ -50,8 +51,11 @@ class Workspace:
         path = path_of(uri)
         if path is None:
             raise InvalidParams(f"Invalid params: this document isn't open, and is no file: {uri[:200]}")
-        with open(path, encoding="utf-8", errors="replace", newline="") as it:
-            return Document(uri, it.read(), encoding=self.encoding)
+        try:
+            with open(path, encoding="utf-8", errors="replace", newline="") as it:
+                return Document(uri, it.read(), encoding=self.encoding)
+        except ValueError as fault:  # (a name that no file has: with a NUL, or with half a surrogate pair)
+            raise InvalidParams(f"Invalid params: no file has this name: {uri[:200]!r}") from fault
 
     get_document = get_text_document
 
@@ -59,49 +63,36 @@ class Workspace:
 
     def begin(self, params: Json, encoding: str) -> None:
         """What `initialize` says of them."""
-        self._thread = threading.get_ident()
+        self._thread = get_ident()
         self.encoding = encoding
-        uri, path = params.get("rootUri"), params.get("rootPath")
-        if uri is None and isinstance(path, str):
-            uri = "file://" + path
-        self.root_uri = uri if isinstance(uri, str) else None
+        self.root_uri, path = params.get("rootUri"), params.get("rootPath")
+        if self.root_uri is None and path is not None:
+            self.root_uri = "file://" + path
         for it in params.get("workspaceFolders") or ():
-            self.folders[member(it, "uri")] = it
+            self.folders[it["uri"]] = it
 
-    def folders_changed(self, params: Any) -> None:
+    def folders_changed(self, params: Json) -> None:
         """What `workspace/didChangeWorkspaceFolders` says."""
-        event = member(params, "event")
-        for it in member(event, "removed"):
-            self.folders.pop(member(it, "uri"), None)
-        for it in member(event, "added"):
-            self.folders[member(it, "uri")] = it
+        for it in params["event"]["removed"]:
+            self.folders.pop(it["uri"], None)
+        for it in params["event"]["added"]:
+            self.folders[it["uri"]] = it
 
-    def opened(self, params: Any) -> None:
+    def opened(self, params: Json) -> None:
         """What `textDocument/didOpen` says."""
-        about = member(params, "textDocument")
-        uri, text, version = (member(about, it) for it in ("uri", "text", "version"))
-        language = about.get("languageId", "")
-        if not isinstance(uri, str) or not isinstance(text, str):
-            raise InvalidParams("Invalid params: a document has a URI and a text, which are strings")
+        about = params["textDocument"]
+        uri = about["uri"]
         if uri in self.documents:
             log.warning("%s: it was opened, and is open already; the new text stands", uri)
-        self.documents[uri] = Document(uri, text, _version(version), language, self.encoding)
+        self.documents[uri] = Document(
+            uri, about["text"], about.get("version"), about.get("languageId", ""), self.encoding
+        )
 
-    def changed(self, params: Any) -> None:
+    def changed(self, params: Json) -> None:
         """What `textDocument/didChange` says."""
-        about, changes = member(params, "textDocument"), member(params, "contentChanges")
-        if not isinstance(changes, list):
-            raise InvalidParams("Invalid params: contentChanges has to be an array")
-        document = self.document(member(about, "uri"))
-        document.change(changes, _version(about.get("version")))
+        about = params["textDocument"]
+        self.document(about["uri"]).change(params["contentChanges"], about.get("version"))
 
-    def closed(self, params: Any) -> None:
+    def closed(self, params: Json) -> None:
         """What `textDocument/didClose` says."""
-        uri = self.document(params).uri
-        del self.documents[uri]
-
-
-def _version(version: Any) -> Optional[int]:
-    if version is not None and type(version) is not int:
-        raise InvalidParams("Invalid params: a version is a whole number")
-    return version
+        del self.documents[self.document(params).uri]

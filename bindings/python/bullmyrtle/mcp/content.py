@@ -5,16 +5,18 @@ import base64
 import dataclasses
 import mimetypes
 import os
-from typing import Any, Dict, List, Optional, Union
+from typing import Any, Dict, List, Optional, Sequence, Union
 
 from .._json import dumps
+from .._signatures.values import plain
+from ._about import Icon, icons_of, known, present
 
 Json = Dict[str, Any]
 Path = Union[str, "os.PathLike[str]"]
 
 
 class ToolError(Exception):
-    """What a tool raises that failed: its text is told as the tool's result, as an error of the tool's own."""
+    """What a tool raises that failed: its text is sent as the tool's result, as an error of the tool's own."""
 
 
 class Content:
@@ -77,13 +79,16 @@ class ResourceLink(Content):
     name: str
     description: Optional[str] = None
     mime_type: Optional[str] = None
+    title: Optional[str] = None
+    icons: Optional[Sequence[Icon]] = None
 
     def as_json(self, version: str) -> Json:
         """The part as the agreed version of the protocol has it."""
         if version < "2025-06-18":
             return text(f"{self.name}: {self.uri}")
-        more = {"description": self.description, "mimeType": self.mime_type}
-        return {"type": "resource_link", "uri": self.uri, "name": self.name, **_given(more)}
+        more = {"title": self.title, "description": self.description, "mimeType": self.mime_type}
+        link = present({**more, "icons": icons_of(self.icons)})
+        return {"type": "resource_link", "uri": self.uri, "name": self.name, **known(link, version)}
 
 
 @dataclasses.dataclass
@@ -109,13 +114,17 @@ class ToolResult:
     meta: Optional[Json] = None
 
 
-def _given(members: Json) -> Json:
-    return {name: it for name, it in members.items() if it is not None}
-
-
 def text(words: str) -> Json:
     """A text, as a part of a result or of a message."""
     return {"type": "text", "text": words}
+
+
+def json_of(value: Any) -> bytes:
+    """The text of a value's JSON."""
+    try:
+        return dumps(value)
+    except TypeError:  # (it may have times, sets and the like, and mostly has none)
+        return dumps(plain(value))
 
 
 def parts_of(value: Any, version: str) -> List[Json]:
@@ -128,7 +137,7 @@ def parts_of(value: Any, version: str) -> List[Json]:
         return [text(value)]
     if isinstance(value, (list, tuple)) and any(isinstance(it, Content) for it in value):
         return [part for it in value for part in parts_of(it, version)]
-    return [text(dumps(value).decode())]
+    return [text(json_of(value).decode())]
 
 
 def contents_of(uri: str, value: Any, mime_type: Optional[str]) -> Json:
@@ -141,4 +150,4 @@ def contents_of(uri: str, value: Any, mime_type: Optional[str]) -> Json:
         }
     if isinstance(value, str):
         return {"uri": uri, "mimeType": mime_type or "text/plain", "text": value}
-    return {"uri": uri, "mimeType": mime_type or "application/json", "text": dumps(value).decode()}
+    return {"uri": uri, "mimeType": mime_type or "application/json", "text": json_of(value).decode()}

@@ -1,11 +1,13 @@
 """What a tool, a resource or a prompt knows of the call that it answers, and what it can ask the host."""
 from __future__ import annotations
 
-import dataclasses
-from typing import TYPE_CHECKING, Any, Dict, List, Optional, Union
+from typing import TYPE_CHECKING, Any, Dict, List, Optional, Sequence, Union
 
 from .._request import Request
-from ._schema import Schemas
+from ._eliciting import Elicited, PageElicitation, elicited, form_of
+from ._results import checked
+from ._sampling import CHOICES, fault_of
+from ._tasks import TaskRequest
 from .content import ToolError, text
 
 if TYPE_CHECKING:
@@ -22,14 +24,6 @@ def check_level(level: str) -> None:
     """Raises ValueError where there is no such level."""
     if level not in LEVELS:
         raise ValueError(f"a level is one of {', '.join(LEVELS)}: {level!r}")
-
-
-@dataclasses.dataclass
-class Elicited:
-    """What the host's user said: "accept" with the content, "decline" or "cancel"."""
-
-    action: str
-    content: Optional[Json] = None
 
 
 class Context:
@@ -60,6 +54,11 @@ class Context:
         """The version of the protocol that was agreed on."""
         return self._life.version
 
+    @property
+    def user(self) -> Any:
+        """What the check of a bearer's token gave, over HTTP; None where there is none."""
+        return self.request.session.state.get("user")
+
     def client_has(self, path: str) -> Any:
         """A capability of the host's, as "sampling" or "roots.listChanged"; None where it has none."""
         return self._life.client_has(path)
@@ -69,9 +68,13 @@ class Context:
     def report_progress(
         self, progress: float, total: Optional[float] = None, message: Optional[str] = None
     ) -> None:
-        """Tell how far it is, where the host asked for that. Progress that doesn't rise isn't told. Any thread may."""
+        """Tell how far it is, where the host asked for that. Progress that doesn't rise isn't sent. Any thread may."""
         token = self.meta.get("progressToken")
-        is_over = self.request.is_cancelled or self.request.number not in self.request.session._open
+        request = self.request
+        if isinstance(request, TaskRequest):
+            is_over = request.is_over
+        else:
+            is_over = request.is_cancelled or not request.is_open
         if (
             type(token) not in (str, int)
             or is_over
@@ -88,7 +91,7 @@ class Context:
 
     def log(self, level: str, data: Any, logger: Optional[str] = None) -> None:
         """Send the host a log message, where it wants messages of this level."""
-        self.server.log_to(self._life, level, data, logger)
+        self.server.log_to(self._life, level, data, logger, self.request)
 
     def debug(self, data: Any) -> None:
         """Log at this level."""
@@ -111,31 +114,71 @@ class Context:
     def _ask(self, capability: str, method: str, params: Any) -> Any:
         if self.client_has(capability) is None:
             raise ToolError(f"the host has no {capability}")
-        return self.request.call(method, params)
+        return _then(self.request.call(method, params), lambda result: checked(method, result))
 
-    def sample(self, messages: Union[str, List[Any]], max_tokens: int = 1000, **more: Any) -> Any:
+    def sample(
+        self,
+        messages: Union[str, List[Any]],
+        max_tokens: int = 1000,
+        *,
+        tools: Optional[Sequence[Union[str, Json]]] = None,
+        tool_choice: Optional[str] = None,
+        **more: Any,
+    ) -> Any:
         """Ask the host's model. The result is its message: `{"role": .., "content": .., "model": ..}`.
 
-        Messages are texts of the user, or objects as the protocol has them. `more` is what else it has, as
+        Messages are texts of the user, or objects as the protocol has them. `tools` are names of this server's, or
+        descriptions, that the model may ask for (`tool_uses`) and the next question answers (`tool_result`);
+        `tool_choice` is "auto", "required" or "none"; both since 2025-11-25. `more` is what else a question has, as
         `systemPrompt`, `temperature`, `stopSequences` and `modelPreferences`.
         """
         given = [messages] if isinstance(messages, str) else messages
         asked = [{"role": "user", "content": text(it)} if isinstance(it, str) else it for it in given]
-        return self._ask(
-            "sampling", "sampling/createMessage", {"messages": asked, "maxTokens": max_tokens, **more}
-        )
+        fault = fault_of(asked)
+        if fault is not None:
+            raise ValueError(fault)
+        if tool_choice not in (None, *CHOICES):
+            raise ValueError(f"tool_choice is one of {', '.join(CHOICES)}: {tool_choice!r}")
+        params: Json = {"messages": asked, "maxTokens": max_tokens, **more}
+        if tools is not None:
+            params["tools"] = [
+                self.server.described(it, self.version) if isinstance(it, str) else it for it in tools
+            ]
+        if tool_choice is not None:
+            params["toolChoice"] = {"mode": tool_choice}
+        uses_tools = tools is not None or tool_choice is not None
+        return self._ask("sampling.tools" if uses_tools else "sampling", "sampling/createMessage", params)
 
     def elicit(self, message: str, schema: Any) -> Any:
-        """Ask the host's user for some values. The result is an `Elicited`.
+        """Ask the host's user for some values. The result is an `Elicited`, whose content is as the schema has it.
 
         The schema is a dataclass of texts, numbers, booleans and choices, or an object by hand. Since 2025-06-18.
         """
-        if not isinstance(schema, dict):
-            schema = _asked_for(schema)
-        waited = self._ask(
-            "elicitation", "elicitation/create", {"message": message, "requestedSchema": schema}
-        )
-        return _then(waited, _elicited)
+        form = self.client_has("elicitation")
+        if isinstance(form, dict) and form and "form" not in form:
+            raise ToolError("the host has no elicitation by forms")
+        asked = schema if isinstance(schema, dict) else form_of(schema, self.version)
+        params = {"message": message, "requestedSchema": asked}
+        waited = self._ask("elicitation", "elicitation/create", params)
+        return _then(waited, lambda result: elicited(result, asked))
+
+    def elicit_page(self, message: str, url: str, elicitation_id: Optional[str] = None) -> Any:
+        """Ask the host's user to open a page. The result is an `Elicited` without content. Since 2025-11-25.
+
+        It says whether the user agreed to open it. `server.elicitation_complete(id)` tells the host when all is done.
+        """
+        more = {} if elicitation_id is None else {"elicitation_id": elicitation_id}
+        page = PageElicitation(message, url, **more)
+        waited = self._ask("elicitation.url", "elicitation/create", page.as_json())
+        self._life.elicitations.add(page.elicitation_id)
+
+        def answered(result: Any) -> Elicited:
+            said = elicited(result)
+            if said.action != "accept":
+                self._life.elicitations.discard(page.elicitation_id)
+            return said
+
+        return _then(waited, answered)
 
     def list_roots(self) -> Any:
         """The folders that the host lets the server work in: a list of `{"uri": .., "name": ..}`."""
@@ -144,23 +187,6 @@ class Context:
     def read_resource(self, uri: str) -> Any:
         """The contents of one of the server's own resources, to be awaited: a list."""
         return self.server.contents_of(uri, self._life, self.request)
-
-
-def _asked_for(kind: Any) -> Json:
-    """The schema of what a user is asked for: members that are texts, numbers, booleans and choices of them."""
-    schemas = Schemas()
-    schema = schemas.of(kind)
-    members: Json = schemas.defs.get(schema.get("$ref", "").rpartition("/")[2], schema).get("properties", {})
-    for name, it in members.items():
-        if it.get("type") not in ("string", "number", "integer", "boolean"):
-            raise TypeError(
-                f"{name!r} can't be asked for: a user gives texts, numbers, booleans and choices of these"
-            )
-    return schemas.whole(schema)
-
-
-def _elicited(result: Any) -> Elicited:
-    return Elicited(result.get("action", "cancel"), result.get("content"))
 
 
 def _then(waited: Any, what: Any) -> Any:

@@ -16,6 +16,7 @@ local status, progress = nil, {}
 local id = vim.lsp.start_client({
   name = 'words',
   cmd = vim.json.decode(vim.env.SERVER),
+  capabilities = vim.tbl_deep_extend('force', vim.lsp.protocol.make_client_capabilities(), { workspace = { configuration = true } }),
   root_dir = vim.fn.getcwd(),
   on_exit = function(code, signal) status = { code, signal } end,
   handlers = {

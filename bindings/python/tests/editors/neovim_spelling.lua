@@ -20,6 +20,7 @@ local status, progress, tokens, registered = nil, {}, {}, {}
 local id = vim.lsp.start_client({
   name = 'spelling',
   cmd = vim.json.decode(vim.env.SERVER),
+  capabilities = vim.tbl_deep_extend('force', vim.lsp.protocol.make_client_capabilities(), { workspace = { configuration = true } }),
   root_dir = room,
   settings = { words = { label = 'times' } }, flags = { debounce_text_changes = 0 },
   on_exit = function(code, signal) status = { code, signal } end,

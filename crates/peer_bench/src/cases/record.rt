@@ -1,5 +1,5 @@
 //! What is written of a case.
-use bench_work::written;
+use crate::work::written;
 use program_edge::Failure;
 use rpc_peer::{Close, Report};
 use std::fmt::Debug;

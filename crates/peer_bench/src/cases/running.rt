@@ -3,7 +3,7 @@ use super::case::{Case, Way, pieces};
 use super::reading::{numbers, read_case, read_picks};
 use super::record::{write_report, write_stop};
 use crate::run_failure::{BROKEN_CASE, RunFailure};
-use bench_work::written;
+use crate::work::written;
 use lsp_frames::{MemSink, MemSource};
 use method_steps::Table;
 use program_edge::Failure;

@@ -1,5 +1,5 @@
 //! The command that finishes requests at the desk.
-use bench_work::{Finishing, Task};
+use crate::work::{Finishing, Task};
 use program_edge::{ChoiceOption, CommandOption, NumberOption, ProgramCommand, Words};
 
 /// The words' units, through the desk in their order.

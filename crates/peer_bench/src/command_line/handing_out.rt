@@ -1,45 +1,24 @@
-//! The commands that hand jobs out to workers.
-use bench_work::{Crew, Task};
+//! The command that hands jobs out to workers.
+use crate::work::{Crew, Task};
 use program_edge::{CommandOption, NumberOption, ProgramCommand, Words};
 
 /// The words' jobs, through job slots.
 pub fn slots_task(words: &Words<'_>) -> Task {
     Task::Slots {
-        crew: crew(words),
+        crew: Crew::new(words.number(&WORKERS), words.number(&ROOM)),
         jobs: words.number(&JOBS),
     }
-}
-
-/// The words' jobs, through queues.
-pub fn queue_task(words: &Words<'_>) -> Task {
-    Task::Queue {
-        crew: crew(words),
-        jobs: words.number(&JOBS),
-    }
-}
-
-fn crew(words: &Words<'_>) -> Crew {
-    Crew::new(words.number(&WORKERS), words.number(&ROOM))
 }
 
 pub const SLOTS: ProgramCommand = ProgramCommand {
     name: "slots",
     about: "Send jobs from one owner through job slots to its workers and back",
-    options: HANDOFF,
+    options: &[
+        CommandOption::Number(WORKERS),
+        CommandOption::Number(JOBS),
+        CommandOption::Number(ROOM),
+    ],
 };
-
-pub const QUEUE: ProgramCommand = ProgramCommand {
-    name: "queue",
-    about: "Send the same jobs through two queues of crossbeam_queue",
-    options: HANDOFF,
-};
-
-/// The options of a hand-off, by whatever means.
-const HANDOFF: &[CommandOption] = &[
-    CommandOption::Number(WORKERS),
-    CommandOption::Number(JOBS),
-    CommandOption::Number(ROOM),
-];
 
 const WORKERS: NumberOption = NumberOption {
     name: "workers",

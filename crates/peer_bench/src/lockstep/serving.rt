@@ -1,7 +1,7 @@
 //! A server for the client's rounds.
 use super::client::{Asking, Counting, Step};
 use super::rounds::Rounds;
-use bench_work::written;
+use crate::work::written;
 use lsp_frames::encode;
 use method_steps::Table;
 use program_edge::Failure;

@@ -1,12 +1,12 @@
 //! Sinks that take few bytes at once, and sinks that stop.
 
-use super::{METHODS, framed, table, whole};
-use crate::told::holds_at;
+use super::{METHODS, framed, table};
+use crate::cuts;
 use lsp_frames::MemSink;
 use method_steps::Table;
 use peer_player::{Picks, Schedule, play_to};
 use peer_session::{DrainFault, Limits};
-use std::alloc::{AllocError, Global};
+use std::alloc::Global;
 use std::process::Abort;
 use std::test::Fail;
 
@@ -16,102 +16,53 @@ const ROW: &str = r#"< {"jsonrpc":"2.0","method":"ask","params":["x"],"id":7}
 > {"id":7,"jsonrpc":"2.0","result":true}
 "#;
 
-/// What the row's input is played by.
-#[derive(Drop)]
-struct Played<'a> {
-    table: &'a Table,
-    schedule: &'a Schedule,
-    pieces: &'a [Vec<u8>],
-}
-
-impl Played<'_> {
-    /// Whether a sink holds this at the end, and the play said so.
-    fn fills(
-        &self,
-        alloc: Global,
-        sink: MemSink,
-        wanted: &[u8],
-        end: Result<(), DrainFault>,
-    ) -> bool {
-        let (table, schedule) = (self.table, self.schedule);
-        match play_to(
-            alloc,
-            table,
-            Limits::standard(),
-            self.pieces,
-            schedule,
-            sink,
-        ) {
-            Ok((_, sink)) => holds_bytes(sink, wanted) && end == Ok(()),
-            Err((fault, sink)) => holds_bytes(sink, wanted) && end == Err(fault),
-        }
-    }
-
-    fn fills_short_sinks(&self, rt: &impl Abort, alloc: Global, wanted: &[u8]) {
-        for most in [1, 2, 7] {
-            let sink = MemSink::short(alloc, None, most);
-            let is_filled = self.fills(alloc, sink, wanted, Ok(()));
-            holds_at(rt, is_filled, "at once at most", u64::from(most));
-        }
-    }
-
-    /// The last of these stops behind the last byte.
-    fn fills_sinks_that_stop(&self, rt: &impl Abort, alloc: Global, wanted: &[u8]) {
-        for stop in 0..=144 {
-            let sink = MemSink::new(alloc, Some(stop as u64));
-            let end = if stop == 144 {
-                Ok(())
-            } else {
-                Err(DrainFault::Write)
-            };
-            let is_filled = match wanted.get(..stop) {
-                Some(front) => self.fills(alloc, sink, front, end),
-                None => false,
-            };
-            holds_at(rt, is_filled, "stopped at byte", stop as u64);
-        }
-    }
-}
-
-/// Whether a sink holds these bytes. It is dropped.
-fn holds_bytes(sink: MemSink, wanted: &[u8]) -> bool {
-    let holds = sink.bytes() == wanted;
-    drop(sink);
-    holds
-}
-
-fn each_is_filled(rt: &impl Abort, alloc: Global, played: &Played<'_>) -> Result<(), AllocError> {
-    let wanted = framed(alloc, ROW, "> ")?;
-    played.fills_short_sinks(rt, alloc, wanted.as_slice());
-    played.fills_sinks_that_stop(rt, alloc, wanted.as_slice());
-    drop(wanted);
-    Ok(())
-}
-
-/// Plays the row to each sink by an eager peer.
-fn played_eagerly(rt: &impl Abort, alloc: Global, table: &Table) -> Result<(), AllocError> {
-    let input = framed(alloc, ROW, "< ")?;
-    let pieces = whole(alloc, input.as_slice());
-    drop(input);
-    let pieces = pieces?;
+/// How a play of the pieces into a sink ends, and what the sink holds then.
+fn played(
+    alloc: Global,
+    table: &Table,
+    pieces: &[Vec<u8>],
+    sink: MemSink,
+) -> (Result<(), DrainFault>, Vec<u8>) {
     let schedule = Schedule {
         lazy: false,
         picks: Picks::First,
     };
-    let played = Played {
-        table,
-        schedule: &schedule,
-        pieces: pieces.as_slice(),
-    };
-    let filled = each_is_filled(rt, alloc, &played);
-    drop(pieces);
-    filled
+    let played = play_to(alloc, table, Limits::standard(), pieces, &schedule, sink);
+    drop(schedule);
+    match played {
+        Ok((_, sink)) => (Ok(()), sink.into_vec()),
+        Err((fault, sink)) => (Err(fault), sink.into_vec()),
+    }
+}
+
+/// Plays the row into a sink that takes one byte at once, and into sinks that stop, the last of them behind the last byte.
+fn fills(rt: &impl Abort, alloc: Global, table: &Table, pieces: &[Vec<u8>], wanted: &[u8]) {
+    let (end, written) = played(alloc, table, pieces, MemSink::short(alloc, None, 1));
+    assert!(rt; end == Ok(()) && written.as_slice() == wanted && wanted.len() == 144);
+    for stop in 0..=144 {
+        let sink = MemSink::new(alloc, Some(stop as u64));
+        let (end, written) = played(alloc, table, pieces, sink);
+        assert!(rt;
+            end.is_ok() == (stop == 144) && end != Err(DrainFault::Memory),
+            "{stop}"
+        );
+        assert!(rt; wanted.get(..stop) == Some(written.as_slice()), "{stop}");
+    }
 }
 
 #[test]
 fn short_writes_and_stops_at_each_byte(rt: HostRuntime) -> Result<(), Fail> {
+    let input = framed(rt.alloc(), ROW, "< ")?;
+    let pieces = cuts::owned(rt.alloc(), &[input.as_slice()])?;
+    let wanted = framed(rt.alloc(), ROW, "> ")?;
     let table = table(rt.alloc(), METHODS)?;
-    let played = played_eagerly(&rt, rt.alloc(), &table);
+    fills(
+        &rt,
+        rt.alloc(),
+        &table,
+        pieces.as_slice(),
+        wanted.as_slice(),
+    );
     drop(table);
-    Ok(played?)
+    Ok(())
 }

@@ -5,7 +5,7 @@ use handler_future::Outcome;
 use job_slots::Turns;
 use lsp_frames::{Frame, StdSink};
 use method_steps::Table;
-use peer_session::{Close, DrainFault, Limits, Session};
+use peer_session::{Close, Limits, Session};
 use std::alloc::Global;
 use std::io::{self, Write};
 
@@ -68,37 +68,16 @@ enum Went {
     NoFurther,
 }
 
-fn table_at_last(alloc: Global) -> Option<Table> {
+/// What is made at the first try or at a later one.
+fn at_last<T, E: Drop, F: FnOnce(Global) -> Result<T, E> + Copy>(
+    alloc: Global,
+    make: F,
+) -> Option<T>
+    requires { F.IsAlwaysCallable make }
+{
     for _ in 0..TRIES {
-        if let Ok(table) = Table::read(alloc, METHODS.as_bytes()) {
-            return Some(table);
-        }
-    }
-    None
-}
-
-fn wanted_at_last(alloc: Global) -> Option<Vec<u8>> {
-    for _ in 0..TRIES {
-        if let Ok(wanted) = framed(alloc, STREAM, "> ") {
-            return Some(wanted);
-        }
-    }
-    None
-}
-
-fn session_at_last(alloc: Global, table: &Table) -> Option<Session<'_>> {
-    for _ in 0..TRIES {
-        if let Ok(session) = Session::new(alloc, table, Limits::standard()) {
-            return Some(session);
-        }
-    }
-    None
-}
-
-fn frame_at_last(alloc: Global, content: &str) -> Option<Frame> {
-    for _ in 0..TRIES {
-        if let Ok(frame) = frame(alloc, content) {
-            return Some(frame);
+        if let Ok(made) = make(alloc) {
+            return Some(made);
         }
     }
     None
@@ -114,14 +93,10 @@ fn is_taken(session: &mut Session<'_>, frame: &Frame) -> bool {
     false
 }
 
-fn drain(session: &mut Session<'_>, written: &mut Compared<'_>) -> Result<(), DrainFault> {
-    session.drain(&mut StdSink::new(written))
-}
-
 /// Whether what is due is written, at the first try or at a later one.
 fn is_drained(session: &mut Session<'_>, written: &mut Compared<'_>) -> bool {
     for _ in 0..TRIES {
-        if drain(session, written).is_ok() {
+        if session.drain(&mut StdSink::new(&mut *written)).is_ok() {
             return true;
         }
     }
@@ -158,7 +133,7 @@ fn content_went(
     content: &str,
     written: &mut Compared<'_>,
 ) -> Went {
-    let Some(frame) = frame_at_last(alloc, content) else {
+    let Some(frame) = at_last(alloc, |alloc| frame(alloc, content)) else {
         return Went::NoFurther;
     };
     let is_taken = is_taken(session, &frame);
@@ -200,7 +175,10 @@ fn is_written(alloc: Global, session: &mut Session<'_>, wanted: &[u8]) -> bool {
 
 /// The same of a new session, where there is memory for one.
 fn is_written_by_a_session(alloc: Global, table: &Table, wanted: &[u8]) -> Option<bool> {
-    let mut session = session_at_last(alloc, table)?;
+    let mut session = at_last(
+        alloc,
+        |alloc| Session::new(alloc, table, Limits::standard()),
+    )?;
     let is_written = is_written(alloc, &mut session, wanted);
     drop(session);
     Some(is_written)
@@ -211,8 +189,10 @@ fn is_written_by_a_session(alloc: Global, table: &Table, wanted: &[u8]) -> Optio
 #[test]
 fn contents_are_taken_and_written_again_after_memory(rt: HostRuntime) {
     let alloc = rt.alloc();
-    let table = table_at_last(alloc).expect(&rt, "a table");
-    let wanted = wanted_at_last(alloc).expect(&rt, "what is wanted");
+    let table = at_last(alloc, |alloc| Table::read(alloc, METHODS.as_bytes())).expect(
+        &rt, "a table",
+    );
+    let wanted = at_last(alloc, |alloc| framed(alloc, STREAM, "> ")).expect(&rt, "what is wanted");
     let is_written = is_written_by_a_session(alloc, &table, wanted.as_slice());
     drop(wanted);
     drop(table);

@@ -5,11 +5,21 @@ use program_edge::{
     TextOption,
 };
 
+/// What the program is, and command lines that run as they stand at the top of a clone.
+const ABOUT: &str =
+    r#"A JSON-RPC 2.0 peer over standard input and output, with methods from a table, and a judge of recordings
+
+Examples:
+  echo '{"jsonrpc":"2.0","method":"sum","params":[2,3],"id":1}' |
+    bin/rpc_tool play --lines --table examples/toolbox.toml
+  bin/rpc_tool check --explain --table examples/toolbox.toml
+  bin/rpc_tool judge < examples/judge/spelling_eglot.record"#;
+
 /// The program, with all of its commands.
 pub static PROGRAM: Program = Program {
     name: "rpc_tool",
     version: "0.3.0",
-    about: "A JSON-RPC 2.0 peer over standard input and output, framed as in the Language Server Protocol",
+    about: ABOUT,
     commands: &[SERVE, PLAY, CHECK, JUDGE],
     needs_command: true,
     options: &[],
@@ -18,7 +28,7 @@ pub static PROGRAM: Program = Program {
 
 const SERVE: ProgramCommand = ProgramCommand {
     name: "serve",
-    about: "Serve what comes on standard input, and write calls and answers as they come about",
+    about: "Serve standard input, and write requests and responses as soon as they are due",
     options: &[
         CommandOption::Text(TABLE),
         CommandOption::Number(WORKERS),
@@ -46,7 +56,7 @@ const PLAY: ProgramCommand = ProgramCommand {
 
 const CHECK: ProgramCommand = ProgramCommand {
     name: "check",
-    about: "Judge a table of methods, and say how many methods it has",
+    about: "Check a table of methods, and say how many methods it has",
     options: &[
         CommandOption::Text(JUDGED_TABLE),
         CommandOption::Flag(EXPLAIN_TABLE),
@@ -93,7 +103,7 @@ pub const LAZY: FlagOption = FlagOption {
 
 pub const LAST: FlagOption = FlagOption {
     name: "last",
-    help: "Where several methods can go on, go on with the last one, and not with the first",
+    help: "If several methods can go on, go on with the last one, and not with the first",
 };
 
 pub const PIECE: NumberOption = NumberOption {
@@ -107,14 +117,14 @@ pub const PIECE: NumberOption = NumberOption {
 
 pub const LINES: FlagOption = FlagOption {
     name: "lines",
-    help: "Read one content a line, and write one a line, in place of frames; a CR is part of its line",
+    help: "Read and write one message per line, in place of LSP's frames; a CR is part of its line",
 };
 
 /// The limit of a content.
 pub const CONTENT: NumberOption = NumberOption {
     name: "content",
     value_name: "BYTES",
-    help: "End the input at a content of more than BYTES bytes, 1 to 16777216",
+    help: "End the input at a message of more than BYTES bytes, 1 to 16777216",
     least: 1,
     greatest: 16_777_216,
     usual: "16777216",
@@ -124,7 +134,7 @@ pub const CONTENT: NumberOption = NumberOption {
 pub const CALLS: NumberOption = NumberOption {
     name: "calls",
     value_name: "N",
-    help: "End the input at a content with which more than N calls came, 1 to 1000000",
+    help: "End the input at the message that exceeds N requests and notifications, 1 to 1000000",
     least: 1,
     greatest: 1_000_000,
     usual: "1000000",
@@ -139,7 +149,7 @@ pub const EXPLAIN: FlagOption = FlagOption {
 pub const RULES: ChoiceOption = ChoiceOption {
     name: "rules",
     value_name: "NAME",
-    help: "Whose rules count; without it those that the recording names",
+    help: "The rules to judge by; by default those that the recording names",
     words: &["jsonrpc", "lsp", "mcp", "mcp:2025-03-26"],
     usual: "",
 };
@@ -152,7 +162,7 @@ const RECORDED_FRAMING: FlagGroup = FlagGroup {
 
 pub const RECORDED_FRAMES: FlagOption = FlagOption {
     name: "frames",
-    help: "Each message that was recorded has a head, whatever the recording says",
+    help: "Each message that was recorded has a header, whatever the recording says",
 };
 
 pub const RECORDED_LINES: FlagOption = FlagOption {

@@ -1,7 +1,7 @@
 use Rattle.std.proofs.Common.{◌∙◌}
 use Rattle.std.specs.List.{slice_get}
-use Rattle.conversation_owed.specs.Ways.{fits}
-use Rattle.conversation_owed.specs.declared.ways.Way.TheVariants.{Expects}
+use Rattle.conversation_ids.specs.Ways.{fits}
+use Rattle.conversation_ids.specs.declared.ways.Way.TheVariants.{Expects}
 use Rattle.conversation_dues.proofs.Left.{position-left, expected_choice}
 use Rattle.conversation_dues.proofs.arrays.choice.Goals as goal
 

@@ -1,7 +1,7 @@
 use Rattle.std.proofs.Common.{◌∙◌, sym}
 use Rattle.std.specs.List.{slice_get}
-use Rattle.conversation_owed.specs.Ways.{fits}
-use Rattle.conversation_owed.specs.declared.ways.Way.TheVariants.{MustHave}
+use Rattle.conversation_ids.specs.Ways.{fits}
+use Rattle.conversation_ids.specs.declared.ways.Way.TheVariants.{MustHave}
 use Rattle.conversation_dues.proofs.Left.{position-left, taken-must, taken-rather}
 use Rattle.conversation_dues.proofs.arrays.taken_by.Goals as goal
 

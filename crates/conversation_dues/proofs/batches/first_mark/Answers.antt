@@ -2,7 +2,7 @@ use Rattle.std.proofs.Common.{◌+◌, ◌∷◌, ◌∙◌, ap, sym, drop, leng
 use Rattle.conversation_dues.proofs.Marked.{unanswered_by}
 use Rattle.conversation_dues.proofs.Steps.{drop_here, drop_past}
 use Rattle.conversation_dues.proofs.Targeted.{some_ids}
-use Rattle.conversation_owed.specs.Marks.{due_has}
+use Rattle.conversation_ids.specs.OwedMarks.{due_has}
 use Rattle.conversation_rules.specs.Dues.{ids_read}
 use Rattle.conversation_dues.proofs.batches.first_mark.Goals as goal
 

@@ -2,7 +2,7 @@ use Rattle.std.proofs.Common.{◌∙◌, ap, sym, option_map}
 use Rattle.conversation_dues.specs.Found.{first_of}
 use Rattle.conversation_dues.proofs.Firsts.{oldest_is, entry_at}
 use Rattle.conversation_open.specs.Open.{open_entries}
-use Rattle.conversation_owed.specs.Ways.{fits}
+use Rattle.conversation_ids.specs.Ways.{fits}
 use Rattle.conversation_dues.proofs.targets.oldest.Goals as goal
 
 pub returns-in-Some : goal.returns-in-Some

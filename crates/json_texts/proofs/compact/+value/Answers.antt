@@ -3,18 +3,44 @@ use Rattle.json_texts.specs.Found.{FindsItems, FindsMembers}
 use Rattle.json_texts.proofs.Placed.{items_of_more, no_item, last_item, more_items, members_of_more, no_member, last_member, more_members, string_value, number_value, true_value, false_value, null_value, array_value, object_value, some_weaker}
 use Rattle.json_texts.proofs.FoundValues.{items_of_more_found, no_items_found, no_item_found, last_item_found, more_items_found, other_items_found, past_items_found, members_of_more_found, no_members_found, no_member_found, bare_member_found, last_member_found, more_members_found, other_members_found, past_members_found, string_at, array_at, object_at, true_at, false_at, null_at, number_at, digit_at}
 use Rattle.json_texts.proofs.FoundNumbers.{natural_found}
+use Rattle.json_texts.proofs.NumberItems.{items_behind_numbers, found_behind_numbers, last_numbers, last_numbers_found, last_numbers_are_some}
 use Rattle.json_texts.proofs.Whole.{natural_stands}
 use Rattle.json_texts.proofs.compact.+value.Goals as goal
 
 pub items_end-returns-then-byte_at-eq93-clause-items : goal.items_end-returns-then-byte_at-eq93-clause-items
 items_end-returns-then-byte_at-eq93-clause-items t c = no_item c.args.levels c.args.text.now c.args.from (omega (arith, c.byte_at.ensures))
 
+pub items_end-returns-then-is_closed-clause-items : goal.items_end-returns-then-is_closed-clause-items
+items_end-returns-then-is_closed-clause-items t c =
+    let end = c.past_first_naturals-first.result.0 in
+    let last = c.past_first_naturals-first.ensures.last c.if-is_closed.true in
+    items_of_more c.args.levels c.args.text.now c.args.from end (last_numbers c.args.levels c.args.text.now c.args.from end last c.past_first_naturals-first.ensures.bounds)
+
+pub items_end-returns-then-is_closed-clause-found : goal.items_end-returns-then-is_closed-clause-found
+items_end-returns-then-is_closed-clause-found t c =
+    let end = c.past_first_naturals-first.result.0 in
+    let last = c.past_first_naturals-first.ensures.last c.if-is_closed.true in
+    let other = c.if-byte_at-eq93.false in
+    items_of_more_found c.args.levels c.args.text.now c.args.from (Some end) (λ e. other (c.byte_at.ensures ∙ e))
+    (last_numbers_found c.args.levels c.args.text.now c.args.from end last c.past_first_naturals-first.ensures.bounds)
+
+pub items_end-returns-then-is_closed-clause-bounds : goal.items_end-returns-then-is_closed-clause-bounds
+items_end-returns-then-is_closed-clause-bounds t c =
+    let within = c.past_first_naturals-first.ensures.bounds in
+    (last_numbers_are_some c.args.levels c.args.text.now c.args.from c.past_first_naturals-first.result.0 (c.past_first_naturals-first.ensures.last c.if-is_closed.true) within, within.1)
+
 pub items_end-loop-at-init : goal.items_end-loop-at-init
 items_end-loop-at-init t c =
+    let levels = c.args.levels in
+    let text = c.args.text.now in
+    let from = c.args.from in
+    let first = c.past_first_naturals-first.result.0 in
+    let numbers = c.past_first_naturals-first.ensures.items c.if-is_closed.false in
+    let within = c.past_first_naturals-first.ensures.bounds in
     let other = c.if-byte_at-eq93.false in (
-      omega arith,
-      λ end more. items_of_more c.args.levels c.args.text.now c.args.from end more,
-      λ found finds. items_of_more_found c.args.levels c.args.text.now c.args.from found (λ e. other (c.byte_at.ensures ∙ e)) finds,
+      within.0,
+      λ end more. items_of_more levels text from end (items_behind_numbers levels text from first end numbers within more),
+      λ found finds. items_of_more_found levels text from found (λ e. other (c.byte_at.ensures ∙ e)) (found_behind_numbers levels text from first found numbers within finds),
     )
 
 pub items_end-returns-then-next-eq93-clause-items : goal.items_end-returns-then-next-eq93-clause-items

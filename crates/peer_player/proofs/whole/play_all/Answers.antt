@@ -5,6 +5,7 @@ use Rattle.std.proofs.lemmas.Result.{err_from_is_err_and}
 use Rattle.lsp_frames.specs.Devices.{Finished}
 use Rattle.stream_framing.specs.declared.framing.Framing.TheVariants.{Frames}
 use Rattle.stream_session.specs.Stream.{stream_of}
+use Rattle.peer_session.proofs.HandedOn.{handed-then, hands-error, hands-then, until-then}
 use Rattle.peer_player.specs.Player.{PlaysAfter}
 use Rattle.peer_player.proofs.Counting.{counts-then, counts-error}
 use Rattle.peer_player.proofs.Pieces.{bytes_in, next-bytes, stopped-piece}
@@ -19,6 +20,7 @@ loop-piece-preserved g c = (
       (c.in_ok-feed.ensures.plays Frames table limits (bytes_in (take c.loop-piece.piece-index c.args.pieces.now)) before (c.loop-piece.invariant.0 table limits before had))),
   c.in_ok-feed.ensures.same ∙ c.loop-piece.invariant.1,
   c.in_ok-feed.ensures.cause ∙ c.loop-piece.invariant.2,
+  handed-then g.S.Sink.handed_on g.S.Sink.bytes_taken c.args.player.now.playing.sink c.loop-piece.player.playing.sink c.feed.new.self.playing.sink c.loop-piece.invariant.3 c.in_ok-feed.ensures.flushed,
 )
 
 pub returns-in_err-feed-clause-err : goal.returns-in_err-feed-clause-err
@@ -59,3 +61,14 @@ returns-clause-cause g c =
     counts-then (stream_of c.args.player.now.playing.stream).session (stream_of c.loop-piece.player.playing.stream).session (g.S.Sink.failures c.args.player.now.playing.sink)
     (g.S.Sink.failures c.loop-piece.player.playing.sink) (g.S.Sink.failures c.end.new.self.playing.sink) c.end.result
     c.loop-piece.invariant.1 c.loop-piece.invariant.2 c.end.ensures.cause
+
+pub returns-in_err-feed-clause-flushed : goal.returns-in_err-feed-clause-flushed
+returns-in_err-feed-clause-flushed g c =
+    let told = err_from_is_err_and c.from_residual.result c.from_residual.ensures.1 in
+    hands-error g.S.Sink.handed_on g.S.Sink.bytes_taken c.args.player.now.playing.sink c.feed.new.self.playing.sink c.from_residual.result c.in_err-feed.field-0.0 (told.1 ∙ ap Err told.2)
+    (until-then g.S.Sink.handed_on g.S.Sink.bytes_taken c.args.player.now.playing.sink c.loop-piece.player.playing.sink c.feed.new.self.playing.sink c.in_err-feed.field-0.0
+    c.loop-piece.invariant.3 c.in_err-feed.ensures.flushed)
+
+pub returns-clause-flushed : goal.returns-clause-flushed
+returns-clause-flushed g c =
+    hands-then g.S.Sink.handed_on g.S.Sink.bytes_taken c.args.player.now.playing.sink c.loop-piece.player.playing.sink c.end.new.self.playing.sink c.end.result c.loop-piece.invariant.3 c.end.ensures.flushed

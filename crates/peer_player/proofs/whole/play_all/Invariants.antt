@@ -1,5 +1,6 @@
 use Rattle.std.proofs.Common.{◌≡◌, ℕ, List, [], take, flat_map, Option}
 use Rattle.method_steps.specs.Steps.{MethodTable}
+use Rattle.peer_session.specs.HandedOn.{HasHandedOn}
 use Rattle.peer_session.specs.declared.limits.Limits.{Limits}
 use Rattle.stream_framing.specs.declared.framing.Framing.TheVariants.{Frames}
 use Rattle.stream_session.specs.Stream.{stream_of}
@@ -14,3 +15,4 @@ invariant-loop-piece g l = ((table : MethodTable) (limits : Limits) (before : Op
     (g.S.Sink.bytes_taken l.player.playing.sink))
     × ((stream_of l.player.playing.stream).session.is_broken ≡ (stream_of l.fn.player.playing.stream).session.is_broken)
     × (g.S.Sink.failures l.player.playing.sink ≡ g.S.Sink.failures l.fn.player.playing.sink)
+    × HasHandedOn g.S.Sink.handed_on g.S.Sink.bytes_taken l.fn.player.playing.sink l.player.playing.sink

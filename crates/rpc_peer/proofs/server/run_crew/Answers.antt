@@ -8,12 +8,13 @@ use Rattle.rpc_peer.proofs.server.run_crew.Goals as goal
 
 pub returns-clause-served : goal.returns-clause-served
 returns-clause-served g c =
+    let handed = g.K.Sink.handed_on in
     let taken = g.K.Sink.bytes_taken in
     let failures = g.K.Sink.failures in
     let clerk = c.in-Ok-new.clerk in
-    IfOk-weaker c.run_threads.result (λ done. HasServed taken failures (clerk_framing clerk) (clerk_table clerk) (clerk_limits clerk) clerk.sink done.0)
-    (λ done. HasServed taken failures c.args.framing c.args.table.now c.args.limits c.args.sink done.0)
-    (λ done. served-for taken failures (clerk_framing clerk) c.args.framing (clerk_table clerk) c.args.table.now (clerk_limits clerk) c.args.limits clerk.sink c.args.sink done.0
+    IfOk-weaker c.run_threads.result (λ done. HasServed handed taken failures (clerk_framing clerk) (clerk_table clerk) (clerk_limits clerk) clerk.sink done.0)
+    (λ done. HasServed handed taken failures c.args.framing c.args.table.now c.args.limits c.args.sink done.0)
+    (λ done. served-for handed taken failures (clerk_framing clerk) c.args.framing (clerk_table clerk) c.args.table.now (clerk_limits clerk) c.args.limits clerk.sink c.args.sink done.0
     c.in-Ok-new.ensures.framing c.in-Ok-new.ensures.table c.in-Ok-new.ensures.limits c.in-Ok-new.ensures.sink)
     c.run_threads.ensures.served
 

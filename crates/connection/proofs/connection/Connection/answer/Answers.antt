@@ -14,7 +14,7 @@ returns-clause-ok c =
     let h = answered c.args.number (Some c.args.answer.now) in
     subst (λ (old : Connection). (history : History) (told : List Event) → StandsAfter old history told → OnOk c.answer.result ((refusal old.settings.cancels history h ≡ None) × StandsAfter (with_desk inside c.answer.new.self) (h ∷ history) told))
     c.self.view_is
-    (says_ok inside c.answer.new.self (after_answer c.args.number (Some c.args.answer.now) inside.desk) h _ c.answer.result (answer_same inside c.args.number c.args.answer.now) (λ history told stands. stands_answered inside history told c.args.number (Some c.args.answer.now) stands) c.answer.ensures.ok)
+    (says_ok inside c.answer.new.self (after_answer c.args.number (Some c.args.answer.now) inside.desk) h _ c.answer.result (answer_same inside c.args.number c.args.answer.now) (λ history told stands. stands_answered inside history told c.args.number (Some c.args.answer.now) c.is_answer.ensures stands) c.answer.ensures.ok)
 
 pub returns-clause-err : goal.returns-clause-err
 returns-clause-err c =

@@ -14,7 +14,7 @@ returns-clause-ok c =
     let h = called c.args.number c.args.outgoing.now in
     subst (λ (old : Connection). (history : History) (told : List Event) → StandsAfter old history told → OnOk c.call.result ((refusal old.settings.cancels history h ≡ None) × StandsAfter (with_desk inside c.call.new.self) (h ∷ history) told))
     c.self.view_is
-    (says_ok inside c.call.new.self (after_call c.args.number c.args.outgoing.now inside.desk) h _ c.call.result (call_same inside c.args.number 1) (λ history told stands. stands_called inside history told c.args.number c.args.outgoing.now stands) c.call.ensures.ok)
+    (says_ok inside c.call.new.self (after_call c.args.number c.args.outgoing.now inside.desk) h _ c.call.result (call_same inside c.args.number 1) (λ history told stands. stands_called inside history told c.args.number c.args.outgoing.now c.is_sayable.ensures stands) c.call.ensures.ok)
 
 pub returns-clause-err : goal.returns-clause-err
 returns-clause-err c =

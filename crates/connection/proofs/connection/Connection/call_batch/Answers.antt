@@ -14,7 +14,7 @@ returns-clause-ok c =
     let h = called_all c.args.number c.args.outgoings.now in
     subst (λ (old : Connection). (history : History) (told : List Event) → StandsAfter old history told → OnOk c.call_batch.result ((refusal old.settings.cancels history h ≡ None) × StandsAfter (with_desk inside c.call_batch.new.self) (h ∷ history) told))
     c.self.view_is
-    (says_ok inside c.call_batch.new.self (after_calls c.args.number c.args.outgoings.now inside.desk) h _ c.call_batch.result (call_same inside c.args.number (length c.args.outgoings.now)) (λ history told stands. stands_called_all inside history told c.args.number c.args.outgoings.now stands) c.call_batch.ensures.ok)
+    (says_ok inside c.call_batch.new.self (after_calls c.args.number c.args.outgoings.now inside.desk) h _ c.call_batch.result (call_same inside c.args.number (length c.args.outgoings.now)) (λ history told stands. stands_called_all inside history told c.args.number c.args.outgoings.now c.are_sayable.ensures stands) c.call_batch.ensures.ok)
 
 pub returns-clause-err : goal.returns-clause-err
 returns-clause-err c =

@@ -1,5 +1,6 @@
 use Rattle.std.proofs.Common.{◌≡◌, Ok, true, false}
-use Rattle.connection.proofs.Asked.{gone_none, gone_on, stays_still}
+use Rattle.connection.proofs.Asked.{gone_none, gone_on, refused_there, stays_still}
+use Rattle.connection.proofs.Stands.{on_err}
 use Rattle.connection.proofs.connection.Connection.next_event.Goals as goal
 
 pub loop-event-init : goal.loop-event-init
@@ -15,6 +16,11 @@ returns-then-not-branch-clause-none c = λ history told stands e.
     let n = c.next_untold.ensures.none c.in_default.is in
     let is : c.go_on.result ≡ Ok false = cc in
     stays_still c.args.self.now c.loop-event.self c.next_untold.new.self c.go_on.new.self history told c.loop-event.invariant n.0 n.1 (c.go_on.ensures.stayed is) stands
+
+pub returns-in_err-go_on-clause-err : goal.returns-in_err-go_on-clause-err
+returns-in_err-go_on-clause-err c = λ history told stands.
+    let n = c.next_untold.ensures.none c.in_default.is in
+    on_err c.from_residual.result (refused_there c.args.self.now c.loop-event.self c.next_untold.new.self c.go_on.new.self history told c.loop-event.invariant n.0 n.1 c.in_err-go_on.ensures.err stands)
 
 pub loop-event-preserved : goal.loop-event-preserved
 loop-event-preserved c =

@@ -13,4 +13,4 @@ returns-clause-ok c =
     subst (λ (old : Connection). (history : History) (told : List Event) → StandsAfter old history told → OnOk c.notify.result (StandsAfter (with_desk inside c.notify.new.self) (h ∷ history) told))
     c.self.view_is
     (λ history told stands. on_ok c.notify.result _ _
-    (λ is. subst (λ e. StandsAfter (with_desk inside e) (h ∷ history) told) (sym is) (stands_noticed inside history told c.args.outgoing.now stands)) c.notify.ensures.ok)
+    (λ is. subst (λ e. StandsAfter (with_desk inside e) (h ∷ history) told) (sym is) (stands_noticed inside history told c.args.outgoing.now c.is_sayable.ensures stands)) c.notify.ensures.ok)

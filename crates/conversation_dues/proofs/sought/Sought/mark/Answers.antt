@@ -1,8 +1,8 @@
 use Rattle.std.proofs.Common.{◌∙◌, ap, sym, true, false, Some, None, if◌then◌else◌}
 use Rattle.conversation_dues.proofs.Marked.{place_none, asked_none, cancelled_none}
 use Rattle.conversation_dues.specs.Found.{place_of}
-use Rattle.conversation_owed.specs.Marks.{due_has}
-use Rattle.conversation_owed.specs.Ways.{fits}
+use Rattle.conversation_ids.specs.OwedMarks.{due_has}
+use Rattle.conversation_ids.specs.Ways.{fits}
 use Rattle.conversation_dues.proofs.sought.Sought.mark.Goals as goal
 
 pub returns-in-Single : goal.returns-in-Single

@@ -1,6 +1,6 @@
 use Rattle.std.proofs.Common.{◌≡◌, ◌<◌, ◌∙◌, ap, sym, arith}
 use Rattle.number_windows.specs.Numbered.{at, changed_at}
-use Rattle.conversation_owed.specs.Marks.{due_has}
+use Rattle.conversation_ids.specs.OwedMarks.{due_has}
 use Rattle.conversation_rules.specs.Dues.{maybe_answered}
 use Rattle.conversation_open.specs.Open.{open_entries, contents_of}
 use Rattle.conversation_open.proofs.Changed.{changed_none, changed_all, changed_next, still_there, next_above, next_first, next_none}

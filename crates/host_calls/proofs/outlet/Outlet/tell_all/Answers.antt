@@ -4,8 +4,8 @@ use Rattle.host_calls.specs.declared.outlet.Outlet.{Outlet}
 use Rattle.host_calls.specs.declared.asking.Packed.{Packed}
 use Rattle.host_calls.specs.declared.asking.Packed.TheVariants as packed
 use Rattle.host_calls.specs.Inner.{Packs, Stops, HasPackedAll, stop_as}
-use Rattle.event_rooms.specs.Events.{bytes_of}
-use Rattle.event_rooms.specs.Rooms.{aligned}
+use Rattle.host_calls.specs.Events.{bytes_of}
+use Rattle.host_calls.specs.Rooms.{aligned}
 use Rattle.host_calls.proofs.HandedOver.{handed}
 use Rattle.host_calls.proofs.PackedSoFar.{packed-zero}
 use Rattle.host_calls.proofs.outlet.Outlet.tell_all.Goals as goal

@@ -1,5 +1,7 @@
 -- The input ends and is taken, and once all is settled that was a whole run.
-use Rattle.std.proofs.Common.{◌≢◌, None, refl, sym, subst, ◌∙◌}
+use Rattle.std.proofs.Common.{◌≢◌, Err, None, refl, sym, ap, subst, ◌∙◌}
+use Rattle.std.proofs.lemmas.Result.{err_from_is_err_and}
+use Rattle.peer_session.proofs.HandedOn.{handed-then, hands-error, until-then}
 use Rattle.peer_player.specs.Player.{IsPlayIn}
 use Rattle.stream_session.specs.Stream.{stream_of, with_end}
 use Rattle.stream_session.specs.declared.next.InputEnd.TheVariants.{Finished}
@@ -42,3 +44,20 @@ returns-clause-ok g c = λ fed goes_on had.
     settled.written.plays.session.unbroken in
     subst (IsPlayIn fed.framing fed.table fed.limits fed.bytes fed.before sink) (sym c.report.ensures)
     (c.what_a_stream_wrote.ensures.whole all (λ n. None) s sink settled.written.plays done)
+
+pub returns-in_err-take_contents-clause-flushed : goal.returns-in_err-take_contents-clause-flushed
+returns-in_err-take_contents-clause-flushed g c =
+    let told = err_from_is_err_and c.from_residual-in_err-take_contents.result c.from_residual-in_err-take_contents.ensures.1 in
+    hands-error g.S.Sink.handed_on g.S.Sink.bytes_taken c.args.self.now.sink c.take_contents.new.self.sink c.from_residual-in_err-take_contents.result c.in_err-take_contents.field-0.0 (told.1 ∙ ap Err told.2)
+    c.in_err-take_contents.ensures.flushed
+
+pub returns-in_err-settle-clause-flushed : goal.returns-in_err-settle-clause-flushed
+returns-in_err-settle-clause-flushed g c =
+    let told = err_from_is_err_and c.from_residual-in_err-settle.result c.from_residual-in_err-settle.ensures.1 in
+    hands-error g.S.Sink.handed_on g.S.Sink.bytes_taken c.args.self.now.sink c.settle.new.self.sink c.from_residual-in_err-settle.result c.in_err-settle.field-0.0 (told.1 ∙ ap Err told.2)
+    (until-then g.S.Sink.handed_on g.S.Sink.bytes_taken c.args.self.now.sink c.take_contents.new.self.sink c.settle.new.self.sink c.in_err-settle.field-0.0
+    c.in_ok-take_contents.ensures.flushed c.in_err-settle.ensures.flushed)
+
+pub returns-clause-flushed : goal.returns-clause-flushed
+returns-clause-flushed g c =
+    handed-then g.S.Sink.handed_on g.S.Sink.bytes_taken c.args.self.now.sink c.take_contents.new.self.sink c.settle.new.self.sink c.in_ok-take_contents.ensures.flushed c.in_ok-settle.ensures.flushed

@@ -92,3 +92,7 @@ unfolding view
 returns-then-not-has_due-clause-handed_on g c = λ some.
     let none = c.has_due.ensures c.if-not-has_due.true in
     absurd (omega (arith, some, ap length (no-bytes c.args.framing c.args.self.now.runs none)))
+
+pub returns-then-is_written-clause-flushed : goal.returns-then-is_written-clause-flushed
+unfolding view
+returns-then-is_written-clause-flushed g c = c.write-is_written.ensures.flushed c.if-is_written.true

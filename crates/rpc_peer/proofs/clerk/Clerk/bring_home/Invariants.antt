@@ -3,4 +3,4 @@ use Rattle.rpc_peer.proofs.clerk.Clerk.bring_home.Given as goal
 
 -- the slots so far were looked at
 abbrev pub invariant-loop : goal.invariant-loop
-invariant-loop g l = (start : Start) → Serves g.K.Sink.bytes_taken g.K.Sink.failures start l.fn.self → Serves g.K.Sink.bytes_taken g.K.Sink.failures start l.self
+invariant-loop g l = (start : Start g.row.K.Denot) → Serves g.K.Sink.handed_on g.K.Sink.bytes_taken g.K.Sink.failures start l.fn.self → Serves g.K.Sink.handed_on g.K.Sink.bytes_taken g.K.Sink.failures start l.self

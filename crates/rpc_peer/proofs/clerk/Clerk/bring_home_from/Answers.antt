@@ -10,10 +10,11 @@ use Rattle.rpc_peer.proofs.clerk.Clerk.bring_home_from.Goals as goal
 
 pub returns-in_default : goal.returns-in_default
 returns-in_default g c = λ start had. record {
-  after = subst (λ looks. ServesAfter start.framing start.table start.limits (received c.args.self.now.ring) start.taken (stream_of c.args.self.now.stream) looks
+  after = subst (λ looks. ServesAfter start.framing start.table start.limits (received c.args.self.now.ring) (g.K.Sink.bytes_taken start.sink) (stream_of c.args.self.now.stream) looks
       (g.K.Sink.bytes_taken c.args.self.now.sink)) (sym c.in_default.ensures.not_yet) had.after;
   ring = had.ring;
   unfailing = had.unfailing;
+  flushed = had.flushed;
 }
 
 pub returns : goal.returns
@@ -24,11 +25,12 @@ returns g c = λ start had.
     let out = had.after.are_out.each c.args.slot told.0 told.1 in
     let after = stream_of c.back.new.self in
     record {
-      after = subst (λ looks. ServesAfter start.framing start.table start.limits (received self.ring) start.taken after looks at) (sym c.in-Some.ensures.emptied)
-          (comes-home start.framing start.table start.limits (received self.ring) start.taken (stream_of self.stream) (looks_of self.seat) at had.after
+      after = subst (λ looks. ServesAfter start.framing start.table start.limits (received self.ring) (g.K.Sink.bytes_taken start.sink) after looks at) (sym c.in-Some.ensures.emptied)
+          (comes-home start.framing start.table start.limits (received self.ring) (g.K.Sink.bytes_taken start.sink) (stream_of self.stream) (looks_of self.seat) at had.after
           c.args.slot told.0 told.1 after (ap (λ (x : SessionState). x.close) c.back.ensures.session)
-          (c.back.ensures.back (fed_by start.framing start.table start.limits (received self.ring) start.taken) had.after.jobs at told.0.job.handler.number told.0.job
+          (c.back.ensures.back (fed_by start.framing start.table start.limits (received self.ring) (g.K.Sink.bytes_taken start.sink)) had.after.jobs at told.0.job.handler.number told.0.job
           had.after.stands out.out out.unpolled told.2.1));
       ring = had.ring;
       unfailing = had.unfailing;
+      flushed = had.flushed;
     }

@@ -27,14 +27,15 @@ returns g c = λ start had.
     let given = sym c.ok.ensures.value ∙ c.in-Some-ok.is in
     let job = c.in-Some-next_job.job in
     let after = stream_of c.next_job.new.self in
-    let gone = c.in-Some-next_job.ensures.out (fed_by start.framing start.table start.limits (received self.ring) start.taken) had.after.jobs at had.after.stands in
+    let gone = c.in-Some-next_job.ensures.out (fed_by start.framing start.table start.limits (received self.ring) (g.K.Sink.bytes_taken start.sink)) had.after.jobs at had.after.stands in
     record {
-      after = subst (λ looks. ServesAfter start.framing start.table start.limits (received self.ring) start.taken after looks at)
+      after = subst (λ looks. ServesAfter start.framing start.table start.limits (received self.ring) (g.K.Sink.bytes_taken start.sink) after looks at)
           (sym (of-given (λ n. looks_of c.offer-offered.new.clerk ≡ slice_set (looks_of self.seat) n (In c.new.result)) c.offer-offered.result slot given
           c.offer-offered.ensures.placed))
-          (goes-out start.framing start.table start.limits (received self.ring) start.taken (stream_of self.stream) (looks_of self.seat) at had.after
+          (goes-out start.framing start.table start.limits (received self.ring) (g.K.Sink.bytes_taken start.sink) (stream_of self.stream) (looks_of self.seat) at had.after
           slot c.new.result job c.new.ensures.job after (ap (λ (x : SessionState). x.close) c.in-Some-next_job.ensures.leaves.1.2)
           gone.0 gone.1 c.in-Some-next_job.ensures.unturned.0 c.in-Some-next_job.ensures.unturned.1);
       ring = had.ring;
       unfailing = had.unfailing;
+      flushed = had.flushed;
     }

@@ -13,11 +13,12 @@ returns-then-is_done-clause-ok g c = λ start had.
     let self = c.settle.new.self in
     let sink = g.K.Sink.bytes_taken self.sink in
     record {
-      whole = subst (IsRunIn start.framing start.table start.limits (bytes_of (received self.ring)) (ending_of (received self.ring)) start.taken sink) (sym c.report.ensures)
-          (c.what_a_stream_wrote.ensures.whole (fed_by start.framing start.table start.limits (received self.ring) start.taken) now.after.jobs (stream_of self.stream) sink
+      whole = subst (IsRunIn start.framing start.table start.limits (bytes_of (received self.ring)) (ending_of (received self.ring)) (g.K.Sink.bytes_taken start.sink) sink) (sym c.report.ensures)
+          (c.what_a_stream_wrote.ensures.whole (fed_by start.framing start.table start.limits (received self.ring) (g.K.Sink.bytes_taken start.sink)) now.after.jobs (stream_of self.stream) sink
           now.after.stands (c.is_done.ensures.0 c.if-is_done.true));
       ring = now.ring;
       unfailing = now.unfailing;
+      flushed = now.flushed;
     }
 
 pub loop-preserved-then-has_gone : goal.loop-preserved-then-has_gone

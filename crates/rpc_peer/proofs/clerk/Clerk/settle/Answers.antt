@@ -7,8 +7,8 @@ use Rattle.rpc_peer.proofs.clerk.Clerk.settle.Goals as goal
 pub returns-in_err-came_in-clause-err : goal.returns-in_err-came_in-clause-err
 returns-in_err-came_in-clause-err g c = λ start had.
     let refused = err_from_is_err_and c.from_residual.result c.from_residual.ensures.1 in
-    subst (λ r. IfErr r (Stops g.K.Sink.bytes_taken g.K.Sink.failures start c.take_in_if_few_wait.new.self)) (sym refused.1)
-    (subst (Stops g.K.Sink.bytes_taken g.K.Sink.failures start c.take_in_if_few_wait.new.self) (sym refused.2)
+    subst (λ r. IfErr r (Stops g.K.Sink.handed_on g.K.Sink.bytes_taken g.K.Sink.failures start c.take_in_if_few_wait.new.self)) (sym refused.1)
+    (subst (Stops g.K.Sink.handed_on g.K.Sink.bytes_taken g.K.Sink.failures start c.take_in_if_few_wait.new.self) (sym refused.2)
     (c.in_err-came_in.ensures.err start (c.bring_home-came_home.ensures start had)))
 
 pub returns-then-came_home-clause-ok : goal.returns-then-came_home-clause-ok

@@ -1,0 +1,47 @@
+// The same names as those of index.js, which a test compares.
+import all from './index.js'
+
+export * from '../words.mjs'
+export const {
+  CodeActionKind, CodeActionTriggerKind, CompletionItemKind, CompletionItemTag, CompletionTriggerKind,
+  DiagnosticSeverity, DiagnosticTag, DocumentDiagnosticReportKind, DocumentHighlightKind, FailureHandlingKind,
+  FileChangeType, FileOperationPatternKind, FoldingRangeKind, InlayHintKind, InsertTextFormat, InsertTextMode,
+  LSPErrorCodes, MarkupKind, MessageType, MonikerKind, NotebookCellKind, PositionEncodingKind,
+  PrepareSupportDefaultBehavior, ResourceOperationKind, SemanticTokenModifiers, SemanticTokenTypes,
+  SignatureHelpTriggerKind, SymbolKind, SymbolTag, TextDocumentSaveReason, TextDocumentSyncKind, TokenFormat,
+  UniquenessLevel, WatchKind, CallHierarchyIncomingCallsRequest, CallHierarchyOutgoingCallsRequest, RegistrationRequest,
+  UnregistrationRequest, CodeActionResolveRequest, CodeLensResolveRequest, CompletionResolveRequest,
+  DocumentLinkResolveRequest, ExitNotification, InitializeRequest, InitializedNotification, InlayHintResolveRequest,
+  DidChangeNotebookDocumentNotification, DidCloseNotebookDocumentNotification, DidOpenNotebookDocumentNotification,
+  DidSaveNotebookDocumentNotification, ShutdownRequest, TelemetryEventNotification, CodeActionRequest, CodeLensRequest,
+  ColorPresentationRequest, CompletionRequest, DeclarationRequest, DefinitionRequest, DocumentDiagnosticRequest,
+  DidChangeTextDocumentNotification, DidCloseTextDocumentNotification, DidOpenTextDocumentNotification,
+  DidSaveTextDocumentNotification, DocumentColorRequest, DocumentHighlightRequest, DocumentLinkRequest,
+  DocumentSymbolRequest, FoldingRangeRequest, DocumentFormattingRequest, HoverRequest, ImplementationRequest,
+  InlayHintRequest, InlineValueRequest, LinkedEditingRangeRequest, MonikerRequest, DocumentOnTypeFormattingRequest,
+  CallHierarchyPrepareRequest, PrepareRenameRequest, TypeHierarchyPrepareRequest, PublishDiagnosticsNotification,
+  DocumentRangeFormattingRequest, ReferencesRequest, RenameRequest, SelectionRangeRequest, SemanticTokensRequest,
+  SemanticTokensDeltaRequest, SemanticTokensRangeRequest, SignatureHelpRequest, TypeDefinitionRequest,
+  WillSaveTextDocumentNotification, WillSaveTextDocumentWaitUntilRequest, TypeHierarchySubtypesRequest,
+  TypeHierarchySupertypesRequest, LogMessageNotification, ShowDocumentRequest, ShowMessageNotification,
+  ShowMessageRequest, WorkDoneProgressCancelNotification, WorkDoneProgressCreateRequest, ApplyWorkspaceEditRequest,
+  CodeLensRefreshRequest, ConfigurationRequest, WorkspaceDiagnosticRequest, DiagnosticRefreshRequest,
+  DidChangeConfigurationNotification, DidChangeWatchedFilesNotification, DidChangeWorkspaceFoldersNotification,
+  DidCreateFilesNotification, DidDeleteFilesNotification, DidRenameFilesNotification, ExecuteCommandRequest,
+  InlayHintRefreshRequest, InlineValueRefreshRequest, SemanticTokensRefreshRequest, WorkspaceSymbolRequest,
+  WillCreateFilesRequest, WillDeleteFilesRequest, WillRenameFilesRequest, WorkspaceFoldersRequest,
+  WorkspaceSymbolResolveRequest, ProtocolRequestType, ProtocolRequestType0, ProtocolNotificationType,
+  ProtocolNotificationType0, RegistrationType, MessageDirection, SemanticTokensRegistrationType,
+  NotebookDocumentSyncRegistrationType, WorkDoneProgress, Location, LocationLink, Color, ColorInformation,
+  ColorPresentation, FoldingRange, DiagnosticRelatedInformation, Diagnostic, ChangeAnnotation, TextDocumentEdit,
+  TextDocumentIdentifier, VersionedTextDocumentIdentifier, OptionalVersionedTextDocumentIdentifier, TextDocumentItem,
+  InsertReplaceEdit, CompletionItem, ParameterInformation, DocumentHighlight, DocumentSymbol, CodeActionContext,
+  CodeLens, FormattingOptions, DocumentLink, SelectionRange, InlineValueText, InlineValueVariableLookup,
+  InlineValueEvaluatableExpression, InlineValueContext, InlayHintLabelPart, InlayHint, WorkspaceFolder, CodeDescription,
+  MarkupContent, Hover, SemanticTokens, integer, uinteger, DocumentUri, URI, Position, Range, TextEdit,
+  AnnotatedTextEdit, ChangeAnnotationIdentifier, CreateFile, RenameFile, DeleteFile, WorkspaceEdit, Command,
+  CompletionList, MarkedString, SignatureInformation, SymbolInformation, WorkspaceSymbol, CodeAction,
+  SemanticTokensBuilder, SemanticTokensDiff, TextDocument, TextDocuments, NotebookDocuments, Files, EOL,
+  BulkRegistration, BulkUnregistration, createConnection, ProposedFeatures
+} = all
+export default all

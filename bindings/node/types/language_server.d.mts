@@ -1,0 +1,1 @@
+export * from './language_server.js'

@@ -1,0 +1,4 @@
+mod EnclosedTexts
+mod Items
+mod ItemsRead
+mod Texts

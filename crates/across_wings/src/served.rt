@@ -1,0 +1,41 @@
+//! What a server has written, as a connection reads it. Each law is the contract of a function that does nothing but cite
+//! those that it stands on.
+
+ghost use Rattle.std.specs.Prelude.{◌≡◌, ℕ, List, [], map, Some, None};
+ghost use Rattle.connection.specs.Connections.{Connection, StandsAfter, next_content};
+ghost use Rattle.connection.specs.Settings.{rules_of};
+ghost use Rattle.connection_history.specs.History.{History, units_of};
+ghost use Rattle.connection_history.specs.declared.event.Event.{Event};
+ghost use Rattle.method_steps.specs.Steps.{MethodTable};
+ghost use Rattle.peer_output.specs.Items.{Item, bytes_of};
+ghost use Rattle.peer_session.specs.declared.limits.Limits.{Limits};
+ghost use Rattle.peer_session.specs.declared.report.Report.{Report};
+ghost use Rattle.stream_session.specs.Promise.{IsServed};
+ghost use Rattle.across_wings.specs.Served.{HasReadItems, IsFedItems, item_as_read};
+
+use content_streams::{contents_only_grow, frames_are_those_of_the_bytes};
+use lsp_frames::{Source, contents_are_a_function_of_the_bytes, written_frame_is_read_back};
+
+/// What a server has written for an input, in frames, are the bytes of its output's items.
+pub fn what_was_served_are_items<S: Source>()
+    ensures { (table : MethodTable) (limits : Limits) (source : S) (bytes : List ℕ) (report : Report)
+        (served : IsServed table limits (S.gave source) (Some []) (Some bytes) report) →
+        bytes ≡ bytes_of served.run.items }
+{}
+
+/// A connection that is fed the bytes of items in frames, or a front of them, reads the first of the items, in their
+/// order and each by itself; and once it has read all that it was fed, and that are all bytes, it has read all items.
+pub fn a_connection_reads_the_items_that_were_served()
+    ensures reads { (connection : Connection) (history : History) (told : List Event) (items : List Item) →
+        StandsAfter connection history told → IsFedItems connection items →
+        HasReadItems connection history items }
+    ensures all { (connection : Connection) (history : History) (told : List Event) (items : List Item)
+        (fed : IsFedItems connection items) → StandsAfter connection history told → fed.rest ≡ [] →
+        next_content connection history ≡ None →
+        units_of history ≡ map (item_as_read (rules_of connection.settings)) items }
+{
+    contents_only_grow();
+    contents_are_a_function_of_the_bytes();
+    frames_are_those_of_the_bytes();
+    written_frame_is_read_back();
+}

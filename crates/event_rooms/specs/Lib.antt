@@ -1,4 +1,0 @@
-pub mod Events
-pub mod Ids
-pub mod Rooms
-pub mod Shown

@@ -1,5 +1,0 @@
-use Rattle.job_slots.specs.Seats.{IsClerkOf}
-use Rattle.library_rows.proofs.slots.closings.refill.Given as goal
-
-abbrev pub invariant-loop-slot : goal.invariant-loop-slot
-invariant-loop-slot g l = IsClerkOf l.slots l.clerk
