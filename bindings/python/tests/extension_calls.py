@@ -16,8 +16,9 @@ from bullmyrtle.judge import Judge
 
 HOST = request(1, "ab", {"a": 1}), request("x", "c"), {"jsonrpc": "2.0", "method": "n"}
 CANCEL = {"jsonrpc": "2.0", "method": "$/cancelRequest", "params": {"id": "x"}}
-# How often all calls are made to see that nothing is kept of them.
+# How often all calls are made in a turn to see that nothing is kept of them, and how many turns there are at most.
 ROUNDS = int(os.environ.get("ROUNDS", "900"))
+TURNS = 6
 LARGE = '["' + "x" * 1_100_000 + '"]'
 
 
@@ -110,15 +111,17 @@ def each_refused(file, kinds, wanted):
 
 
 def check_that_nothing_is_kept(kinds, wanted):
-    """(what is kept for later doesn't grow with the rounds)"""
-    for rounds in (ROUNDS // 3, ROUNDS):
+    """What is kept for later stops to grow, and when it does depends on the hashes of one run. So it is the least growth of
+    several turns that counts: what each round kept would show in every one of them."""
+    grown = []
+    while len(grown) < TURNS and (not grown or min(grown) >= ROUNDS / 2):
         gc.collect()
         before = sys.getallocatedblocks()
-        for _ in range(rounds):
+        for _ in range(ROUNDS):
             assert all_calls(*kinds, "[1]")[2:] == wanted[2:]
         gc.collect()
-        grown = sys.getallocatedblocks() - before
-    assert grown < max(ROUNDS // 2, 300), grown
+        grown.append(sys.getallocatedblocks() - before)
+    assert min(grown) < max(ROUNDS // 2, 300), grown
 
 
 def main(words):
