@@ -120,16 +120,18 @@ class Bytes(Driven):
         status, out, err = self.ran([], [*PYTHON, server], data)
         self.assertEqual((status, out), (0, answer))
         content = answer.partition(b"\r\n\r\n")[2].decode()
-        offset = len(answer) - len(content)
+        offset, start = len(answer) - len(content), data.index(b"{")
         self.assertEqual(
             self.said(err),
             [
                 f"must: server, message 1 at byte {offset}: not-owed (JSON-RPC 4.1, 5): an answer to what nobody asked,"
                 f" or what is answered already: {content}",
+                f"note: server, client's message 1 at byte {start}: open-at-end (JSON-RPC 5; LSP, Shutdown Request):"
+                " a request that is open when the session ends: initialize, id 1",
                 f"messages: 1 of the client ({len(data)} bytes), 1 of the server ({len(answer)} bytes)",
                 "asked by the client: initialize: once, 0 answered",
                 "open at the end: client's request initialize, id 1, message 1",
-                "found: 1 must, 0 should, 0 note",
+                "found: 1 must, 0 should, 1 note",
             ],
         )
 

@@ -3,7 +3,7 @@ import itertools
 import re
 from unittest import mock
 
-from helping import rows
+from helping import frame, request, rows
 from judging import FOUND, Case, found_of, rows_of
 
 from bullmyrtle.judge import LIFE, RULES, Talk, _later_mcp, _life_mcp
@@ -32,9 +32,13 @@ class Rows(Case):
         for line in lines:
             if line.startswith("!"):
                 continue
-            data, found = line[2:].encode() + b"\n", []
+            side, text, found = SIDES[line[0]], line[2:], []
+            ended = text in ("closed", "failed")
+            if ended:
+                found = talk.ended(side, text)
+            data = b"" if ended else text.encode() + b"\n"
             for at in range(0, len(data), cut):
-                found += talk.saw(SIDES[line[0]], data[at : at + cut])
+                found += talk.saw(side, data[at : at + cut])
             told += [(it, talk.edition) for it in (line, *map(found_of, found))]
         talk.close()
         return told
@@ -101,6 +105,30 @@ class Rows(Case):
             it = FOUND.fullmatch(line)
             if it is not None and RULES[it[2]].levels and (it[2], it[3]) not in others:
                 self.assertEqual(it[3], RULES[it[2]].levels[edition], name)
+
+
+class Ends(Case):
+    """What a server owes when its session ends."""
+
+    def rules_at_the_end(self, answer):
+        talk = Talk("lsp", "frames")
+        talk.saw(
+            "client", frame(request(1, "initialize", {"capabilities": {}})) + frame(request(2, "shutdown"))
+        )
+        talk.saw("server", answer)
+        talk.ended("client")
+        found = [it.rule for it in talk.ended("server")]
+        talk.close()
+        return found
+
+    def test_what_could_be_read(self):
+        told = self.rules_at_the_end(frame({"jsonrpc": "2.0", "id": 1, "result": {"capabilities": {}}}))
+        self.assertEqual(told, ["open-at-end"])
+        self.assertEqual(self.rules_at_the_end(b""), ["open-at-end"] * 2)
+
+    def test_what_could_not_be_read(self):
+        """Behind a broken header there may be answers, which the judge doesn't see."""
+        self.assertEqual(self.rules_at_the_end(b"Content-Length 5\r\n\r\n"), [])
 
 
 class Memory(Case):

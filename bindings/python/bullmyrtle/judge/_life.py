@@ -158,6 +158,11 @@ class Life:
         """By which of the rules' levels it is judged: the protocol, or the version of MCP."""
         return self.rules
 
+    @property
+    def is_over(self) -> bool:
+        """Whether the server has said that it has done all that it was asked for."""
+        return False
+
     def request(self, asked: Asked, params: Any, is_in_array: bool) -> None:
         """A request is seen."""
 

@@ -27,6 +27,10 @@ class Lsp(Life):
         self._documents: Dict[str, Any] = {}  # the versions of those that are open
         self._has_notebooks = False
 
+    @property
+    def is_over(self) -> bool:
+        return self._shutdown == "answered"
+
     # Messages
 
     def request(self, asked: Asked, params: Any, is_in_array: bool) -> None:

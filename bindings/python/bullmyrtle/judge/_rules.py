@@ -146,6 +146,12 @@ LIFE: Tuple[Rule, ...] = (
     ),
     Rule("exit-wait", "LSP, Shutdown Request", "exit before the answer of shutdown", {"lsp": SHOULD}),
     Rule(
+        "open-at-end",
+        "JSON-RPC 5; LSP, Shutdown Request; MCP, lifecycle",
+        "a request that is open when the session ends",
+        _each(NOTE, NOTE),
+    ),
+    Rule(
         "progress-params",
         "LSP, Progress Support; MCP, progress",
         "a progress without a token or without a value",

@@ -28,6 +28,11 @@ class Stream:
             self._rest += data
             self._has_piece = True
 
+    @property
+    def is_over(self) -> bool:
+        """Whether nothing more of it is cut off."""
+        return self._is_over
+
     def next(self) -> Optional[Tuple[int, bytes]]:
         """The next content that is whole, with the offset of its first byte."""
         while not self._is_over:

@@ -3,7 +3,7 @@ from __future__ import annotations
 
 import collections
 import itertools
-from typing import Deque, Dict, Iterable, List, NamedTuple, Optional, Tuple
+from typing import Collection, Deque, Dict, Iterable, List, NamedTuple, Optional, Set, Tuple
 
 from .._log import shown
 from ..errors import NoMemory
@@ -65,6 +65,8 @@ class Side:
         self.open: Dict[Key, Deque[Asked]] = {}  # its requests that aren't answered, the oldest first
         self.times: Dict[str, Times] = {}  # of its requests, by their methods
         self.arrays = 0  # those that nothing is owed to, and that the other side may refuse
+        self.refusals = 0  # its errors that don't say what they are for, and how many messages there were
+        self.refused = 0  # of the other side before the last of them
         self.is_unsure = False  # something of it couldn't be read
 
     def times_of(self, asked: Asked) -> Times:
@@ -114,6 +116,7 @@ class Talk:
         self.new: List[Seen] = []  #: the messages that the last call saw
         self.at: Optional[float] = None  #: when something was seen last
         self.slow: Optional[Slow] = None  # (what the driver asks which requests are open)
+        self._is_left_told = False  # what the server owed at the end
 
     def saw(self, side: str, data: bytes, at: Optional[float] = None) -> List[Finding]:
         """A side wrote these bytes, so many milliseconds after the beginning. Gives what is found in them.
@@ -179,6 +182,7 @@ class Talk:
     def _taken(self, event: Event, found: List[Finding]) -> List[Finding]:
         """Takes what is whole now, and gives all that is found, in the order of the messages."""
         its = self.sides[event.side]
+        was_over = its.stream.is_over
         by_number: Dict[int, List[Finding]] = {}
         others: List[Finding] = []
         for it in found:
@@ -201,6 +205,10 @@ class Talk:
             its.is_unsure = True
             its.stream.stop()
         told += self._unanswered(others)
+        if (
+            event.ended and event.side == "server" and not was_over
+        ):  # (else answers may have come that weren't read)
+            told += self._left({(it.number, it.entry) for it in others})
         for it in told:
             self.counts[it.level] = self.counts.get(it.level, 0) + 1
             count, first = self.groups.get((it.level, it.side, it.rule), (0, it))
@@ -272,9 +280,7 @@ class Talk:
         requests = {(it.side, it.number, it.entry): it for it in self._open_of({it.of for it in found})}
         for it in found:
             asked = requests.get((it.of, it.number, it.entry))
-            yield it if asked is None else it._replace(
-                words=shown(f"{asked.method}, id {asked.id!r}", QUOTED)
-            )
+            yield it if asked is None else it._replace(words=_named(asked))
 
     def _open_of(self, sides: Iterable[str]) -> Iterable[Asked]:
         for side in sides:
@@ -293,7 +299,29 @@ class Talk:
             told += [it for it in found if it is not None]
             self._life.breaches.clear()
         self.new.append(Seen(message, at, answers))
-        return told
+        return told + self._left() if self._life.is_over else told
+
+    def _left(self, told: Collection[Tuple[int, int]] = ()) -> List[Finding]:
+        """What the server owes when its session ends, said once, without what is told as unanswered."""
+        level = _LEVELS["open-at-end"].get(self.edition)
+        if self._is_left_told or level is None:
+            return []
+        self._is_left_told = True
+        is_mcp = self.rules in VERSIONS  # (where what is cancelled needs no answer)
+        left = [it for it in self.sides["client"].open_requests() if not (is_mcp and it.is_cancelled)]
+        refused = self._may_be_refused(left)
+        return [
+            Finding("server", "open-at-end", level, "client", it.number, it.offset, it.entry, _named(it))
+            for it in left
+            if it.number not in refused and (it.number, it.entry) not in told
+        ]
+
+    def _may_be_refused(self, left: List[Asked]) -> Set[int]:
+        """The messages that the server may have refused by errors with the id null, which don't say what they are for: as
+        many as there were, the oldest of those that came before."""
+        server = self.sides["server"]
+        messages = sorted({it.number for it in left if it.number <= server.refused})
+        return set(messages[: server.refusals])
 
     def _found(self, message: Message, entry: int, breach: Breach, is_unsure: bool) -> Optional[Finding]:
         """A finding, if this edition of the rules has the rule."""
@@ -325,7 +353,10 @@ class Talk:
             self._cancel(its, entry)
             self._life.notification(message.side, entry.method, entry.params)
         elif entry.kind == "answer":
-            return self._answer(OTHER[message.side], entry, at)
+            other = OTHER[message.side]
+            if entry.id is None and entry.error is not ABSENT:
+                its.refusals, its.refused = its.refusals + 1, self.sides[other].messages
+            return self._answer(other, entry, at)
         return None
 
     def _answer(self, asker: str, entry: Entry, at: Optional[float]) -> Optional[Asked]:
@@ -365,6 +396,10 @@ class Talk:
             if self.slow is not None and self.rules in VERSIONS:  # (in LSP it must be answered all the same)
                 self.slow.closed(asked)
             self._life.cancelled(asked)
+
+
+def _named(asked: Asked) -> str:
+    return shown(f"{asked.method}, id {asked.id!r}", QUOTED)
 
 
 def _number(text: str) -> Optional[Key]:
