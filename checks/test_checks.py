@@ -46,6 +46,11 @@ def test_part(file: str, part: str) -> None:
     same(parts.part_of(f"checks/{file}"), part)
 
 
+def test_what_has_no_clock() -> None:
+    same(sorted(parts.WITHOUT_CLOCK - {it.removesuffix(".py") for it in FILES}), [])
+    same([parts.has_clock(f"checks/{it}.py") for it in ("node_package", "fuzz", "new")], [True, False, True])
+
+
 def test_what_measures_is_known_to() -> None:
     tests, _ = parts.files_of(parts.PARTS)
     found = [os.path.basename(it) for it in tests if parts.measures(it)]

@@ -16,6 +16,18 @@ OF = {
     "ports": "c",
     **dict.fromkeys(("wrong_bodies", "wrong_body_judge", "tried", "wings", "progress"), "proofs"),
 }
+# The scripts in which nothing is late: they count, compare, or run programs that have minutes for seconds of work. In each other
+# one, and in the tests, a process waits for another one by the clock.
+WITHOUT_CLOCK = {
+    *("c_judge", "c_judge_costs", "c_library", "c_library_largest", "c_library_many", "c_library_memory"),
+    *("c_library_stack", "c_library_use", "connection_fuzz", "connection_model", "figures", "fuzz", "growth"),
+    *("judge_conversations", "laws", "progress", "promises", "python_extension", "random_streams", "refused_memory"),
+    *("sums", "tried", "wings", "wrong_body_judge"),
+}
+
+
+def has_clock(script: str) -> bool:
+    return os.path.basename(script).removesuffix(".py") not in WITHOUT_CLOCK
 
 
 def part_of(file: str) -> str:
