@@ -1,10 +1,11 @@
 //! Numbers.
 
-ghost use Rattle.std.specs.Prelude.{ℕ, ◌≡◌, ◌<◌, ◌≤◌, ◌+◌, ◌-◌, ◌^◌, length, get_or, decimal, negsuc, IfOk, IfSome, OnOk};
+ghost use Rattle.std.specs.Prelude.{ℕ, ◌≡◌, ◌<◌, ◌≤◌, ◌+◌, ◌-◌, ◌^◌, length, get_or, decimal, negsuc, IfOk, IfSome, OnOk, IfErr};
 ghost use Rattle.json_texts.specs.Standing.{Stands};
 ghost use Rattle.serde_json.specs.Data.{number};
 ghost use Rattle.serde_json.specs.View.{number_view};
 ghost use Rattle.value_reading.specs.Lexed.{IsRead};
+ghost use Rattle.value_reading.specs.declared.unread.Unread.TheVariants.{Unusual};
 
 use crate::passing::byte_at;
 use crate::unread::Unread;
@@ -22,6 +23,7 @@ pub(crate) fn read_number(text: &str, at: &mut usize) -> Result<Number, Unread>
     ensures number { IfOk result
         (λ n. IsRead 0 text.now at.old at.new (number (number_view n))) }
     ensures bounds { OnOk result ((at.old < at.new) × (at.new ≤ length text.now)) }
+    ensures err { IfErr result (λ unread. unread ≡ Unusual) }
 {
     let Some((number, end)) = number_at(text, *at) else {
         return Err(Unread::Unusual);

@@ -1,11 +1,12 @@
 //! Values that are passed by, without their being made.
 
-ghost use Rattle.std.specs.Prelude.{◌≡◌, ◌<◌, ◌≤◌, ◌∷◌, [], List, ℕ, true, length, OnOk};
+ghost use Rattle.std.specs.Prelude.{◌≡◌, ◌<◌, ◌≤◌, ◌∷◌, [], List, ℕ, true, length, OnOk, IfErr};
 ghost use Rattle.json.specs.Lex.{token, colon};
 ghost use Rattle.json.specs.Token.{string};
 ghost use Rattle.serde_json.specs.Data.{Num, Data, number, Items, Members};
 ghost use Rattle.value_reading.specs.Containers.{is_container};
 ghost use Rattle.value_reading.specs.Lexed.{Lexed, HasRest, IsRead, ItemsAreRead, MembersAreRead};
+ghost use Rattle.value_reading.specs.declared.unread.Unread.TheVariants.{Unusual};
 
 use crate::escapes::read_escape;
 use crate::numbers::{read_number, whole_end};
@@ -19,6 +20,7 @@ pub fn pass_container(text: &str, at: &mut usize, levels: usize) -> Result<(), U
     ensures container { OnOk result
         ((d : Data) × IsRead levels text.now at.old at.new d × (is_container d ≡ true)) }
     ensures bounds { OnOk result ((at.old < at.new) × (at.new ≤ length text.now)) }
+    ensures err { IfErr result (λ unread. unread ≡ Unusual) }
 {
     let bracket = next_byte(text, at);
     if levels == 0 {
@@ -42,6 +44,7 @@ pub fn pass_container(text: &str, at: &mut usize, levels: usize) -> Result<(), U
 fn pass_items(text: &str, at: &mut usize, levels: usize) -> Result<(), Unread>
     ensures items { OnOk result ((ds : Items) × ItemsAreRead levels text.now at.old at.new ds) }
     ensures bounds { OnOk result ((at.old < at.new) × (at.new ≤ length text.now)) }
+    ensures err { IfErr result (λ unread. unread ≡ Unusual) }
 {
     if next_byte(text, at) == b']' {
         *at += 1;
@@ -62,6 +65,7 @@ fn pass_members(text: &str, at: &mut usize, levels: usize) -> Result<(), Unread>
     ensures members { OnOk result
         ((ms : Members) × MembersAreRead levels text.now at.old at.new ms) }
     ensures bounds { OnOk result ((at.old < at.new) × (at.new ≤ length text.now)) }
+    ensures err { IfErr result (λ unread. unread ≡ Unusual) }
 {
     if next_byte(text, at) == b'}' {
         *at += 1;
@@ -83,6 +87,7 @@ fn pass_members(text: &str, at: &mut usize, levels: usize) -> Result<(), Unread>
 fn pass_value(text: &str, at: &mut usize, levels: usize) -> Result<(), Unread>
     ensures value { OnOk result ((d : Data) × IsRead levels text.now at.old at.new d) }
     ensures bounds { OnOk result ((at.old < at.new) × (at.new ≤ length text.now)) }
+    ensures err { IfErr result (λ unread. unread ≡ Unusual) }
 {
     match next_byte(text, at) {
         b'"' => pass_string(text, at),
@@ -99,6 +104,7 @@ fn pass_value(text: &str, at: &mut usize, levels: usize) -> Result<(), Unread>
 fn pass_number(text: &str, at: &mut usize) -> Result<(), Unread>
     ensures number { OnOk result ((n : Num) × IsRead 0 text.now at.old at.new (number n)) }
     ensures bounds { OnOk result ((at.old < at.new) × (at.new ≤ length text.now)) }
+    ensures err { IfErr result (λ unread. unread ≡ Unusual) }
 {
     let Some(end) = whole_end(text, *at) else {
         return pass_any_number(text, at);
@@ -113,6 +119,7 @@ fn pass_number(text: &str, at: &mut usize) -> Result<(), Unread>
 fn pass_any_number(text: &str, at: &mut usize) -> Result<(), Unread>
     ensures number { OnOk result ((n : Num) × IsRead 0 text.now at.old at.new (number n)) }
     ensures bounds { OnOk result ((at.old < at.new) × (at.new ≤ length text.now)) }
+    ensures err { IfErr result (λ unread. unread ≡ Unusual) }
 {
     read_number(text, at)?;
     Ok(())
@@ -123,6 +130,7 @@ fn pass_name(text: &str, at: &mut usize) -> Result<(), Unread>
     ensures name { OnOk result
         ((s : List ℕ) × Lexed text.now at.old (token (string s) ∷ colon ∷ []) at.new) }
     ensures bounds { OnOk result ((at.old < at.new) × (at.new ≤ length text.now)) }
+    ensures err { IfErr result (λ unread. unread ≡ Unusual) }
 {
     pass_string(text, at)?;
     pass(text, at, b':')
@@ -133,6 +141,7 @@ fn pass_name(text: &str, at: &mut usize) -> Result<(), Unread>
 fn pass_string(text: &str, at: &mut usize) -> Result<(), Unread>
     ensures string { OnOk result ((s : List ℕ) × Lexed text.now at.old (token (string s) ∷ []) at.new) }
     ensures bounds { OnOk result ((at.old < at.new) × (at.new ≤ length text.now)) }
+    ensures err { IfErr result (λ unread. unread ≡ Unusual) }
 {
     let end = open(text, at)?;
     if byte_at(text, end) == b'"' {
@@ -148,6 +157,7 @@ fn pass_string(text: &str, at: &mut usize) -> Result<(), Unread>
 fn pass_rest(text: &str, at: &mut usize) -> Result<(), Unread>
     ensures string { OnOk result ((s : List ℕ) × HasRest text.now at.old s at.new) }
     ensures bounds { OnOk result ((at.old < at.new) × (at.new ≤ length text.now)) }
+    ensures err { IfErr result (λ unread. unread ≡ Unusual) }
 {
     while *at < text.len() {
         let byte = byte_at(text, *at);

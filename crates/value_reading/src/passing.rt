@@ -1,11 +1,12 @@
 //! Bytes that have to stand at a place, passed with the blanks before them.
 
-ghost use Rattle.std.specs.Prelude.{◌≡◌, ◌<◌, ◌≤◌, ◌+◌, [], ◌∷◌, length, get_or, map, OnOk, IfOk, if◌then◌else◌, true, false};
+ghost use Rattle.std.specs.Prelude.{◌≡◌, ◌<◌, ◌≤◌, ◌+◌, [], ◌∷◌, length, get_or, map, OnOk, IfOk, if◌then◌else◌, true, false, IfErr};
 ghost use Rattle.std.specs.Simd.Lanes.{mask_l};
 ghost use Rattle.json.specs.Lex.{operator_lexeme};
 ghost use Rattle.json.specs.Word.{is_operator, is_space};
 ghost use Rattle.json_texts.specs.Standing.{Stands};
 ghost use Rattle.value_reading.specs.Lexed.{Lexed, EndsWord, HasBlanks, is_no_space};
+ghost use Rattle.value_reading.specs.declared.unread.Unread.TheVariants.{Unusual};
 
 use crate::unread::Unread;
 use std::simd::prelude::*;
@@ -18,6 +19,7 @@ pub fn is_over(text: &str, at: &mut usize, bracket: u8) -> Result<bool, Unread>
         (operator_lexeme (if over then bracket else 44) ∷ []) at.new) }
     ensures ends { OnOk result (EndsWord text.now at.old) }
     ensures bounds { OnOk result ((at.old < at.new) × (at.new ≤ length text.now)) }
+    ensures err { IfErr result (λ unread. unread ≡ Unusual) }
 {
     let byte = next_byte(text, at);
     if byte == b',' {
@@ -37,6 +39,7 @@ pub fn pass(text: &str, at: &mut usize, byte: u8) -> Result<(), Unread>
     requires { is_operator byte ≡ true }
     ensures byte { OnOk result (Lexed text.now at.old (operator_lexeme byte ∷ []) at.new) }
     ensures bounds { OnOk result ((at.old < at.new) × (at.new ≤ length text.now)) }
+    ensures err { IfErr result (λ unread. unread ≡ Unusual) }
 {
     if next_byte(text, at) != byte {
         return Err(Unread::Unusual);
@@ -50,6 +53,7 @@ pub(crate) fn pass_word(text: &str, at: &mut usize, word: &[u8]) -> Result<(), U
     ensures word { OnOk result (Stands text.now at.old word.now at.new) }
     ensures place { OnOk result (at.new ≡ at.old + length word.now) }
     ensures within { OnOk result (at.new ≤ length text.now) }
+    ensures err { IfErr result (λ unread. unread ≡ Unusual) }
 {
     let bytes = text.as_bytes();
     let from = *at;

@@ -1,12 +1,13 @@
 //! Strings, and the names of members.
 
 ghost use Rattle.std.specs.List.{prefix_len};
-ghost use Rattle.std.specs.Prelude.{◌≡◌, ◌≢◌, ◌<◌, ◌≤◌, ◌+◌, ◌++◌, ◌∷◌, [], length, drop, get_or, slice_range, string_bytes, IfOk, OnOk};
+ghost use Rattle.std.specs.Prelude.{◌≡◌, ◌≢◌, ◌<◌, ◌≤◌, ◌+◌, ◌++◌, ◌∷◌, [], length, drop, get_or, slice_range, string_bytes, IfOk, OnOk, IfErr};
 ghost use Rattle.std.specs.Str.{IsCharBoundary};
 ghost use Rattle.json.specs.Lex.{token, colon};
 ghost use Rattle.json.specs.Run.{is_plain};
 ghost use Rattle.json.specs.Token.{string};
 ghost use Rattle.value_reading.specs.Lexed.{Lexed, Opens, HasBytes, HasRest};
+ghost use Rattle.value_reading.specs.declared.unread.Unread.TheVariants.{Unusual};
 
 use crate::escapes::read_escape;
 use crate::passing::{byte_at, next_byte, pass};
@@ -19,6 +20,7 @@ pub fn read_name<'a>(text: &'a str, at: &mut usize) -> Result<&'a str, Unread>
     ensures name { IfOk result
         (λ s. Lexed text.now at.old (token (string s.now) ∷ colon ∷ []) at.new) }
     ensures bounds { OnOk result ((at.old < at.new) × (at.new ≤ length text.now)) }
+    ensures err { IfErr result (λ unread. unread ≡ Unusual) }
 {
     let name = read_string(text, at)?;
     pass(text, at, b':')?;
@@ -29,6 +31,7 @@ pub fn read_name<'a>(text: &'a str, at: &mut usize) -> Result<&'a str, Unread>
 pub fn read_string<'a>(text: &'a str, at: &mut usize) -> Result<&'a str, Unread>
     ensures string { IfOk result (λ s. Lexed text.now at.old (token (string s.now) ∷ []) at.new) }
     ensures bounds { OnOk result ((at.old < at.new) × (at.new ≤ length text.now)) }
+    ensures err { IfErr result (λ unread. unread ≡ Unusual) }
 {
     let end = open(text, at)?;
     let from = *at;
@@ -78,6 +81,7 @@ pub(crate) fn open(text: &str, at: &mut usize) -> Result<usize, Unread>
     ensures within { IfOk result (λ end. end ≤ length text.now) }
     ensures bounds { OnOk result ((at.old < at.new) × (at.new ≤ length text.now)) }
     ensures boundary { OnOk result (IsCharBoundary text.now at.new) }
+    ensures err { IfErr result (λ unread. unread ≡ Unusual) }
 {
     if next_byte(text, at) != b'"' {
         return Err(Unread::Unusual);
@@ -159,6 +163,7 @@ pub(crate) fn pass_run(text: &str, at: &mut usize) -> Result<(), Unread>
     ensures bytes { OnOk result (HasBytes text.now at.old (slice_range text.now at.old at.new) at.new) }
     ensures bounds { OnOk result ((at.old < at.new) × (at.new ≤ length text.now)) }
     ensures boundary { OnOk result (IsCharBoundary text.now at.new) }
+    ensures err { IfErr result (λ unread. unread ≡ Unusual) }
 {
     let end = plain_end(text.as_bytes(), *at);
     let stop = byte_at(text, end);
