@@ -5,8 +5,8 @@ use std::io::Write;
 
 /// Writes the bytes as they are.
 pub fn write_all<W: Write>(bytes: &[u8], output: &mut W) -> Result<(), Failure> {
-    write(bytes, output)?;
-    flush(output)
+    output.write_all(bytes).map_err(|_| Failure::Write)?;
+    output.flush().map_err(|_| Failure::Write)
 }
 
 /// Writes lines, each with its LF.
@@ -23,12 +23,4 @@ pub fn write_lines<W: Write>(bytes: &[u8], output: &mut W) -> Result<(), Failure
         end = end.saturating_add(line.len()).saturating_add(1);
     }
     write_all(bytes, output)
-}
-
-fn write<W: Write>(bytes: &[u8], output: &mut W) -> Result<(), Failure> {
-    output.write_all(bytes).map_err(|_| Failure::Write)
-}
-
-fn flush<W: Write>(output: &mut W) -> Result<(), Failure> {
-    output.flush().map_err(|_| Failure::Write)
 }
