@@ -53,7 +53,7 @@ impl Hold {
         match self.holds {
             Holds::First(_) => 1_000_000,
             Holds::Each => 20_000_000,
-            Holds::All => 100_000,
+            Holds::All => 1_000_000,
         }
     }
 
