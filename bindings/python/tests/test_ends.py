@@ -388,14 +388,18 @@ class Scripts(InAFolder):
 class Processes(Scripts):
     """What a client says of a server that ends."""
 
-    async def told(self, client):
-        """The text of what a call raises, that of a later one, and the one line that is logged."""
+    async def told(self, client, let_go=None):
+        """The text of what a call raises, that of a later one, and the one line that is logged; what lets go of a server
+        that stays until then is called behind that line."""
         with logged() as log:
             async with client:
                 with self.assertRaises((Unanswered, Closed)) as first:
                     await client.call("x")
                 with self.assertRaises((Unanswered, Closed)) as second:
                     await client.call("x")
+                if let_go is not None:
+                    await self.until(lambda: log.errors)
+                    let_go()
             with self.assertRaises(Closed) as third:
                 client.call("x")
             texts = [str(it.exception) for it in (first, second, third)]
@@ -461,9 +465,12 @@ class Processes(Scripts):
                 await self.check_killed()
 
     async def test_it_stays_but_says_no_more(self):
-        client = self.client("import os, sys\nos.close(1)\nsys.stdin.read()\n", stderr="inherit")
+        # (it stays until all but the last is said: the session closes its input before it says how it ended)
+        stays = "import os, sys, time\nos.close(1)\nsys.stdin.read()\n"
+        stays += f"while not os.path.exists({self.file('go')!r}):\n    time.sleep(0.01)\n"
+        client = self.client(stays, stderr="inherit")
         began = time.monotonic()
-        first, second, after, line = await self.told(client)
+        first, second, after, line = await self.told(client, lambda: self.file("go", ""))
         for it in (first, second, line):
             self.assertIn("its process still runs", it)
         self.assertIn("the server ended with status 0", after)
