@@ -859,7 +859,8 @@ class Limits(Case):
             finally:
                 ended.append("hover")
 
-        @server.feature("textDocument/definition", thread=True, timeout=0.05)
+        # (so long that its thread has begun, which on a busy machine may be late)
+        @server.feature("textDocument/definition", thread=True, timeout=patience(1))
         def definition(ls, params):
             try:
                 ls.configuration("never")

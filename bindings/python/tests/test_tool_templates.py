@@ -102,6 +102,10 @@ class Templates(Case):
             ("a://{+x}/{y}/{z}!", "a://" + "/a" * 500_000),
             ("a://{x}/b", "a://" + "%41" * 300_000 + "/c"),
         ):
-            start = time.process_time()
-            self.assertIsNone(found(template, uri))
-            self.assertLess(time.process_time() - start, 0.5, template)
+            took = []
+            # (whatever else the machine does adds to it)
+            while len(took) < 5 and (not took or took[-1] >= 0.5):
+                start = time.process_time()
+                self.assertIsNone(found(template, uri))
+                took.append(time.process_time() - start)
+            self.assertLess(min(took), 0.5, template)
