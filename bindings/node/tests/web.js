@@ -42,7 +42,8 @@ class Answer {
     return until(() => isReached(this))
   }
 
-  get json() { return JSON.parse(this.data) }
+  /** The answer: by JSON, or by the last event where it was late, as it may be on a busy machine. */
+  get json() { return this.isStream ? this.messages.at(-1) : JSON.parse(this.data) }
   get isStream() { return this.headers['content-type'] === 'text/event-stream' }
 
   /** The id and the data of each event; comments and an end that is cut off are left out. */
@@ -56,7 +57,7 @@ class Answer {
   /** What came, by JSON or by events. */
   get messages() {
     if (this.isStream) return this.events.filter(it => it[1]).map(it => JSON.parse(it[1]))
-    return this.data ? [this.json] : []
+    return this.data ? [JSON.parse(this.data)] : []
   }
 }
 
