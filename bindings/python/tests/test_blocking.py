@@ -280,14 +280,15 @@ class Blocking(Scripts):
         self.assertEqual(server.wait(SECONDS), 5)
 
     def test_the_session_has_a_loop_for_who_asks(self):
-        body = """
+        body = f"""
             async def work():
                 return "worked"
             @server.method("x")
             def x(params, request):
                 import asyncio
                 def wait():
-                    request.answer(asyncio.run_coroutine_threadsafe(work(), request.session.loop).result(10))
+                    worked = asyncio.run_coroutine_threadsafe(work(), request.session.loop)
+                    request.answer(worked.result({patience(10)}))
                 in_thread(wait)
                 return LATER
         """

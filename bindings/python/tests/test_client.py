@@ -56,7 +56,7 @@ class Processes(InAFolder):
                 client.call("echo")
         # (a thread that waits for a stream closes it itself, a moment later)
         with contextlib.suppress(AssertionError):
-            await self.until(lambda: len(os.listdir("/proc/self/fd")) == before, 20)
+            await self.until(lambda: len(os.listdir("/proc/self/fd")) == before)
         self.assertEqual(len(os.listdir("/proc/self/fd")), before)
 
     async def test_statuses(self):

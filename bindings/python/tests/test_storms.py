@@ -78,7 +78,7 @@ class Storms(Case):
             await asyncio.gather(*(one(it) for it in range(CONNECTIONS)))
             await self.until(lambda: not server.sessions and len(asyncio.all_tasks()) == tasks, SECONDS)
             with contextlib.suppress(AssertionError):
-                await self.until(lambda: self.left() == before, 60)  # (the last ones may take a moment)
+                await self.until(lambda: self.left() == before)  # (the last ones may take a moment)
             self.assertEqual(self.left(), before)
             said = (CONNECTIONS, *before, server._served)
             print("%d connections: %d descriptors and %d threads before and after; %d sessions" % said)

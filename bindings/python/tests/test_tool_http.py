@@ -4,7 +4,7 @@ import contextlib
 import threading
 
 from asgi_caller import Web
-from helping import Case, logged, notice, rows
+from helping import Case, logged, notice, patience, rows
 from test_tool_versions import ANSWERS, INITIALIZED, VERSIONS, make_server, older
 
 from bullmyrtle import Refused
@@ -419,11 +419,11 @@ class Posts(Over):
         thread = threading.Thread(target=loop.run_forever)
         thread.start()
         try:
-            asyncio.run_coroutine_threadsafe(web.begin(), loop).result(20)
+            asyncio.run_coroutine_threadsafe(web.begin(), loop).result(patience(20))
             self.assertEqual(self.wait(later(web)), 404)
-            self.assertEqual(asyncio.run_coroutine_threadsafe(later(web), loop).result(20), 200)
+            self.assertEqual(asyncio.run_coroutine_threadsafe(later(web), loop).result(patience(20)), 200)
         finally:
-            asyncio.run_coroutine_threadsafe(ended(), loop).result(20)
+            asyncio.run_coroutine_threadsafe(ended(), loop).result(patience(20))
             loop.call_soon_threadsafe(loop.stop)
             thread.join()
             loop.close()

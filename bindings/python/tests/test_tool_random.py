@@ -417,7 +417,7 @@ class RandomMessages(Case):
         with logged() as log:
             if TIME_LIMIT is None:
                 for seed in range(SEED, SEED + 4):
-                    self.wait(self.session(seed, MESSAGES // 4), 120)
+                    self.wait(self.session(seed, MESSAGES // 4))
             else:
                 end, seed = time.monotonic() + float(TIME_LIMIT), SEED
                 while time.monotonic() < end:
