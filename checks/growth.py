@@ -3,8 +3,9 @@ does what `judge` is shown: contents that can be read and that can't, long ids, 
 open. Four conversations are known to take the judge the square of their size; this is seen. And no memory is asked for
 what is only promised: a head that says 16 MiB, with nothing behind it, makes no large request. Nor is any kept for what
 is over: a million runs of a method take as much as a thousand, and a server that rests holds the same bytes, to the
-kilobyte, behind the second and the third content, line or response of 16 MB. Behind 100,000 open calls it is known to
-hold more.
+kilobyte, behind the second and the third content, line or response of 16 MB, long batch or piece of many lines. Behind
+100,000 open calls it is known to hold more. At rest it has little room for what may come, and an entry of a batch takes
+what it needs. A long content is read once if its method comes first, and without its params if the table lacks it.
 
 Instructions are callgrind's, so that a busy machine changes nothing. What a size costs beside its start, the program's
 own beginning, is left out. Why by instructions: docs/decisions/tests_and_releases.md#measuring."""
@@ -300,12 +301,32 @@ def check_all(count):
         check(count, label, size, next(counts), next(counts), next(counts))
 
 
+def check_long(count):
+    """Compares what the same long content takes, as its method stands before its params or behind them, and as the
+    table has it or hasn't."""
+    if ran.lacks("valgrind", "it counts the instructions"):
+        return
+    params = f'"params":[{",".join("1" * VALUES)}]'
+    first, last, unknown = (
+        instructions([ran.BUILT, "play", *TABLE], rows.frames('{"jsonrpc":"2.0","id":1,%s,%s}' % it))
+        for it in (('"method":"add"', params), (params, '"method":"add"'), ('"method":"nope"', params))
+    )
+    if first is None or last is None or unknown is None:
+        count.check("a long content is counted", False)
+        return
+    print(f"a long content: {first:,} instructions, {last:,} by its method at its end, {unknown:,} by an unknown one")
+    count.check("a long content is read once", first <= 0.8 * last, f"{first:,} and {last:,}")
+    count.check("params of an unknown method aren't made", unknown <= 0.6 * first, f"{unknown:,} and {first:,}")
+
+
 def check_memory(count):
     if not ran.lacks("cc", refusals.WHY):
         check_promise(count)
         check_finished(count)
         check_rests(count)
         check_open(count)
+        check_at_rest(count)
+        check_batches(count)
         check_reads(count)
 
 
@@ -350,6 +371,16 @@ def escapes_of(size):
     return '"%s"' % (r"\u0001" * (size // 6))
 
 
+def invalid_lines(server, size):
+    """Lines of one byte, so that thousands come in a piece."""
+    server.given(["0"] * size, [rows.INVALID] * size)
+
+
+def invalid_batch(server, size):
+    """A batch of entries of one byte."""
+    server.given([rows.batch(*["0"] * size)], [rows.batch(*[rows.INVALID] * size)])
+
+
 # What comes to a server and passes: whether in lines, the size with which it begins, a large one, and what does it.
 RESTS = {
     "a content": (False, 200_000, 16_000_000, lambda it, size: it.add(text_of(size))),
@@ -357,11 +388,25 @@ RESTS = {
     "escapes": (True, 200_000, 16_000_000, lambda it, size: it.add(escapes_of(size))),
     "a call and its response": (True, 200_000, 16_000_000, lambda it, size: it.ask(1, text_of(size), text_of(size))),
     "open calls": (True, 3_000, 100_000, lambda it, size: it.ask(size)),
+    "lines": (True, 100, 20_000, invalid_lines),
+    "entries of a batch": (True, 50_000, 200_000, invalid_batch),
 }
 # They are the same to the kilobyte. Known: behind open calls the sets of numbers keep room for the most that were open.
 EVEN, KEPT = 1_024, {"open calls": 200_000}
 # So many calls are open, and each takes so many bytes: docs/performance.md, "What bin/test holds".
 OPEN, OPEN_BYTES = 20_000, 1_586 * 1.05
+# So many bytes a server holds that rests behind two requests, and so many it has held: one of them has 70,000 bytes.
+AT_REST, SO_FAR = 100_000, 1_000_000
+# So many entries has a batch, and each takes so many bytes in `play`, with those of the entry and of its answer
+# (docs/performance.md).
+BATCH = 5_000
+ENTRIES = {
+    "that is invalid": ("0", 243.4 * 1.05),
+    "of an unknown method": (request(1), 622.7 * 1.05),
+    "that adds": ('{"jsonrpc":"2.0","method":"add","params":[1,1],"id":1}', 1_340.0 * 1.05),
+}
+# So many values are in the params of a long content.
+VALUES = 100_000
 # A server asks for 16,384 bytes at once. A pipe may give fewer, but not so few for each read of so many.
 READ, A_READ = 4_000_000, 1_000
 
@@ -391,6 +436,35 @@ def check_open(count):
     count.check("an open call takes what it needs", 0 < each <= OPEN_BYTES, f"{each:.0f}, at most {OPEN_BYTES:.0f}")
 
 
+def check_at_rest(count):
+    """A table that has room for all numbers at once, or a piece of a megabyte, is seen here."""
+    with Resting(in_lines=False) as server:
+        server.add(text_of(10))
+        held = server.at_rest()
+        most = server.held.numbers()[0]
+    print(f"a server at rest: {held:,} bytes held, {most:,} at most so far", flush=True)
+    count.check("a server at rest holds little", 0 < held <= AT_REST, f"{held:,}, at most {AT_REST:,}")
+    count.check("it has never held much", 0 < most <= SO_FAR, f"{most:,}, at most {SO_FAR:,}")
+
+
+def most_held_for(content):
+    """The status of `play`, and the most bytes that it held. (The input is a file: a pipe gives what it has, and room
+    grows by what comes.)"""
+    with tempfile.TemporaryFile() as file:
+        file.write(rows.frames(content))
+        file.seek(0)
+        return refusals.counted([ran.BUILT, "play", *TABLE], file)[:2]
+
+
+def check_batches(count):
+    for name, (entry, reached) in ENTRIES.items():
+        (status, few), (then, many) = (most_held_for(rows.batch(*[entry] * it)) for it in (BATCH, 2 * BATCH))
+        each = (many - few) / BATCH
+        print(f"an entry of a batch {name}: {each:,.1f} bytes", flush=True)
+        well = (status, then) == (0, 0) and 0 < each <= reached
+        count.check(f"an entry of a batch {name} takes what it needs", well, f"{each:,.1f}, at most {reached:,.1f}")
+
+
 def check_reads(count):
     with Resting(in_lines=False) as server:
         server.at_rest()
@@ -401,4 +475,4 @@ def check_reads(count):
     count.check("a long content is read in long pieces", 0 < made <= READ // A_READ, f"{made:,} reads")
 
 
-ran.script(check_memory, check_all)
+ran.script(check_memory, check_long, check_all)

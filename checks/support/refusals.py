@@ -47,11 +47,12 @@ class Held:
         os.pwrite(self.told.fileno(), struct.pack("Q", 1), 32)
 
 
-def counted(words: Sequence[str], given: bytes = b"") -> tuple[int, int, int, int, int]:
+def counted(words: Sequence[str], given: bytes | IO[bytes] = b"") -> tuple[int, int, int, int, int]:
     """Runs a program: its status, the most bytes that it held, the bytes that it held behind its last request and at
-    its end, and how often it asked for memory."""
+    its end, and how often it asked for memory. The input is bytes, or a file."""
     held = Held()
-    ended = subprocess.run(words, input=given, capture_output=True, timeout=600, check=False, **held.how)
+    stream: dict[str, Any] = {"input": given} if isinstance(given, bytes) else {"stdin": given}
+    ended = subprocess.run(words, capture_output=True, timeout=600, check=False, **stream, **held.how)
     return ended.returncode, *held.numbers()
 
 
