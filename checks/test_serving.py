@@ -1,11 +1,13 @@
 """Runs the server as its clients do: rows by 1 to 64 workers, messages that go back and forth while the input is open,
 devices that fail at each byte, a client that doesn't read, and nothing to do. Reads and writes are counted, so that a
 program which goes byte by byte is seen."""
+import contextlib
 import os
 import select
 import shutil
 import signal
 import subprocess
+import threading
 import time
 from typing import Callable
 
@@ -15,6 +17,7 @@ from support import ran, rows
 from support.client import PATIENCE, Client, call, cancel, ended, error, notification, request, result
 from support.expecting import check, same
 from support.naming import named
+from support.resting import rested
 from support.written import contents_of
 
 ASK, ASKED = request(7, "ask", ["x"]), call("1.1", "confirm", ["x"])
@@ -111,6 +114,56 @@ def test_conversation() -> None:
         same(it.receive(), CANCELLED, "as its request is cancelled")
         it.close_input()
         same(it.end(), ([], 0, b""), "the server ends with its input")
+
+
+@pytest.mark.parametrize("workers", ("1", "2", "4", "64"))
+def test_what_comes_while_all_sleep_wakes_whom_it_needs(workers: str) -> None:
+    """A request, a reply, some requests at once, and the end, each once all threads of the server sleep."""
+    steps = [
+        ([ASK], [call("2.1", "confirm", ["x"])]),
+        ([result("2.1", True)], [YES]),
+        ([request(it, "add", [it, 1]) for it in range(1, 4)], [result(it, it + 1) for it in range(1, 4)]),
+    ]
+    with Client([*table(), "--workers", workers]) as it:
+        it.send(UNKNOWN)
+        same(it.receive(), rows.NOT_FOUND, "it has begun")
+        for sent, wanted in steps:
+            rested(it.process.pid, lambda: None)
+            it.send(*sent)
+            same([it.receive() for _ in wanted], wanted, f"{sent}")
+        rested(it.process.pid, lambda: None)
+        it.close_input()
+        same(it.end(), ([], 0, b""), "its end")
+
+
+def test_client_that_reads_late_gets_all() -> None:
+    """Where nobody reads, the reader sleeps as well as the others; as the client reads at last, it goes on."""
+    given, wanted = rows.frames(UNKNOWN) * 40_000, rows.frames(rows.NOT_FOUND) * 40_000
+    process = subprocess.Popen([ran.BUILT, "serve"], stdin=subprocess.PIPE, stdout=subprocess.PIPE)
+
+    def send() -> None:
+        with contextlib.suppress(BrokenPipeError), ran.pipe(process.stdin) as stream:
+            stream.write(given)
+
+    def taken() -> int:
+        return int(ran.text_of("/proc", str(process.pid), "io").split()[1])
+
+    sender, ends = threading.Thread(target=send), threading.Timer(2 * PATIENCE, process.kill)
+    sender.start()
+    try:
+        before, now = -1, rested(process.pid, taken)
+        while now != before:
+            before, now = now, rested(process.pid, taken)
+        check(sender.is_alive(), "all was taken before anything was read")
+        ends.start()
+        got = ran.pipe(process.stdout).read()
+        same((process.wait(), len(got), got == wanted), (0, len(wanted), True))
+    finally:
+        ends.cancel()
+        process.kill()
+        sender.join()
+        ran.pipe(process.stdout).close()
+        process.wait()
 
 
 def test_single_bytes_and_an_end_inside_a_frame() -> None:

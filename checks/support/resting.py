@@ -4,8 +4,11 @@ import re
 import subprocess
 import threading
 import time
+from typing import Callable, TypeVar
 
 from support import ran, refusals, rows
+
+T = TypeVar("T")
 
 READS = re.compile(r"^syscr: (\d+)", re.M)
 STATE, SWITCHES = re.compile(r"^State:\s+(\w)", re.M), re.compile(r"^voluntary_ctxt_switches:\s+(\d+)", re.M)
@@ -13,6 +16,24 @@ STATE, SWITCHES = re.compile(r"^State:\s+(\w)", re.M), re.compile(r"^voluntary_c
 LONG = '"%s"' % ("a" * 70_000)
 # How long it may take until it has answered, or rests, in seconds.
 PATIENCE = 120
+
+
+def looked_at(pid: int) -> tuple[set[str], int]:
+    """The states of a process's threads, and how often they have gone to sleep."""
+    folder = f"/proc/{pid}/task"
+    told = [ran.text_of(folder, it, "status") for it in os.listdir(folder)]
+    return {STATE.findall(it)[0] for it in told}, sum(int(SWITCHES.findall(it)[0]) for it in told)
+
+
+def rested(pid: int, measure: Callable[[], T]) -> T:
+    """What is measured once all threads of a process sleep and none has woken meanwhile."""
+    begun = time.monotonic()
+    while time.monotonic() < begun + PATIENCE:
+        before, found = looked_at(pid), measure()
+        time.sleep(0.01)
+        if before[0] == {"S"} and looked_at(pid) == before:
+            return found
+    raise ValueError(f"no rest after {PATIENCE} seconds")
 
 
 class Resting:
@@ -74,12 +95,6 @@ class Resting:
         """Replies to calls back, upon which their requests are answered."""
         self.given([rows.replied(it, result) for it in keys], [rows.answered(result)] * len(keys))
 
-    def looked_at(self) -> tuple[set[str], int]:
-        """The states of its threads, and how often they have gone to sleep."""
-        folder = f"/proc/{self.process.pid}/task"
-        told = [ran.text_of(folder, it, "status") for it in os.listdir(folder)]
-        return {STATE.findall(it)[0] for it in told}, sum(int(SWITCHES.findall(it)[0]) for it in told)
-
     def reads(self) -> int:
         """How many reads it has made of the system."""
         return int(READS.findall(ran.text_of("/proc", str(self.process.pid), "io"))[0])
@@ -91,10 +106,4 @@ class Resting:
 
     def quiet(self) -> int:
         """How many bytes it holds, once all its threads sleep and none has woken meanwhile."""
-        begun = time.monotonic()
-        while time.monotonic() < begun + PATIENCE:
-            before, held = self.looked_at(), self.held.numbers()[2]
-            time.sleep(0.01)
-            if before[0] == {"S"} and self.looked_at() == before:
-                return held
-        raise ValueError(f"no rest after {PATIENCE} seconds")
+        return rested(self.process.pid, lambda: self.held.numbers()[2])
