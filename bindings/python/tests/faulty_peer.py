@@ -331,7 +331,7 @@ class Peer:
     def asked(self, method, params, id_):
         self.count += 1
         if self.fault == "sleeps":
-            time.sleep(2.4 * TIMES_SLOWER)
+            time.sleep(6 * TIMES_SLOWER)
         if self.fault == "loses-some" and self.count % 100 == 0:
             time.sleep(0.0)
             self.fault = "unknown-is-ignored"

@@ -78,7 +78,7 @@ class Waits(Case):
         self.assertLess(took, patience(20))
 
     def test_one_that_is_slow(self):
-        # (the request is answered after as long as the peer sleeps, 2.4 s, and the plain one behind it after twice that: between
-        # once and twice these seconds, with more than a second to spare on each side)
-        found, _ = self.verdict("sleeps", "an unknown request with params {}", patience(3.6))
+        # (the request is answered after as long as the peer sleeps, 6 s, and the plain one behind it after twice that: between
+        # once and twice these seconds, with three seconds to spare on each side, which a busy machine may need)
+        found, _ = self.verdict("sleeps", "an unknown request with params {}", patience(9.0))
         self.assertEqual((found.level, found.words), ("slow", "it answers slowly"))
