@@ -530,13 +530,14 @@ class StandardErrors(Scripts):
             pass
     """
 
-    async def run_loud(self, text=LOUD, seconds=SECONDS, **more):
-        """How a client ended that saw its server for a while; so many seconds it waits for the process's end, and for what
-        that wrote before."""
+    async def run_loud(self, text=LOUD, seconds=SECONDS, least=0, **more):
+        """How a client ended that saw its server for a while, and so many bytes of its standard error; so many seconds it
+        waits for the process's end, and for what that wrote before."""
         client = self.client(text, **more)
         with logged(), self.patient(seconds):
             async with client:
                 await asyncio.sleep(0.3)
+                await self.until(lambda: len(client._process.last) >= least)
             return client.ended
 
     def test_it_is_passed_on_as_it_comes(self):
@@ -624,7 +625,8 @@ class StandardErrors(Scripts):
         text = "import subprocess, sys\nnull = subprocess.DEVNULL\n"
         text += "subprocess.Popen(['sh', '-c', 'yes >&2'], stdin=null, stdout=null)\nsys.stdin.read()\n"
         began = time.monotonic()
-        end = await self.run_loud(text, _process._SECONDS)
+        # (the child may begin later than the server would end)
+        end = await self.run_loud(text, _process._SECONDS, 4096)
         self.assertEqual((end.how, len(end.stderr)), ("Clean", 4096))
         self.assertLess(time.monotonic() - began, SECONDS / 2)  # (of the server's grace)
         # (the child may be slower than who reads; so here is one that isn't)
