@@ -78,16 +78,23 @@ class OfOurs(Piped):
 
         self.loop._run_once = count
 
+        def turns_of_many():
+            began = turns[0]
+            for it in range(100):
+                self.send(request(it, "echo", [it]))
+                self.assertEqual(self.read(1)[0]["result"], [it])
+            return turns[0] - began
+
         def talk():
             self.send(request(0, "echo", []))
             self.read(1)
             time.sleep(0.1)
             for seconds in (None, 20):
-                began = turns[0]
-                for it in range(100):
-                    self.send(request(it, "echo", [it]))
-                    self.assertEqual(self.read(1)[0]["result"], [it])
-                self.assertEqual(turns[0] - began, 0, seconds)
+                # (on a busy machine the loop may come late to where it waits, but not each time)
+                took = [turns_of_many()]
+                while took[-1] and len(took) < 5:
+                    took.append(turns_of_many())
+                self.assertEqual(min(took), 0, seconds)
                 # (a timer begins, which is a turn, and behind that the loop waits again)
                 self.loop.call_soon_threadsafe(lambda: begins.set() or self.loop.call_later(SECONDS, print))
                 self.assertTrue(begins.wait(SECONDS))
