@@ -229,8 +229,9 @@ class Others(Piped):
             return ticks
 
         def talk():
-            # (in one piece, so that nothing comes between that makes the first one sooner)
-            self.send(request(1, "soon", [0.2]), request(2, "soon", [0.1]))
+            # (in one piece, so that nothing comes between that makes the first one sooner, and with so much between them that
+            # a busy machine doesn't either)
+            self.send(request(1, "soon", [1.1]), request(2, "soon", [0.1]))
             self.read(2)
             end = time.monotonic() + SECONDS
             while len(ticks) < 2:  # (and no message comes meanwhile)
@@ -239,7 +240,7 @@ class Others(Piped):
             self.send(request(3, "ticks"))
             return self.read(1)[0]["result"]
 
-        self.assertEqual(self.served(server, talk), (0, [0.1, 0.2]))
+        self.assertEqual(self.served(server, talk), (0, [0.1, 1.1]))
 
     def test_what_a_method_asks_of_the_loop_is_done_though_nothing_more_comes(self):
         server, done = Server(), threading.Event()
