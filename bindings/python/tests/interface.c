@@ -68,13 +68,15 @@ void bm_free(bm_connection connection)
     free(connection.at);
 }
 
-/* What is fed as "wait N" waits until there is a byte in this descriptor. */
+/* What is fed as "wait N M" writes a byte to the second descriptor, and waits until there is one in the first. */
 static void wait_for(const uint8_t *bytes, size_t length)
 {
-    char words[16] = "", byte;
-    int descriptor;
+    char words[32] = "", byte = 'x';
+    int until, told;
     memcpy(words, bytes, length < sizeof words ? length : sizeof words - 1);
-    if (sscanf(words, "wait %d", &descriptor) == 1 && read(descriptor, &byte, 1) != 1)
+    if (sscanf(words, "wait %d %d", &until, &told) != 2)
+        return;
+    if (write(told, &byte, 1) != 1 || read(until, &byte, 1) != 1)
         abort();
 }
 

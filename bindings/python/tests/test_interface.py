@@ -113,7 +113,7 @@ class Interface(Case):
                 self.check_that_it_waits(name, given)
 
     def check_that_it_waits(self, name, given):
-        read, write = os.pipe()
+        (read, write), (told, tell) = os.pipe(), os.pipe()
         it, done = self.kind(), []
 
         def call():
@@ -123,8 +123,10 @@ class Interface(Case):
             except Refused:
                 done.append("refused")
 
-        long_one = threading.Thread(target=it.fed, args=(b"wait %d" % read, True))
+        long_one = threading.Thread(target=it.fed, args=(b"wait %d %d" % (read, tell), True))
         long_one.start()
+        # (it is in the library by then: else the other one might come before it)
+        self.assertEqual(os.read(told, 1), b"x")
         other = threading.Thread(target=call)
         other.start()
         other.join(0.02)
@@ -137,5 +139,5 @@ class Interface(Case):
         if name == "close":
             with self.assertRaises(Closed):
                 it.counts()
-        for descriptor in (read, write):
+        for descriptor in (read, write, told, tell):
             os.close(descriptor)
