@@ -1,7 +1,8 @@
 #!/usr/bin/env python3
 """The version stands in one place and is the same everywhere; and the packages that bin/package makes: made twice they are the same byte for
 byte, and each is installed in an empty folder and used as its users do it, Node's by `require` and by `import`; the Debian packages also in a
-bare root where debootstrap may make one. The program is stripped, and has a build id as the library has."""
+bare root where debootstrap may make one, and those for arm64 in a root of Debian's packages for arm64, by qemu. The program is stripped, and has
+a build id as the library has."""
 import json
 import os
 import re
@@ -11,23 +12,14 @@ import sys
 import tempfile
 from typing import Any, Optional
 
-from support import hosts, ran
+from support import debian_arm64, hosts, ran
+from support.installed import ANSWER, HOST, REQUEST, SERVER
 
 sys.path.insert(0, f"{ran.TOP}/bin")
 from tools import extension, library, ports, program  # noqa: E402 (the folder of the commands is on the path only now)
 from tools.repository import read_bytes, read_text  # noqa: E402
 
 MIRROR, SUITE = "http://deb.debian.org/debian", "bookworm"
-REQUEST = '{"jsonrpc":"2.0","method":"add","params":[1,2],"id":7}\n'
-ANSWER = '{"id":7,"jsonrpc":"2.0","result":3}\n'
-SERVER = """import sys
-from bullmyrtle import Server
-server = Server(framing="lines")
-@server.method("add")
-def add(params: list):
-    return sum(params)
-sys.exit(server.run())
-"""
 CARGO = """[package]
 name = "user"
 version = "0.1.0"
@@ -61,10 +53,6 @@ const members = it => Object.keys(it).filter(name => name !== 'default').sort().
 Promise.all(names.map(it => import(it))).then(all => all.forEach((it, at) => {
   console.log(names[at], members(it).length > 10 && members(it) === members(require(names[at])))
 }))
-"""
-HOST = r"""#include <bullmyrtle.h>
-#include <stdio.h>
-int main(void) { printf("%u\n", bm_interface()); return 0; }
 """
 PROJECT = """cmake_minimum_required(VERSION 3.13)
 project(host LANGUAGES C CXX)
@@ -369,7 +357,7 @@ def check_unpacked_debian(count: ran.Count, folder: str, room: str) -> None:
         return
     root = f"{room}/unpacked"
     for it in sorted(os.listdir(folder)):
-        if it.endswith(".deb"):
+        if it.endswith("_amd64.deb"):
             count.same(f"{it} is unpacked", run(["dpkg-deb", "-x", f"{folder}/{it}", root]), (0, "", ""))
     version = read_text(f"{ran.TOP}/VERSION")
     count.same("its program", run([f"{root}/usr/bin/rpc_tool", "--version"]), (0, f"rpc_tool {version}", ""))
@@ -399,7 +387,7 @@ def check_debian(count: ran.Count, folder: str, room: str) -> None:
         )
         return
     for it in os.listdir(folder):
-        if it.endswith(".deb"):
+        if it.endswith("_amd64.deb"):
             shutil.copy(f"{folder}/{it}", f"{root}/root/{it}")
     with open(f"{root}/root/host.c", "w", encoding="utf-8") as host:
         host.write(HOST)
@@ -447,6 +435,7 @@ def main() -> None:
             check_bill(count, folder)
             check_unpacked_debian(count, folder, room)
             check_debian(count, folder, room)
+            debian_arm64.check(count, folder, f"{room}/arm64")
     count.end()
 
 
