@@ -125,6 +125,12 @@ def frame(value):
     return b"Content-Length: %d\r\n\r\n%s" % (len(data), data)
 
 
+def write_all(descriptor, data):
+    """(a process that is stopped and goes on may have written a part)"""
+    while data:
+        data = data[os.write(descriptor, data) :]
+
+
 def request(id_, method, params=None):
     value = {"jsonrpc": "2.0", "id": id_, "method": method}
     return value if params is None else {**value, "params": params}
@@ -285,4 +291,5 @@ __all__ = [
     "ran",
     "request",
     "rows",
+    "write_all",
 ]

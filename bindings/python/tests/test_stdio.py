@@ -13,7 +13,7 @@ import tty
 import unittest
 
 from helping import SECONDS, InAFolder, command, environment, frame, messages
-from helping import notice, patience, ran, request, rows
+from helping import notice, patience, ran, request, rows, write_all
 
 from bullmyrtle import Server
 from bullmyrtle._channels import Descriptors
@@ -213,7 +213,8 @@ class Streams(Scripts):
 
         def write():
             for _ in range(count):
-                sent.append(os.write(theirs, one))
+                write_all(theirs, one)
+                sent.append(one)
             os.close(theirs)
 
         writing = threading.Thread(target=write, daemon=True)

@@ -6,7 +6,7 @@ import os
 import sys
 import threading
 
-from helping import Case, environment, frame, patience, ran, request, rows
+from helping import Case, environment, frame, patience, ran, request, rows, write_all
 
 from bullmyrtle import Server
 from bullmyrtle._waiting import Threaded
@@ -92,7 +92,7 @@ class OverThreads(Case):
         def talk(theirs, ours):
             got = b""
             for at in range(3):
-                os.write(theirs, frame(request(at, "echo", ["x" * 100_000])))
+                write_all(theirs, frame(request(at, "echo", ["x" * 100_000])))
             os.close(theirs)
             while True:
                 data = os.read(ours, 1 << 16)
@@ -134,7 +134,7 @@ class OverThreads(Case):
         def send(theirs):
             piece = frame(request(1, "echo", ["x" * 50_000]))
             for _ in range(400):
-                os.write(theirs, piece)
+                write_all(theirs, piece)
                 sent.append(sent[-1] + len(piece))
             os.close(theirs)
 
