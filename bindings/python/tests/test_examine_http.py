@@ -77,7 +77,7 @@ class OverHttp(Case):
     def examine(self, url, rules, only):
         every = chosen(read_all(), rules, "server", "lines", only)
         cases = [it for it in every if not it.is_alone] + [it for it in every if it.is_alone][::EVERY]
-        plan = Plan(rules, "lines", "server", 10.0, settle=10.0)
+        plan = Plan(rules, "lines", "server", patience(30.0), settle=10.0)
         runner = Runner(Command(bridge_to(url), is_bridge=True), plan, 2)
         verdicts = list(runner.verdicts(cases))
         self.assertEqual(len(verdicts), len(cases))

@@ -4,7 +4,7 @@ import os
 import sys
 from unittest import mock
 
-from helping import PACKAGE, TOP, Case, rows
+from helping import PACKAGE, TOP, Case, patience, rows
 
 from bullmyrtle.examine._reading import asked, chosen, read_all
 from bullmyrtle.examine._runner import Runner
@@ -78,7 +78,7 @@ class Own(Case):
         every = chosen(read_all(), rules, side, framing, only)
         alone = [it for it in every if it.is_alone]
         cases = [it for it in every if not it.is_alone] + alone[:: 1 if only else EVERY]
-        runner = Runner(target, Plan(rules, framing, side, 10.0), 2)
+        runner = Runner(target, Plan(rules, framing, side, patience(30.0)), 2)
         with mock.patch.dict(os.environ, {"PYTHONPATH": PACKAGE}):
             verdicts = list(runner.verdicts(cases))
         self.assertEqual(len(verdicts), len(cases))
@@ -128,7 +128,7 @@ class Own(Case):
             "tasks/get without a task": f"not tried: it {why}",
         }
         target = Command([sys.executable, "-c", OF_ONE, version])
-        runner = Runner(target, Plan("mcp", "lines", "server", 10.0), 2)
+        runner = Runner(target, Plan("mcp", "lines", "server", patience(30.0)), 2)
         with mock.patch.dict(os.environ, {"PYTHONPATH": PACKAGE}), self.subTest(version):
             runner.check()
             self.assertEqual(runner.rules, "mcp" if is_newest else f"mcp:{version}")
