@@ -47,7 +47,7 @@ def test_part(file: str, part: str) -> None:
 
 
 def test_what_has_no_clock() -> None:
-    same(sorted(parts.WITHOUT_CLOCK - {it.removesuffix(".py") for it in FILES}), [])
+    same(sorted({*parts.WITHOUT_CLOCK, parts.LONGEST} - {it.removesuffix(".py") for it in FILES}), [])
     same([parts.has_clock(f"checks/{it}.py") for it in ("node_package", "fuzz", "new")], [True, False, True])
 
 

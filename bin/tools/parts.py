@@ -26,8 +26,17 @@ WITHOUT_CLOCK = {
 }
 
 
+# The script that takes longest. It has a clock, for a page and for Node.js; behind the others that have one it would run
+# alone at the end.
+LONGEST = "ports"
+
+
+def name_of(script: str) -> str:
+    return os.path.basename(script).removesuffix(".py")
+
+
 def has_clock(script: str) -> bool:
-    return os.path.basename(script).removesuffix(".py") not in WITHOUT_CLOCK
+    return name_of(script) not in WITHOUT_CLOCK
 
 
 def part_of(file: str) -> str:
