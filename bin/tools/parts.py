@@ -26,8 +26,8 @@ WITHOUT_CLOCK = {
 }
 
 
-# The script that takes longest. It has a clock, for a page and for Node.js; behind the others that have one it would run
-# alone at the end.
+# The script that takes longest. It has a clock, for a page and for Node.js, and runs beside the last of what has one, or
+# of what has none.
 LONGEST = "ports"
 
 
